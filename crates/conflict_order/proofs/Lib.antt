@@ -1,0 +1,3 @@
+pub mod JoinLaws
+pub mod NextLaws
+pub mod OrderLaws

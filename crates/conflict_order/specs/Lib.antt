@@ -1,0 +1,5 @@
+pub mod Action
+pub mod Join
+pub mod Next
+pub mod Order
+pub mod ValueFault

@@ -1,0 +1,16 @@
+//! The versions of a record, how they compare, and which of two remains.
+#![tactic(auto)]
+
+pub mod laws;
+pub mod policy;
+pub mod value;
+pub mod version;
+pub mod want;
+
+pub use policy::Policy;
+pub use value::{VALUE_LIMIT, ValueBytes, ValueFault};
+pub use version::{Body, Version, join};
+pub use want::{Action, Want};
+
+#[cfg(test)]
+mod tests;
