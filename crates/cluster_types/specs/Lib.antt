@@ -1,0 +1,11 @@
+pub mod ClusterKeys
+pub mod Distinct
+pub mod Filled
+pub mod Groups
+pub mod Members
+pub mod MembersEqual
+pub mod NodeLists
+pub mod Partitions
+pub mod Rows
+pub mod StateRows
+pub mod Texts
