@@ -1,0 +1,13 @@
+use Rattle.std.proofs.Common.{[], ap, ◌∙◌}
+use Rattle.wire_codec.specs.Spelling.{fields_of, spelling}
+use Rattle.wire_codec.specs.Writing.{appended}
+use Rattle.wire_codec.proofs.KindLaws.{appended_is}
+use Rattle.wire_codec.proofs.codec.encode.Goals as goal
+
+pub returns : goal.returns
+unfolding spelling
+returns c =
+    c.from.ensures
+    ∙ c.in_ok-put_message.ensures
+    ∙ ap (λ xs. appended xs (fields_of c.args.m.now)) c.new-out.ensures.items
+    ∙ appended_is [] (fields_of c.args.m.now)

@@ -1,0 +1,8 @@
+use Rattle.std.proofs.Common.{◌≡◌, ◌++◌, take}
+use Rattle.std.specs.List.{flat_map}
+use Rattle.wire_codec.specs.Nodes.{id_field}
+use Rattle.wire_codec.proofs.writing.members.put_each_id.Given as goal
+
+-- the ids of the first members stand behind what stood there
+abbrev pub invariant-loop-member : goal.invariant-loop-member
+invariant-loop-member l = l.out.items ≡ l.fn.out.items ++ flat_map (λ m. id_field m.id) (take l.member-index l.members)

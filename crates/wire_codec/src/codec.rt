@@ -1,0 +1,97 @@
+//! Messages as bytes, and bytes as messages.
+ghost use Rattle.std.specs.Prelude.{◌≡◌, ◌↔◌, ◌<◌, ◌≤◌, IsTrue, IfOk, Ok};
+ghost use Rattle.wire_codec.specs.declared.message.Message.{Message};
+ghost use Rattle.wire_codec.specs.Decoding as decoding;
+ghost use Rattle.wire_codec.specs.Decoding.{of_kind, decoded, located, Decodes};
+ghost use Rattle.wire_codec.specs.Kinds.{kind_of};
+ghost use Rattle.wire_codec.specs.Proper.{IsProper};
+ghost use Rattle.wire_codec.specs.Spelling.{spelling};
+
+use crate::fault::DecodeFault;
+use crate::message::Message;
+use crate::reading::{FieldFault, ReadFault, Reader};
+use crate::writing::put_message;
+use cluster_types::{Bytes, NoMemory};
+use std::alloc::Global;
+
+/// How many kinds of messages there are. They are counted from 1.
+const KINDS: u8 = 25;
+
+/// The message's one spelling.
+#[tactic(auto, unfolding(crate::specs::Spelling::spelling))]
+pub fn encode(alloc: Global, m: &Message) -> Result<Bytes, NoMemory>
+    requires { IsProper m.now }
+    ensures { IfOk result (λ bytes. bytes ≡ spelling m.now) }
+{
+    let mut out = Vec::new(alloc);
+    put_message(&mut out, m)?;
+    Ok(Bytes::from(out))
+}
+
+/// The fault of a field, with its place among so many bytes.
+fn located(size: usize, fault: ReadFault) -> DecodeFault
+    ensures { result ≡ located size fault }
+{
+    match fault {
+        ReadFault::Field(FieldFault::Bad { left }) => {
+            DecodeFault::BadField(size.saturating_sub(left))
+        }
+        ReadFault::Field(FieldFault::Short) => DecodeFault::Short,
+        ReadFault::NoMemory => DecodeFault::NoMemory,
+    }
+}
+
+/// The message, where no bytes follow it.
+fn alone(m: Message, rest: &[u8]) -> Result<Message, DecodeFault>
+    ensures { result ≡ decoding.alone m rest.now }
+{
+    if rest.is_empty() {
+        return Ok(m);
+    }
+    Err(DecodeFault::Long(rest.len()))
+}
+
+/// Whether there is such a kind.
+fn is_kind(kind: u8) -> bool
+    ensures { IsTrue result ↔ ((0 < kind) × (kind ≤ 25)) }
+{
+    0 < kind && kind <= KINDS
+}
+
+/// The message of that kind whose fields stand first in the bytes, all of the bytes.
+fn decode_kind(alloc: Global, kind: u8, fields: &[u8]) -> Result<Message, DecodeFault>
+    ensures { Decodes result (of_kind kind fields.now (kind_of kind)) }
+{
+    if !is_kind(kind) {
+        return Err(DecodeFault::BadKind(kind));
+    }
+    let mut reader = Reader { rest: fields };
+    match reader.message(alloc, kind) {
+        Ok(m) => alone(m, reader.rest),
+        Err(fault) => Err(located(fields.len() + 1, fault)),
+    }
+}
+
+#[tactic(auto, unfolding(crate::specs::Decoding::decoded))]
+fn decode_whole(alloc: Global, bytes: &[u8]) -> Result<Message, DecodeFault>
+    ensures { Decodes result (decoded bytes.now) }
+{
+    match bytes {
+        [] => Err(DecodeFault::Short),
+        [kind, fields @ ..] => decode_kind(alloc, *kind, fields),
+    }
+}
+
+/// The message that the bytes are. `BadKind` where no kind has the first byte, `BadField` with the
+/// place of the first whole field whose value isn't allowed, `Short` where every whole field is
+/// allowed and the bytes end before the message does, and `Long` where bytes follow a message.
+pub fn decode(alloc: Global, bytes: &[u8]) -> Result<Message, DecodeFault>
+    // What is read, or the first fault.
+    ensures exact { Decodes result (decoded bytes.now) }
+    // What is read is spelled so.
+    ensures found { IfOk result (λ m. IsProper m × (spelling m ≡ bytes.now)) }
+    // What is spelled so is read, unless memory runs out.
+    ensures only { (m : Message) → IsProper m → bytes.now ≡ spelling m → Decodes result (Ok m) }
+{
+    decode_whole(alloc, bytes)
+}

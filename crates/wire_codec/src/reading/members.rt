@@ -1,0 +1,105 @@
+//! Members are read.
+ghost use Rattle.std.specs.Prelude.{◌≡◌, ◌<◌, ◌≤◌, length};
+ghost use Rattle.wire_codec.specs.Fields.{items_at};
+ghost use Rattle.wire_codec.specs.Nodes as nodes;
+ghost use Rattle.wire_codec.specs.Nodes.{nobody_before, with_member, member_at, plain_members_at, members_at};
+ghost use Rattle.wire_codec.specs.Reading.{Reads, Fills};
+
+use crate::reading::{ReadFault, Reader};
+use cluster_types::{Member, Members, NodeId, Role};
+
+/// What stands before a member.
+#[derive(Clone, Copy, Debug)]
+pub struct Before {
+    /// The id of the last member, if there is one.
+    pub id: Option<NodeId>,
+    /// Whether all roles are plain.
+    pub plain: bool,
+}
+
+impl Before {
+    fn nobody() -> Before
+        ensures { result ≡ nobody_before }
+    {
+        Before {
+            id: None,
+            plain: true,
+        }
+    }
+
+    fn with(&self, member: &Member) -> Before
+        ensures { result ≡ with_member self.now member.now }
+    {
+        Before {
+            id: Some(member.id),
+            plain: self.plain && is_plain(member.role),
+        }
+    }
+}
+
+/// Whether the role has no rack and isn't quiesced.
+pub(crate) fn is_plain(role: Role) -> bool
+    ensures { result ≡ nodes.is_plain role }
+{
+    role.rack == 0 && !role.quiesced
+}
+
+impl<'a> Reader<'a> {
+    /// 1 to 16 members of plain roles.
+    #[tactic(auto, unfolding(crate::specs::Nodes::plain_members_at))]
+    pub(crate) fn plain_members(&mut self) -> Result<Members, ReadFault>
+        ensures { Reads result (plain_members_at self.old.rest.now) self.new.rest.now }
+    {
+        let ids = self.ids(1, 16)?;
+        match Members::from_slice(ids.as_slice()) {
+            Ok(members) => Ok(members),
+            Err(_) => unreachable!(),
+        }
+    }
+
+    /// A member behind those before it, with so many after it.
+    #[tactic(auto, unfolding(crate::specs::Nodes::member_at))]
+    fn member(&mut self, before: &Before, after: usize) -> Result<Member, ReadFault>
+        ensures { Reads result (member_at before.now after self.old.rest.now) self.new.rest.now }
+    {
+        let id = self.id_below(before.id)?;
+        let role = self.role(!(before.plain && after == 0))?;
+        Ok(Member { id, role })
+    }
+
+    /// A member for each place.
+    fn fill_members(&mut self, places: &mut [Member]) -> Result<(), ReadFault>
+        ensures { Fills result places.new (items_at member_at with_member (length places.old) nobody_before self.old.rest.now) self.new.rest.now }
+    {
+        let mut before = Before::nobody();
+        for i in 0..places.len() {
+            let member = self.member(&before, places.len() - i - 1)?;
+            before = before.with(&member);
+            places[i] = member;
+        }
+        Ok(())
+    }
+
+    /// The members that take these places.
+    fn members_in(&mut self, places: &mut [Member]) -> Result<Members, ReadFault>
+        requires some { 0 < length places.old }
+        requires limit { length places.old ≤ 16 }
+        ensures { Reads result (items_at member_at with_member (length places.old) nobody_before self.old.rest.now) self.new.rest.now }
+    {
+        self.fill_members(places)?;
+        match Members::with_roles(places) {
+            Ok(members) => Ok(members),
+            Err(_) => unreachable!(),
+        }
+    }
+
+    /// 1 to 16 members with their roles.
+    #[tactic(auto, unfolding(crate::specs::Nodes::members_at))]
+    pub(crate) fn members(&mut self) -> Result<Members, ReadFault>
+        ensures { Reads result (members_at self.old.rest.now) self.new.rest.now }
+    {
+        let count = usize::from(self.byte(1, 16)?);
+        let mut places = [Member::plain(NodeId::MIN); 16];
+        self.members_in(&mut places[..count])
+    }
+}
