@@ -1,0 +1,12 @@
+use Rattle.std.proofs.Common.{◌≡◌, sym, ap, ◌∙◌, arith, refl, rules}
+use Rattle.std.specs.Option.{option_copied}
+use Rattle.conflict_order.specs.Next.{next}
+use Rattle.cluster_top.proofs.node.next_version.Goals as goal
+
+pub returns-in-None : goal.returns-in-None
+unfolding next
+returns-in-None c = search rules
+
+pub returns-in-Some : goal.returns-in-Some
+unfolding next
+returns-in-Some c = search rules

@@ -1,0 +1,19 @@
+//! Replays a script, and writes what happened.
+//!
+//! `run` reads the whole script, plays it on its node and writes the journal's text. Its contract
+//! says what every run ends with, and what holds of the journal however it ended.
+#![tactic(auto)]
+
+mod node;
+mod play;
+mod reading;
+mod records;
+mod replay;
+mod status;
+mod writing;
+
+pub use replay::{Outcome, run};
+pub use status::{Status, code, fault_text};
+
+#[cfg(test)]
+mod tests;

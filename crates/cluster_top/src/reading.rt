@@ -1,0 +1,62 @@
+//! Reads a script from its source.
+ghost use Rattle.std.specs.Prelude.{◌≡◌, ◌<◌, ◌≤◌, ◌+◌, [], length, vec_len, drop, Some, IfSome, IfOk, IsErrOf};
+ghost use Rattle.byte_ends.specs.Faults.{Rose};
+ghost use Rattle.cluster_top.specs.Outcome.{Overlong, script_limit};
+ghost use Rattle.cluster_top.specs.Streams.{HadAll};
+
+use byte_ends::{Pulled, Source};
+use std::alloc::{AllocError, Global};
+
+/// The most bytes that a script has.
+pub const SCRIPT_LIMIT: usize = 16_777_216;
+
+/// The most bytes of one pull.
+const PIECE: usize = 65_536;
+
+/// Why a script wasn't read.
+#[derive(Clone, Copy, Debug, PartialEq, Eq)]
+pub enum ReadFault {
+    NoMemory,
+    Source,
+    TooLong,
+}
+
+impl From<AllocError> for ReadFault {
+    ghost use Rattle.std.specs.Prelude.{◌≡◌};
+    ghost use Rattle.cluster_top.specs.declared.reading.ReadFault.TheVariants.{NoMemory};
+
+    ghost from_gives = { λ _ fault. fault ≡ NoMemory };
+
+    fn from(_refused: AllocError) -> ReadFault {
+        ReadFault::NoMemory
+    }
+}
+
+/// Reads the source to its end, unless a byte more than a script has comes first.
+pub fn read_all<S: Source>(alloc: Global, source: &mut S) -> Result<Vec<u8>, ReadFault>
+    ensures limit { IfOk result (λ bytes. length bytes.items ≤ script_limit) }
+    ensures whole { IfOk result (λ bytes. HadAll (S.left source.old) (S.left source.new) bytes.items) }
+
+    ensures fault { IsErrOf result ReadFault.Source → Rose (S.faults source.old) (S.faults source.new) }
+    ensures too_long { IsErrOf result ReadFault.TooLong → IfSome (S.left source.old) (λ bytes. Overlong bytes (S.left source.new)) }
+    ensures never_falls { S.faults source.old ≤ S.faults source.new }
+{
+    let mut bytes = Vec::new(alloc);
+    let mut buffer = room_for_a_piece(alloc)?;
+    while bytes.len() <= SCRIPT_LIMIT {
+        let room = PIECE.min(SCRIPT_LIMIT + 1 - bytes.len());
+        let piece = &mut buffer[..room];
+        match source.pull(piece) {
+            Pulled::Got(count) => bytes.extend_from_slice(&piece[..count])?,
+            Pulled::End => return Ok(bytes),
+            Pulled::Failed => return Err(ReadFault::Source),
+        }
+    }
+    Err(ReadFault::TooLong)
+}
+
+fn room_for_a_piece(alloc: Global) -> Result<Vec<u8>, AllocError>
+    ensures { IfOk result (λ room. vec_len room ≡ 65536) }
+{
+    vec![in alloc; 0u8; PIECE]
+}

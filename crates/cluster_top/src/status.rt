@@ -1,0 +1,67 @@
+//! How a run ended.
+ghost use Rattle.std.specs.Prelude.{◌≡◌, IfOk, Some};
+ghost use Rattle.cluster_top.specs.Outcome.{code_of, fault_of};
+
+use cluster_types::{Bytes, NoMemory};
+use script_lang::Cause;
+use std::alloc::Global;
+use std::fmt;
+
+/// How a run ended.
+#[derive(Clone, Copy, Debug, PartialEq, Eq)]
+pub enum Status {
+    /// All was played and written.
+    Done,
+    /// Memory was refused.
+    NoMemory,
+    /// There were words after the program's name, of which it takes none.
+    BadWords,
+    /// The script has a bad line: the first one, counted from 1, and its cause.
+    BadScript { line: u64, cause: Cause },
+    /// The source had a fault.
+    ReadFault,
+    /// The sink had a fault.
+    WriteFault,
+    /// The script has more than 16,777,216 bytes.
+    ScriptTooLong,
+}
+
+/// What main writes on standard error, without the line feed.
+impl fmt::Display for Status {
+    ghost output = { λ s. Some (fault_of s) };
+
+    fn fmt<W: fmt::Write>(&self, f: &mut fmt::Formatter<W>) -> fmt::Result {
+        match self {
+            Status::Done => Ok(()),
+            Status::NoMemory => write!(f, "no memory"),
+            Status::BadWords => write!(f, "bad words"),
+            Status::BadScript { line, cause } => write!(f, "line {line}: {cause}"),
+            Status::ReadFault => write!(f, "read fault"),
+            Status::WriteFault => write!(f, "write fault"),
+            Status::ScriptTooLong => write!(f, "script too long"),
+        }
+    }
+}
+
+/// The code with which the process ends: 0 to 6.
+pub fn code(status: &Status) -> u8
+    ensures { result ≡ code_of status.now }
+{
+    match status {
+        Status::Done => 0,
+        Status::NoMemory => 1,
+        Status::BadWords => 2,
+        Status::BadScript { .. } => 3,
+        Status::ReadFault => 4,
+        Status::WriteFault => 5,
+        Status::ScriptTooLong => 6,
+    }
+}
+
+/// What main writes on standard error, without the line feed; nothing for a run that is done.
+pub fn fault_text(alloc: Global, status: &Status) -> Result<Bytes, NoMemory>
+    ensures { IfOk result (λ text. text ≡ fault_of status.now) }
+{
+    let text = format!(in alloc; "{status}")?;
+    Bytes::from_slice(alloc, text.as_bytes())
+}

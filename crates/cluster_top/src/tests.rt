@@ -1,0 +1,126 @@
+//! Whole runs over ends in memory.
+use crate::{Status, code, fault_text, run};
+use byte_ends::{MemSink, MemSource, SureSink, SureSource};
+use script_lang::Cause;
+use std::alloc::Global;
+use std::test::Fail;
+
+const SCRIPT: &str = "node 1
+tick 1
+tick 1
+tick 1
+put 1 #0000000000000000000000000000000000000000 hi
+get 1 #0000000000000000000000000000000000000000
+";
+
+const TRANSCRIPT: &str = "node 1
+tick 1
+tick 1
+tick 1
+promise 1 1.1
+enter 1 1.1 1
+exchanged 1 1.1
+opened 1 1.1 1 0000000000000000000000000000000000000000 put
+apply 1 1.1 1 0000000000000000000000000000000000000000 0.1=6869
+done 1 1.1 1
+opened 1 1.1 2 0000000000000000000000000000000000000000 get
+value 1 1.1 2 0000000000000000000000000000000000000000 0.1=6869
+";
+
+const EARLY: &str = "node 1
+get 1 #0000000000000000000000000000000000000000
+";
+
+const REFUSED: &str = "node 1
+refused 1 0000000000000000000000000000000000000000 noview
+";
+
+/// What a run is given, and how it is to end.
+#[derive(Clone, Copy)]
+struct Case {
+    script: &'static str,
+    pull_fails: &'static [u64],
+    push_fails: &'static [u64],
+    status: Status,
+    taken: &'static str,
+}
+
+/// A run over pieces of seven bytes, and then its status and what the sink took.
+fn ends_as_wanted(alloc: Global, case: &Case) -> Result<bool, Fail> {
+    let mut source = MemSource::new(alloc, case.script.as_bytes(), 7, case.pull_fails)?;
+    let mut sink = MemSink::new(alloc, 1000, case.push_fails)?;
+    let outcome = run(alloc, &[], &mut source, &mut sink);
+    Ok(outcome.status == case.status && sink.as_slice() == case.taken.as_bytes())
+}
+
+#[test]
+fn runs_write_their_transcript_or_say_what_failed(rt: HostRuntime) -> Result<(), Fail> {
+    let none: &[u64] = &[];
+    let first: &[u64] = &[1];
+    for (script, pull_fails, push_fails, status, taken) in [
+        ("", none, none, Status::Done, ""),
+        (SCRIPT, none, none, Status::Done, TRANSCRIPT),
+        (EARLY, none, none, Status::Done, REFUSED),
+        (SCRIPT, first, none, Status::ReadFault, ""),
+        (SCRIPT, none, first, Status::WriteFault, ""),
+        (
+            "node 1\njump 1\n",
+            none,
+            none,
+            Status::BadScript {
+                line: 2,
+                cause: Cause::NotBuilt,
+            },
+            "",
+        ),
+    ] {
+        let case = Case {
+            script,
+            pull_fails,
+            push_fails,
+            status,
+            taken,
+        };
+        assert!(rt; ends_as_wanted(rt.alloc(), &case)?, "{script}");
+    }
+    Ok(())
+}
+
+#[test]
+fn a_byte_past_the_limit_is_too_long(rt: HostRuntime) -> Result<(), Fail> {
+    let alloc = rt.alloc();
+    let bytes = vec![in alloc; b'\n'; 16_777_217]?;
+    let mut source = SureSource::new(alloc, bytes.as_slice())?;
+    let outcome = run(alloc, &[], &mut source, &mut SureSink::new());
+    assert_eq!(rt; outcome.status, Status::ScriptTooLong);
+    Ok(())
+}
+
+#[test]
+fn a_word_is_refused(rt: HostRuntime) -> Result<(), Fail> {
+    let alloc = rt.alloc();
+    let words = vec![in alloc; String::from_str(alloc, "--sum")?]?;
+    let mut source = SureSource::new(alloc, SCRIPT.as_bytes())?;
+    let outcome = run(alloc, words.as_slice(), &mut source, &mut SureSink::new());
+    assert_eq!(rt; outcome.status, Status::BadWords);
+    Ok(())
+}
+
+#[test]
+fn each_status_has_its_code_and_text(rt: HostRuntime) -> Result<(), Fail> {
+    let cause = Cause::NotBuilt;
+    for (status, number, words) in [
+        (Status::Done, 0, ""),
+        (Status::NoMemory, 1, "no memory"),
+        (Status::BadWords, 2, "bad words"),
+        (Status::BadScript { line: 3, cause }, 3, "line 3: NotBuilt"),
+        (Status::ReadFault, 4, "read fault"),
+        (Status::WriteFault, 5, "write fault"),
+        (Status::ScriptTooLong, 6, "script too long"),
+    ] {
+        assert_eq!(rt; code(&status), number);
+        let text = fault_text(rt.alloc(), &status)?;
+        assert_eq!(rt; text.as_slice(), words.as_bytes());
+    }
+    Ok(())
+}
