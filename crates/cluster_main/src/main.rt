@@ -1,0 +1,44 @@
+//! Replays the script on standard input, and writes its transcript to standard output.
+#![tactic(auto)]
+
+use byte_ends::{StdSink, StdSource};
+use cluster_top::{Status, code, fault_text, run};
+use std::io::Write;
+use std::process::ExitCode;
+use std::{env, io};
+
+/// The words after the program's name.
+fn words(rt: &HostRuntime) -> io::Result<Vec<String>> {
+    let mut words = Vec::new(rt.alloc());
+    for word in env::args(rt)?.skip(1) {
+        words.push(word)?;
+    }
+    Ok(words)
+}
+
+/// Runs over the standard streams. Words that can't be read are no words that it takes.
+fn status(rt: &HostRuntime) -> Status {
+    let Ok(words) = words(rt) else {
+        return Status::BadWords;
+    };
+    let mut source = StdSource::new(rt.reader());
+    let mut sink = StdSink::new(io::writer(rt));
+    run(rt.alloc(), words.as_slice(), &mut source, &mut sink).status
+}
+
+/// Writes the fault's text and a line feed, as far as memory and standard error let it.
+fn report(rt: &HostRuntime, status: &Status) {
+    if let Ok(text) = fault_text(rt.alloc(), status) {
+        let mut errors = rt.stderr();
+        let _ = errors.write_all(text.as_slice());
+        let _ = errors.write_all(b"\n");
+    }
+}
+
+fn main(rt: HostRuntime) -> ExitCode {
+    let status = status(&rt);
+    if status != Status::Done {
+        report(&rt, &status);
+    }
+    ExitCode::from(code(&status))
+}
