@@ -1,0 +1,7 @@
+mod Examples
+pub mod HashLaws
+pub mod InOrderLaws
+pub mod LeavingLaws
+pub mod ListLaws
+pub mod RankLaws
+pub mod StandingLaws

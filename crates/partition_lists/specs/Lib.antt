@@ -1,0 +1,6 @@
+pub mod Candidates
+pub mod Hashes
+pub mod Leaving
+pub mod Lists
+pub mod NodeStates
+pub mod Ranks
