@@ -1,0 +1,24 @@
+-- The stamps of a store as a list with a place for each partition.
+use Rattle.std.specs.Prelude.{ℕ, suc, List, [], ◌∷◌, Option, Some, None}
+use Rattle.std.specs.FinMap as finite
+use Rattle.cluster_types.specs.declared.cluster_key.ClusterKey.{ClusterKey}
+use Rattle.record_store.specs.declared.stamp.Stamp.{Stamp}
+use Rattle.record_store.specs.Store.{Stamps}
+
+-- the key and the number of writes
+abbrev pub shown : Option Stamp → Option (ClusterKey × ℕ)
+shown None = None
+shown (Some s) = Some (s.key, s.writes)
+
+-- the entry of that partition before others
+abbrev pub with_entry : ℕ → Option (ClusterKey × ℕ) → List (ℕ × (ClusterKey × ℕ)) → List (ℕ × (ClusterKey × ℕ))
+with_entry p None es = es
+with_entry p (Some stamp) es = (p, stamp) ∷ es
+
+-- the entries of the stamps from that partition on
+abbrev pub entries_from : ℕ → List (Option Stamp) → List (ℕ × (ClusterKey × ℕ))
+entries_from p [] = []
+entries_from p (s ∷ stamps) = with_entry p (shown s) (entries_from (suc p) stamps)
+
+abbrev pub stamps_of : List (Option Stamp) → Stamps
+stamps_of stamps = finite.from_entries (entries_from 0 stamps)
