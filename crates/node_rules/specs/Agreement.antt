@@ -1,0 +1,121 @@
+-- The agreement on the next view: what was promised, what was entered, and what is proposed.
+use Rattle.std.specs.Prelude.{ℕ, ◌+◌, ◌^◌, max, nat_lt, Bool, true, false, List, Option, Some, None}
+use Rattle.cluster_types.specs.declared.cluster_key.ClusterKey.{ClusterKey}
+use Rattle.cluster_types.specs.declared.member.Member.{Member}
+use Rattle.cluster_types.specs.ClusterKeys as keys
+use Rattle.cluster_types.specs.Distinct.{without}
+use Rattle.cluster_types.specs.Members.{ids_of}
+use Rattle.cluster_types.specs.MembersEqual.{same_members}
+use Rattle.node_rules.specs.Keys.{same_key}
+
+-- a view that the node proposes
+pub record Proposal : Type 0 where
+  pub key : ClusterKey
+  pub members : List Member
+  -- the other members that haven't accepted it, in member order
+  pub missing : List ℕ
+
+-- how far the node has come in agreeing on views
+pub record Agreement : Type 0 where
+  -- the key that was promised last
+  pub promised : ClusterKey
+  -- the key that was entered last
+  pub last : ClusterKey
+  pub proposal : Option Proposal
+  -- the greatest round of the promised keys that others told since the start
+  pub seen : ℕ
+
+-- nothing promised and nothing entered
+abbrev pub no_agreement : Agreement
+no_agreement = record { promised = keys.none; last = keys.none; proposal = None; seen = 0 }
+
+-- the members' ids but the node's own, in member order
+abbrev pub others : ℕ → List Member → List ℕ
+others me members = without (ids_of members) me
+
+-- a proposal that nobody has accepted
+abbrev pub proposal_of : ℕ → ClusterKey → List Member → Proposal
+proposal_of me key members = record { key = key; members = members; missing = others me members }
+
+-- whether the proposal is of that key
+abbrev pub proposes : Option Proposal → ClusterKey → Bool
+proposes None key = false
+proposes (Some p) key = same_key p.key key
+
+-- the proposal where the test holds, and else none
+abbrev pub kept_if : Bool → Option Proposal → Option Proposal
+kept_if true proposal = proposal
+kept_if false proposal = None
+
+-- the node promised that key: a proposal of another key is given up
+abbrev pub promising : Agreement → ClusterKey → Agreement
+promising a key = record a { promised = key; proposal = kept_if (proposes a.proposal key) a.proposal }
+
+-- the node entered the view of that key
+abbrev pub entering : Agreement → ClusterKey → Agreement
+entering a key = record a { last = key; proposal = None }
+
+-- a promised key of another node was seen
+abbrev pub seeing : Agreement → ClusterKey → Agreement
+seeing a key = record a { seen = max a.seen key.round }
+
+-- after a stop only the two keys are left
+abbrev pub stopping : Agreement → Agreement
+stopping a = record a { proposal = None; seen = 0 }
+
+-- the member accepted
+abbrev pub without_missing : Proposal → ℕ → Proposal
+without_missing p from = record p { missing = without p.missing from }
+
+-- the proposal, where there is one, after the member accepted it
+abbrev pub accepted_by : Option Proposal → ℕ → Option Proposal
+accepted_by None from = None
+accepted_by (Some p) from = Some (without_missing p from)
+
+-- the member accepts where the test holds
+abbrev pub accepting_if : Agreement → ℕ → Bool → Agreement
+accepting_if a from true = record a { proposal = accepted_by a.proposal from }
+accepting_if a from false = a
+
+-- an Accept of that key came from a member: it counts where the key is proposed
+abbrev pub accepting : Agreement → ℕ → ClusterKey → Agreement
+accepting a from key = accepting_if a from (proposes a.proposal key)
+
+-- the proposal is given up where the test holds
+abbrev pub refused_if : Agreement → Bool → Agreement
+refused_if a true = record a { proposal = None }
+refused_if a false = a
+
+-- a Refuse of that key came: where the key is proposed, the proposal is given up
+abbrev pub refused : Agreement → ClusterKey → Agreement
+refused a key = refused_if a (proposes a.proposal key)
+
+-- the proposal is taken where the test, that it stands already, fails
+abbrev pub proposed_if : Agreement → Proposal → Bool → Agreement
+proposed_if a p true = a
+proposed_if a p false = record a { proposal = Some p }
+
+-- a Propose was sent: its view is proposed from the first one on
+abbrev pub proposing : Agreement → ℕ → ClusterKey → List Member → Agreement
+proposing a me key members = proposed_if a (proposal_of me key members) (proposes a.proposal key)
+
+-- the greatest round among the promised key and all keys that were seen since the start
+abbrev pub seen_round : Agreement → ℕ
+seen_round a = max a.promised.round a.seen
+
+-- the key of a new proposal
+abbrev pub next_key : ℕ → Agreement → ClusterKey
+next_key me a = record { round = seen_round a + 1; principal = me }
+
+-- whether there is a round for a new proposal
+abbrev pub has_round : Agreement → Bool
+has_round a = nat_lt (seen_round a + 1) (2 ^ 48)
+
+-- whether the proposal is of just these members
+abbrev pub proposes_set : Option Proposal → List Member → Bool
+proposes_set None set = false
+proposes_set (Some p) set = same_members p.members set
+
+-- a tick at which the neighbours are these: a proposal of other members is given up
+abbrev pub still_proposing : Agreement → List Member → Agreement
+still_proposing a set = record a { proposal = kept_if (proposes_set a.proposal set) a.proposal }

@@ -1,0 +1,43 @@
+-- What a node knows of how far each partition has come in its view.
+use Rattle.std.specs.Prelude.{ℕ, ◌||◌, Bool, true, false, List, [], ◌∷◌, unwrap_or, replicate, slice_set}
+use Rattle.cluster_types.specs.Partitions.{partition_count}
+use Rattle.cluster_types.specs.Rows.{bit}
+use Rattle.node_rules.specs.Tables.{Table, at, with_entry}
+
+-- bits of each partition, of the view alone
+pub record Bits : Type 0 where
+  -- the done row of each other member's last Progress
+  pub done : Table (List Bool)
+  -- the partitions that were handed over, as far as the node knows
+  pub handed : List Bool
+  -- the partitions whose settling was written, as far as the node knows
+  pub settled : List Bool
+  -- the partitions that the node learnt
+  pub learnt : List Bool
+
+-- a row in which no bit is set
+unfoldable pub clear_row : List Bool
+clear_row = replicate partition_count false
+
+-- no bit is set and no Progress came
+abbrev pub no_bits : Bits
+no_bits = record { done = []; handed = clear_row; settled = clear_row; learnt = clear_row }
+
+-- the row with each bit that either has
+abbrev pub or_rows : List Bool → List Bool → List Bool
+or_rows [] [] = []
+or_rows [] (b ∷ bs) = b ∷ bs
+or_rows (a ∷ rest) [] = a ∷ rest
+or_rows (a ∷ rest) (b ∷ bs) = (a || b) ∷ or_rows rest bs
+
+-- the row with the partition's bit
+abbrev pub with_bit : List Bool → ℕ → List Bool
+with_bit row p = slice_set row p true
+
+-- whether the node knows that the member is done at the partition
+abbrev pub knows_done : Bits → ℕ → ℕ → Bool
+knows_done b p m = bit (unwrap_or (at b.done m) []) p
+
+-- a Progress came: its done row takes the place of the sender's last one, and the other two are joined
+abbrev pub progressing : Bits → ℕ → List Bool → List Bool → List Bool → Bits
+progressing b from done handed settled = record b { done = with_entry b.done from done; handed = or_rows b.handed handed; settled = or_rows b.settled settled }

@@ -1,0 +1,68 @@
+-- Hand-over, settling, learning and dropping, partition by partition, whose list is an argument.
+use Rattle.std.specs.Prelude.{ℕ, zero, suc, ◌+◌, ◌&&◌, ◌||◌, Bool, true, false, not, List, [], ◌∷◌, ◌++◌, None}
+use Rattle.journal_text.specs.declared.line.Line.{Line}
+use Rattle.journal_text.specs.declared.line.Line.TheVariants as line
+use Rattle.node_rules.specs.Facts.{Facts, view_key, list_at}
+use Rattle.node_rules.specs.Notes.{noted}
+use Rattle.node_rules.specs.Standing.{is_acting, is_master, is_all_empty, are_all_done, knows_handed, has_settled_bit, is_to_learn, is_to_drop}
+use Rattle.node_rules.specs.Transactions.{is_busy}
+
+-- whether the node hands the partition over: it is the acting master by the rows and not the list
+-- master, hasn't handed it over, is done at it and knows every other member done, and has no
+-- transaction open on it
+abbrev pub may_hand : Facts → List ℕ → ℕ → Bool
+may_hand f l p =
+    is_acting f l p
+    && (not (is_master f l) && (not (knows_handed f p) && (are_all_done f p && not (is_busy f.transactions p))))
+
+-- whether the node settles the partition: it is the list master, some copy wasn't empty, the bit
+-- isn't set, it has no transaction open on it, and either the partition was handed over to it, or it
+-- is itself the acting master by the rows, is done and knows every other member done
+abbrev pub may_settle : Facts → List ℕ → ℕ → Bool
+may_settle f l p =
+    is_master f l
+    && (not (is_all_empty f p)
+    && (not (has_settled_bit f p) && (not (is_busy f.transactions p) && (knows_handed f p || (is_acting f l p && are_all_done f p)))))
+
+-- the line where the test holds
+abbrev pub line_if : Line → Bool → List Line
+line_if l true = l ∷ []
+line_if l false = []
+
+-- the line `handed`, where it is due
+abbrev pub hand : Facts → List ℕ → ℕ → List Line
+hand f l p = line_if (line.Handed f.me (view_key f) p) (may_hand f l p)
+
+-- the line `settled`, where it is due
+abbrev pub settle : Facts → List ℕ → ℕ → List Line
+settle f l p = line_if (line.Settled f.me (view_key f) p) (may_settle f l p)
+
+-- the line `learn`, where it is due
+abbrev pub learn : Facts → List ℕ → ℕ → List Line
+learn f l p = line_if (line.Learn f.me (view_key f) p) (is_to_learn f l p)
+
+-- the line `drop`, where it is due
+abbrev pub drop : Facts → List ℕ → ℕ → List Line
+drop f l p = line_if (line.Drop f.me (view_key f) p) (is_to_drop f l p)
+
+-- lines, and then those that are due of the facts with them
+abbrev pub and_then : (Facts → List Line) → (Facts → List Line) → Facts → List Line
+and_then first second f = first f ++ second (noted None f (first f))
+
+-- the four at one partition, each of the facts with the lines of those before it
+abbrev pub settling_at : List ℕ → ℕ → Facts → List Line
+settling_at l p = and_then (λ f. hand f l p) (and_then (λ f. settle f l p) (and_then (λ f. learn f l p) (λ f. drop f l p)))
+
+-- so many partitions, from one on
+unfoldable pub settling_from : ℕ → ℕ → Facts → List Line
+settling_from zero p f = []
+settling_from (suc n) p f = settling_at (list_at f p) p f ++ settling_from n (p + 1) (noted None f (settling_at (list_at f p) p f))
+
+-- the partitions from 0 on, where the test holds
+abbrev pub settling_if : ℕ → Facts → Bool → List Line
+settling_if n f true = settling_from n 0 f
+settling_if n f false = []
+
+-- the partitions from 0 on, once the exchange is finished
+abbrev pub settling : ℕ → Facts → List Line
+settling n f = settling_if n f f.exchange.exchanged

@@ -1,0 +1,80 @@
+-- How many of the list master's writes a copy has had, by their numbers.
+use Rattle.std.specs.Prelude.{ℕ, ◌+◌, ◌==◌, nat_lt, Bool, true, false, if◌then◌else◌, List, [], ◌∷◌, length, Option, Some, None, unwrap_or, nat_eq}
+use Rattle.std.specs.Cmp.Lexicographic.{pointwise}
+use Rattle.std.specs.List.{range_with_len}
+use Rattle.std.specs.FinMap as map
+use Rattle.cluster_types.specs.declared.cluster_key.ClusterKey.{ClusterKey}
+use Rattle.node_rules.specs.Keys.{same_key}
+use Rattle.node_rules.specs.Tables.{Table, at, with_entry}
+use Rattle.node_rules.specs.Copies.{Store, Stamp, Stamps}
+
+-- a set of numbers, as their list in strictly rising order
+abbrev pub Numbers : Type 0
+Numbers = List ℕ
+
+-- the count of a copy that belongs to no class
+abbrev pub no_class : ℕ
+no_class = 4294967295
+
+-- the set with a number more
+abbrev pub with_number : Numbers → ℕ → Numbers
+with_number [] n = n ∷ []
+with_number (m ∷ ms) n = if n == m then m ∷ ms else (if nat_lt n m then n ∷ m ∷ ms else (m ∷ with_number ms n))
+
+-- whether the numbers are exactly those from 1 to how many there are
+abbrev pub have_no_gap : Numbers → Bool
+have_no_gap numbers = pointwise nat_eq numbers (range_with_len 1 (length numbers))
+
+-- n where the numbers are exactly 1 to n, and otherwise `no_class`
+abbrev pub count_of : Numbers → ℕ
+count_of numbers = if have_no_gap numbers then length numbers else no_class
+
+-- what a node knows in its view of the writes on each partition
+pub record Writes : Type 0 where
+  -- how many writes it applied itself
+  pub applies : Table ℕ
+  -- the numbers of the list master's writes that reached it
+  pub numbers : Table Numbers
+
+-- no write was applied and none came
+abbrev pub no_writes : Writes
+no_writes = record { applies = []; numbers = [] }
+
+-- how many writes of the partition the node applied
+abbrev pub applies_at : Writes → ℕ → ℕ
+applies_at w p = unwrap_or (at w.applies p) 0
+
+-- the numbers of the list master's writes of the partition that came
+abbrev pub numbers_at : Writes → ℕ → Numbers
+numbers_at w p = unwrap_or (at w.numbers p) []
+
+-- the node applied one more
+abbrev pub applying : Writes → ℕ → Writes
+applying w p = record w { applies = with_entry w.applies p (applies_at w p + 1) }
+
+-- the list master's write of that number reached the node
+abbrev pub hearing_write : Writes → ℕ → ℕ → Writes
+hearing_write w p nth = record w { numbers = with_entry w.numbers p (with_number (numbers_at w p) nth) }
+
+-- how many of the list master's writes of the view the copy has had: its own for the list master
+-- itself, and for another node the numbers that reached it
+abbrev pub count_at : Writes → Bool → ℕ → ℕ
+count_at w true p = applies_at w p
+count_at w false p = count_of (numbers_at w p)
+
+-- a stamp of the view's key has the count as it now is, and another one stays
+abbrev pub recounted : ClusterKey → ℕ → Stamp → Stamp
+recounted key count stamp = if same_key stamp.0 key then (key, count) else stamp
+
+-- a record of another view's key came into a copy: it equals none that was whole under its stamp
+abbrev pub spoiled : ClusterKey → Stamp → Stamp
+spoiled key stamp = if same_key stamp.0 key then stamp else (stamp.0, no_class)
+
+-- the stamps with that one changed, where it is there
+abbrev pub changed_stamps : Stamps → ℕ → (Stamp → Stamp) → Option Stamp → Stamps
+changed_stamps stamps p change None = stamps
+changed_stamps stamps p change (Some stamp) = map.insert stamps p (change stamp)
+
+-- a change of the partition's stamp, where it has one
+abbrev pub with_stamp : Store → ℕ → (Stamp → Stamp) → Store
+with_stamp s p change = record s { stamps = changed_stamps s.stamps p change (map.get s.stamps p) }

@@ -1,0 +1,108 @@
+-- How a node stands to a partition of its view, whose list is an argument.
+use Rattle.std.specs.Prelude.{ℕ, zero, suc, ◌+◌, ◌==◌, ◌&&◌, ◌||◌, Bool, true, not, if◌then◌else◌, List, []}
+use Rattle.std.specs.List.{list_all}
+use Rattle.cluster_types.specs.Distinct.{without}
+use Rattle.cluster_types.specs.Rows.{bit}
+use Rattle.partition_lists.specs.Lists.{replicas}
+use Rattle.node_rules.specs.Tables.{contains}
+use Rattle.node_rules.specs.Agreement as agreement
+use Rattle.node_rules.specs.Map.{acting, master, all_empty}
+use Rattle.node_rules.specs.Classes.{asked_by}
+use Rattle.node_rules.specs.Batches.{is_pending}
+use Rattle.node_rules.specs.Bits.{knows_done}
+use Rattle.node_rules.specs.Copies.{holds_of, is_nil}
+use Rattle.node_rules.specs.Facts.{Facts, members, list_at}
+
+-- the other members of the view, in member order
+abbrev pub others : Facts → List ℕ
+others f = agreement.others f.me (members f)
+
+-- whether the node is a replica of the partition
+abbrev pub is_replica : Facts → List ℕ → Bool
+is_replica f l = contains (replicas l f.factor) f.me
+
+-- the other replicas of the partition, in list order
+abbrev pub other_replicas : Facts → List ℕ → List ℕ
+other_replicas f l = without (replicas l f.factor) f.me
+
+-- whether the node is the partition's list master
+abbrev pub is_master : Facts → List ℕ → Bool
+is_master f l = master l == f.me
+
+-- the acting master by the rows of the view
+abbrev pub acting_at : Facts → List ℕ → ℕ → ℕ
+acting_at f l p = acting l f.exchange.rows p
+
+-- whether the node is the acting master by the rows of the view
+abbrev pub is_acting : Facts → List ℕ → ℕ → Bool
+is_acting f l p = acting_at f l p == f.me
+
+-- whether no member's copy had a record, as far as rows are there
+abbrev pub is_all_empty : Facts → ℕ → Bool
+is_all_empty f p = all_empty f.exchange.rows p
+
+-- whether the node is done at the partition: nothing of it is pending to any member
+abbrev pub is_done : Facts → ℕ → Bool
+is_done f p = f.exchange.exchanged && not (is_pending f.batches p)
+
+-- whether the node is done and knows every other member done
+abbrev pub are_all_done : Facts → ℕ → Bool
+are_all_done f p = is_done f p && list_all (knows_done f.bits p) (others f)
+
+-- whether the node knows that the partition was handed over
+abbrev pub knows_handed : Facts → ℕ → Bool
+knows_handed f p = bit f.bits.handed p
+
+-- whether the node knows that the partition's settling was written
+abbrev pub has_settled_bit : Facts → ℕ → Bool
+has_settled_bit f p = bit f.bits.settled p
+
+-- whether the node knows the partition settled: by the bit, or since all copies were empty
+abbrev pub knows_settled : Facts → ℕ → Bool
+knows_settled f p = has_settled_bit f p || (f.exchange.exchanged && is_all_empty f p)
+
+-- whether the node knows each of so many partitions settled, from one on
+unfoldable pub knows_all_settled : Facts → ℕ → ℕ → Bool
+knows_all_settled f zero p = true
+knows_all_settled f (suc n) p = knows_settled f p && knows_all_settled f n (p + 1)
+
+-- whether the node knows the partition handed over or settled, so that its list master is to be asked
+abbrev pub has_moved : Facts → ℕ → Bool
+has_moved f p = knows_handed f p || knows_settled f p
+
+-- whether the node takes requests: the acting master by the rows until it hands the partition over,
+-- and the list master, where that is another, from its settling on
+abbrev pub acts : Facts → List ℕ → ℕ → Bool
+acts f l p =
+    f.exchange.exchanged
+    && ((is_acting f l p && not (knows_handed f p)) || (is_master f l && (not (is_acting f l p) && has_settled_bit f p)))
+
+-- the node that is to be asked: the list master once the node knows the partition handed over or
+-- settled, and before that the acting master by the rows
+abbrev pub named : Facts → List ℕ → ℕ → ℕ
+named f l p = if has_moved f p then master l else acting_at f l p
+
+-- whom a transaction asks that opens now: nobody where the node knows the partition settled, and
+-- otherwise the firsts of all classes but its own
+abbrev pub asked : Facts → List ℕ → ℕ → List ℕ
+asked f l p = if knows_settled f p then [] else asked_by l f.exchange.rows p f.me
+
+-- whether the node is to learn the partition: it is settled, the node is a replica, and hasn't learnt it
+abbrev pub is_to_learn : Facts → List ℕ → ℕ → Bool
+is_to_learn f l p = has_settled_bit f p && (is_replica f l && not (bit f.bits.learnt p))
+
+-- whether the node is to drop the partition: it is settled, the node is done at it, is no replica,
+-- and holds a record of it
+abbrev pub is_to_drop : Facts → List ℕ → ℕ → Bool
+is_to_drop f l p = has_settled_bit f p && (is_done f p && (not (is_replica f l) && holds_of f.store.content p))
+
+-- whether nothing is to be learnt or dropped in so many partitions, from one on
+unfoldable pub has_nothing_to_learn_or_drop : Facts → ℕ → ℕ → Bool
+has_nothing_to_learn_or_drop f zero p = true
+has_nothing_to_learn_or_drop f (suc n) p =
+    not (is_to_learn f (list_at f p) p || is_to_drop f (list_at f p) p) && has_nothing_to_learn_or_drop f n (p + 1)
+
+-- whether the node, of so many partitions, is at rest: it has finished the exchange, knows each
+-- partition settled, has nothing to learn or drop, and has no open transaction
+abbrev pub is_at_rest : ℕ → Facts → Bool
+is_at_rest n f = f.exchange.exchanged && (knows_all_settled f n 0 && (has_nothing_to_learn_or_drop f n 0 && is_nil f.transactions.running))

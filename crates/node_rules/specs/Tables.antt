@@ -1,0 +1,26 @@
+-- Tables by a number, such as a node's or a partition's, and lists of numbers.
+use Rattle.std.specs.Prelude.{ℕ, ◌==◌, Bool, true, false, List, Option}
+use Rattle.std.specs.List.{list_any}
+use Rattle.std.specs.Ordering.{nat_cmp}
+use Rattle.std.specs.FinMap.{find, put}
+
+-- entries in strictly rising order of their numbers
+abbrev pub Table : Type 0 → Type 0
+Table X = List (ℕ × X)
+
+-- what the table has at the number
+abbrev pub at : {X : Type 0} → Table X → ℕ → Option X
+at table n = find nat_cmp n table
+
+-- the table with this at the number, in place of what stood there
+abbrev pub with_entry : {X : Type 0} → Table X → ℕ → X → Table X
+with_entry table n x = put nat_cmp n x table
+
+-- the item, changed where the test holds
+abbrev pub changed_if : {X : Type 0} → (X → X) → X → Bool → X
+changed_if change x true = change x
+changed_if change x false = x
+
+-- whether the number is one of those
+abbrev pub contains : List ℕ → ℕ → Bool
+contains ns n = list_any (λ m. m == n) ns

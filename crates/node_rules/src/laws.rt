@@ -1,0 +1,156 @@
+//! Worked examples of the rules, which the prover computes. A call does nothing: what it ensures is
+//! the example.
+ghost use Rattle.std.specs.Prelude.{◌≡◌, ◌↔◌, ◌<◌, ◌≤◌, length, ◌∷◌, [], ℕ, true, false, Some, None};
+ghost use Rattle.conflict_order.specs.declared.want.Want.TheVariants as want;
+ghost use Rattle.conflict_order.specs.declared.want.Action.TheVariants as action;
+ghost use Rattle.cluster_types.specs.declared.copy_state.CopyState.TheVariants.{Part, Whole};
+ghost use Rattle.journal_text.specs.declared.line.Line.TheVariants as line;
+ghost use Rattle.journal_text.specs.declared.refusal.Refusal.TheVariants as refusal;
+ghost use Rattle.wire_codec.specs.declared.message.Message.TheVariants as message;
+ghost use Rattle.cluster_types.specs.ClusterKeys.{none};
+ghost use Rattle.cluster_types.specs.Members.{plain_role};
+ghost use Rattle.node_rules.specs.Batches.{next_batch, acking, new_target};
+ghost use Rattle.node_rules.specs.Classes.{class_first, sends, asked_by};
+ghost use Rattle.node_rules.specs.Copies.{Content, Store, copy_state, row_from};
+ghost use Rattle.node_rules.specs.Facts.{Facts};
+ghost use Rattle.node_rules.specs.Standing.{is_done, knows_settled, knows_all_settled};
+ghost use Rattle.cluster_types.specs.Partitions.{partition_count};
+ghost use Rattle.cluster_types.specs.Rows.{bit};
+ghost use Rattle.cluster_types.specs.StateRows.{IsStateRow, state_of};
+ghost use Rattle.node_rules.specs.Effects.{nothing, lines_only, sends_only, to_one};
+ghost use Rattle.node_rules.specs.Examples.{key, lone, itself, ticked_twice, in_its_view, zeros, hi, first_hi, having_hi, seven, writing_hi, hi_written, promised_two, two, five_rows, five, hearing_one, proposing_two, migrating, whole_and_part, batch_of_hi, sent_hi, restarted, waiting_for, second_hi, lacking_two};
+ghost use Rattle.node_rules.specs.Map.{acting, all_empty};
+ghost use Rattle.node_rules.specs.Messages.{due_message};
+ghost use Rattle.node_rules.specs.Requests.{due_request, due_stop, refusal_of, request_at};
+ghost use Rattle.node_rules.specs.Settling.{settling_at};
+ghost use Rattle.node_rules.specs.Stamps.{count_of, with_number, no_class};
+ghost use Rattle.node_rules.specs.Steps.{after_tick};
+ghost use Rattle.node_rules.specs.Tick.{due_tick, done_from};
+
+/// A node that is alone enters a view of its own at its third tick.
+pub fn lone_node_enters_at_its_third_tick()
+    ensures first { due_tick lone ≡ lines_only (line.Tick 1 ∷ []) }
+    ensures second { due_tick (after_tick lone) ≡ lines_only (line.Tick 1 ∷ []) }
+    ensures third { due_tick ticked_twice ≡ lines_only (line.Tick 1 ∷ line.Promise 1 (key 1 1) ∷ line.Enter 1 (key 1 1) itself ∷ line.Exchanged 1 (key 1 1) ∷ []) }
+{}
+
+/// There it writes and reads at once, as no other member is to be asked or to acknowledge.
+pub fn lone_node_puts_and_gets()
+    ensures put { due_request in_its_view 0 zeros (want.Put hi) ≡ lines_only (line.Opened 1 (key 1 1) 1 zeros action.Put ∷ line.Apply 1 (key 1 1) 1 zeros first_hi ∷ line.Done 1 (key 1 1) 1 ∷ []) }
+    ensures get { due_request having_hi 0 zeros want.Get ≡ lines_only (line.Opened 1 (key 1 1) 2 zeros action.Get ∷ line.Value 1 (key 1 1) 2 zeros (Some first_hi) ∷ []) }
+{}
+
+/// A node without a view refuses every request.
+pub fn node_without_view_refuses()
+    ensures { due_request lone 0 zeros want.Get ≡ lines_only (line.Refused 1 zeros refusal.NoView ∷ []) }
+{}
+
+/// A stop ends an open transaction: in doubt where it was applied, and aborted otherwise.
+pub fn stop_ends_transactions()
+    ensures aborted { due_stop (writing_hi None) ≡ lines_only (line.Aborted 1 (key 1 1) 1 ∷ line.Stop 1 ∷ []) }
+    ensures doubt { due_stop (writing_hi (Some hi_written)) ≡ lines_only (line.Doubt 1 (key 1 1) 1 ∷ line.Stop 1 ∷ []) }
+{}
+
+/// A node votes by the key that it promised, and enters a committed view once.
+pub fn votes_go_by_the_promised_key()
+    ensures below { due_message promised_two 0 2 (message.Propose (key 1 2) two) ≡ sends_only (to_one 2 (message.Refuse (key 1 2) (key 2 1))) }
+    ensures same { due_message promised_two 0 2 (message.Propose (key 2 1) two) ≡ sends_only (to_one 2 (message.Accept (key 2 1))) }
+    ensures above { due_message promised_two 0 2 (message.Propose (key 2 2) two) ≡ record { lines = line.Promise 1 (key 2 2) ∷ []; sends = to_one 2 (message.Accept (key 2 2)) } }
+    ensures enters { due_message promised_two 0 2 (message.Commit (key 2 1) two) ≡ lines_only (line.Enter 1 (key 2 1) two ∷ []) }
+    ensures entered { due_message promised_two 0 2 (message.Commit (key 1 1) two) ≡ lines_only (line.Stale 1 ∷ []) }
+    ensures not_proposed { due_message promised_two 0 2 (message.Accept (key 2 1)) ≡ lines_only (line.Stale 1 ∷ []) }
+    ensures entered_before { due_message restarted 0 2 (message.Commit (key 2 1) two) ≡ lines_only (line.Stale 1 ∷ []) }
+{}
+
+/// The greater of two neighbours proposes a view of both, and enters it once the other has accepted.
+pub fn two_nodes_agree()
+    ensures proposes { due_tick hearing_one ≡ record { lines = line.Tick 2 ∷ line.Promise 2 (key 1 2) ∷ []; sends = (1, message.Heartbeat none none (1 ∷ []) plain_role) ∷ (1, message.Propose (key 1 2) two) ∷ [] } }
+    ensures commits { due_message proposing_two 0 1 (message.Accept (key 1 2)) ≡ record { lines = line.Enter 2 (key 1 2) two ∷ []; sends = to_one 1 (message.Commit (key 1 2) two) } }
+    ensures stops { due_message proposing_two 0 1 (message.Refuse (key 1 2) (key 3 1)) ≡ nothing }
+    ensures proposes_again { due_tick proposing_two ≡ record { lines = line.Tick 2 ∷ []; sends = (1, message.Heartbeat none (key 1 2) (1 ∷ []) plain_role) ∷ (1, message.Propose (key 1 2) two) ∷ [] } }
+{}
+
+/// A message of another view changes nothing, an answer that nothing awaits is spent, and the last
+/// acknowledgement ends a write.
+pub fn messages_count_in_their_view()
+    ensures other_view { due_message (writing_hi (Some hi_written)) 0 2 (message.ReplAck (key 1 2) 1) ≡ lines_only (line.Stale 1 ∷ []) }
+    ensures not_awaited { due_message (writing_hi (Some hi_written)) 0 3 (message.ReplAck (key 1 1) 1) ≡ lines_only (line.Spent 1 ∷ []) }
+    ensures not_applied { due_message (writing_hi None) 0 2 (message.ReplAck (key 1 1) 1) ≡ lines_only (line.Spent 1 ∷ []) }
+    ensures last { due_message (writing_hi (Some hi_written)) 0 2 (message.ReplAck (key 1 1) 1) ≡ lines_only (line.Done 1 (key 1 1) 1 ∷ []) }
+{}
+
+/// Of five members two have equal copies. The first of them in the list acts and sends for both; a
+/// copy without a count, and one that is a part, send for themselves; an empty one sends nothing.
+pub fn classes_of_five_members()
+    ensures acting { acting five five_rows 7 ≡ 3 }
+    ensures first { class_first five five_rows 7 1 ≡ Some 3 }
+    ensures alone { class_first five five_rows 7 2 ≡ Some 2 }
+    ensures empty { class_first five five_rows 7 5 ≡ None }
+    ensures second_is_silent { sends five five_rows 7 1 4 ≡ false }
+    ensures class_is_spared { sends five five_rows 7 3 1 ≡ false }
+    ensures others_are_served { sends five five_rows 7 3 2 ≡ true }
+    ensures asked { asked_by five five_rows 7 1 ≡ 4 ∷ 2 ∷ [] }
+    ensures asked_by_empty { asked_by five five_rows 7 5 ≡ 4 ∷ 3 ∷ 2 ∷ [] }
+    ensures not_empty { all_empty five_rows 7 ≡ false }
+    ensures empty_elsewhere { all_empty five_rows 6 ≡ true }
+    ensures master_of_empty { acting five five_rows 6 ≡ 5 }
+{}
+
+/// Writes that came out of order count once they are without a gap.
+pub fn counts_have_no_gap()
+    ensures none { count_of [] ≡ 0 }
+    ensures gap { count_of (with_number [] 2) ≡ no_class }
+    ensures filled { count_of (with_number (with_number [] 2) 1) ≡ 2 }
+    ensures repeated { count_of (with_number (with_number (with_number [] 2) 1) 2) ≡ 2 }
+{}
+
+/// The acting master hands a partition over once all are done, and then names the list master. The
+/// list master settles it and learns it, and acts from then on.
+pub fn partition_comes_to_its_list_master()
+    ensures waits { settling_at (2 ∷ 1 ∷ []) 7 (migrating 1 2 (whole_and_part 1 2) false false) ≡ [] }
+    ensures hands { settling_at (2 ∷ 1 ∷ []) 7 (migrating 1 2 (whole_and_part 1 2) true false) ≡ line.Handed 1 (key 2 2) 7 ∷ [] }
+    ensures isnt_handed { settling_at (2 ∷ 1 ∷ []) 7 (migrating 2 1 (whole_and_part 1 2) true false) ≡ [] }
+    ensures settles { settling_at (2 ∷ 1 ∷ []) 7 (migrating 2 1 (whole_and_part 1 2) false true) ≡ line.Settled 2 (key 2 2) 7 ∷ line.Learn 2 (key 2 2) 7 ∷ [] }
+    ensures settles_its_own { settling_at (2 ∷ 1 ∷ []) 7 (migrating 2 1 (whole_and_part 2 1) true false) ≡ line.Settled 2 (key 2 2) 7 ∷ line.Learn 2 (key 2 2) 7 ∷ [] }
+    ensures empty { settling_at (2 ∷ 1 ∷ []) 6 (migrating 2 1 (whole_and_part 2 1) true false) ≡ [] }
+    ensures refers { refusal_of (migrating 2 1 (whole_and_part 1 2) true false) (2 ∷ 1 ∷ []) seven ≡ Some (refusal.NotMaster 1) }
+    ensures names_itself { refusal_of (migrating 2 1 (whole_and_part 1 2) true true) (2 ∷ 1 ∷ []) seven ≡ Some (refusal.NotMaster 2) }
+    ensures accepts { refusal_of (migrating 1 2 (whole_and_part 1 2) true false) (2 ∷ 1 ∷ []) seven ≡ None }
+    ensures handed { refusal_of (migrating 1 2 (whole_and_part 1 2) true true) (2 ∷ 1 ∷ []) seven ≡ Some (refusal.NotMaster 2) }
+{}
+
+/// A batch is sent again under its number until just that number is acknowledged.
+pub fn batch_is_sent_until_acknowledged()
+    ensures again { (content : Content) → next_batch (key 2 2) content sent_hi ≡ Some batch_of_hi }
+    ensures other_number { acking (sent_hi ∷ []) 1 2 ≡ sent_hi ∷ [] }
+    ensures other_node { acking (sent_hi ∷ []) 3 3 ≡ sent_hi ∷ [] }
+    ensures acknowledged { acking (sent_hi ∷ []) 1 3 ≡ record { node = 1; pending = []; out = None; batches = 3 } ∷ [] }
+    ensures nothing_left { (content : Content) → next_batch (key 2 2) content (new_target 1 []) ≡ None }
+{}
+
+/// The exchange ends with the last row, and a row that is wanted is answered.
+pub fn exchange_ends_with_the_last_row()
+    ensures last { due_message lacking_two 0 2 (message.State (key 2 2) true []) ≡ record { lines = line.Exchanged 1 (key 2 2) ∷ []; sends = to_one 2 (message.State (key 2 2) false ((7, Part) ∷ [])) } }
+    ensures unwanted { due_message lacking_two 0 2 (message.State (key 2 2) false []) ≡ lines_only (line.Exchanged 1 (key 2 2) ∷ []) }
+    ensures repeated { due_message (migrating 1 2 (whole_and_part 1 2) false false) 0 2 (message.State (key 2 2) false []) ≡ nothing }
+    ensures other_view { due_message lacking_two 0 2 (message.State (key 1 2) true []) ≡ lines_only (line.Stale 1 ∷ []) }
+    ensures refuses { refusal_of lacking_two (2 ∷ 1 ∷ []) seven ≡ Some (refusal.Exchanging 2) }
+{}
+
+/// Before a partition is settled a request waits for the other classes, and a write is done once the
+/// other replica has it.
+pub fn request_waits_for_other_classes()
+    ensures asks { request_at (migrating 2 1 (whole_and_part 2 1) false false) 0 (2 ∷ 1 ∷ []) seven want.Get ≡ record { lines = line.Opened 2 (key 2 2) 1 seven action.Get ∷ []; sends = to_one 1 (message.Ask (key 2 2) 1 seven) } }
+    ensures reads { due_message (waiting_for want.Get) 5 1 (message.Answer (key 2 2) 1 (Some first_hi)) ≡ lines_only (line.Value 2 (key 2 2) 1 seven (Some first_hi) ∷ []) }
+    ensures writes { due_message (waiting_for (want.Put hi)) 5 1 (message.Answer (key 2 2) 1 (Some first_hi)) ≡ record { lines = line.Apply 2 (key 2 2) 1 seven second_hi ∷ []; sends = to_one 1 (message.Repl (key 2 2) 1 1 seven second_hi) } }
+    ensures merges { due_message (migrating 1 2 (whole_and_part 2 1) false false) 0 2 (message.Repl (key 2 2) 1 1 seven second_hi) ≡ record { lines = line.Merge 1 (key 2 2) seven second_hi ∷ []; sends = to_one 2 (message.ReplAck (key 2 2) 1) } }
+{}
+
+/// What is told of many partitions at once says of each what holds of it, and nothing of others.
+pub fn rows_tell_of_each_partition()
+    ensures row { (s : Store) → (n : ℕ) → (p : ℕ) → p < n → state_of (row_from s n 0) p ≡ copy_state s p }
+    ensures is_row { (s : Store) → (n : ℕ) → n ≤ partition_count → IsStateRow (row_from s n 0) }
+    ensures done { (f : Facts) → (n : ℕ) → (p : ℕ) → p < n → bit (done_from f n 0) p ≡ is_done f p }
+    ensures size { (f : Facts) → (n : ℕ) → length (done_from f n 0) ≡ n }
+    ensures settled { (f : Facts) → (n : ℕ) → (knows_all_settled f n 0 ≡ true) ↔ ((p : ℕ) → p < n → knows_settled f p ≡ true) }
+{}
