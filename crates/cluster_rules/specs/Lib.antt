@@ -1,0 +1,17 @@
+pub mod Lines
+pub mod Settings
+pub mod Contents
+pub mod Views
+pub mod Entries
+pub mod Messages
+pub mod Stamps
+pub mod Counts
+pub mod Rows
+pub mod Classes
+pub mod Maps
+pub mod Pending
+pub mod Settled
+pub mod Claims
+pub mod CalmEnd
+pub mod Shape
+pub mod Examples
