@@ -13,6 +13,7 @@ pub mod NumberForms
 pub mod Orders
 pub mod RequestForms
 pub mod RowForms
+pub mod RowPairs
 pub mod SpelledKinds
 pub mod StateForms
 pub mod TakenKinds

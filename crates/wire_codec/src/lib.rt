@@ -19,3 +19,6 @@ pub use message::{Batch, MapTable, Message};
 pub use records::Records;
 pub use reply::{Known, ReplyBody};
 pub use scan::{ScanPage, ScanRefusal};
+
+#[cfg(test)]
+mod tests;

@@ -1,22 +1,21 @@
-use Rattle.std.proofs.Common.{◌||◌, ◌&&◌, ap, ◌∙◌, arith}
-use Rattle.std.specs.Prelude.{◌==◌}
-use Rattle.cluster_types.specs.Rows.{bit}
-use Rattle.wire_codec.proofs.RowForms.{no_bits, more_bits, all_bits}
+use Rattle.std.proofs.Common.{◌≡◌, ◌+◌, ◌*◌, ◌∙◌, subst, arith}
+use Rattle.wire_codec.specs.RowFronts.{HasFront, second}
+use Rattle.wire_codec.proofs.RowForms.{no_bits, all_bits}
+use Rattle.wire_codec.proofs.RowPairs.{second_is_there}
 use Rattle.wire_codec.proofs.reading.rows.row_of.Goals as goal
 
-pub loop-p-init : goal.loop-p-init
-loop-p-init c = record {
-  size = c.new-row.ensures.size;
-  bits = no_bits c.new-row.result c.args.bytes.now c.new-row.ensures.clear;
+pub loop-i-init : goal.loop-i-init
+loop-i-init c = record {
+  size = c.new-pair.ensures.size;
+  bits = no_bits c.new-pair.result c.args.bytes.now c.new-pair.ensures.clear;
 }
 
-pub loop-p-preserved : goal.loop-p-preserved
-loop-p-preserved c =
-    let set = c.is_set.ensures in
-    record {
-      size = c.put_if.ensures.size;
-      bits = more_bits c.loop-p.row c.put_if.new.row c.args.bytes.now c.loop-p.p (λ q. c.put_if.ensures.each q ∙ ap (λ b. bit c.loop-p.row q || ((q == c.loop-p.p) && b)) set) c.loop-p.invariant.bits;
-    }
+pub loop-i-preserved : goal.loop-i-preserved
+loop-i-preserved c =
+    let next : 8 * c.loop-i.i + 8 ≡ 8 * (c.loop-i.i + 1) = omega arith in
+    subst (HasFront (second c.put_bits.new.pair) c.args.bytes.now) next c.put_bits.ensures
 
 pub returns : goal.returns
-returns c = all_bits c.loop-p.row c.args.bytes.now c.loop-p.p c.loop-p.invariant.size (omega (arith, c.loop-p-test.false)) c.loop-p.invariant.bits
+returns c =
+    second_is_there c.loop-i.pair c.index-pair-1.result c.loop-i.invariant.size
+    ∙ all_bits (second c.loop-i.pair) c.args.bytes.now (8 * c.loop-i.i) c.loop-i.invariant.size (omega (arith, c.loop-i-test.false)) c.loop-i.invariant.bits
