@@ -1,5 +1,15 @@
-pub mod Numbers
-pub mod Parts
-pub mod Read
-pub mod Spellings
-pub mod Texts
+mod CommandRanges
+mod Digits
+mod Grouped
+mod GroupRanges
+mod Groups
+mod Named
+mod Kept
+mod Parts
+mod Ranges
+mod Runs
+mod Said
+mod Spelled
+mod Texts
+mod Whole
+mod Written

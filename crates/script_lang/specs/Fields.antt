@@ -1,8 +1,11 @@
 -- The fields that aren't taken yet.
-use Rattle.std.specs.Prelude.{ℕ, List, [], Option, Some, None}
+use Rattle.std.specs.Prelude.{ℕ, ◌<◌, ◌^◌, List, length}
 use denote.Ref.{Bor}
-use Rattle.script_lang.specs.Grammar.{fields_of}
+use Rattle.script_lang.specs.Layout.{fields_of}
 
-abbrev pub fields_left : Option (Bor (List ℕ)) → List (List ℕ)
-fields_left None = []
-fields_left (Some rest) = fields_of rest.now
+abbrev pub fields_left : Bor (List ℕ) → List (List ℕ)
+fields_left rest = fields_of rest.now
+
+-- so short that its bits can be counted
+abbrev pub IsShort : List ℕ → Type 0
+IsShort bytes = length bytes < 2 ^ 60

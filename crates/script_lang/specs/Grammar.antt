@@ -1,122 +1,79 @@
--- Scripts as a function of their bytes. A script is lines, a line is fields, and what a line means is
--- read from the list of its fields.
-use Rattle.std.specs.Prelude.{ℕ, ◌+◌, ◌==◌, nat_lt, nat_le, Bool, false, ◌&&◌, if◌then◌else◌, List, [], ◌∷◌, length, Option, Some, None, Result, Ok, Err, codes}
-use Rattle.std.specs.List.{slice_split, list_all}
-use Rattle.std.specs.Str.{bytes_eq}
-use Rattle.std.specs.Str.Parse.{digits_value}
-use Rattle.std.specs.Fmt.{decimal}
-use Rattle.std.specs.Result.{result_ok}
-use Rattle.std.specs.Option.{option_map, option_map_or, option_and_then}
-use Rattle.hex.specs.Hex.{decode_sized}
+-- Scripts as a function of their bytes. A script is lines, and what a line says depends on the lines before it.
+use Rattle.std.specs.Prelude.{ℕ, ◌+◌, ◌&&◌, not, if◌then◌else◌, List, [], ◌∷◌, ◌++◌, length, Option, Some, None, Result, Ok, Err}
+use Rattle.std.specs.Str.{is_utf8}
+use Rattle.script_lang.specs.declared.before.Before.{Before}
 use Rattle.script_lang.specs.declared.fault.Cause.{Cause}
-use Rattle.script_lang.specs.declared.fault.Cause.TheVariants.{NotBuilt}
-use Rattle.script_lang.specs.declared.script.HeaderLine.{HeaderLine}
-use Rattle.script_lang.specs.declared.script.HeaderLine.TheVariants.{Node}
-use Rattle.script_lang.specs.declared.script.Command.{Command}
-use Rattle.script_lang.specs.declared.script.Command.TheVariants.{Tick, Put, Get}
+use Rattle.script_lang.specs.declared.fault.Cause.TheVariants.{BadUtf8, UnknownWord, NotBuilt, HeaderLate}
 use Rattle.script_lang.specs.declared.script.Script.{Script}
+use Rattle.script_lang.specs.declared.lines.Line.{Line}
+use Rattle.script_lang.specs.declared.lines.Line.TheVariants as line
+use Rattle.script_lang.specs.declared.words.Word.{Word}
+use Rattle.script_lang.specs.declared.words.Word.TheVariants as word
+use Rattle.script_lang.specs.Before.{before_of}
+use Rattle.script_lang.specs.Forms.{header_line, command_line}
+use Rattle.script_lang.specs.Layout.{lines_of, fields_of, is_passed_over}
+use Rattle.script_lang.specs.Outcomes.{and_then, map_ok}
+use Rattle.script_lang.specs.Words.{word_of, is_header, is_served}
 
--- why bytes are no script: the first line at which they leave the form, counted from 1
+-- why bytes are no script: the first bad line, counted from 1, and what is wrong with it
 pub record Fault : Type 0 where
   pub line : ℕ
   pub cause : Cause
 
-abbrev pub not_built : ℕ → Fault
-not_built line = record { line = line; cause = NotBuilt }
+-- ---- a line
 
--- ---- what a field says
+-- what a line of that word says
+abbrev pub line_of_word : Before → Word → List (List ℕ) → Result Line Cause
+line_of_word before (word.Header w) fields = map_ok (λ said. line.Header said) (header_line before w fields)
+line_of_word before (word.Command w) fields = map_ok (λ said. line.Command said) (command_line before w fields)
 
--- whether the text is how the number is written in decimal digits
-abbrev pub is_written : ℕ → List ℕ → Bool
-is_written n text = bytes_eq (decimal n) text
+-- the word where a line of it may stand: it is served, and a header line stands before the commands
+abbrev pub standing : Before → Option Word → Result Word Cause
+standing before None = Err UnknownWord
+standing before (Some w) =
+    if not (is_served w (length before.nodes)) then Err NotBuilt
+    else if is_header w && before.has_commands then Err HeaderLate
+    else Ok w
 
--- a node: 1 to 65535 in decimal digits, without a leading zero
-abbrev pub node_of : List ℕ → Option ℕ
-node_of text = let n = digits_value 10 text in if nat_lt 0 n && nat_lt n 65536 && is_written n text then Some n else None
+-- the word that the first field is
+abbrev pub known_word : Before → List ℕ → Result Word Cause
+known_word before first = standing before (word_of before.version first)
 
--- whether the field is that node
-abbrev pub is_node : ℕ → List ℕ → Bool
-is_node node field = option_map_or (λ n. n == node) (node_of field) false
+abbrev pub line_of_fields : Before → List (List ℕ) → Result Line Cause
+line_of_fields before [] = Ok line.Nothing
+line_of_fields before (first ∷ fields) = and_then (known_word before first) (λ w. line_of_word before w fields)
 
--- a key: `#` and forty hexadecimal digits, of either case
-abbrev pub digest_of : List ℕ → Option (List ℕ)
-digest_of [] = None
-digest_of (mark ∷ digits) = if mark == 35 then result_ok (decode_sized digits 20) else None
+-- what a line says after the lines before it: nothing where it is passed over, whatever its bytes
+abbrev pub line_of : Before → List ℕ → Result Line Cause
+line_of before text =
+    if is_passed_over (fields_of text) then Ok line.Nothing
+    else if not (is_utf8 text) then Err BadUtf8
+    else line_of_fields before (fields_of text)
 
--- a value: 1 to 128 bytes, each of them a visible character of ASCII
-abbrev pub value_of : List ℕ → Option (List ℕ)
-value_of field = if nat_lt 0 (length field) && nat_le (length field) 128 && list_all (λ b. nat_le 33 b && nat_le b 126) field then Some field else None
+-- ---- all lines
 
--- ---- what a line says
+-- the script with what one line more says
+abbrev pub with_line : Script → Line → Script
+with_line script line.Nothing = script
+with_line script (line.Header said) = record script { header = script.header ++ said ∷ [] }
+with_line script (line.Command said) = record script { commands = script.commands ++ said ∷ [] }
 
--- the fields of a line, one space between two of them
-abbrev pub fields_of : List ℕ → List (List ℕ)
-fields_of line = slice_split (λ b. b == 32) line
+-- the script with one line more
+abbrev pub after_line : Script → List ℕ → Result Script Cause
+after_line script text = map_ok (with_line script) (line_of (before_of script.header script.commands) text)
 
--- `node N`
-abbrev pub node_line : List (List ℕ) → Option ℕ
-node_line (word ∷ name ∷ []) = if bytes_eq word (codes "node") then node_of name else None
-node_line _ = None
+-- the script of the lines from this one on, behind what stands before; the first bad line counts
+abbrev pub script_from : ℕ → Script → List (List ℕ) → Result Script Fault
+script_from line script [] = Ok script
+script_from line script (text ∷ texts) =
+    elim (after_line script text) [
+      | Ok longer ↦ script_from (line + 1) longer texts
+      | Err cause ↦ Err (record { line = line; cause = cause })
+    ]
 
--- `tick N`, behind its word
-abbrev pub tick_of : ℕ → List (List ℕ) → Option Command
-tick_of node (name ∷ []) = if is_node node name then Some (Tick node) else None
-tick_of node _ = None
+abbrev pub empty_script : Script
+empty_script = record { header = []; commands = [] }
 
--- `put N KEY VALUE`, behind its word
-abbrev pub put_of : ℕ → List (List ℕ) → Option Command
-put_of node (name ∷ key ∷ value ∷ []) =
-    if is_node node name then option_and_then (λ d. option_map (λ v. Put node d v) (value_of value)) (digest_of key) else None
-put_of node _ = None
-
--- `get N KEY`, behind its word
-abbrev pub get_of : ℕ → List (List ℕ) → Option Command
-get_of node (name ∷ key ∷ []) = if is_node node name then option_map (λ d. Get node d) (digest_of key) else None
-get_of node _ = None
-
--- a command, all of whose nodes are the one that is declared
-abbrev pub command_line : ℕ → List (List ℕ) → Option Command
-command_line node [] = None
-command_line node (word ∷ fields) =
-    if bytes_eq word (codes "tick") then tick_of node fields
-    else if bytes_eq word (codes "put") then put_of node fields
-    else if bytes_eq word (codes "get") then get_of node fields
-    else None
-
--- ---- what the lines say
-
--- the lines, each ended by a line feed, and what stands behind the last line feed
-abbrev pub lines_of : List ℕ → List (List ℕ)
-lines_of bytes = slice_split (λ b. b == 10) bytes
-
--- a line's command before those of the lines behind it; the first bad line counts
-abbrev pub before : ℕ → Option Command → Result (List Command) Fault → Result (List Command) Fault
-before line None behind = Err (not_built line)
-before line (Some command) (Ok commands) = Ok (command ∷ commands)
-before line (Some command) (Err fault) = Err fault
-
--- the commands of the lines from this one on; behind the last line feed nothing may stand
-abbrev pub commands_of : ℕ → ℕ → List (List ℕ) → Result (List Command) Fault
-commands_of node line [] = Ok []
-commands_of node line (text ∷ []) = if length text == 0 then Ok [] else Err (not_built line)
-commands_of node line (text ∷ next ∷ texts) =
-    before line (command_line node (fields_of text)) (commands_of node (line + 1) (next ∷ texts))
-
-abbrev pub with_header : List HeaderLine → Result (List Command) Fault → Result Script Fault
-with_header header (Ok commands) = Ok (record { header = header; commands = commands })
-with_header header (Err fault) = Err fault
-
--- the first line declares the node, and the others are its commands
-abbrev pub declares : Option ℕ → List (List ℕ) → Result Script Fault
-declares None texts = Err (not_built 1)
-declares (Some node) texts = with_header (Node node None ∷ []) (commands_of node 2 texts)
-
--- the script of the lines; without a line feed there is a script only where nothing stands
-abbrev pub of_lines : List (List ℕ) → Result Script Fault
-of_lines [] = Ok (record { header = []; commands = [] })
-of_lines (text ∷ []) = if length text == 0 then Ok (record { header = []; commands = [] }) else Err (not_built 1)
-of_lines (text ∷ next ∷ texts) = declares (node_line (fields_of text)) (next ∷ texts)
-
--- the script that the bytes are, or the first line at which they leave the form
+-- the script that the bytes are, or the first bad line and its cause
 abbrev pub script_of : List ℕ → Result Script Fault
-script_of bytes = of_lines (lines_of bytes)
+script_of bytes = script_from 1 empty_script (lines_of bytes)

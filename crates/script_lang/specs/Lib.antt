@@ -1,6 +1,14 @@
+pub mod Before
 pub mod Causes
+pub mod Counts
 pub mod Fields
+pub mod Forms
 pub mod Grammar
-pub mod Spelling
+pub mod Layout
+pub mod Outcomes
 pub mod Proper
 pub mod Reading
+pub mod Spelling
+pub mod Values
+pub mod Words
+pub mod WordsOf

@@ -1,4 +1,7 @@
 //! Why bytes are no script.
+ghost use Rattle.std.specs.Prelude.{◌≡◌};
+ghost use Rattle.script_lang.specs.Reading.{fault_at};
+
 use std::alloc::{AllocError, AllocFailed};
 use std::fmt;
 
@@ -9,7 +12,7 @@ pub enum Cause {
     BadUtf8,
     /// The first field is no word of the version in force.
     UnknownWord,
-    /// The line isn't of a form that is served.
+    /// Lines of this word aren't served, with as many nodes as are declared.
     NotBuilt,
     /// A header line follows a command.
     HeaderLate,
@@ -65,6 +68,59 @@ impl fmt::Display for Cause {
             Cause::BadGroups => f.write_str("BadGroups"),
             Cause::VersionLate => f.write_str("VersionLate"),
         }
+    }
+}
+
+/// Why a line says nothing.
+#[derive(Clone, Copy, Debug, PartialEq, Eq)]
+pub enum LineFault {
+    /// The line is bad.
+    Bad(Cause),
+    NoMemory,
+}
+
+impl LineFault {
+    /// The same fault, of a script with that line.
+    pub fn at(self, line: u64) -> ScriptFault
+        ensures { result ≡ fault_at line self }
+    {
+        match self {
+            LineFault::Bad(cause) => ScriptFault::At { line, cause },
+            LineFault::NoMemory => ScriptFault::NoMemory,
+        }
+    }
+}
+
+impl From<Cause> for LineFault {
+    ghost use Rattle.std.specs.Prelude.{◌≡◌};
+    ghost use Rattle.script_lang.specs.declared.fault.LineFault.TheVariants.{Bad};
+
+    ghost from_gives = { λ cause fault. fault ≡ Bad cause };
+
+    fn from(cause: Cause) -> LineFault {
+        LineFault::Bad(cause)
+    }
+}
+
+impl From<AllocError> for LineFault {
+    ghost use Rattle.std.specs.Prelude.{◌≡◌};
+    ghost use Rattle.script_lang.specs.declared.fault.LineFault.TheVariants.{NoMemory};
+
+    ghost from_gives = { λ _ fault. fault ≡ NoMemory };
+
+    fn from(_refused: AllocError) -> LineFault {
+        LineFault::NoMemory
+    }
+}
+
+impl<T: Drop> From<AllocFailed<T>> for LineFault {
+    ghost use Rattle.std.specs.Prelude.{◌≡◌};
+    ghost use Rattle.script_lang.specs.declared.fault.LineFault.TheVariants.{NoMemory};
+
+    ghost from_gives = { λ _ fault. fault ≡ NoMemory };
+
+    fn from(_refused: AllocFailed<T>) -> LineFault {
+        LineFault::NoMemory
     }
 }
 

@@ -1,113 +1,108 @@
 //! The fields of a line.
-ghost use Rattle.std.specs.Prelude.{◌≡◌, ◌∷◌, [], ◌&&◌, nat_le, IfOk, IfSome, IfNone};
-ghost use Rattle.std.specs.List.{list_all};
-ghost use Rattle.script_lang.specs.Grammar as grammar;
+ghost use Rattle.std.specs.Prelude.{◌≡◌, ◌≤◌, ◌∷◌, [], length, not, position, IfSome, IfNone};
+ghost use Rattle.std.specs.List.{position_or_len};
+ghost use Rattle.script_lang.specs.Fields.{IsShort};
+ghost use Rattle.script_lang.specs.Layout as layout;
 
-use crate::bytes::cut;
-use cluster_types::{Digest, NodeId};
-use conflict_order::{ValueBytes, ValueFault};
-use hex::FromHex;
-use std::alloc::{AllocError, Global};
 use std::marker::Model;
+
+/// A run of bytes other than spaces and tabs.
+#[derive(Drop)]
+pub struct Field<'a> {
+    bytes: &'a [u8],
+}
+
+impl<'a> Model for Field<'a> {
+    ghost use Rattle.std.specs.Prelude.{List, ℕ};
+    ghost use Rattle.script_lang.specs.Fields.{IsShort};
+
+    ghost Value = { List ℕ };
+
+    ghost view = { λ f. f.bytes.now };
+
+    ghost invariant = { λ f. IsShort f.bytes.now };
+}
+
+impl<'a> Field<'a> {
+    pub fn as_slice(&self) -> &'a [u8]
+        ensures same { result.now ≡ self.now }
+        ensures short { IsShort result.now }
+    {
+        self.bytes
+    }
+}
 
 /// The fields of a line that aren't taken yet.
 #[derive(Drop)]
 pub struct Fields<'a> {
-    rest: Option<&'a [u8]>,
+    rest: &'a [u8],
 }
 
 impl<'a> Model for Fields<'a> {
     ghost use Rattle.std.specs.Prelude.{List, ℕ};
+    ghost use Rattle.script_lang.specs.Fields.{IsShort, fields_left};
 
     ghost Value = { List (List ℕ) };
 
-    ghost use Rattle.script_lang.specs.Fields.{fields_left};
-
     ghost view = { λ f. fields_left f.rest };
+
+    ghost invariant = { λ f. IsShort f.rest.now };
 }
 
 impl<'a> Fields<'a> {
     pub fn of(line: &'a [u8]) -> Self
-        ensures { result ≡ grammar.fields_of line.now }
+        requires { IsShort line.now }
+        ensures { result ≡ layout.fields_of line.now }
     {
-        Fields { rest: Some(line) }
+        Fields { rest: line }
     }
 
     /// Takes the first field out.
-    pub fn take_first(&mut self) -> Option<&'a [u8]>
-        ensures some { IfSome result (λ field. self.old ≡ field.now ∷ self.new) }
+    pub fn take_first(&mut self) -> Option<Field<'a>>
+        ensures some { IfSome result (λ field. self.old ≡ field ∷ self.new) }
         ensures none { IfNone result ((self.old ≡ []) × (self.new ≡ [])) }
     {
-        let text = self.rest?;
-        match cut(text, b' ') {
-            None => {
-                self.rest = None;
-                Some(text)
-            }
-            Some((field, rest)) => {
-                self.rest = Some(rest);
-                Some(field)
-            }
-        }
+        let start = start_of_field(self.rest)?;
+        let (_, text) = self.rest.split_at(start);
+        let (field, rest) = text.split_at(end_of_field(text));
+        self.rest = rest;
+        Some(Field { bytes: field })
+    }
+
+    /// The same fields again.
+    pub fn again(&self) -> Fields<'a>
+        ensures { result ≡ self.now }
+    {
+        Fields { rest: self.rest }
     }
 }
 
-/// A node's id: 1 to 65535 in decimal digits, without a leading zero.
-pub fn node_of(field: &[u8]) -> Option<NodeId>
-    ensures { result ≡ grammar.node_of field.now }
+/// The place of the first byte that is no space or tab.
+fn start_of_field(text: &[u8]) -> Option<usize>
+    ensures { result ≡ position (λ b. not (layout.is_blank b)) text.now }
 {
-    // `parse` would take a sign and leading zeros.
-    if field.is_empty() || field[0] < b'1' {
-        return None;
-    }
-    let Ok(text) = str::from_utf8(field) else {
-        return None;
-    };
-    let Ok(number) = text.parse::<u16>() else {
-        return None;
-    };
-    NodeId::new(number)
+    text.iter().position(|b| !is_blank(*b))
 }
 
-/// Whether the field is that node.
-pub fn is_node(node: NodeId, field: &[u8]) -> bool
-    ensures { result ≡ grammar.is_node node field.now }
+/// The place of the first space or tab, and the length where there is none.
+fn end_of_field(text: &[u8]) -> usize
+    ensures value { result ≡ position_or_len layout.is_blank text.now }
+    ensures bound { result ≤ length text.now }
 {
-    match node_of(field) {
-        None => false,
-        Some(named) => named.number() == node.number(),
+    match first_blank(text) {
+        Some(place) => place,
+        None => text.len(),
     }
 }
 
-/// A key: `#` and forty hexadecimal digits of either case.
-pub fn digest_of(field: &[u8]) -> Option<Digest>
-    ensures { result ≡ grammar.digest_of field.now }
+fn first_blank(text: &[u8]) -> Option<usize>
+    ensures { result ≡ position layout.is_blank text.now }
 {
-    match field {
-        [b'#', digits @ ..] => match <[u8; 20] as FromHex>::from_hex(digits) {
-            Ok(bytes) => Some(Digest::new(bytes)),
-            Err(_) => None,
-        },
-        _ => None,
-    }
+    text.iter().position(|b| is_blank(*b))
 }
 
-/// A value: 1 to 128 bytes, each of them a visible character of ASCII.
-pub fn value_of(alloc: Global, field: &[u8]) -> Result<Option<ValueBytes>, AllocError>
-    ensures { IfOk result (λ value. value ≡ grammar.value_of field.now) }
+fn is_blank(byte: u8) -> bool
+    ensures { result ≡ layout.is_blank byte }
 {
-    if field.is_empty() || !are_visible(field) {
-        return Ok(None);
-    }
-    match ValueBytes::from_slice(alloc, field) {
-        Ok(value) => Ok(Some(value)),
-        Err(ValueFault::TooLong(_)) => Ok(None),
-        Err(ValueFault::NoMemory) => Err(AllocError),
-    }
-}
-
-fn are_visible(field: &[u8]) -> bool
-    ensures { result ≡ list_all (λ b. nat_le 33 b && nat_le b 126) field.now }
-{
-    field.iter().all(|b| *b >= 33 && *b <= 126)
+    byte == b' ' || byte == b'\t'
 }

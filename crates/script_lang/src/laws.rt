@@ -1,15 +1,17 @@
 //! What holds of all scripts.
 ghost use Rattle.std.specs.Prelude.{◌≡◌, ℕ, List, Ok};
+ghost use Rattle.hex.specs.Hex.{IsBytes};
 ghost use Rattle.script_lang.specs.declared.script.Script.{Script};
 ghost use Rattle.script_lang.specs.Grammar.{script_of};
-ghost use Rattle.script_lang.specs.Spelling.{IsProper, spelling};
+ghost use Rattle.script_lang.specs.Proper.{IsInOrder, IsProper, IsServed};
+ghost use Rattle.script_lang.specs.Spelling.{IsSpelled, spelling};
 
-/// A script that has a spelling is read back from it.
+/// A proper script whose commands are served is read back from its spelling.
 pub fn spelling_is_read_back()
-    ensures { (script : Script) → IsProper script → script_of (spelling script) ≡ Ok script }
+    ensures { (script : Script) → IsProper script → IsServed script → IsInOrder script → IsSpelled script → script_of (spelling script) ≡ Ok script }
 {}
 
-/// What is read is a script that has a spelling.
-pub fn what_is_read_has_a_spelling()
-    ensures { (bytes : List ℕ) (script : Script) → script_of bytes ≡ Ok script → IsProper script }
+/// What is read is proper, and its commands are served.
+pub fn what_is_read_is_proper()
+    ensures { (bytes : List ℕ) (script : Script) → IsBytes bytes → script_of bytes ≡ Ok script → IsProper script × IsServed script }
 {}
