@@ -1,2 +1,21 @@
-mod DigitLaws
-mod Divided
+pub mod ByteFields
+pub mod CauseFields
+pub mod DigitLaws
+pub mod Divided
+pub mod GroupFields
+pub mod KeyFields
+pub mod LengthLaws
+pub mod LineJoins
+pub mod LineLaws
+pub mod LineReaders
+pub mod ListFields
+pub mod Loops
+pub mod MemberFields
+pub mod NumberFields
+pub mod NumberTexts
+pub mod PairLaws
+pub mod Parts
+pub mod ReadLaws
+pub mod Readers
+pub mod VersionFields
+pub mod WordLaws

@@ -1,2 +1,9 @@
+pub mod Fields
+pub mod Journals
+pub mod LineFields
+pub mod Parts
 pub mod Proper
+pub mod PushFaults
+pub mod Reading
 pub mod Text
+pub mod Words

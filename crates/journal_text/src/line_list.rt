@@ -1,6 +1,7 @@
 //! Lists of lines.
-ghost use Rattle.std.specs.Prelude.{◌≡◌, ◌↔◌, ◌++◌, ◌∷◌, [], ℕ, length, drop, IsTrue, IfOk, OnOk, OnErr, slice_get};
+ghost use Rattle.std.specs.Prelude.{◌≡◌, ◌↔◌, ◌^◌, ◌-◌, ◌++◌, ◌∷◌, [], ℕ, length, drop, min, IsTrue, IfOk, OnOk, OnErr, slice_get};
 ghost use Rattle.std.specs.Option.{option_copied};
+ghost use Rattle.journal_text.specs.Text.{text};
 
 use crate::line::Line;
 use cluster_types::NoMemory;
@@ -66,6 +67,17 @@ impl LineList {
         ensures { result ≡ length self.now }
     {
         self.lines.len()
+    }
+
+    /// How many bytes the text of the lines has, or the greatest number where it has more.
+    pub fn text_len(&self) -> usize
+        ensures { result ≡ min (length (text self.now)) (2 ^ 64 - 1) }
+    {
+        let mut bytes = 0usize;
+        for i in 0..self.lines.len() {
+            bytes = bytes.saturating_add(self.lines[i].text_len());
+        }
+        bytes
     }
 
     /// Whether there are none.

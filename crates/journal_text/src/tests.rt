@@ -309,3 +309,18 @@ fn lines_of_replies_and_scans_are_copied_whole(rt: HostRuntime) -> Result<(), Fa
     }
     Ok(())
 }
+
+#[test]
+fn a_journal_keeps_its_lines_in_order(rt: HostRuntime) -> Result<(), Fail> {
+    let alloc = rt.alloc();
+    let tick = Line::Tick { node: node(1)? };
+    let mut due = LineList::new(alloc);
+    due.push(tick.copy(alloc)?)?;
+    let mut journal = Journal::new(alloc);
+    journal.reserve(1)?;
+    assert!(rt; journal.fits(&due));
+    journal.push(tick)?;
+    assert_eq!(rt; journal.lines(), 1);
+    assert_eq!(rt; due.text_len(), "tick 1\n".len());
+    Ok(())
+}
