@@ -1,7 +1,8 @@
 #!/usr/bin/env bash
 # How the time of a run grows with the lines of its script: ticks, puts and gets over ten digests, once
 # with 200,000 lines and once with 400,000. Prints both times (the least of five runs) and their ratio,
-# which is to be at most 2.5.
+# which is to be at most 2.5. Then the longest run there is, of two million lines that show a digest,
+# beside the same work in plain Rust (lines.rs), of whose time it is to take at most twice as much.
 set -eu
 here="$(cd "$(dirname "${BASH_SOURCE[0]}")" && pwd)"
 program="$here/../crates/cluster_main/out/cluster_main"
@@ -34,3 +35,14 @@ long="$(least "$folder/long")"
 echo "200,000 lines: $short s"
 echo "400,000 lines: $long s"
 awk -v short="$short" -v long="$long" 'BEGIN { printf "ratio: %.2f\n", long / short }'
+
+awk 'BEGIN { print "node 1"; for (i = 1; i < 2000000; i++) print "hash a" }' > "$folder/longest"
+longest="$(least "$folder/longest")"
+echo "2,000,000 digests: $longest s"
+if command -v rustc >/dev/null; then
+    rustc --edition 2021 -C opt-level=2 -o "$folder/plain" "$here/lines.rs"
+    program="$folder/plain"
+    plain="$(least "$folder/longest")"
+    awk -v longest="$longest" -v plain="$plain" \
+        'BEGIN { printf "plain Rust: %s s, ratio %.2f\n", plain, longest / plain }'
+fi

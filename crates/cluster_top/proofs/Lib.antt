@@ -1,6 +1,8 @@
 pub mod Digests
 pub mod Members
-pub mod RecordLaws
+pub mod HeaderLaws
+pub mod PlayLaws
+pub mod StampLaws
 pub mod StreamLaws
 pub mod TextLaws
 pub mod NoLossLaws

@@ -3,7 +3,6 @@ use Rattle.std.proofs.Common.{◌≡◌, ℕ, ◌+◌, ◌-◌, ◌<◌, ◌≤�
 use Rattle.std.specs.List.{slice_range}
 use Rattle.std.proofs.lemmas.List.{take-append-drop, append-nil}
 use Rattle.std.proofs.Math.Seq.{take-add}
-use Rattle.byte_ends.specs.declared.sink.Pushed.{Pushed}
 use Rattle.byte_ends.specs.declared.sink.Pushed.TheVariants.{Took, Failed}
 use Rattle.byte_ends.specs.declared.source.Pulled.TheVariants.{Got, End}
 use Rattle.byte_ends.specs.Source.{Pulls}

@@ -1,5 +1,5 @@
 -- A journal's text, written line by line behind a buffer.
-use Rattle.std.proofs.Common.{◌≡◌, ℕ, ◌+◌, ◌<◌, ◌≤◌, List, [], ◌∷◌, ◌++◌, length, take, drop, Option, refl, sym, ap, subst, ◌∙◌, append_assoc, zero, suc, get_or, arith}
+use Rattle.std.proofs.Common.{◌≡◌, ℕ, ◌+◌, ◌<◌, List, [], ◌∷◌, ◌++◌, length, take, drop, Option, refl, sym, ap, subst, ◌∙◌, append_assoc, zero, suc, get_or}
 use Rattle.std.proofs.lemmas.List.{take_more, append-nil}
 use Rattle.journal_text.specs.declared.line.Line.{Line}
 use Rattle.journal_text.specs.Text.{text, line_text}

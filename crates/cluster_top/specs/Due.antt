@@ -10,7 +10,6 @@ use Rattle.conflict_order.specs.Action.{action_of}
 use Rattle.cluster_types.specs.declared.member.Member.{Member}
 use Rattle.cluster_types.specs.declared.cluster_key.ClusterKey.{ClusterKey}
 use Rattle.cluster_types.specs.ClusterKeys as keys
-use Rattle.cluster_types.specs.Members.{plain_member}
 use Rattle.journal_text.specs.declared.line.Line.{Line}
 use Rattle.journal_text.specs.declared.line.Line.TheVariants as line
 use Rattle.journal_text.specs.declared.refusal.Refusal.TheVariants as refusal
@@ -26,16 +25,16 @@ is_candidate f = is_none f.view && (f.quiet == 2)
 abbrev pub proposes : Facts → Bool
 proposes f = is_candidate f && nat_lt (f.promised.round + 1) (2 ^ 48)
 
--- the members of a view of one plain node
-abbrev pub alone : ℕ → List Member
-alone n = plain_member n ∷ []
+-- the members of the view of one node
+abbrev pub alone : Facts → List Member
+alone f = record { id = f.me; role = f.role } ∷ []
 
 -- a proposal without other members is promised and entered at once, and such a view is exchanged
-abbrev pub entering : ℕ → ClusterKey → List Line
-entering n k = line.Promise n k ∷ line.Enter n k (alone n) ∷ line.Exchanged n k ∷ []
+abbrev pub entering : Facts → ClusterKey → List Line
+entering f k = line.Promise f.me k ∷ line.Enter f.me k (alone f) ∷ line.Exchanged f.me k ∷ []
 
 abbrev pub due_propose : Facts → List Line
-due_propose f = if proposes f then entering f.me (keys.next f.promised f.me) else []
+due_propose f = if proposes f then entering f (keys.next f.promised f.me) else []
 
 -- the tick, and what is due of the node that has ticked
 abbrev pub due_tick : Facts → List Line
@@ -54,10 +53,10 @@ resolving n k t clock d best (want.Put bytes) = writing n k t d (next best clock
 resolving n k t clock d best want.Del = writing n k t d (next best clock body.Tombstone)
 
 -- a node without a view refuses; another one opens a transaction, which nobody else is to be asked for
-abbrev pub due_in_view : Facts → Option ClusterKey → ℕ → List ℕ → Want → List Line
-due_in_view f None clock d w = line.Refused f.me d refusal.NoView ∷ []
-due_in_view f (Some k) clock d w =
-    line.Opened f.me k (f.opened + 1) d (action_of w) ∷ resolving f.me k (f.opened + 1) clock d (map.get f.content d) w
+abbrev pub due_in_view : Facts → Option ClusterKey → List ℕ → Want → List Line
+due_in_view f None d w = line.Refused f.me d refusal.NoView ∷ []
+due_in_view f (Some k) d w =
+    line.Opened f.me k (f.opened + 1) d (action_of w) ∷ resolving f.me k (f.opened + 1) f.clock d (map.get f.content d) w
 
-abbrev pub due_request : Facts → ℕ → List ℕ → Want → List Line
-due_request f clock d w = due_in_view f f.view clock d w
+abbrev pub due_request : Facts → List ℕ → Want → List Line
+due_request f d w = due_in_view f f.view d w

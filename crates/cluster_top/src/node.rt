@@ -1,43 +1,52 @@
 //! A node that is alone.
-ghost use Rattle.std.specs.Prelude.{◌≡◌, ◌<◌, ◌≤◌, ◌^◌, ◌+◌, ◌++◌, IfOk, OnOk};
+ghost use Rattle.std.specs.Prelude.{◌≡◌, ◌<◌, ◌≤◌, ◌^◌, ◌+◌, ◌++◌, ◌∷◌, [], IfOk, OnOk};
 ghost use Rattle.std.specs.Option.{option_copied};
 ghost use Rattle.std.specs.FinMap as map;
 ghost use Rattle.conflict_order.specs.Next.{next};
-ghost use Rattle.cluster_top.specs.Facts.{fresh, ticked, noted, joined};
+ghost use Rattle.cluster_top.specs.Facts.{fresh, ticked, note, noted, stamped, with_stamp};
 ghost use Rattle.cluster_top.specs.Due.{due_propose, due_tick, due_request, entering, resolving, writing};
-ghost use Rattle.cluster_top.specs.Due as due;
+ghost use Rattle.journal_text.specs.declared.line.Line.TheVariants as line;
+ghost use Rattle.record_store.specs.Store.{joined};
 
-use crate::records::Records;
-use cluster_types::{ClusterKey, Digest, Members, NoMemory, NodeId};
-use conflict_order::{Body, Version, Want};
-use journal_text::{Journal, Line, Refusal};
+use cluster_types::partition::PARTITIONS;
+use cluster_types::{
+    ClusterKey, CopyState, Digest, Member, Members, NoMemory, NodeId, PartitionId, Role,
+};
+use conflict_order::{Body, Policy, Version, Want};
+use journal_text::{Line, LineList, Refusal};
+use record_store::RecordStore;
 use std::alloc::Global;
 use std::marker::Model;
 
-/// A node and what it knows. It writes the lines of its steps into a journal.
+/// A node and what it knows. It adds the lines of its steps to those that are due.
 #[derive(Drop)]
 pub struct Node {
     me: NodeId,
+    role: Role,
+    clock: u64,
     promised: ClusterKey,
     last: ClusterKey,
     view: Option<ClusterKey>,
     ticked: bool,
     quiet: u8,
     opened: u32,
-    records: Records,
+    store: RecordStore,
 }
 
 impl Model for Node {
     ghost use Rattle.std.specs.Prelude.{◌≤◌};
     ghost use Rattle.std.specs.Coded.{codes};
+    ghost use Rattle.conflict_order.specs.contracts.policy.Policy as policy;
     ghost use Rattle.cluster_types.specs.contracts.cluster_key.ClusterKey as key;
-    ghost use Rattle.cluster_top.specs.Facts.{Facts, content_code};
+    ghost use Rattle.cluster_types.specs.contracts.member.Role as member_role;
+    ghost use Rattle.record_store.specs.Store.{records_code, stamps_code};
+    ghost use Rattle.cluster_top.specs.Facts.{Facts};
 
     ghost Value = { Facts };
 
-    ghost coded = { Prim.hlevel (codes, key.the_row.coded, content_code) };
+    ghost coded = { Prim.hlevel (codes, policy.the_row.coded, key.the_row.coded, member_role.the_row.coded, records_code, stamps_code) };
 
-    ghost view = { λ n. record { me = n.me; promised = n.promised; last = n.last; view = n.view; ticked = n.ticked; quiet = n.quiet; opened = n.opened; content = n.records } };
+    ghost view = { λ n. record { me = n.me; role = n.role; by = n.store.by; clock = n.clock; promised = n.promised; last = n.last; view = n.view; ticked = n.ticked; quiet = n.quiet; opened = n.opened; content = n.store.versions; stamps = n.store.stamps } };
 
     ghost invariant = { λ n. n.quiet ≤ 2 };
 }
@@ -52,30 +61,51 @@ struct Transaction {
 
 impl Node {
     /// A node to which nothing has happened.
-    pub fn new(alloc: Global, me: NodeId) -> Node
-        ensures { result ≡ fresh me }
+    pub fn new(alloc: Global, member: Member, by: Policy) -> Result<Node, NoMemory>
+        ensures { IfOk result (λ n. n ≡ fresh by member) }
     {
-        Node {
-            me,
+        Ok(Node {
+            me: member.id,
+            role: member.role,
+            clock: 0,
             promised: ClusterKey::NONE,
             last: ClusterKey::NONE,
             view: None,
             ticked: false,
             quiet: 0,
             opened: 0,
-            records: Records::new(alloc),
+            store: RecordStore::with_policy(alloc, by)?,
+        })
+    }
+
+    /// Sets the clock, if it is this node's.
+    pub fn set_clock(&mut self, node: NodeId, time: u64)
+        ensures { self.new ≡ note self.old (line.Clock node time) }
+    {
+        if node == self.me {
+            self.clock = time;
+        }
+    }
+
+    /// What the node holds of the record.
+    pub fn held(&self, alloc: Global, digest: &Digest) -> Result<Option<Version>, NoMemory>
+        ensures { IfOk result (λ held. held ≡ map.get self.now.content digest.now) }
+    {
+        match self.store.get(digest) {
+            None => Ok(None),
+            Some(held) => Ok(Some(held.copy(alloc)?)),
         }
     }
 
     /// A tick.
-    pub fn tick(&mut self, journal: &mut Journal) -> Result<(), NoMemory>
-        ensures lines { OnOk result (journal.new ≡ journal.old ++ due_tick self.old) }
+    pub fn tick(&mut self, due: &mut LineList) -> Result<(), NoMemory>
+        ensures lines { OnOk result (due.new ≡ due.old ++ due_tick self.old) }
         ensures after { OnOk result (self.new ≡ noted self.old (due_tick self.old)) }
         ensures opened { OnOk result (self.new.opened ≤ self.old.opened) }
     {
-        journal.push(Line::Tick { node: self.me })?;
+        due.push(Line::Tick { node: self.me })?;
         self.age();
-        self.propose(journal)
+        self.propose(due)
     }
 
     /// Counts the ticks for which the neighbours, here the node alone, have been the same.
@@ -91,8 +121,8 @@ impl Node {
     }
 
     /// Proposes the view of the node alone, where the node is a candidate and a round is left.
-    fn propose(&mut self, journal: &mut Journal) -> Result<(), NoMemory>
-        ensures lines { OnOk result (journal.new ≡ journal.old ++ due_propose self.old) }
+    fn propose(&mut self, due: &mut LineList) -> Result<(), NoMemory>
+        ensures lines { OnOk result (due.new ≡ due.old ++ due_propose self.old) }
         ensures after { OnOk result (self.new ≡ noted self.old (due_propose self.old)) }
         ensures opened { OnOk result (self.new.opened ≤ self.old.opened) }
     {
@@ -101,26 +131,27 @@ impl Node {
         }
         match self.promised.next(self.me) {
             None => Ok(()),
-            Some(key) => self.enter(journal, key),
+            Some(key) => self.enter(key, due),
         }
     }
 
     /// Promises the key and enters its view, which nobody else is a member of.
-    fn enter(&mut self, journal: &mut Journal, key: ClusterKey) -> Result<(), NoMemory>
-        ensures lines { OnOk result (journal.new ≡ journal.old ++ entering self.old.me key) }
-        ensures after { OnOk result (self.new ≡ noted self.old (entering self.old.me key)) }
+    fn enter(&mut self, key: ClusterKey, due: &mut LineList) -> Result<(), NoMemory>
+        ensures lines { OnOk result (due.new ≡ due.old ++ entering self.old key) }
+        ensures after { OnOk result (self.new ≡ noted self.old (entering self.old key)) }
         ensures opened { OnOk result (self.new.opened ≡ 0) }
     {
         let node = self.me;
-        let members = alone(node);
-        journal.push(Line::Promise { node, key })?;
-        journal.push(Line::Enter { node, key, members })?;
-        journal.push(Line::Exchanged { node, key })?;
+        let members = alone(node, self.role);
+        due.push(Line::Promise { node, key })?;
+        due.push(Line::Enter { node, key, members })?;
+        due.push(Line::Exchanged { node, key })?;
         self.promised = key;
         self.last = key;
         self.view = Some(key);
         self.quiet = 0;
         self.opened = 0;
+        stamp_empty_copies(&mut self.store, key);
         Ok(())
     }
 
@@ -129,20 +160,19 @@ impl Node {
     pub fn request(
         &mut self,
         alloc: Global,
-        journal: &mut Journal,
         digest: Digest,
         want: Want,
-        clock: u64,
+        due: &mut LineList,
     ) -> Result<(), NoMemory>
         requires { self.old.opened < 4294967295 }
-        ensures lines { OnOk result (journal.new ≡ journal.old ++ due_request self.old clock digest want) }
-        ensures after { OnOk result (self.new ≡ noted self.old (due_request self.old clock digest want)) }
+        ensures lines { OnOk result (due.new ≡ due.old ++ due_request self.old digest want) }
+        ensures after { OnOk result (self.new ≡ noted self.old (due_request self.old digest want)) }
         ensures opened { OnOk result (self.new.opened ≤ self.old.opened + 1) }
     {
         let node = self.me;
         let Some(key) = self.view else {
             let cause = Refusal::NoView;
-            return journal.push(Line::Refused {
+            return due.push(Line::Refused {
                 node,
                 digest,
                 cause,
@@ -150,7 +180,7 @@ impl Node {
         };
         self.opened += 1;
         let transaction = self.opened;
-        journal.push(Line::Opened {
+        due.push(Line::Opened {
             node,
             key,
             transaction,
@@ -163,26 +193,25 @@ impl Node {
             number,
             digest,
         };
-        self.resolve(alloc, journal, transaction, want, clock)
+        self.resolve(alloc, transaction, want, due)
     }
 
     /// Answers a read, or applies a write.
     fn resolve(
         &mut self,
         alloc: Global,
-        journal: &mut Journal,
         transaction: Transaction,
         want: Want,
-        clock: u64,
+        due: &mut LineList,
     ) -> Result<(), NoMemory>
-        ensures lines { OnOk result (journal.new ≡ journal.old ++ resolving self.old.me transaction.key transaction.number clock transaction.digest (map.get self.old.content transaction.digest) want) }
-        ensures after { OnOk result (self.new ≡ noted self.old (resolving self.old.me transaction.key transaction.number clock transaction.digest (map.get self.old.content transaction.digest) want)) }
+        ensures lines { OnOk result (due.new ≡ due.old ++ resolving self.old.me transaction.key transaction.number self.old.clock transaction.digest (map.get self.old.content transaction.digest) want) }
+        ensures after { OnOk result (self.new ≡ noted self.old (resolving self.old.me transaction.key transaction.number self.old.clock transaction.digest (map.get self.old.content transaction.digest) want)) }
         ensures opened { OnOk result (self.new.opened ≡ self.old.opened) }
     {
         match want {
-            Want::Get => self.answer(alloc, journal, transaction),
-            Want::Put(bytes) => self.write(alloc, journal, transaction, Body::Value(bytes), clock),
-            Want::Del => self.write(alloc, journal, transaction, Body::Tombstone, clock),
+            Want::Get => self.answer(alloc, transaction, due),
+            Want::Put(bytes) => self.write(alloc, transaction, Body::Value(bytes), due),
+            Want::Del => self.write(alloc, transaction, Body::Tombstone, due),
         }
     }
 
@@ -190,17 +219,14 @@ impl Node {
     fn answer(
         &mut self,
         alloc: Global,
-        journal: &mut Journal,
         transaction: Transaction,
+        due: &mut LineList,
     ) -> Result<(), NoMemory>
-        ensures lines { OnOk result (journal.new ≡ journal.old ++ resolving self.old.me transaction.key transaction.number 0 transaction.digest (map.get self.old.content transaction.digest) Want.Get) }
+        ensures lines { OnOk result (due.new ≡ due.old ++ resolving self.old.me transaction.key transaction.number 0 transaction.digest (map.get self.old.content transaction.digest) Want.Get) }
         ensures after { self.new ≡ self.old }
     {
-        let version = match self.records.get(&transaction.digest) {
-            None => None,
-            Some(held) => Some(held.copy(alloc)?),
-        };
-        journal.push(Line::Value {
+        let version = self.held(alloc, &transaction.digest)?;
+        due.push(Line::Value {
             node: self.me,
             key: transaction.key,
             transaction: transaction.number,
@@ -213,25 +239,24 @@ impl Node {
     fn write(
         &mut self,
         alloc: Global,
-        journal: &mut Journal,
         transaction: Transaction,
         body: Body,
-        clock: u64,
+        due: &mut LineList,
     ) -> Result<(), NoMemory>
-        ensures lines { OnOk result (journal.new ≡ journal.old ++ writing self.old.me transaction.key transaction.number transaction.digest (next (map.get self.old.content transaction.digest) clock body)) }
-        ensures after { OnOk result (self.new ≡ record self.old { content = joined self.old.content transaction.digest (next (map.get self.old.content transaction.digest) clock body) }) }
+        ensures lines { OnOk result (due.new ≡ due.old ++ writing self.old.me transaction.key transaction.number transaction.digest (next (map.get self.old.content transaction.digest) self.old.clock body)) }
+        ensures after { OnOk result (self.new ≡ record self.old { content = joined self.old.by self.old.content transaction.digest (next (map.get self.old.content transaction.digest) self.old.clock body) }) }
     {
-        let version = next_version(self.records.get(&transaction.digest), clock, body);
-        self.records
+        let version = next_version(self.store.get(&transaction.digest), self.clock, body);
+        self.store
             .join_in(transaction.digest, version.copy(alloc)?)?;
-        journal.push(Line::Apply {
+        due.push(Line::Apply {
             node: self.me,
             key: transaction.key,
             transaction: transaction.number,
             digest: transaction.digest,
             version,
         })?;
-        journal.push(Line::Done {
+        due.push(Line::Done {
             node: self.me,
             key: transaction.key,
             transaction: transaction.number,
@@ -239,15 +264,40 @@ impl Node {
     }
 }
 
-/// The members of a view of one node.
+/// The members of the view of one node.
 #[tactic(auto, using(crate::proofs::Members::one_member))]
-fn alone(node: NodeId) -> Members
-    ensures { result ≡ due.alone node }
+fn alone(id: NodeId, role: Role) -> Members
+    ensures { result ≡ record { id = id; role = role } ∷ [] }
 {
-    let Ok(members) = Members::from_slice(&[node]) else {
+    let Ok(members) = Members::with_roles(&[Member { id, role }]) else {
         unreachable!();
     };
     members
+}
+
+/// Stamps the copies that have no record with the key, and no write under it.
+fn stamp_empty_copies(store: &mut RecordStore, key: ClusterKey)
+    ensures stamps { store.new.stamps ≡ stamped store.old.versions key store.old.stamps }
+    ensures versions { store.new.versions ≡ store.old.versions }
+    ensures policy { store.new.by ≡ store.old.by }
+{
+    for number in 0..PARTITIONS {
+        if let Some(partition) = PartitionId::new(number) {
+            stamp_if_empty(store, partition, key);
+        }
+    }
+}
+
+/// Stamps the copy, if it has no record.
+fn stamp_if_empty(store: &mut RecordStore, partition: PartitionId, key: ClusterKey)
+    ensures stamps { store.new.stamps ≡ with_stamp store.old.versions key partition store.old.stamps }
+    ensures versions { store.new.versions ≡ store.old.versions }
+    ensures policy { store.new.by ≡ store.old.by }
+{
+    match store.state(partition) {
+        CopyState::Empty => store.stamp(partition, key, 0),
+        CopyState::Part | CopyState::Whole { .. } => {}
+    }
 }
 
 /// The version that a write makes of the best one.

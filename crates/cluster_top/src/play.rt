@@ -1,83 +1,64 @@
 //! The run of a script.
-ghost use Rattle.std.specs.Prelude.{◌≡◌, ◌<◌, ◌≤◌, ◌+◌, ◌++◌, length, IfOk, OnOk};
-ghost use Rattle.cluster_top.specs.Facts.{fresh, noted};
+ghost use Rattle.std.specs.Prelude.{◌≡◌, ◌<◌, ◌≤◌, ◌+◌, ◌++◌, [], length, OnOk, IsErrOf};
+ghost use Rattle.journal_text.specs.Journals.{IsWithin};
+ghost use Rattle.script_lang.specs.Proper.{IsProper};
 ghost use Rattle.cluster_top.specs.Run as run;
-ghost use Rattle.cluster_top.specs.Claims.{NoLoss, ReadJoin};
+ghost use Rattle.cluster_top.specs.Outcome.{IsCut, StopsBefore};
 
-use crate::node::Node;
-use cluster_types::{NoMemory, NodeId};
-use conflict_order::Want;
-use journal_text::{Journal, Line};
-use script_lang::{Command, HeaderLine, Script};
+use crate::header::write_header;
+use crate::world::World;
+use journal_text::{Journal, LineList, PushFault};
+use script_lang::{Command, Script};
 use std::alloc::Global;
 
-/// Where every clock stands: no command sets one.
-const CLOCK: u64 = 0;
-
-/// The journal of the script's run.
-///
-/// It loses no version, and its reads answer the join of their view.
-pub fn play(alloc: Global, script: &Script) -> Result<Journal, NoMemory>
-    requires { length script.now.commands < 4294967295 }
-    ensures run { IfOk result (λ journal. journal ≡ run.run script.now) }
-    ensures no_loss { IfOk result NoLoss }
-    ensures read_join { IfOk result ReadJoin }
+/// Plays the script, and adds its lines to a journal without any. `Full` where they don't fit; the
+/// lines of the events before the first that doesn't fit are then in the journal.
+pub fn play(alloc: Global, script: &Script, journal: &mut Journal) -> Result<(), PushFault>
+    requires empty { journal.old.lines ≡ [] }
+    requires proper { IsProper script.now }
+    requires few { length script.now.commands < 4294967295 }
+    ensures run { OnOk result (journal.new.lines ≡ run.run script.now) }
+    ensures cut { IsErrOf result PushFault.Full → IsCut script.now journal.new.lines }
 {
-    let journal = journal_of(alloc, script)?;
-    Ok(journal)
+    let header = script.header.as_slice();
+    let mut due = LineList::new(alloc);
+    write_header(header, &mut due)?;
+    append(journal, &mut due)?;
+    let world = World::new(alloc, header)?;
+    play_on(alloc, journal, world, script.commands.as_slice())
 }
 
-fn journal_of(alloc: Global, script: &Script) -> Result<Journal, NoMemory>
-    requires { length script.now.commands < 4294967295 }
-    ensures { IfOk result (λ journal. journal ≡ run.run script.now) }
-{
-    let mut journal = Journal::new(alloc);
-    if let Some(HeaderLine::Node { node, rack }) = script.header.as_slice().first() {
-        journal.push(Line::Node {
-            node: *node,
-            rack: *rack,
-        })?;
-        play_on(alloc, &mut journal, *node, script.commands.as_slice())?;
-    }
-    Ok(journal)
-}
-
-/// Plays the commands on a fresh node.
+/// Plays the commands, one after another.
 fn play_on(
     alloc: Global,
     journal: &mut Journal,
-    node: NodeId,
+    mut world: World,
     commands: &[Command],
-) -> Result<(), NoMemory>
-    requires { length commands.now < 4294967295 }
-    ensures { OnOk result (journal.new ≡ journal.old ++ run.play (fresh node) commands.now) }
+) -> Result<(), PushFault>
+    requires { run.opened_by world + length commands.now < 4294967295 }
+    ensures played { OnOk result (journal.new.lines ≡ journal.old.lines ++ run.play world commands.now) }
+    ensures cut { IsErrOf result PushFault.Full → StopsBefore journal.old.lines world commands.now journal.new.lines }
 {
-    let mut node = Node::new(alloc, node);
+    let mut due = LineList::new(alloc);
     for command in commands {
-        step(alloc, journal, &mut node, command)?;
+        world.play(alloc, command, &mut due)?;
+        append(journal, &mut due)?;
     }
     Ok(())
 }
 
-/// Plays one command. One that isn't served does nothing; a script that is read has none.
-fn step(
-    alloc: Global,
-    journal: &mut Journal,
-    node: &mut Node,
-    command: &Command,
-) -> Result<(), NoMemory>
-    requires { node.old.opened < 4294967295 }
-    ensures lines { OnOk result (journal.new ≡ journal.old ++ run.due node.old command.now) }
-    ensures after { OnOk result (node.new ≡ noted node.old (run.due node.old command.now)) }
-    ensures opened { OnOk result (node.new.opened ≤ node.old.opened + 1) }
+/// Adds the lines to the journal, all or, where they don't fit, none.
+fn append(journal: &mut Journal, due: &mut LineList) -> Result<(), PushFault>
+    ensures ok { OnOk result (journal.new.lines ≡ journal.old.lines ++ due.old) }
+    ensures full { IsErrOf result PushFault.Full → ¬ IsWithin (journal.old.lines ++ due.old) }
+    ensures kept { IsErrOf result PushFault.Full → journal.new.lines ≡ journal.old.lines }
+    ensures none_left { OnOk result (due.new ≡ []) }
 {
-    match command {
-        Command::Tick { .. } => node.tick(journal),
-        Command::Put { digest, value, .. } => {
-            let want = Want::Put(value.copy(alloc)?);
-            node.request(alloc, journal, *digest, want, CLOCK)
-        }
-        Command::Get { digest, .. } => node.request(alloc, journal, *digest, Want::Get, CLOCK),
-        _ => Ok(()),
+    if !journal.fits(due) {
+        return Err(PushFault::Full);
     }
+    while let Some(line) = due.take_first() {
+        journal.push(line)?;
+    }
+    Ok(())
 }

@@ -1,10 +1,10 @@
 //! The whole program, over the ends that it is given.
-ghost use Rattle.std.specs.Prelude.{◌≡◌, ◌≢◌, ◌<◌, ◌≤◌, ◌↔◌, ◌⊎◌, [], length, IfSome, IfOk, IfErr, Some};
+ghost use Rattle.std.specs.Prelude.{◌≡◌, ◌≢◌, ◌<◌, ◌≤◌, ◌↔◌, ◌⊎◌, [], length, IfSome, Some};
 ghost use Rattle.byte_ends.specs.Faults.{Rose};
-ghost use Rattle.script_lang.specs.Grammar.{script_of};
-ghost use Rattle.script_lang.specs.Reading.{Refuses};
+ghost use Rattle.script_lang.specs.Proper.{IsProper};
 ghost use Rattle.cluster_top.specs.Claims.{NoLoss, ReadJoin};
-ghost use Rattle.cluster_top.specs.Outcome.{Ended, IsDecided, IsRunOf, IsWritten, script_limit};
+ghost use Rattle.cluster_top.specs.Outcome.{Ended, EndedRun, IsDecided, IsWritten, script_limit};
+ghost use Rattle.journal_text.specs.Journals.{IsWithin};
 ghost use Rattle.journal_text.specs.Text.{text};
 
 use crate::play::play;
@@ -12,13 +12,14 @@ use crate::reading::{ReadFault, read_all};
 use crate::status::Status;
 use crate::writing::{WriteFault, write_lines};
 use byte_ends::{Sink, Source};
-use journal_text::Journal;
-use script_lang::{ScriptFault, parse};
+use journal_text::{Journal, PushFault};
+use script_lang::{Script, ScriptFault, parse};
 use std::alloc::Global;
 
 /// How a run ended, and its journal.
 ///
-/// The journal is the run's where all was played, and empty otherwise.
+/// The journal is the run's where all was played, that before the first event that doesn't fit
+/// where the run is too long, and empty otherwise.
 #[derive(Drop)]
 pub struct Outcome {
     pub status: Status,
@@ -35,11 +36,11 @@ pub fn run<S: Source, K: Sink>(
     out: &mut K,
 ) -> Outcome
     // What each status says of the journal, the source and the sink.
-    ensures ended { Ended result.status result.journal (S.left script.old) (S.left script.new) (K.taken out.old) (K.taken out.new) }
+    ensures ended { Ended result.status result.journal.lines (S.left script.old) (S.left script.new) (K.taken out.old) (K.taken out.new) }
 
     // What holds of the journal, however the run ended.
-    ensures no_loss { NoLoss result.journal }
-    ensures read_join { ReadJoin result.journal }
+    ensures no_loss { NoLoss result.journal.lines }
+    ensures read_join { ReadJoin result.journal.lines }
 
     // The cause of each status.
     ensures bad_words { (result.status ≡ Status.BadWords) ↔ (0 < length words.now) }
@@ -59,9 +60,9 @@ fn replay<S: Source, K: Sink>(
     script: &mut S,
     out: &mut K,
 ) -> Outcome
-    ensures ended { Ended result.status result.journal (S.left script.old) (S.left script.new) (K.taken out.old) (K.taken out.new) }
-    ensures no_loss { NoLoss result.journal }
-    ensures read_join { ReadJoin result.journal }
+    ensures ended { Ended result.status result.journal.lines (S.left script.old) (S.left script.new) (K.taken out.old) (K.taken out.new) }
+    ensures no_loss { NoLoss result.journal.lines }
+    ensures read_join { ReadJoin result.journal.lines }
     ensures bad_words { (result.status ≡ Status.BadWords) ↔ (0 < length words.now) }
     ensures untouched { result.status ≡ Status.BadWords → (script.new ≡ script.old) × (out.new ≡ out.old) }
     ensures read_fault { result.status ≡ Status.ReadFault → Rose (S.faults script.old) (S.faults script.new) }
@@ -80,7 +81,8 @@ fn replay<S: Source, K: Sink>(
 
 /// Nothing was played.
 fn unplayed(alloc: Global, status: Status) -> Outcome
-    ensures { result ≡ record { status = status; journal = [] } }
+    ensures status { result.status ≡ status }
+    ensures empty { result.journal.lines ≡ [] }
 {
     Outcome {
         status,
@@ -91,38 +93,44 @@ fn unplayed(alloc: Global, status: Status) -> Outcome
 /// Replays the script that the bytes are.
 fn replay_bytes<K: Sink>(alloc: Global, bytes: &[u8], out: &mut K) -> Outcome
     requires { length bytes.now ≤ script_limit }
-    ensures ended { Ended result.status result.journal (Some bytes.now) (Some []) (K.taken out.old) (K.taken out.new) }
-    ensures no_loss { NoLoss result.journal }
-    ensures read_join { ReadJoin result.journal }
+    ensures ended { Ended result.status result.journal.lines (Some bytes.now) (Some []) (K.taken out.old) (K.taken out.new) }
+    ensures no_loss { NoLoss result.journal.lines }
+    ensures read_join { ReadJoin result.journal.lines }
     ensures words { result.status ≢ Status.BadWords }
     ensures read_fault { result.status ≢ Status.ReadFault }
     ensures write_fault { result.status ≡ Status.WriteFault → Rose (K.faults out.old) (K.faults out.new) }
 {
-    match journal_of(alloc, bytes) {
+    match parse(alloc, bytes) {
         Err(ScriptFault::NoMemory) => unplayed(alloc, Status::NoMemory),
         Err(ScriptFault::At { line, cause }) => unplayed(alloc, Status::BadScript { line, cause }),
-        Ok(journal) => transcribe(alloc, journal, out),
+        Ok(script) => replay_script(alloc, &script, out),
     }
 }
 
-/// The journal of the script that the bytes are.
-fn journal_of(alloc: Global, bytes: &[u8]) -> Result<Journal, ScriptFault>
-    requires { length bytes.now ≤ script_limit }
-    ensures run { IfOk result (λ journal. IsRunOf bytes.now journal) }
-    ensures no_loss { IfOk result NoLoss }
-    ensures read_join { IfOk result ReadJoin }
-    ensures bad { IfErr result (Refuses (script_of bytes.now)) }
+/// Plays the script, and writes its journal's text.
+fn replay_script<K: Sink>(alloc: Global, script: &Script, out: &mut K) -> Outcome
+    requires proper { IsProper script.now }
+    requires few { length script.now.commands < 4294967295 }
+    ensures ended { EndedRun script.now result.status result.journal.lines (K.taken out.old) (K.taken out.new) }
+    ensures write_fault { result.status ≡ Status.WriteFault → Rose (K.faults out.old) (K.faults out.new) }
 {
-    let script = parse(alloc, bytes)?;
-    let journal = play(alloc, &script)?;
-    Ok(journal)
+    let mut journal = Journal::new(alloc);
+    match play(alloc, script, &mut journal) {
+        Ok(()) => transcribe(alloc, journal, out),
+        Err(PushFault::NoMemory) => unplayed(alloc, Status::NoMemory),
+        Err(PushFault::Full) => Outcome {
+            status: Status::RunTooLong,
+            journal,
+        },
+    }
 }
 
 /// Writes the journal's text.
 fn transcribe<K: Sink>(alloc: Global, journal: Journal, out: &mut K) -> Outcome
-    ensures written { IsWritten result.status (K.taken out.old) (K.taken out.new) (text journal) }
-    ensures kept { result.status ≢ Status.NoMemory → result.journal ≡ journal }
-    ensures empty { result.status ≡ Status.NoMemory → result.journal ≡ [] }
+    ensures written { IsWritten result.status (K.taken out.old) (K.taken out.new) (text journal.lines) }
+    ensures kept { result.status ≢ Status.NoMemory → result.journal.lines ≡ journal.lines }
+    ensures empty { result.status ≡ Status.NoMemory → result.journal.lines ≡ [] }
+    ensures within { IsWithin journal.lines }
     ensures write_fault { result.status ≡ Status.WriteFault → Rose (K.faults out.old) (K.faults out.new) }
 {
     match write_lines(alloc, journal.as_slice(), out) {

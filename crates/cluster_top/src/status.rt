@@ -24,6 +24,8 @@ pub enum Status {
     WriteFault,
     /// The script has more than 16,777,216 bytes.
     ScriptTooLong,
+    /// The journal would have more than 2,000,000 lines, or more than 536,870,912 bytes of text.
+    RunTooLong,
 }
 
 /// What main writes on standard error, without the line feed.
@@ -39,11 +41,12 @@ impl fmt::Display for Status {
             Status::ReadFault => write!(f, "read fault"),
             Status::WriteFault => write!(f, "write fault"),
             Status::ScriptTooLong => write!(f, "script too long"),
+            Status::RunTooLong => write!(f, "run too long"),
         }
     }
 }
 
-/// The code with which the process ends: 0 to 6.
+/// The code with which the process ends: 0 to 7.
 pub fn code(status: &Status) -> u8
     ensures { result ≡ code_of status.now }
 {
@@ -55,6 +58,7 @@ pub fn code(status: &Status) -> u8
         Status::ReadFault => 4,
         Status::WriteFault => 5,
         Status::ScriptTooLong => 6,
+        Status::RunTooLong => 7,
     }
 }
 

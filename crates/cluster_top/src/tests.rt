@@ -35,6 +35,63 @@ const REFUSED: &str = "node 1
 refused 1 0000000000000000000000000000000000000000 noview
 ";
 
+/// A clock that goes back, and a store that is shown.
+const CLOCKED: &str = "node 1
+tick 1
+tick 1
+tick 1
+clock 1 100
+put 1 #0000000000000000000000000000000000000000 a
+clock 1 7
+put 1 #0000000000000000000000000000000000000000 b
+show 1 #0000000000000000000000000000000000000000
+hash #ffff000000000000000000000000000000000000
+";
+
+const CLOCKED_TRANSCRIPT: &str = "node 1
+tick 1
+tick 1
+tick 1
+promise 1 1.1
+enter 1 1.1 1
+exchanged 1 1.1
+clock 1 100
+opened 1 1.1 1 0000000000000000000000000000000000000000 put
+apply 1 1.1 1 0000000000000000000000000000000000000000 100.1=61
+done 1 1.1 1
+clock 1 7
+opened 1 1.1 2 0000000000000000000000000000000000000000 put
+apply 1 1.1 2 0000000000000000000000000000000000000000 100.2=62
+done 1 1.1 2
+holds 1 0000000000000000000000000000000000000000 100.2=62
+hash ffff000000000000000000000000000000000000 4095
+";
+
+/// Racks and a policy, on several nodes, whose stores are empty.
+const DECLARED: &str = "script 2
+factor 3
+policy generation
+node 1 1
+node 2 1
+node 3 2
+node 4 0
+place 1
+place 2
+show 2 #0000000000000000000000000000000000000000
+";
+
+const DECLARED_TRANSCRIPT: &str = "script 2
+factor 3
+policy generation
+node 1 1
+node 2 1
+node 3 2
+node 4 0
+place 1 3/2,1/1,4,2/1
+place 2 2/1,3/2,4,1/1
+holds 2 0000000000000000000000000000000000000000 none
+";
+
 /// What a run is given, and how it is to end.
 #[derive(Clone, Copy)]
 struct Case {
@@ -61,15 +118,17 @@ fn runs_write_their_transcript_or_say_what_failed(rt: HostRuntime) -> Result<(),
         ("", none, none, Status::Done, ""),
         (SCRIPT, none, none, Status::Done, TRANSCRIPT),
         (EARLY, none, none, Status::Done, REFUSED),
+        (CLOCKED, none, none, Status::Done, CLOCKED_TRANSCRIPT),
+        (DECLARED, none, none, Status::Done, DECLARED_TRANSCRIPT),
         (SCRIPT, first, none, Status::ReadFault, ""),
         (SCRIPT, none, first, Status::WriteFault, ""),
         (
-            "node 1\njump 1\n",
+            "node 1\n\njump 1\n\ntick\n",
             none,
             none,
             Status::BadScript {
-                line: 2,
-                cause: Cause::NotBuilt,
+                line: 3,
+                cause: Cause::UnknownWord,
             },
             "",
         ),
@@ -96,6 +155,29 @@ fn a_byte_past_the_limit_is_too_long(rt: HostRuntime) -> Result<(), Fail> {
     Ok(())
 }
 
+/// One node and so many lines that show a digest.
+fn digests(alloc: Global, count: usize) -> Result<Vec<u8>, Fail> {
+    let mut script = Vec::from_slice(alloc, b"node 1\n")?;
+    for _ in 0..count {
+        script.extend_from_slice(b"hash a\n")?;
+    }
+    Ok(script)
+}
+
+#[test]
+fn two_million_lines_are_written_and_no_line_more(rt: HostRuntime) -> Result<(), Fail> {
+    let alloc = rt.alloc();
+    for (count, status) in [(1_999_999, Status::Done), (2_000_000, Status::RunTooLong)] {
+        let script = digests(alloc, count)?;
+        let mut source = SureSource::new(alloc, script.as_slice())?;
+        let mut sink = SureSink::new();
+        let outcome = run(alloc, &[], &mut source, &mut sink);
+        assert_eq!(rt; outcome.status, status);
+        assert_eq!(rt; outcome.journal.lines(), 2_000_000);
+    }
+    Ok(())
+}
+
 #[test]
 fn a_word_is_refused(rt: HostRuntime) -> Result<(), Fail> {
     let alloc = rt.alloc();
@@ -117,6 +199,7 @@ fn each_status_has_its_code_and_text(rt: HostRuntime) -> Result<(), Fail> {
         (Status::ReadFault, 4, "read fault"),
         (Status::WriteFault, 5, "write fault"),
         (Status::ScriptTooLong, 6, "script too long"),
+        (Status::RunTooLong, 7, "run too long"),
     ] {
         assert_eq!(rt; code(&status), number);
         let text = fault_text(rt.alloc(), &status)?;

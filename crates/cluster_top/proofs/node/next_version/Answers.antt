@@ -1,5 +1,4 @@
-use Rattle.std.proofs.Common.{◌≡◌, sym, ap, ◌∙◌, arith, refl, rules}
-use Rattle.std.specs.Option.{option_copied}
+use Rattle.std.proofs.Common.{rules}
 use Rattle.conflict_order.specs.Next.{next}
 use Rattle.cluster_top.proofs.node.next_version.Goals as goal
 

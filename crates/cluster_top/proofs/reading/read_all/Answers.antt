@@ -1,5 +1,5 @@
 use Rattle.std.proofs.Common.{arith, ℕ, length-take}
-use Rattle.cluster_top.proofs.StreamLaws.{gave_nothing, gave_more, gave_all, gave_too_much}
+use Rattle.cluster_top.proofs.StreamLaws.{gave_more, gave_all, gave_too_much}
 use Rattle.cluster_top.proofs.reading.read_all.Goals as goal
 
 pub loop-bytes-preserved : goal.loop-bytes-preserved

@@ -1,4 +1,4 @@
-use Rattle.std.proofs.Common.{sym, ap, ◌∙◌, ◌≡◌, arith, ◌+◌, rules}
+use Rattle.std.proofs.Common.{◌+◌}
 use Rattle.cluster_top.proofs.TextLaws.{line_buffered, front_of_text, front_of_text_written}
 use Rattle.cluster_top.proofs.writing.write_lines.Goals as goal
 
