@@ -1,6 +1,10 @@
 pub mod CodeLaws
 pub mod Empty
 pub mod Lone
+pub mod Shown
 pub mod Two
 pub mod Partitions
+pub mod Merged
+pub mod Agreeing
+pub mod Ticking
 pub mod NoteLaws

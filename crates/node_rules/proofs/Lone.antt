@@ -58,7 +58,7 @@ nothing_more part parts f a b = ap (λ e. followed_by e (in_order parts (noted N
 abbrev with_own_row : Row → Facts
 with_own_row row = note None (entered (noted None ticked_twice (line.Tick 1 ∷ line.Promise 1 (key 1 1) ∷ [])) (key 1 1) itself row) (line.Exchanged 1 (key 1 1))
 
-abbrev alone : Facts
+abbrev pub alone : Facts
 alone = with_own_row []
 
 abbrev its_row : Row
@@ -132,7 +132,7 @@ third_with_row = refl
 pub third_tick : due_tick ticked_twice ≡ lines_only (line.Tick 1 ∷ entering_lines)
 third_tick = third_with_row ∙ ap (λ row. with_rest (rest_with_row row)) its_row_is_empty ∙ ap with_rest rest
 
-entered_view : in_its_view ≡ alone
+pub entered_view : in_its_view ≡ alone
 entered_view = ap (λ e. after None ticked_twice e) third_tick ∙ ap with_own_row its_row_is_empty
 
 -- ---- a put and a get
@@ -148,7 +148,7 @@ first_version : next None 0 (Value hi) ≡ first_hi
 unfolding next
 first_version = refl
 
-holds_nothing : finite.get alone.store.content zeros ≡ None
+pub holds_nothing : finite.get alone.store.content zeros ≡ None
 holds_nothing = finite.get-empty (slice_cmp nat_cmp) zeros
 
 abbrev put_lines : List Line
@@ -161,10 +161,10 @@ pub puts : due_request in_its_view 0 zeros (want.Put hi) ≡ lines_only put_line
 puts = ap (λ f. due_request f 0 zeros (want.Put hi)) entered_view ∙ put_alone
 
 -- the node after the put
-abbrev with_hi : Facts
+abbrev pub with_hi : Facts
 with_hi = noted (Some (want.Put hi)) alone put_lines
 
-after_put : having_hi ≡ with_hi
+pub after_put : having_hi ≡ with_hi
 after_put =
     ap (λ f. after (Some (want.Put hi)) f (due_request f 0 zeros (want.Put hi))) entered_view
     ∙ ap (λ e. after (Some (want.Put hi)) alone e) put_alone
@@ -180,7 +180,7 @@ kept_first : kept Time None first_hi ≡ first_hi
 unfolding kept
 kept_first = refl
 
-holds_hi : finite.get (joined Time finite.empty zeros first_hi) zeros ≡ Some first_hi
+pub holds_hi : finite.get (joined Time finite.empty zeros first_hi) zeros ≡ Some first_hi
 holds_hi =
     finite.get-insert nat_list_cmp_total finite.empty zeros _ zeros
     ∙ ap (λ held. Some (kept Time held first_hi)) holds_nothing

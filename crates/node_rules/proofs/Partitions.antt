@@ -1,5 +1,5 @@
 -- What is told of many partitions, against what holds of each.
-use Rattle.std.proofs.Common.{◌≡◌, ◌≢◌, ◌↔◌, ℕ, zero, suc, ◌+◌, ◌<◌, ◌≤◌, Bool, true, false, ◌&&◌, List, ◌∷◌, length, All, AllPairs, refl, sym, ap, subst, ◌∙◌, arith, inl, inr}
+use Rattle.std.proofs.Common.{◌≡◌, ◌≢◌, ◌↔◌, ℕ, zero, suc, ◌+◌, ◌<◌, ◌≤◌, Bool, true, false, not, ◌&&◌, ◌||◌, List, ◌∷◌, length, All, AllPairs, refl, sym, ap, subst, ◌∙◌, arith, inl, inr}
 use Rattle.std.proofs.lemmas.Bool.{false≢true}
 use Rattle.std.proofs.lemmas.Bool.Decides.{eqb_tells}
 use Rattle.cluster_types.specs.declared.copy_state.CopyState.{CopyState}
@@ -8,9 +8,9 @@ use Rattle.cluster_types.specs.Partitions.{partition_count}
 use Rattle.cluster_types.specs.Rows.{bit}
 use Rattle.cluster_types.specs.StateRows.{IsStateRow, state_of}
 use Rattle.node_rules.specs.Copies.{Row, Store, copy_state, with_state, row_from}
-use Rattle.node_rules.specs.Facts.{Facts}
+use Rattle.node_rules.specs.Facts.{Facts, list_at}
 use Rattle.node_rules.specs.Map.{is_empty}
-use Rattle.node_rules.specs.Standing.{is_done, knows_settled, knows_all_settled}
+use Rattle.node_rules.specs.Standing.{is_done, knows_settled, knows_all_settled, is_to_learn, is_to_drop, has_nothing_to_learn_or_drop}
 use Rattle.node_rules.specs.Tick.{done_from}
 
 -- ---- rows
@@ -156,3 +156,43 @@ zero_plus p = omega arith
 
 pub settled_tells : (f : Facts) (n : ℕ) → (knows_all_settled f n 0 ≡ true) ↔ ((p : ℕ) → p < n → knows_settled f p ≡ true)
 settled_tells f n = (λ all p lower. ap (knows_settled f) (sym (zero_plus p)) ∙ known_at f n 0 p all lower, λ each. known_all f n 0 (λ i lower. ap (knows_settled f) (zero_plus i) ∙ each i lower))
+
+-- ---- what is to be learnt or dropped
+
+-- whether something of the partition is to be learnt or dropped
+abbrev is_owed : Facts → ℕ → Bool
+is_owed f p = is_to_learn f (list_at f p) p || is_to_drop f (list_at f p) p
+
+none_owed : (b : Bool) → not b ≡ true → b ≡ false
+none_owed true e = cc
+none_owed false e = refl
+
+owed_at : (f : Facts) (n p i : ℕ) → has_nothing_to_learn_or_drop f n p ≡ true → i < n → is_owed f (p + i) ≡ false
+unfolding has_nothing_to_learn_or_drop
+owed_at f zero p i all lower = absurd (omega (arith, lower))
+owed_at f (suc n) p zero all lower = ap (is_owed f) (let same : p + 0 ≡ p = omega arith in same) ∙ none_owed (is_owed f p) (left (not (is_owed f p)) (has_nothing_to_learn_or_drop f n (p + 1)) all)
+owed_at f (suc n) p (suc i) all lower =
+    ap (is_owed f) (let same : p + suc i ≡ (p + 1) + i = omega arith in same)
+    ∙ owed_at f n (p + 1) i (right (not (is_owed f p)) (has_nothing_to_learn_or_drop f n (p + 1)) all) (omega (arith, lower))
+
+nothing_owed : (f : Facts) (n p : ℕ) → ((i : ℕ) → i < n → is_owed f (p + i) ≡ false) → has_nothing_to_learn_or_drop f n p ≡ true
+unfolding has_nothing_to_learn_or_drop
+nothing_owed f zero p each = refl
+nothing_owed f (suc n) p each =
+    both (not (is_owed f p)) (has_nothing_to_learn_or_drop f n (p + 1))
+    (ap not (ap (is_owed f) (let same : p ≡ p + 0 = omega arith in same) ∙ each 0 (omega arith)))
+    (nothing_owed f n (p + 1) (λ i lower. ap (is_owed f) (let same : (p + 1) + i ≡ p + suc i = omega arith in same) ∙ each (suc i) (omega (arith, lower))))
+
+neither : (a b : Bool) → (a || b) ≡ false → (a ≡ false) × (b ≡ false)
+neither true b e = (e, cc)
+neither false b e = (refl, e)
+
+none_of : (a b : Bool) → (a ≡ false) × (b ≡ false) → (a || b) ≡ false
+none_of true b e = e.0
+none_of false b e = e.1
+
+pub rest_tells : (f : Facts) (n : ℕ) → (has_nothing_to_learn_or_drop f n 0 ≡ true) ↔ ((p : ℕ) → p < n → (is_to_learn f (list_at f p) p ≡ false) × (is_to_drop f (list_at f p) p ≡ false))
+rest_tells f n = (
+  λ all p lower. neither (is_to_learn f (list_at f p) p) (is_to_drop f (list_at f p) p) (ap (is_owed f) (sym (zero_plus p)) ∙ owed_at f n 0 p all lower),
+  λ each. nothing_owed f n 0 (λ i lower. ap (is_owed f) (zero_plus i) ∙ none_of (is_to_learn f (list_at f i) i) (is_to_drop f (list_at f i) i) (each i lower)),
+)

@@ -1,12 +1,15 @@
 -- The agreement on the next view: what was promised, what was entered, and what is proposed.
-use Rattle.std.specs.Prelude.{ℕ, ◌+◌, ◌^◌, max, nat_lt, Bool, true, false, List, Option, Some, None}
+use Rattle.std.specs.Prelude.{ℕ, ◌+◌, ◌^◌, ◌&&◌, max, nat_lt, Bool, true, false, List, [], ◌∷◌, Option, Some, None, is_none}
 use Rattle.cluster_types.specs.declared.cluster_key.ClusterKey.{ClusterKey}
 use Rattle.cluster_types.specs.declared.member.Member.{Member}
 use Rattle.cluster_types.specs.ClusterKeys as keys
+use Rattle.cluster_types.specs.ClusterKeys.{key_lt}
 use Rattle.cluster_types.specs.Distinct.{without}
 use Rattle.cluster_types.specs.Members.{ids_of}
 use Rattle.cluster_types.specs.MembersEqual.{same_members}
 use Rattle.node_rules.specs.Keys.{same_key}
+use Rattle.node_rules.specs.Copies.{is_nil}
+use Rattle.node_rules.specs.Exchange.{is_member}
 
 -- a view that the node proposes
 pub record Proposal : Type 0 where
@@ -28,6 +31,10 @@ pub record Agreement : Type 0 where
 -- nothing promised and nothing entered
 abbrev pub no_agreement : Agreement
 no_agreement = record { promised = keys.none; last = keys.none; proposal = None; seen = 0 }
+
+-- after a start these two keys are left
+abbrev pub agreement_of : ClusterKey → ClusterKey → Agreement
+agreement_of promised last = record { promised = promised; last = last; proposal = None; seen = 0 }
 
 -- the members' ids but the node's own, in member order
 abbrev pub others : ℕ → List Member → List ℕ
@@ -119,3 +126,66 @@ proposes_set (Some p) set = same_members p.members set
 -- a tick at which the neighbours are these: a proposal of other members is given up
 abbrev pub still_proposing : Agreement → List Member → Agreement
 still_proposing a set = record a { proposal = kept_if (proposes_set a.proposal set) a.proposal }
+
+-- ---- what the messages and a tick do
+
+-- whether a Propose of the key is refused: the node has promised a greater one
+abbrev pub refuses : Agreement → ClusterKey → Bool
+refuses a key = key_lt key a.promised
+
+-- the key is promised where the test holds
+abbrev pub promising_if : Agreement → ClusterKey → Bool → Agreement
+promising_if a key true = promising a key
+promising_if a key false = a
+
+-- a Propose of the key came: it is promised where it is above the promised one
+abbrev pub voting : Agreement → ClusterKey → Agreement
+voting a key = promising_if a key (key_lt a.promised key)
+
+-- whether every other member has accepted the proposal, that one counted
+abbrev pub is_accepted_with : Option Proposal → ℕ → Bool
+is_accepted_with None from = false
+is_accepted_with (Some p) from = is_nil (without_missing p from).missing
+
+-- the view is entered where the test holds
+abbrev pub entering_if : Agreement → ClusterKey → Bool → Agreement
+entering_if a key true = entering a key
+entering_if a key false = a
+
+-- an Accept of that key came from a member: with the last one of a proposal its view is entered
+abbrev pub counting : Agreement → ℕ → ClusterKey → Agreement
+counting a from key = entering_if (accepting a from key) key (proposes a.proposal key && is_accepted_with a.proposal from)
+
+-- whether a committed view is entered: its key is the promised one and above the last, and the node is a member
+abbrev pub may_enter : ℕ → Agreement → ClusterKey → List Member → Bool
+may_enter me a key members = same_key key a.promised && (key_lt a.last key && is_member members me)
+
+-- a Commit came: its view is entered, or nothing changes
+abbrev pub committing : ℕ → Agreement → ClusterKey → List Member → Agreement
+committing me a key members = entering_if a key (may_enter me a key members)
+
+-- a Refuse of that key came, with the key that its sender promised
+abbrev pub refusing : Agreement → ClusterKey → ClusterKey → Agreement
+refusing a key promised = seeing (refused a key) promised
+
+-- whether a node proposes anew: it proposes nothing, is a candidate, and there is a round
+abbrev pub proposes_anew : Agreement → Bool → Bool
+proposes_anew a candidate = is_none a.proposal && (candidate && has_round a)
+
+-- whether a new proposal is entered at once: it has no other members
+abbrev pub enters_alone : ℕ → Agreement → List Member → Bool → Bool
+enters_alone me a set candidate = proposes_anew a candidate && is_nil (others me set)
+
+-- a view of that key and these members is proposed to the others; without others it is entered at once
+abbrev pub proposing_to : ℕ → Agreement → ClusterKey → List Member → List ℕ → Agreement
+proposing_to me a key set [] = entering (promising a key) key
+proposing_to me a key set (n ∷ ns) = proposing (promising a key) me key set
+
+-- a new proposal of these members where the test holds
+abbrev pub proposing_if : ℕ → Agreement → List Member → Bool → Agreement
+proposing_if me a set true = proposing_to me a (next_key me a) set (others me set)
+proposing_if me a set false = a
+
+-- a tick at which the neighbours are these, and the node is a candidate or not
+abbrev pub ticking : ℕ → Agreement → List Member → Bool → Agreement
+ticking me a set candidate = proposing_if me (still_proposing a set) set (proposes_anew (still_proposing a set) candidate)

@@ -1,11 +1,11 @@
 -- The records that a node hands on to the replicas, in batches.
-use Rattle.std.specs.Prelude.{ℕ, ◌+◌, ◌==◌, Bool, false, not, if◌then◌else◌, List, [], ◌∷◌, Option, Some, None, find, filter, filter_map, map, option_map, take, bytes_eq}
+use Rattle.std.specs.Prelude.{ℕ, ◌+◌, ◌==◌, Bool, false, not, if◌then◌else◌, List, [], ◌∷◌, Option, Some, None, find, filter, filter_map, map, option_map, option_and_then, take, bytes_eq}
 use Rattle.std.specs.List.{list_any}
 use Rattle.std.specs.FinMap as finite
 use Rattle.conflict_order.specs.declared.version.Version.{Version}
 use Rattle.cluster_types.specs.declared.cluster_key.ClusterKey.{ClusterKey}
 use Rattle.wire_codec.specs.declared.message.Batch.{Batch}
-use Rattle.node_rules.specs.Copies.{Content, is_of}
+use Rattle.node_rules.specs.Copies.{Content, digests, is_of}
 use Rattle.node_rules.specs.Tables.{changed_if}
 
 -- what is handed on to one member
@@ -29,6 +29,14 @@ batch_limit = 64
 -- a target that these digests are pending to
 abbrev pub new_target : ℕ → List (List ℕ) → Target
 new_target node pending = record { node = node; pending = pending; out = None; batches = 0 }
+
+-- the member's target as the exchange ends: every digest that is held and is for it is pending
+abbrev pub target_of : (ℕ → List ℕ → Bool) → Content → ℕ → Target
+target_of is_for content n = new_target n (filter (is_for n) (digests content))
+
+-- a target for each of these members
+abbrev pub targets_of : (ℕ → List ℕ → Bool) → Content → List ℕ → Targets
+targets_of is_for content ns = map (target_of is_for content) ns
 
 -- the member's target
 abbrev pub target : Targets → ℕ → Option Target
@@ -73,6 +81,10 @@ batch_after key content t None = fresh_batch key content t t.pending
 -- the batch that is to be sent to the target, if any
 abbrev pub next_batch : ClusterKey → Content → Target → Option Batch
 next_batch key content t = batch_after key content t t.out
+
+-- the batch that is to be sent to the member, if any
+abbrev pub next_batch_to : ClusterKey → Content → Targets → ℕ → Option Batch
+next_batch_to key content targets n = option_and_then (next_batch key content) (target targets n)
 
 -- whether the digest is one of the records'
 abbrev pub is_among : List (List ℕ × Version) → List ℕ → Bool

@@ -1,5 +1,6 @@
 -- What a node knows of how far each partition has come in its view.
-use Rattle.std.specs.Prelude.{ℕ, ◌||◌, Bool, true, false, List, [], ◌∷◌, unwrap_or, replicate, slice_set}
+use Rattle.std.specs.Prelude.{ℕ, ◌&&◌, ◌||◌, Bool, true, false, not, List, [], ◌∷◌, unwrap_or, replicate, slice_set}
+use Rattle.std.specs.List.{list_all}
 use Rattle.cluster_types.specs.Partitions.{partition_count}
 use Rattle.cluster_types.specs.Rows.{bit}
 use Rattle.node_rules.specs.Tables.{Table, at, with_entry}
@@ -41,3 +42,32 @@ knows_done b p m = bit (unwrap_or (at b.done m) []) p
 -- a Progress came: its done row takes the place of the sender's last one, and the other two are joined
 abbrev pub progressing : Bits → ℕ → List Bool → List Bool → List Bool → Bits
 progressing b from done handed settled = record b { done = with_entry b.done from done; handed = or_rows b.handed handed; settled = or_rows b.settled settled }
+
+-- whether the node knows each of these members done at the partition
+abbrev pub knows_each_done : Bits → List ℕ → ℕ → Bool
+knows_each_done b ms p = list_all (knows_done b p) ms
+
+-- the partition was handed over
+abbrev pub handing : Bits → ℕ → Bits
+handing b p = record b { handed = with_bit b.handed p }
+
+-- the partition's settling was written
+abbrev pub settling : Bits → ℕ → Bits
+settling b p = record b { settled = with_bit b.settled p }
+
+-- the node learnt the partition
+abbrev pub learning : Bits → ℕ → Bits
+learning b p = record b { learnt = with_bit b.learnt p }
+
+-- whether the partition is handed over by a node that is the acting master by the rows or isn't, and the list
+-- master or isn't, where all members are known done or aren't, and a transaction is open on it or isn't
+abbrev pub may_hand : Bits → ℕ → Bool → Bool → Bool → Bool → Bool
+may_hand b p is_acting is_master all_done is_busy =
+    is_acting && (not is_master && (not (bit b.handed p) && (all_done && not is_busy)))
+
+-- whether the partition is settled by such a node, where all copies were empty or weren't
+abbrev pub may_settle : Bits → ℕ → Bool → Bool → Bool → Bool → Bool → Bool
+may_settle b p is_acting is_master all_empty all_done is_busy =
+    is_master
+    && (not all_empty
+    && (not (bit b.settled p) && (not is_busy && (bit b.handed p || (is_acting && all_done)))))

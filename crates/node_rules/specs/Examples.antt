@@ -7,6 +7,7 @@ use Rattle.conflict_order.specs.declared.want.Want.{Want}
 use Rattle.conflict_order.specs.declared.want.Want.TheVariants as want
 use Rattle.cluster_types.specs.declared.cluster_key.ClusterKey.{ClusterKey}
 use Rattle.cluster_types.specs.declared.member.Member.{Member}
+use Rattle.cluster_types.specs.declared.member.Role.{Role}
 use Rattle.cluster_types.specs.Members.{plain_role, plain_member}
 use Rattle.cluster_types.specs.declared.copy_state.CopyState.{CopyState}
 use Rattle.cluster_types.specs.declared.copy_state.CopyState.TheVariants.{Part, Whole}
@@ -24,6 +25,10 @@ use Rattle.node_rules.specs.Transactions.{Write}
 -- the key of that round and principal
 abbrev pub key : ℕ → ℕ → ClusterKey
 key round principal = record { round = round; principal = principal }
+
+-- the role of a node in rack 3 that is quiesced
+abbrev pub racked : Role
+racked = record { rack = 3; quiesced = true }
 
 -- a node that is alone, to which nothing has happened
 abbrev pub lone : Facts
@@ -67,7 +72,7 @@ writing_hi applied = record lone {
   exchange = begun 1 (key 1 1) itself [];
   transactions = record {
     opened = 1;
-    running = record { number = 1; digest = zeros; want = want.Put hi; best = None; awaiting = 2 ∷ []; applied = applied } ∷ [];
+    running = record { number = 1; digest = zeros; want = want.Put hi; asked = 2 ∷ []; best = None; awaiting = 2 ∷ []; applied = applied } ∷ [];
   };
 }
 
@@ -149,7 +154,7 @@ abbrev pub waiting_for : Want → Facts
 waiting_for w = record (migrating 2 1 (whole_and_part 2 1) false false) {
   transactions = record {
     opened = 1;
-    running = record { number = 1; digest = seven; want = w; best = None; awaiting = 1 ∷ []; applied = None } ∷ [];
+    running = record { number = 1; digest = seven; want = w; asked = 1 ∷ []; best = None; awaiting = 1 ∷ []; applied = None } ∷ [];
   };
 }
 

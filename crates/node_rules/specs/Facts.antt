@@ -1,13 +1,14 @@
 -- What is known of a node: a record of plain data, with a record for each of its parts.
-use Rattle.std.specs.Prelude.{ℕ, Bool, true, List, []}
+use Rattle.std.specs.Prelude.{ℕ, nat_lt, ◌&&◌, Bool, true, List, [], Option, option_map}
 use Rattle.conflict_order.specs.declared.policy.Policy.{Policy}
 use Rattle.cluster_types.specs.declared.cluster_key.ClusterKey.{ClusterKey}
 use Rattle.cluster_types.specs.declared.member.Member.{Member}
 use Rattle.cluster_types.specs.declared.member.Role.{Role}
-use Rattle.partition_lists.specs.Lists.{list}
+use Rattle.cluster_types.specs.MembersEqual.{same_members}
+use Rattle.partition_lists.specs.Lists.{list, in_order}
 use Rattle.node_rules.specs.Hearing.{Hearing, deaf}
 use Rattle.node_rules.specs.Agreement.{Agreement, no_agreement}
-use Rattle.node_rules.specs.Exchange.{Exchange, outside, key_of, members_of}
+use Rattle.node_rules.specs.Exchange.{Exchange, outside, key_of, members_of, is_view}
 use Rattle.node_rules.specs.Copies.{Store, empty_store}
 use Rattle.node_rules.specs.Stamps.{Writes, no_writes}
 use Rattle.node_rules.specs.Transactions.{Transactions, no_transactions}
@@ -35,11 +36,11 @@ pub record Facts : Type 0 where
   pub batches : Targets
   pub bits : Bits
 
--- a node to which nothing has happened
+-- a node to which nothing has happened, beside those other nodes, in whatever order they were declared
 abbrev pub fresh : ℕ → Role → List ℕ → ℕ → Policy → Facts
 fresh me role peers factor by = record {
   me = me;
-  peers = peers;
+  peers = in_order nat_lt peers;
   factor = factor;
   role = role;
   up = true;
@@ -64,3 +65,12 @@ members f = members_of f.exchange.view
 -- the list of a partition over the members of the node's view
 abbrev pub list_at : Facts → ℕ → List ℕ
 list_at f p = list (members f) p
+
+-- the key of the node's view with its members, if it has one
+abbrev pub view_members : Facts → Option (ClusterKey × List Member)
+view_members f = option_map (λ v. (v.key, v.members)) f.exchange.view
+
+-- whether the node has finished the exchange of the view of that key, whose members are just these, with
+-- these roles
+abbrev pub has_exchanged_in : ClusterKey → List Member → Facts → Bool
+has_exchanged_in key set f = f.exchange.exchanged && (is_view f.exchange.view key && same_members (members f) set)

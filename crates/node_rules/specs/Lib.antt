@@ -12,11 +12,13 @@ pub mod Facts
 pub mod Hearing
 pub mod Keys
 pub mod Map
+pub mod Merging
 pub mod Messages
 pub mod Notes
 pub mod Requests
 pub mod Resolving
 pub mod Settling
+pub mod Shows
 pub mod Stamps
 pub mod Standing
 pub mod Steps

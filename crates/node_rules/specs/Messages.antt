@@ -13,14 +13,14 @@ use Rattle.wire_codec.specs.declared.message.Batch.{Batch}
 use Rattle.wire_codec.specs.declared.message.MapTable.{MapTable}
 use Rattle.wire_codec.specs.declared.message.Message.{Message}
 use Rattle.wire_codec.specs.declared.message.Message.TheVariants as message
+use Rattle.node_rules.specs.Agreement as agreement
 use Rattle.node_rules.specs.Agreement.{Proposal, proposes, without_missing, others}
 use Rattle.node_rules.specs.Batches.{out_to, has_number}
 use Rattle.node_rules.specs.Copies.{is_nil}
 use Rattle.node_rules.specs.Effects.{Effects, nothing, lines_only, sends_only, to_each, to_one}
 use Rattle.node_rules.specs.Entering.{entering}
-use Rattle.node_rules.specs.Exchange.{is_member, first_missing}
+use Rattle.node_rules.specs.Exchange.{first_missing}
 use Rattle.node_rules.specs.Facts.{Facts, view_key, members, list_at}
-use Rattle.node_rules.specs.Keys.{same_key}
 use Rattle.node_rules.specs.Notes.{noted, reached, in_view}
 use Rattle.node_rules.specs.Resolving.{resolving}
 use Rattle.node_rules.specs.Settling.{line_if}
@@ -76,7 +76,7 @@ due_refuse f key = unless_stale f (proposes f.agreement.proposal key)
 -- whether the node enters a committed view: its key is the promised one and above the last, and the
 -- node is a member
 abbrev pub may_enter : Facts → ClusterKey → List Member → Bool
-may_enter f key ms = same_key key f.agreement.promised && (keys.key_lt f.agreement.last key && is_member ms f.me)
+may_enter f key ms = agreement.may_enter f.me f.agreement key ms
 
 -- the view is entered where the test holds, and otherwise the message is stale
 abbrev pub entering_if : Facts → ClusterKey → List Member → Bool → Effects
@@ -108,6 +108,10 @@ abbrev pub due_state : Facts → Facts → ℕ → ClusterKey → Bool → Effec
 due_state f now from key wants = state_came f now from wants (in_view f key)
 
 -- ---- batches
+
+-- the line of a record that was newer
+abbrev pub merge_line : ℕ → ClusterKey → List ℕ × Version → Line
+merge_line me key r = line.Merge me key r.0 r.1
 
 -- a line where the version is newer than what is held
 abbrev pub merging : Facts → List ℕ → Version → List Line

@@ -1,5 +1,5 @@
 -- What a line of the node, a message that reached it and a message that it sent add to its facts.
-use Rattle.std.specs.Prelude.{ℕ, zero, suc, ◌+◌, ◌==◌, ◌&&◌, Bool, true, false, List, [], ◌∷◌, Option, Some, None, map, filter}
+use Rattle.std.specs.Prelude.{ℕ, zero, suc, ◌+◌, ◌==◌, ◌&&◌, Bool, true, false, List, [], ◌∷◌, Option, Some, None}
 use Rattle.std.specs.FinMap as finite
 use Rattle.conflict_order.specs.declared.version.Version.{Version}
 use Rattle.conflict_order.specs.declared.want.Want.{Want}
@@ -8,6 +8,7 @@ use Rattle.conflict_order.specs.declared.want.Action.{Action}
 use Rattle.conflict_order.specs.declared.want.Action.TheVariants as action
 use Rattle.cluster_types.specs.declared.cluster_key.ClusterKey.{ClusterKey}
 use Rattle.cluster_types.specs.declared.member.Member.{Member}
+use Rattle.cluster_types.specs.declared.member.Role.{Role}
 use Rattle.cluster_types.specs.Partitions.{partition_count, partition_of}
 use Rattle.journal_text.specs.declared.line.Line.{Line}
 use Rattle.journal_text.specs.declared.line.Line.TheVariants as line
@@ -17,9 +18,10 @@ use Rattle.node_rules.specs.declared.beat.Beat.{Beat}
 use Rattle.node_rules.specs.Agreement as agreement
 use Rattle.node_rules.specs.Batches as batches
 use Rattle.node_rules.specs.Batches.{Target, Targets}
-use Rattle.node_rules.specs.Bits.{with_bit, progressing, no_bits}
+use Rattle.node_rules.specs.Bits as bits
+use Rattle.node_rules.specs.Bits.{progressing, no_bits}
 use Rattle.node_rules.specs.Classes.{sends_to}
-use Rattle.node_rules.specs.Copies.{Store, Stamps, Row, row_from, digests, storing, stamping, dropping}
+use Rattle.node_rules.specs.Copies.{Store, Stamps, Row, row_from, storing, stamping, dropping}
 use Rattle.node_rules.specs.Exchange.{begun, outside, is_view, with_row}
 use Rattle.node_rules.specs.Facts.{Facts, list_at}
 use Rattle.node_rules.specs.Hearing.{Hearing, ticked, deaf, without_quiet, beat_heard, neighbours_of}
@@ -60,9 +62,13 @@ stopped f = record f {
 abbrev pub started : Facts → Facts
 started f = record f { up = true }
 
+-- the node has another role from now on; its next heartbeat tells it, and a stopped node keeps it
+abbrev pub with_role : Facts → Role → Facts
+with_role f role = record f { role = role }
+
 -- the node's mark is set or taken back
 abbrev pub marked : Facts → Bool → Facts
-marked f quiesced = record f { role = record { rack = f.role.rack; quiesced = quiesced } }
+marked f quiesced = with_role f (record { rack = f.role.rack; quiesced = quiesced })
 
 -- ---- views
 
@@ -107,11 +113,11 @@ is_for f to digest = sends_to (list_at f (partition_of digest)) f.factor f.excha
 
 -- the member's target as the exchange ends: every digest that the node holds and hands on to it is pending
 abbrev pub target_for : Facts → ℕ → Target
-target_for f to = batches.new_target to (filter (is_for f to) (digests f.store.content))
+target_for f to = batches.target_of (is_for f) f.store.content to
 
 -- a target for each other member
 abbrev pub targets_of : Facts → Targets
-targets_of f = map (target_for f) (others f)
+targets_of f = batches.targets_of (is_for f) f.store.content (others f)
 
 -- the exchange is finished: copies are stamped, and digests are pending
 abbrev pub exchanged : Facts → ClusterKey → Facts
@@ -132,14 +138,8 @@ want_of None action.Del = want.Del
 
 -- a transaction that opens now on a digest of the partition with that list
 abbrev pub new_transaction : Facts → List ℕ → ℕ → List ℕ → Want → Transaction
-new_transaction f l number digest w = record {
-  number = number;
-  digest = digest;
-  want = w;
-  best = finite.get f.store.content digest;
-  awaiting = asked f l (partition_of digest);
-  applied = None;
-}
+new_transaction f l number digest w =
+    transactions.new_transaction number digest w (finite.get f.store.content digest) (asked f l (partition_of digest))
 
 -- a transaction opens
 abbrev pub opened : Facts → List ℕ → ℕ → List ℕ → Want → Facts
@@ -174,15 +174,15 @@ merged f key digest v = record f { store = with_stamp (storing f.store digest v)
 
 -- the node knows that the partition was handed over
 abbrev pub handed : Facts → ℕ → Facts
-handed f p = record f { bits = record f.bits { handed = with_bit f.bits.handed p } }
+handed f p = record f { bits = bits.handing f.bits p }
 
 -- the node knows that the partition's settling was written
 abbrev pub settled : Facts → ℕ → Facts
-settled f p = record f { bits = record f.bits { settled = with_bit f.bits.settled p } }
+settled f p = record f { bits = bits.settling f.bits p }
 
 -- the copy is whole under that key
 abbrev pub learnt : Facts → ClusterKey → List ℕ → ℕ → Facts
-learnt f key l p = record f { store = stamping f.store p (key, count_in f l p); bits = record f.bits { learnt = with_bit f.bits.learnt p } }
+learnt f key l p = record f { store = stamping f.store p (key, count_in f l p); bits = bits.learning f.bits p }
 
 -- the partition's copy and its stamp are gone
 abbrev pub dropped : Facts → ℕ → Facts

@@ -1,28 +1,25 @@
 -- Hand-over, settling, learning and dropping, partition by partition, whose list is an argument.
-use Rattle.std.specs.Prelude.{ℕ, zero, suc, ◌+◌, ◌&&◌, ◌||◌, Bool, true, false, not, List, [], ◌∷◌, ◌++◌, None}
+use Rattle.std.specs.Prelude.{ℕ, zero, suc, ◌+◌, Bool, true, false, List, [], ◌∷◌, ◌++◌, None}
 use Rattle.journal_text.specs.declared.line.Line.{Line}
 use Rattle.journal_text.specs.declared.line.Line.TheVariants as line
+use Rattle.node_rules.specs.Bits as bits
 use Rattle.node_rules.specs.Facts.{Facts, view_key, list_at}
 use Rattle.node_rules.specs.Notes.{noted}
-use Rattle.node_rules.specs.Standing.{is_acting, is_master, is_all_empty, are_all_done, knows_handed, has_settled_bit, is_to_learn, is_to_drop}
+use Rattle.node_rules.specs.Standing.{is_acting, is_master, is_all_empty, are_all_done, is_to_learn, is_to_drop}
 use Rattle.node_rules.specs.Transactions.{is_busy}
 
 -- whether the node hands the partition over: it is the acting master by the rows and not the list
 -- master, hasn't handed it over, is done at it and knows every other member done, and has no
 -- transaction open on it
 abbrev pub may_hand : Facts → List ℕ → ℕ → Bool
-may_hand f l p =
-    is_acting f l p
-    && (not (is_master f l) && (not (knows_handed f p) && (are_all_done f p && not (is_busy f.transactions p))))
+may_hand f l p = bits.may_hand f.bits p (is_acting f l p) (is_master f l) (are_all_done f p) (is_busy f.transactions p)
 
 -- whether the node settles the partition: it is the list master, some copy wasn't empty, the bit
 -- isn't set, it has no transaction open on it, and either the partition was handed over to it, or it
 -- is itself the acting master by the rows, is done and knows every other member done
 abbrev pub may_settle : Facts → List ℕ → ℕ → Bool
 may_settle f l p =
-    is_master f l
-    && (not (is_all_empty f p)
-    && (not (has_settled_bit f p) && (not (is_busy f.transactions p) && (knows_handed f p || (is_acting f l p && are_all_done f p)))))
+    bits.may_settle f.bits p (is_acting f l p) (is_master f l) (is_all_empty f p) (are_all_done f p) (is_busy f.transactions p)
 
 -- the line where the test holds
 abbrev pub line_if : Line → Bool → List Line

@@ -1,7 +1,7 @@
 -- How a node stands to a partition of its view, whose list is an argument.
 use Rattle.std.specs.Prelude.{ℕ, zero, suc, ◌+◌, ◌==◌, ◌&&◌, ◌||◌, Bool, true, not, if◌then◌else◌, List, []}
-use Rattle.std.specs.List.{list_all}
 use Rattle.cluster_types.specs.Distinct.{without}
+use Rattle.cluster_types.specs.Partitions.{partition_count}
 use Rattle.cluster_types.specs.Rows.{bit}
 use Rattle.partition_lists.specs.Lists.{replicas}
 use Rattle.node_rules.specs.Tables.{contains}
@@ -9,7 +9,7 @@ use Rattle.node_rules.specs.Agreement as agreement
 use Rattle.node_rules.specs.Map.{acting, master, all_empty}
 use Rattle.node_rules.specs.Classes.{asked_by}
 use Rattle.node_rules.specs.Batches.{is_pending}
-use Rattle.node_rules.specs.Bits.{knows_done}
+use Rattle.node_rules.specs.Bits.{knows_each_done}
 use Rattle.node_rules.specs.Copies.{holds_of, is_nil}
 use Rattle.node_rules.specs.Facts.{Facts, members, list_at}
 
@@ -47,7 +47,7 @@ is_done f p = f.exchange.exchanged && not (is_pending f.batches p)
 
 -- whether the node is done and knows every other member done
 abbrev pub are_all_done : Facts → ℕ → Bool
-are_all_done f p = is_done f p && list_all (knows_done f.bits p) (others f)
+are_all_done f p = is_done f p && knows_each_done f.bits (others f) p
 
 -- whether the node knows that the partition was handed over
 abbrev pub knows_handed : Facts → ℕ → Bool
@@ -104,5 +104,9 @@ has_nothing_to_learn_or_drop f (suc n) p =
 
 -- whether the node, of so many partitions, is at rest: it has finished the exchange, knows each
 -- partition settled, has nothing to learn or drop, and has no open transaction
-abbrev pub is_at_rest : ℕ → Facts → Bool
-is_at_rest n f = f.exchange.exchanged && (knows_all_settled f n 0 && (has_nothing_to_learn_or_drop f n 0 && is_nil f.transactions.running))
+abbrev pub is_at_rest_of : ℕ → Facts → Bool
+is_at_rest_of n f = f.exchange.exchanged && (knows_all_settled f n 0 && (has_nothing_to_learn_or_drop f n 0 && is_nil f.transactions.running))
+
+-- whether the node is at rest
+abbrev pub is_at_rest : Facts → Bool
+is_at_rest f = is_at_rest_of partition_count f

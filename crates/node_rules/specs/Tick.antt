@@ -60,6 +60,11 @@ is_candidate f = is_greatest f.me (neighbours f) && ((f.hearing.quiet == quiet_t
 abbrev pub propose_again : Proposal → Effects
 propose_again p = sends_only (to_each p.missing (message.Propose p.key p.members))
 
+-- what is sent for a proposal, where there is one
+abbrev pub proposal_sends : Option Proposal → List (ℕ × Message)
+proposal_sends None = []
+proposal_sends (Some p) = (propose_again p).sends
+
 -- a new view is promised; without other members it is entered at once, and otherwise it is proposed
 -- to each of them
 abbrev pub proposing_to : Facts → ClusterKey → List Member → List ℕ → Effects

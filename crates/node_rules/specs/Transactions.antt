@@ -1,5 +1,5 @@
 -- The transactions that are open at a node.
-use Rattle.std.specs.Prelude.{ℕ, ◌+◌, ◌==◌, ◌&&◌, Bool, not, List, [], ◌∷◌, ◌++◌, Option, Some, find, filter, map, is_some, bytes_eq}
+use Rattle.std.specs.Prelude.{ℕ, ◌+◌, ◌==◌, ◌&&◌, Bool, not, List, [], ◌∷◌, ◌++◌, Option, Some, None, find, filter, map, is_some, bytes_eq}
 use Rattle.std.specs.List.{list_any}
 use Rattle.conflict_order.specs.declared.policy.Policy.{Policy}
 use Rattle.conflict_order.specs.declared.version.Version.{Version}
@@ -19,9 +19,11 @@ pub record Transaction : Type 0 where
   pub number : ℕ
   pub digest : List ℕ
   pub want : Want
+  -- whom it asked, in list order
+  pub asked : List ℕ
   -- the join of what the node held as it opened and of the first answers of those that were asked
   pub best : Option Version
-  -- before the write is applied those whose answer is missing, and afterwards those whose
+  -- before the write is applied those of the asked whose answer is missing, and afterwards those whose
   -- acknowledgement is; in list order
   pub awaiting : List ℕ
   pub applied : Option Write
@@ -32,6 +34,11 @@ pub record Transactions : Type 0 where
   pub opened : ℕ
   -- those that are open, in rising order of their numbers
   pub running : List Transaction
+
+-- a request that is accepted now, where the node holds that version and asks those
+abbrev pub new_transaction : ℕ → List ℕ → Want → Option Version → List ℕ → Transaction
+new_transaction number digest want held asked =
+    record { number = number; digest = digest; want = want; asked = asked; best = held; awaiting = asked; applied = None }
 
 -- none was opened
 abbrev pub no_transactions : Transactions
@@ -92,3 +99,7 @@ acknowledging ts from number = changing ts number (λ t. changed_if (acknowledge
 -- whether the node is the only one that is awaited
 abbrev pub is_last_awaited : Transaction → ℕ → Bool
 is_last_awaited t from = is_nil (without t.awaiting from)
+
+-- the number of each open transaction, and whether its write is applied
+abbrev pub ends : Transactions → List (ℕ × Bool)
+ends ts = map (λ t. (t.number, is_some t.applied)) ts.running

@@ -1,31 +1,39 @@
 //! Worked examples of the rules, which the prover computes. A call does nothing: what it ensures is
 //! the example.
-ghost use Rattle.std.specs.Prelude.{◌≡◌, ◌↔◌, ◌<◌, ◌≤◌, length, ◌∷◌, [], ℕ, true, false, Some, None};
+ghost use Rattle.std.specs.Prelude.{◌≡◌, ◌↔◌, ◌<◌, ◌≤◌, length, map, List, ◌∷◌, [], ℕ, true, false, Some, None};
+ghost use Rattle.conflict_order.specs.declared.policy.Policy.TheVariants.{Time};
 ghost use Rattle.conflict_order.specs.declared.want.Want.TheVariants as want;
 ghost use Rattle.conflict_order.specs.declared.want.Action.TheVariants as action;
+ghost use Rattle.cluster_types.specs.declared.cluster_key.ClusterKey.{ClusterKey};
+ghost use Rattle.cluster_types.specs.declared.member.Member.{Member};
+ghost use Rattle.cluster_types.specs.declared.member.Role.{Role};
 ghost use Rattle.cluster_types.specs.declared.copy_state.CopyState.TheVariants.{Part, Whole};
 ghost use Rattle.journal_text.specs.declared.line.Line.TheVariants as line;
 ghost use Rattle.journal_text.specs.declared.refusal.Refusal.TheVariants as refusal;
 ghost use Rattle.wire_codec.specs.declared.message.Message.TheVariants as message;
 ghost use Rattle.cluster_types.specs.ClusterKeys.{none};
-ghost use Rattle.cluster_types.specs.Members.{plain_role};
+ghost use Rattle.cluster_types.specs.Members.{plain_role, plain_member};
+ghost use Rattle.node_rules.specs.Agreement as agreement;
 ghost use Rattle.node_rules.specs.Batches.{next_batch, acking, new_target};
 ghost use Rattle.node_rules.specs.Classes.{class_first, sends, asked_by};
 ghost use Rattle.node_rules.specs.Copies.{Content, Store, copy_state, row_from};
-ghost use Rattle.node_rules.specs.Facts.{Facts};
-ghost use Rattle.node_rules.specs.Standing.{is_done, knows_settled, knows_all_settled};
+ghost use Rattle.node_rules.specs.Facts.{Facts, fresh, list_at, view_key, view_members, has_exchanged_in};
+ghost use Rattle.node_rules.specs.Standing.{is_done, knows_settled, knows_all_settled, is_to_learn, is_to_drop, has_nothing_to_learn_or_drop, is_at_rest_of};
 ghost use Rattle.cluster_types.specs.Partitions.{partition_count};
 ghost use Rattle.cluster_types.specs.Rows.{bit};
 ghost use Rattle.cluster_types.specs.StateRows.{IsStateRow, state_of};
-ghost use Rattle.node_rules.specs.Effects.{nothing, lines_only, sends_only, to_one};
-ghost use Rattle.node_rules.specs.Examples.{key, lone, itself, ticked_twice, in_its_view, zeros, hi, first_hi, having_hi, seven, writing_hi, hi_written, promised_two, two, five_rows, five, hearing_one, proposing_two, migrating, whole_and_part, batch_of_hi, sent_hi, restarted, waiting_for, second_hi, lacking_two};
+ghost use Rattle.node_rules.specs.Effects.{nothing, lines_only, sends_only, to_one, to_each};
+ghost use Rattle.node_rules.specs.Examples.{key, lone, itself, ticked_twice, in_its_view, zeros, hi, first_hi, having_hi, seven, writing_hi, hi_written, promised_two, two, five_rows, five, hearing_one, proposing_two, migrating, whole_and_part, batch_of_hi, sent_hi, restarted, waiting_for, second_hi, lacking_two, racked};
 ghost use Rattle.node_rules.specs.Map.{acting, all_empty};
-ghost use Rattle.node_rules.specs.Messages.{due_message};
+ghost use Rattle.node_rules.specs.Merging.{Record, newer_records, joined_all};
+ghost use Rattle.node_rules.specs.Messages.{due_message, merging_all, merge_line};
+ghost use Rattle.node_rules.specs.Notes.{note, noted, neighbours, after_ages, stopped, marked, with_role};
 ghost use Rattle.node_rules.specs.Requests.{due_request, due_stop, refusal_of, request_at};
 ghost use Rattle.node_rules.specs.Settling.{settling_at};
 ghost use Rattle.node_rules.specs.Stamps.{count_of, with_number, no_class};
-ghost use Rattle.node_rules.specs.Steps.{after_tick};
-ghost use Rattle.node_rules.specs.Tick.{due_tick, done_from};
+ghost use Rattle.node_rules.specs.Shows.{due_map, due_show, with_roles};
+ghost use Rattle.node_rules.specs.Steps.{after_tick, after_message, after_stop, after_start};
+ghost use Rattle.node_rules.specs.Tick.{due_tick, done_from, is_candidate, propose, proposal_sends};
 
 /// A node that is alone enters a view of its own at its third tick.
 pub fn lone_node_enters_at_its_third_tick()
@@ -38,6 +46,11 @@ pub fn lone_node_enters_at_its_third_tick()
 pub fn lone_node_puts_and_gets()
     ensures put { due_request in_its_view 0 zeros (want.Put hi) ≡ lines_only (line.Opened 1 (key 1 1) 1 zeros action.Put ∷ line.Apply 1 (key 1 1) 1 zeros first_hi ∷ line.Done 1 (key 1 1) 1 ∷ []) }
     ensures get { due_request having_hi 0 zeros want.Get ≡ lines_only (line.Opened 1 (key 1 1) 2 zeros action.Get ∷ line.Value 1 (key 1 1) 2 zeros (Some first_hi) ∷ []) }
+{}
+
+/// Heartbeats go to the other nodes in rising order, in whatever order they were declared.
+pub fn heartbeats_go_in_rising_order()
+    ensures { due_tick (fresh 2 plain_role (4 ∷ 1 ∷ 3 ∷ []) 2 Time) ≡ record { lines = line.Tick 2 ∷ []; sends = to_each (1 ∷ 3 ∷ 4 ∷ []) (message.Heartbeat none none [] plain_role) } }
 {}
 
 /// A node without a view refuses every request.
@@ -119,6 +132,15 @@ pub fn partition_comes_to_its_list_master()
     ensures handed { refusal_of (migrating 1 2 (whole_and_part 1 2) true true) (2 ∷ 1 ∷ []) seven ≡ Some (refusal.NotMaster 2) }
 {}
 
+/// A node is at rest where it has finished the exchange, knows all settled, and has nothing open. Here
+/// partition 7 alone isn't empty everywhere.
+pub fn node_is_at_rest_once_all_is_settled()
+    ensures rests { is_at_rest_of 7 (migrating 2 1 (whole_and_part 2 1) false false) ≡ true }
+    ensures unsettled { is_at_rest_of 8 (migrating 2 1 (whole_and_part 2 1) false false) ≡ false }
+    ensures open { is_at_rest_of 7 (waiting_for want.Get) ≡ false }
+    ensures exchanging { is_at_rest_of 7 lacking_two ≡ false }
+{}
+
 /// A batch is sent again under its number until just that number is acknowledged.
 pub fn batch_is_sent_until_acknowledged()
     ensures again { (content : Content) → next_batch (key 2 2) content sent_hi ≡ Some batch_of_hi }
@@ -146,6 +168,60 @@ pub fn request_waits_for_other_classes()
     ensures merges { due_message (migrating 1 2 (whole_and_part 2 1) false false) 0 2 (message.Repl (key 2 2) 1 1 seven second_hi) ≡ record { lines = line.Merge 1 (key 2 2) seven second_hi ∷ []; sends = to_one 2 (message.ReplAck (key 2 2) 1) } }
 {}
 
+/// A node that has finished the exchange shows of each partition its list, each member with its role,
+/// and the acting master. Any other shows why it can't.
+pub fn node_shows_its_map()
+    ensures shown { due_map in_its_view 6 7 ≡ lines_only (line.Map 1 (key 1 1) 6 itself 1 ∷ line.Map 1 (key 1 1) 7 itself 1 ∷ []) }
+    ensures roles { with_roles (record { id = 2; role = racked } ∷ plain_member 1 ∷ []) (1 ∷ 2 ∷ []) ≡ plain_member 1 ∷ record { id = 2; role = racked } ∷ [] }
+    ensures down { due_map (after_stop lone) 0 4095 ≡ lines_only (line.Mapless 1 refusal.Down ∷ []) }
+    ensures no_view { due_map lone 0 4095 ≡ lines_only (line.Mapless 1 refusal.NoView ∷ []) }
+    ensures exchanging { due_map lacking_two 0 4095 ≡ lines_only (line.Mapless 1 (refusal.Exchanging 2) ∷ []) }
+{}
+
+/// A node shows what it holds, also while it is stopped.
+pub fn node_shows_what_it_holds()
+    ensures held { due_show having_hi zeros ≡ lines_only (line.Holds 1 zeros (Some first_hi) ∷ []) }
+    ensures stopped { due_show (after_stop having_hi) zeros ≡ lines_only (line.Holds 1 zeros (Some first_hi) ∷ []) }
+    ensures nothing { due_show lone zeros ≡ lines_only (line.Holds 1 zeros None ∷ []) }
+{}
+
+/// A node keeps its role over a stop, and takes another one also while it is stopped.
+pub fn role_stays_over_a_stop()
+    ensures kept { (after_stop (marked lone true)).role ≡ record { rack = 0; quiesced = true } }
+    ensures taken { (after_start (marked (after_stop lone) true)).role ≡ record { rack = 0; quiesced = true } }
+    ensures noted { (note None (stopped lone) (line.Quiesce 1)).role ≡ record { rack = 0; quiesced = true } }
+    ensures other { (with_role (stopped lone) racked).role ≡ racked }
+{}
+
+/// Whether a node has finished the exchange of a view goes by its members with their roles.
+pub fn exchange_is_finished_among_members()
+    ensures view { view_members (migrating 1 2 [] false false) ≡ Some (key 2 2, two) }
+    ensures finished { has_exchanged_in (key 2 2) two (migrating 1 2 [] false false) ≡ true }
+    ensures other_key { has_exchanged_in (key 2 1) two (migrating 1 2 [] false false) ≡ false }
+    ensures other_member { has_exchanged_in (key 2 2) itself (migrating 1 2 [] false false) ≡ false }
+    ensures other_role { has_exchanged_in (key 2 2) (record { id = 2; role = racked } ∷ itself) (migrating 1 2 [] false false) ≡ false }
+    ensures unfinished { has_exchanged_in (key 2 2) two lacking_two ≡ false }
+    ensures no_view { view_members lone ≡ None }
+{}
+
+/// What a step makes of the agreement goes by the rules of agreement alone.
+pub fn agreement_goes_by_its_own_rules()
+    ensures tick { (f : Facts) → f.up ≡ true → (after_tick f).agreement ≡ agreement.ticking f.me f.agreement (neighbours (after_ages f)) (is_candidate (after_ages f)) }
+    ensures proposal { (f : Facts) → (propose f).sends ≡ proposal_sends (agreement.proposing_if f.me f.agreement (neighbours f) (agreement.proposes_anew f.agreement (is_candidate f))).proposal }
+    ensures heartbeat { (f : Facts) → (clock : ℕ) → (from : ℕ) → (view : ClusterKey) → (promised : ClusterKey) → (hears : List ℕ) → (role : Role) → (after_message f clock from (message.Heartbeat view promised hears role)).agreement ≡ agreement.seeing f.agreement promised }
+    ensures propose { (f : Facts) → (clock : ℕ) → (from : ℕ) → (k : ClusterKey) → (ms : List Member) → (after_message f clock from (message.Propose k ms)).agreement ≡ agreement.voting f.agreement k }
+    ensures accept { (f : Facts) → (clock : ℕ) → (from : ℕ) → (k : ClusterKey) → (after_message f clock from (message.Accept k)).agreement ≡ agreement.counting f.agreement from k }
+    ensures refuse { (f : Facts) → (clock : ℕ) → (from : ℕ) → (k : ClusterKey) → (promised : ClusterKey) → (after_message f clock from (message.Refuse k promised)).agreement ≡ agreement.refusing f.agreement k promised }
+    ensures commit { (f : Facts) → (clock : ℕ) → (from : ℕ) → (k : ClusterKey) → (ms : List Member) → (after_message f clock from (message.Commit k ms)).agreement ≡ agreement.committing f.me f.agreement k ms }
+    ensures stop { (f : Facts) → f.up ≡ true → (after_stop f).agreement ≡ agreement.stopping f.agreement }
+{}
+
+/// A batch merges those of its records that are newer than what is held as they are come to.
+pub fn batch_merges_what_is_newer()
+    ensures lines { (f : Facts) → (rs : List Record) → merging_all f rs ≡ map (merge_line f.me (view_key f)) (newer_records f.store.by f.store.content rs) }
+    ensures content { (f : Facts) → (rs : List Record) → (noted None f (merging_all f rs)).store.content ≡ joined_all f.store.by f.store.content (newer_records f.store.by f.store.content rs) }
+{}
+
 /// What is told of many partitions at once says of each what holds of it, and nothing of others.
 pub fn rows_tell_of_each_partition()
     ensures row { (s : Store) → (n : ℕ) → (p : ℕ) → p < n → state_of (row_from s n 0) p ≡ copy_state s p }
@@ -153,4 +229,5 @@ pub fn rows_tell_of_each_partition()
     ensures done { (f : Facts) → (n : ℕ) → (p : ℕ) → p < n → bit (done_from f n 0) p ≡ is_done f p }
     ensures size { (f : Facts) → (n : ℕ) → length (done_from f n 0) ≡ n }
     ensures settled { (f : Facts) → (n : ℕ) → (knows_all_settled f n 0 ≡ true) ↔ ((p : ℕ) → p < n → knows_settled f p ≡ true) }
+    ensures rest { (f : Facts) → (n : ℕ) → (has_nothing_to_learn_or_drop f n 0 ≡ true) ↔ ((p : ℕ) → p < n → (is_to_learn f (list_at f p) p ≡ false) × (is_to_drop f (list_at f p) p ≡ false)) }
 {}

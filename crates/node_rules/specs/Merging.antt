@@ -1,0 +1,35 @@
+-- What records that come from another node make of what a node holds.
+use Rattle.std.specs.Prelude.{ℕ, Bool, true, false, List, [], ◌∷◌, ◌++◌, fold}
+use Rattle.std.specs.FinMap as finite
+use Rattle.conflict_order.specs.declared.policy.Policy.{Policy}
+use Rattle.conflict_order.specs.declared.version.Version.{Version}
+use Rattle.conflict_order.specs.Order.{is_newer}
+use Rattle.node_rules.specs.Copies.{Content, joined}
+
+-- a digest with a version of it
+abbrev pub Record : Type 0
+Record = List ℕ × Version
+
+-- whether the record is newer than what is held of it
+abbrev pub is_newer_than_held : Policy → Content → Record → Bool
+is_newer_than_held by content r = is_newer by r.1 (finite.get content r.0)
+
+-- the record where the test holds
+abbrev pub record_if : Record → Bool → List Record
+record_if r true = r ∷ []
+record_if r false = []
+
+-- the content with the record where the test holds
+abbrev pub joined_if : Policy → Content → Record → Bool → Content
+joined_if by content r true = joined by content r.0 r.1
+joined_if by content r false = content
+
+-- those of the records that are newer than what is held as they are come to, in their order
+abbrev pub newer_records : Policy → Content → List Record → List Record
+newer_records by content [] = []
+newer_records by content (r ∷ rs) =
+    record_if r (is_newer_than_held by content r) ++ newer_records by (joined_if by content r (is_newer_than_held by content r)) rs
+
+-- the content after these records came
+abbrev pub joined_all : Policy → Content → List Record → Content
+joined_all by content rs = fold (λ held r. joined by held r.0 r.1) content rs
