@@ -18,7 +18,7 @@ all_along test before (l ∷ ls) = test before l && all_along test (before ++ l 
 pub some_same : {A : Type 0} {a b : A} → Some a ≡ Some b → a ≡ b
 some_same {A} {a} {b} e = ap (λ (o : Option A). unwrap_or o a) e
 
-no_some : {A : Type 0} {a : A} → None ≡ Some a → ⊥
+pub no_some : {A : Type 0} {a : A} → None ≡ Some a → ⊥
 no_some e = differ (ap is_some e)
   where
     differ : false ≡ true → ⊥

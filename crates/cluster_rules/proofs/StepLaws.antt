@@ -8,7 +8,7 @@ use Rattle.conflict_order.specs.declared.policy.Policy.{Policy}
 use Rattle.cluster_types.specs.declared.cluster_key.ClusterKey.{ClusterKey}
 use Rattle.journal_text.specs.declared.line.Line.{Line}
 use Rattle.cluster_rules.specs.Lines.{is_enter, lines_before, fold_along}
-use Rattle.cluster_rules.specs.Settings.{is_up, up_step, clock_of, clock_step}
+use Rattle.cluster_rules.specs.Settings.{is_up, up_step, clock_of, clock_step, present_role, role_step}
 use Rattle.cluster_rules.specs.Contents.{content, content_step, holds_any, copy_step, applied, applied_step}
 use Rattle.cluster_rules.specs.Views.{promised_key, promise_step, last_key, last_step, view, view_step}
 use Rattle.cluster_rules.specs.Entries.{entry, applied_in, applied_in_step}
@@ -91,6 +91,10 @@ is_up-more n ls l = fold-more (up_step n) _ ls l
 pub clock_of-more : (n : ℕ) (ls : List Line) (l : Line) → clock_of n (ls ++ l ∷ []) ≡ clock_step n (clock_of n ls) l
 unfolding clock_of
 clock_of-more n ls l = fold-more (clock_step n) 0 ls l
+
+pub present_role-more : (n : ℕ) (ls : List Line) (l : Line) → present_role n (ls ++ l ∷ []) ≡ role_step n (present_role n ls) l
+unfolding present_role
+present_role-more n ls l = fold-more (role_step n) _ ls l
 
 pub stamp-more : (factor n p : ℕ) (ls : List Line) (l : Line) → stamp factor n p (ls ++ l ∷ []) ≡ stamp_step factor n p ls (stamp factor n p ls) l
 unfolding stamp

@@ -7,7 +7,7 @@ use Rattle.cluster_types.specs.Members.{ids_of}
 use Rattle.cluster_types.specs.Distinct.{IsDescending}
 use Rattle.journal_text.specs.declared.line.Line.{Line}
 use Rattle.journal_text.specs.declared.line.Line.TheVariants as line
-use Rattle.cluster_rules.specs.Claims.{OneMap, RaisesKey, ShowsMap, ReadJoin, JoinsView}
+use Rattle.cluster_rules.specs.Claims.{OneMap, ShowsMap, ReadJoin, JoinsView}
 use Rattle.cluster_rules.specs.Shape.{Shape, follows_header, names_declared, EntersFalling, enters_once, names_entered, follows_entries}
 use Rattle.cluster_rules.specs.Examples.{both, shown, written_and_read}
 use Rattle.cluster_rules.proofs.AlongLaws.{each, each_passes, one_map}
@@ -20,10 +20,6 @@ read_joins = record { joined = each (JoinsView written_and_read) written_and_rea
 pub maps_agree : OneMap shown
 unfolding computing
 maps_agree = one_map shown (each (λ b l. ShowsMap shown l) shown (tt, (tt, (tt, (tt, (tt, (tt, (tt, (tt, (tt, ((refl, refl), ((refl, refl), tt))))))))))))
-
-pub keys_rise : (i : ℕ) (l : Line) → slice_get shown i ≡ Some l → RaisesKey (take i shown) l
-unfolding computing
-keys_rise = each RaisesKey shown (tt, (tt, (tt, (refl, (refl, (refl, (refl, (tt, (tt, (tt, (tt, tt)))))))))))
 
 -- ---- the shape
 

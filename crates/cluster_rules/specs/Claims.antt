@@ -8,14 +8,14 @@ use Rattle.cluster_types.specs.ClusterKeys.{key_lt}
 use Rattle.cluster_types.specs.Partitions.{partition_of}
 use Rattle.journal_text.specs.declared.line.Line.{Line}
 use Rattle.journal_text.specs.declared.line.Line.TheVariants as line
-use Rattle.cluster_rules.specs.Lines.{has_node}
 use Rattle.cluster_rules.specs.Settings.{policy_of, factor_of, nodes, clock_of}
 use Rattle.cluster_rules.specs.Contents.{content, applied, join_all}
 use Rattle.cluster_rules.specs.Views.{promised_key, last_key, view, master, is_replica}
 use Rattle.cluster_rules.specs.Entries.{entry, fold_of}
-use Rattle.cluster_rules.specs.Classes.{class_of}
+use Rattle.cluster_rules.specs.Classes.{are_in_one_class}
 use Rattle.cluster_rules.specs.Maps.{listed_members, acting}
 use Rattle.cluster_rules.specs.Settled.{is_settled, has_open_write}
+use Rattle.cluster_rules.specs.NamedKeys.{names_promised, named_members}
 
 -- ---- one map
 
@@ -69,7 +69,7 @@ pub record ReadJoin (j : List Line) : Type 0 where
 -- members whose copies are in one class held the same of every record of the partition as they entered
 pub record EqualClasses (j : List Line) : Type 0 where
   pub equal : (i : ℕ) (k : ClusterKey) (n m : ℕ) (d : List ℕ)
-      → IsTrue (has_node (class_of (factor_of j) k (partition_of d) n (take i j)) m)
+      → IsTrue (are_in_one_class (factor_of j) k (partition_of d) n m (take i j))
       → entry (policy_of j) k n d (take i j) ≡ entry (policy_of j) k m d (take i j)
 
 -- ---- keys
@@ -80,10 +80,12 @@ RaisesKey before (line.Promise n k) = IsTrue (key_lt (promised_key n before) k)
 RaisesKey before (line.Enter n k ms) = IsTrue (key_lt (last_key n before) k)
 RaisesKey before _ = Unit {0}
 
--- promised keys and entered keys rise at each node, none enters above what it promised, and a key has one
--- list of members
+-- promised keys and entered keys rise at each node, none enters above what it promised, every key in a line or a
+-- message is at most what its principal has promised, and a key has one list of members everywhere
 pub record KeysRise (j : List Line) : Type 0 where
   pub rises : (i : ℕ) (l : Line) → slice_get j i ≡ Some l → RaisesKey (take i j) l
   pub promised : (i n : ℕ) → key_lt (promised_key n (take i j)) (last_key n (take i j)) ≡ false
-  pub one_list : (i o n m : ℕ) (k : ClusterKey) (ms others : List Member)
-      → slice_get j i ≡ Some (line.Enter n k ms) → slice_get j o ≡ Some (line.Enter m k others) → ms ≡ others
+  pub named : (i : ℕ) (l : Line) → slice_get j i ≡ Some l → IsTrue (names_promised (take i j) l)
+  pub one_list : (i o : ℕ) (l m : Line) (k : ClusterKey) (ms others : List Member)
+      → slice_get j i ≡ Some l → slice_get j o ≡ Some m
+      → named_members l ≡ Some (k, ms) → named_members m ≡ Some (k, others) → ms ≡ others

@@ -31,6 +31,10 @@ is_in_class_of factor k p n m lines =
 unfoldable pub class_of : ℕ → ClusterKey → ℕ → ℕ → List Line → List ℕ
 class_of factor k p n lines = filter (λ m. is_in_class_of factor k p n m lines) (list k p lines)
 
+-- whether the two are members of one class
+abbrev pub are_in_one_class : ℕ → ClusterKey → ℕ → ℕ → ℕ → List Line → Bool
+are_in_one_class factor k p n m lines = has_node (class_of factor k p n lines) n && has_node (class_of factor k p n lines) m
+
 -- the first of the member's class in the partition's list
 abbrev pub first_of_class : ℕ → ClusterKey → ℕ → ℕ → List Line → Option ℕ
 first_of_class factor k p n lines = slice_get (class_of factor k p n lines) 0

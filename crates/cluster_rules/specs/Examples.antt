@@ -54,6 +54,10 @@ written =
 abbrev pub written_and_read : List Line
 written_and_read = written ++ line.Value 1 (key 1 1) 2 digest (Some (version 0 1 97)) ∷ []
 
+-- the world is said to be calm, though the node was marked since it entered its view
+abbrev pub outdated : List Line
+outdated = written_and_read ++ line.Quiesce 1 ∷ line.Calm 0 ∷ []
+
 -- it reads something else
 abbrev pub misread : List Line
 misread = written ++ line.Value 1 (key 1 1) 2 digest (Some (version 0 1 98)) ∷ []
@@ -82,6 +86,10 @@ batch_acked = batch_merged ++ line.Deliver 2 2 1 ∷ []
 -- the partition is settled: node 2 knows that its copy is whole, and node 1 drops its own
 abbrev pub settled : List Line
 settled = batch_acked ++ line.Handed 1 (key 4 2) 4095 ∷ line.Settled 2 (key 4 2) 4095 ∷ line.Learn 2 (key 4 2) 4095 ∷ line.Drop 1 (key 4 2) 4095 ∷ []
+
+-- after it the world is calm
+abbrev pub calmed : List Line
+calmed = settled ++ line.Calm 9 ∷ []
 
 -- the batch is acknowledged, and the partition settled, though what came wasn't merged
 abbrev pub unmerged : List Line
@@ -120,6 +128,10 @@ replicated =
 abbrev pub met_again : List Line
 met_again = replicated ++ together (key 2 2)
 
+-- the world is said to be calm, though the partition isn't settled
+abbrev pub unsettled : List Line
+unsettled = met_again ++ line.Calm 5 ∷ []
+
 -- the write was lost on its way, and the node that wrote it left the view in doubt
 abbrev pub met_unequal : List Line
 met_unequal = applied_once ++ line.Lost 1 ∷ line.Doubt 2 (key 1 2) 1 ∷ together (key 2 2)
@@ -131,6 +143,23 @@ garbled = applied_once ++ line.Deliver 1 2 1 ∷ line.Merge 1 (key 1 2) digest (
 -- a key is promised and entered twice
 abbrev pub reused : List Line
 reused = together (key 1 2) ++ together (key 1 2)
+
+-- node 1 accepts a key that its principal hasn't promised
+abbrev pub unpromised : List Line
+unpromised = together (key 1 2) ++ line.Sent 1 1 2 (spelling (message.Accept (key 2 2))) ∷ []
+
+-- a view is committed with other members than those that entered it
+abbrev pub two_lists : List Line
+two_lists = together (key 1 2) ++ line.Sent 1 2 1 (spelling (message.Commit (key 1 2) two)) ∷ []
+
+-- node 2 proposes a view to node 1, which accepts, and both enter it
+abbrev pub agreed : List Line
+agreed =
+    line.Node 1 None ∷ line.Node 2 None
+    ∷ line.Promise 2 (key 1 2) ∷ line.Sent 1 2 1 (spelling (message.Propose (key 1 2) both)) ∷ line.Deliver 1 2 1
+    ∷ line.Promise 1 (key 1 2) ∷ line.Sent 2 1 2 (spelling (message.Accept (key 1 2))) ∷ line.Deliver 2 1 2
+    ∷ line.Enter 2 (key 1 2) both ∷ line.Sent 3 2 1 (spelling (message.Commit (key 1 2) both)) ∷ line.Deliver 3 2 1
+    ∷ line.Enter 1 (key 1 2) both ∷ []
 
 -- both nodes show their map of the partition
 abbrev pub shown : List Line
@@ -152,3 +181,10 @@ first_lost =
     ∷ line.Sent 2 2 1 (spelling (message.Repl (key 1 2) 2 2 second (version 0 1 98)))
     ∷ line.Deliver 2 2 1 ∷ line.Merge 1 (key 1 2) second (version 0 1 98) ∷ line.Lost 1
     ∷ line.Doubt 2 (key 1 2) 1 ∷ line.Doubt 2 (key 1 2) 2 ∷ together (key 2 2)
+
+-- ---- roles
+
+abbrev pub marked : List Line
+marked =
+    line.Node 1 None ∷ line.Node 3 (Some 2) ∷ line.Node 2 (Some 2) ∷ line.Quiesce 3 ∷ line.Quiesce 1 ∷ line.Stop 1
+    ∷ line.Unquiesce 1 ∷ []

@@ -45,7 +45,8 @@ arrived b posting = option_map (λ m. record { from = posting.from; to = b; mess
 abbrev pub arrived_cut : ℕ → ℕ → Posting → Option Arrival
 arrived_cut b size posting = if nat_le (length posting.bytes) size then arrived b posting else None
 
--- the message that reaches an endpoint at the line, of those that were sent before
+-- the message that reaches an endpoint at the line, of those that were sent before: it comes from the sender of
+-- its own line and reaches the endpoint that this line names
 unfoldable pub arrival : List Line → Line → Option Arrival
 arrival before (line.Deliver i a b) = option_and_then (arrived b) (posted i before)
 arrival before (line.Repeat i a b) = option_and_then (arrived b) (posted i before)

@@ -1,7 +1,11 @@
 -- What a journal says of the run as a whole, and what the script has set by now.
-use Rattle.std.specs.Prelude.{ℕ, ◌==◌, Bool, true, false, if◌then◌else◌, List, [], ◌∷◌, fold, filter_map, unwrap_or, Option, Some, None}
+use Rattle.std.specs.Prelude.{ℕ, ◌==◌, nat_lt, Bool, true, false, if◌then◌else◌, List, [], ◌∷◌, fold, filter, filter_map, map, unwrap_or, Option, Some, None}
 use Rattle.conflict_order.specs.declared.policy.Policy.{Policy}
 use Rattle.conflict_order.specs.declared.policy.Policy.TheVariants.{Time}
+use Rattle.cluster_types.specs.declared.member.Member.{Member}
+use Rattle.cluster_types.specs.declared.member.Role.{Role}
+use Rattle.cluster_types.specs.Members.{plain_role}
+use Rattle.partition_lists.specs.Lists.{in_order}
 use Rattle.journal_text.specs.declared.line.Line.{Line}
 use Rattle.journal_text.specs.declared.line.Line.TheVariants as line
 
@@ -57,3 +61,28 @@ groups_step groups _ = groups
 -- the groups of the network: those that were named last, or one group of all declared nodes
 unfoldable pub groups_of : List Line → List (List ℕ)
 groups_of lines = unwrap_or (fold groups_step None lines) (nodes lines ∷ [])
+
+-- ---- roles
+
+abbrev pub role_step : ℕ → Role → Line → Role
+role_step n role (line.Node m rack) = if m == n then record role { rack = unwrap_or rack 0 } else role
+role_step n role (line.Quiesce m) = if m == n then record role { quiesced = true } else role
+role_step n role (line.Unquiesce m) = if m == n then record role { quiesced = false } else role
+role_step n role _ = role
+
+-- the role that the node has by now: the rack of its `node` line, or none, and quiesced where it was marked so
+-- and the mark wasn't taken back since
+unfoldable pub present_role : ℕ → List Line → Role
+present_role n lines = fold (role_step n) plain_role lines
+
+-- the nodes with the roles that they have by now
+abbrev pub with_present_roles : List ℕ → List Line → List Member
+with_present_roles ids lines = map (λ n. record { id = n; role = present_role n lines }) ids
+
+-- the declared nodes with the roles that they have by now, in the order of their lines
+abbrev pub present_members : List Line → List Member
+present_members lines = with_present_roles (nodes lines) lines
+
+-- the up nodes of a group with the roles that they have by now, in descending order
+abbrev pub up_members : List ℕ → List Line → List Member
+up_members group lines = in_order (λ m o. nat_lt o.id m.id) (with_present_roles (filter (λ n. is_up n lines) group) lines)

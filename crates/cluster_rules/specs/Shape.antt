@@ -26,6 +26,10 @@ is_header (line.Node n rack) = true
 is_header (line.Policy by) = true
 is_header _ = false
 
+-- no line is one of a header
+abbrev pub AreBehind : List Line → Type 0
+AreBehind ls = list_all (λ l. not (is_header l)) ls ≡ true
+
 -- no line but those of the header stands before a line of the header
 abbrev pub follows_header : List Line → Line → Bool
 follows_header before l = not (is_header l) || list_all is_header before

@@ -4,14 +4,15 @@ ghost use Rattle.conflict_order.specs.declared.policy.Policy.{Policy};
 ghost use Rattle.conflict_order.specs.declared.policy.Policy.TheVariants.{Time};
 ghost use Rattle.cluster_types.specs.declared.cluster_key.ClusterKey.{ClusterKey};
 ghost use Rattle.cluster_types.specs.declared.copy_state.CopyState.TheVariants.{Empty, Whole};
+ghost use Rattle.cluster_types.specs.Members.{plain_member};
 ghost use Rattle.cluster_types.specs.Partitions.{partition_of};
 ghost use Rattle.journal_text.specs.declared.line.Line.{Line};
 ghost use Rattle.std.specs.List.{list_any};
 ghost use Rattle.wire_codec.specs.declared.message.Message.TheVariants as message;
 ghost use Rattle.journal_text.specs.declared.line.Line.TheVariants as line;
 ghost use Rattle.cluster_rules.specs.Lines.{is_enter};
-ghost use Rattle.cluster_rules.specs.Messages.{arrival_between};
-ghost use Rattle.cluster_rules.specs.Settings.{is_up, up_step, clock_of, clock_step};
+ghost use Rattle.cluster_rules.specs.Messages.{arrival, arrival_between};
+ghost use Rattle.cluster_rules.specs.Settings.{is_up, up_step, clock_of, clock_step, present_role, role_step, present_members, up_members};
 ghost use Rattle.cluster_rules.specs.Contents.{content, content_step, holds_any, copy_step, applied, applied_step};
 ghost use Rattle.cluster_rules.specs.Views.{view, view_step, last_key, last_step, promised_key, promise_step, master, is_replica};
 ghost use Rattle.cluster_rules.specs.Entries.{entry, applied_in, applied_in_step, fold_of};
@@ -22,10 +23,10 @@ ghost use Rattle.cluster_rules.specs.Classes.{class_of, first_of_class, sends};
 ghost use Rattle.cluster_rules.specs.Maps.{acting, listed_members};
 ghost use Rattle.cluster_rules.specs.Pending.{is_acked, acks, is_handed_on, acks_record, is_pending, out};
 ghost use Rattle.cluster_rules.specs.Settled.{is_settled, has_open_write};
-ghost use Rattle.cluster_rules.specs.Claims.{OneMap, NoLoss, newest, SettledJoin, ReadJoin, EqualClasses, KeysRise, RaisesKey};
+ghost use Rattle.cluster_rules.specs.Claims.{OneMap, NoLoss, newest, SettledJoin, ReadJoin, EqualClasses, KeysRise};
 ghost use Rattle.cluster_rules.specs.CalmEnd.{CalmEnd};
 ghost use Rattle.cluster_rules.specs.Shape.{Shape};
-ghost use Rattle.cluster_rules.specs.Examples.{misread, unmerged, lost, uneasy, misled, shown, second, first_lost, garbled, reused, digest, key, version, both, written_and_read, sides, batch, batch_out, batch_merged, batch_acked, settled, applied_once, replicated, met_again, met_unequal};
+ghost use Rattle.cluster_rules.specs.Examples.{marked, agreed, calmed, misread, unmerged, lost, uneasy, misled, shown, second, first_lost, garbled, reused, unpromised, two_lists, outdated, unsettled, digest, key, version, both, written_and_read, sides, batch, batch_out, batch_merged, batch_acked, settled, applied_once, replicated, met_again, met_unequal};
 
 /// What one line more makes of a reading is fixed by the reading before it, the lines before it and
 /// the line.
@@ -41,6 +42,7 @@ pub fn readings_go_line_by_line()
     ensures promised { (n : ℕ) → (lines : List Line) → (l : Line) → promised_key n (lines ++ l ∷ []) ≡ promise_step n (promised_key n lines) l }
     ensures up { (n : ℕ) → (lines : List Line) → (l : Line) → is_up n (lines ++ l ∷ []) ≡ up_step n (is_up n lines) l }
     ensures clock { (n : ℕ) → (lines : List Line) → (l : Line) → clock_of n (lines ++ l ∷ []) ≡ clock_step n (clock_of n lines) l }
+    ensures role { (n : ℕ) → (lines : List Line) → (l : Line) → present_role n (lines ++ l ∷ []) ≡ role_step n (present_role n lines) l }
     ensures stamp { (factor : ℕ) → (n : ℕ) → (p : ℕ) → (lines : List Line) → (l : Line) → stamp factor n p (lines ++ l ∷ []) ≡ stamp_step factor n p lines (stamp factor n p lines) l }
     ensures heard { (k : ClusterKey) → (n : ℕ) → (p : ℕ) → (master : ℕ) → (lines : List Line) → (l : Line) → heard_numbers k n p master (lines ++ l ∷ []) ≡ heard_step k n p master lines (heard_numbers k n p master lines) l }
     ensures acked { (k : ClusterKey) → (n : ℕ) → (r : ℕ) → (number : ℕ) → (lines : List Line) → (l : Line) → is_acked k n r number (lines ++ l ∷ []) ≡ (is_acked k n r number lines || acks k n r number lines l) }
@@ -52,6 +54,13 @@ pub fn readings_go_line_by_line()
 pub fn copies_are_empty_where_nothing_is_held()
     ensures copies { (by : Policy) → (n : ℕ) → (p : ℕ) → (lines : List Line) → (holds_any n p lines ≡ false) ↔ ((d : List ℕ) → partition_of d ≡ p → content by n d lines ≡ None) }
     ensures rows { (factor : ℕ) → (k : ClusterKey) → (n : ℕ) → (p : ℕ) → (lines : List Line) → is_empty_row (row factor k n p lines) ≡ is_empty_at_entry k n p lines }
+{}
+
+/// A node's role is the rack of its declaration and the mark that was set last, also while it is
+/// stopped.
+pub fn roles_are_as_set_last()
+    ensures members { present_members marked ≡ plain_member 1 ∷ (record { id = 3; role = record { rack = 2; quiesced = true } }) ∷ (record { id = 2; role = record { rack = 2; quiesced = false } }) ∷ [] }
+    ensures up { up_members (1 ∷ 2 ∷ 3 ∷ []) marked ≡ (record { id = 3; role = record { rack = 2; quiesced = true } }) ∷ (record { id = 2; role = record { rack = 2; quiesced = false } }) ∷ [] }
 {}
 
 /// A node that is alone writes a record and reads it again.
@@ -122,12 +131,14 @@ pub fn a_gap_leaves_a_copy_alone()
     ensures open { has_open_write (key 1 2) 4095 first_lost ≡ true }
 {}
 
-/// A message arrives where it is delivered, repeated, or cut at no less than its length of 49 bytes.
+/// A message arrives where it is delivered, repeated, or cut at no less than its length of 49 bytes:
+/// at the endpoint that this line names, from the sender that its own line names.
 pub fn a_message_arrives_whole()
     ensures delivered { arrival_between 1 2 batch_out (line.Deliver 1 1 2) ≡ Some (message.Batch batch) }
     ensures repeated { arrival_between 1 2 batch_out (line.Repeat 1 1 2) ≡ Some (message.Batch batch) }
     ensures cut { (arrival_between 1 2 batch_out (line.Cut 1 1 2 49) ≡ Some (message.Batch batch)) × (arrival_between 1 2 batch_out (line.Cut 1 1 2 48) ≡ None) }
     ensures others { (arrival_between 1 2 batch_out (line.Deliver 2 1 2) ≡ None) × (arrival_between 2 1 batch_out (line.Deliver 1 1 2) ≡ None) × (arrival_between 1 2 batch_out (line.Blocked 1) ≡ None) }
+    ensures other_ends { arrival batch_out (line.Deliver 1 5 7) ≡ Some (record { from = 1; to = 7; message = message.Batch batch }) }
 {}
 
 /// As the sides have met and the partition is settled, nothing is lost and the replica holds the fold.
@@ -140,11 +151,15 @@ pub fn the_settled_replica_holds_the_fold()
     ensures joined { content Time 2 digest settled ≡ fold_of Time (key 4 2) digest settled }
 {}
 
-/// Claims about each line hold of journals in which all went well.
+/// Every claim holds of a journal in which all went well, at each place and for each record.
 pub fn claims_hold_of_what_went_well()
-    ensures read { ReadJoin written_and_read }
     ensures map { OneMap shown }
-    ensures rises { (i : ℕ) → (l : Line) → slice_get shown i ≡ Some l → RaisesKey (take i shown) l }
+    ensures lossless { NoLoss settled }
+    ensures joined { SettledJoin replicated }
+    ensures read { ReadJoin written_and_read }
+    ensures equal { EqualClasses met_again }
+    ensures rises { KeysRise agreed }
+    ensures calm { CalmEnd calmed }
     ensures shape { Shape shown }
 {}
 
@@ -157,4 +172,8 @@ pub fn claims_refuse_what_went_wrong()
     ensures misled { ¬ (OneMap misled) }
     ensures garbled { ¬ (EqualClasses garbled) }
     ensures reused { ¬ (KeysRise reused) }
+    ensures unpromised { ¬ (KeysRise unpromised) }
+    ensures two_lists { ¬ (KeysRise two_lists) }
+    ensures outdated { ¬ (CalmEnd outdated) }
+    ensures unsettled { ¬ (CalmEnd unsettled) }
 {}

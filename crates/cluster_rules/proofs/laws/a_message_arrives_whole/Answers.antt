@@ -17,3 +17,7 @@ returns-clause-cut c = (refl, refl)
 pub returns-clause-others : goal.returns-clause-others
 unfolding computing
 returns-clause-others c = (refl, refl, refl)
+
+pub returns-clause-other_ends : goal.returns-clause-other_ends
+unfolding computing
+returns-clause-other_ends c = refl

@@ -1,5 +1,17 @@
-use Rattle.cluster_rules.proofs.Worked.{read_joins, maps_agree, keys_rise, has_shape}
+use Rattle.cluster_rules.proofs.EqualCopies.{settled_joins, classes_equal}
+use Rattle.cluster_rules.proofs.Resting.{calm_at_end}
+use Rattle.cluster_rules.proofs.WellKept.{nothing_lost, keys_rise_all}
+use Rattle.cluster_rules.proofs.Worked.{read_joins, maps_agree, has_shape}
 use Rattle.cluster_rules.proofs.laws.claims_hold_of_what_went_well.Goals as goal
 
 pub returns : goal.returns
-returns c = record { read = read_joins; map = maps_agree; rises = keys_rise; shape = has_shape }
+returns c = record {
+  map = maps_agree;
+  lossless = nothing_lost;
+  joined = settled_joins;
+  read = read_joins;
+  equal = classes_equal;
+  rises = keys_rise_all;
+  calm = calm_at_end;
+  shape = has_shape;
+}

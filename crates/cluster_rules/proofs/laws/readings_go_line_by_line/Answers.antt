@@ -1,4 +1,4 @@
-use Rattle.cluster_rules.proofs.StepLaws.{entry-more, row-more, content-more, applied-more, applied_in-more, holds_any-more, view-more, last_key-more, promised_key-more, is_up-more, clock_of-more, stamp-more, heard_numbers-more, is_acked-more, is_handed_on-more}
+use Rattle.cluster_rules.proofs.StepLaws.{entry-more, row-more, content-more, applied-more, applied_in-more, holds_any-more, view-more, last_key-more, promised_key-more, is_up-more, clock_of-more, present_role-more, stamp-more, heard_numbers-more, is_acked-more, is_handed_on-more}
 use Rattle.cluster_rules.proofs.laws.readings_go_line_by_line.Goals as goal
 
 pub returns : goal.returns
@@ -14,6 +14,7 @@ returns c = record {
   promised = promised_key-more;
   up = is_up-more;
   clock = clock_of-more;
+  role = present_role-more;
   stamp = stamp-more;
   heard = heard_numbers-more;
   acked = is_acked-more;

@@ -1,0 +1,70 @@
+-- The network: the messages that were sent, those that are in flight, and the groups of nodes.
+use Rattle.std.specs.Prelude.{ℕ, ◌-◌, ◌==◌, ◌&&◌, nat_lt, Bool, true, false, not, List, [], ◌∷◌, ◌++◌, Option, None, slice_get}
+use Rattle.cluster_types.specs.Distinct.{without}
+use Rattle.cluster_types.specs.Groups.{apart}
+use Rattle.cluster_rules.specs.Lines.{has_node}
+use Rattle.cluster_rules.specs.Messages.{Posting}
+
+-- so many messages may be in flight
+abbrev pub flight_limit : ℕ
+flight_limit = 262144
+
+-- the client, as an endpoint of messages; every other endpoint is a node
+abbrev pub client : ℕ
+client = 0
+
+pub record Network : Type 0 where
+  -- all messages that were ever sent: the one of number I stands at place I - 1
+  pub sent : List Posting
+  -- the numbers of those in flight, in rising order
+  pub flying : List ℕ
+  -- the groups into which the nodes are divided
+  pub groups : List (List ℕ)
+
+-- nothing was sent, and the nodes are in one group
+abbrev pub silent : List ℕ → Network
+silent nodes = record { sent = []; flying = []; groups = nodes ∷ [] }
+
+-- ---- messages by their numbers
+
+-- messages are numbered from 1
+abbrev pub posting_if : Network → ℕ → Bool → Option Posting
+posting_if net i true = slice_get net.sent (i - 1)
+posting_if net i false = None
+
+-- the message of that number, if it was sent
+abbrev pub posting_at : Network → ℕ → Option Posting
+posting_at net i = posting_if net i (nat_lt 0 i)
+
+-- whether the message of that number is in flight
+abbrev pub is_flying : Network → ℕ → Bool
+is_flying net i = has_node net.flying i
+
+-- the message where the test says that it is in flight
+abbrev pub flying_if : Network → ℕ → Bool → Option Posting
+flying_if net i true = posting_at net i
+flying_if net i false = None
+
+-- the message of that number, if it is in flight
+abbrev pub flying_at : Network → ℕ → Option Posting
+flying_at net i = flying_if net i (is_flying net i)
+
+-- ---- what happens to them
+
+-- the message is no longer in flight
+abbrev pub landed : Network → ℕ → Network
+landed net i = record net { flying = without net.flying i }
+
+-- one more message was sent, under this number
+abbrev pub posting : Network → ℕ → Posting → Network
+posting net i p = record net { sent = net.sent ++ p ∷ []; flying = net.flying ++ i ∷ [] }
+
+-- whether one more message may be in flight where there are so many
+abbrev pub has_place : ℕ → Bool
+has_place flying = nat_lt flying flight_limit
+
+-- ---- groups
+
+-- whether the two ends are nodes of different groups. The client stands in none
+abbrev pub are_apart : Network → ℕ → ℕ → Bool
+are_apart net a b = not (a == client) && (not (b == client) && apart net.groups a b)

@@ -1,0 +1,65 @@
+-- What the header of a script declares, and its lines in the journal.
+use Rattle.std.specs.Prelude.{ℕ, ◌==◌, Bool, true, false, List, fold, filter_map, map, Option, Some, None, unwrap_or, slice_get}
+use Rattle.conflict_order.specs.declared.policy.Policy.{Policy}
+use Rattle.conflict_order.specs.declared.policy.Policy.TheVariants.{Time}
+use Rattle.cluster_types.specs.declared.member.Role.{Role}
+use Rattle.cluster_types.specs.Distinct.{without}
+use Rattle.script_lang.specs.declared.script.HeaderLine.{HeaderLine}
+use Rattle.script_lang.specs.declared.script.HeaderLine.TheVariants as header
+use Rattle.journal_text.specs.declared.line.Line.{Line}
+use Rattle.journal_text.specs.declared.line.Line.TheVariants as line
+
+-- the lines of a header, in their order
+abbrev pub Header : Type 0
+Header = List HeaderLine
+
+abbrev pub factor_step : ℕ → HeaderLine → ℕ
+factor_step factor (header.Factor named) = named
+factor_step factor _ = factor
+
+-- how many replicas a partition has: as the last line says that names a factor, or 1
+abbrev pub declared_factor : Header → ℕ
+declared_factor h = fold factor_step 1 h
+
+abbrev pub policy_step : Policy → HeaderLine → Policy
+policy_step by (header.Policy named) = named
+policy_step by _ = by
+
+-- how versions compare: as the last line says that names a policy, or by time
+abbrev pub declared_policy : Header → Policy
+declared_policy h = fold policy_step Time h
+
+abbrev pub node_in : HeaderLine → Option ℕ
+node_in (header.Node n rack) = Some n
+node_in _ = None
+
+-- the declared nodes, in the order of their lines
+abbrev pub declared_nodes : Header → List ℕ
+declared_nodes h = filter_map node_in h
+
+abbrev pub rack_if : Option ℕ → Bool → Option ℕ
+rack_if rack true = rack
+rack_if rack false = None
+
+abbrev pub rack_in : ℕ → HeaderLine → Option ℕ
+rack_in n (header.Node m rack) = rack_if rack (m == n)
+rack_in n _ = None
+
+-- the role in which the node begins: with the rack that its line names, or rack 0, and not quiesced
+abbrev pub declared_role : Header → ℕ → Role
+declared_role h n = record { rack = unwrap_or (slice_get (filter_map (rack_in n) h) 0) 0; quiesced = false }
+
+-- the other declared nodes
+abbrev pub declared_peers : Header → ℕ → List ℕ
+declared_peers h n = without (declared_nodes h) n
+
+-- a line of the header in the journal
+abbrev pub header_line : HeaderLine → Line
+header_line (header.Script version) = line.Script version
+header_line (header.Factor factor) = line.Factor factor
+header_line (header.Node n rack) = line.Node n rack
+header_line (header.Policy by) = line.Policy by
+
+-- the lines with which a journal begins
+abbrev pub header_lines : Header → List Line
+header_lines h = map header_line h

@@ -1,0 +1,73 @@
+-- The world of a run: the nodes, the network and the client.
+use Rattle.std.specs.Prelude.{ℕ, ◌==◌, nat_lt, Bool, true, false, List, [], map, filter, Option, None}
+use Rattle.conflict_order.specs.declared.want.Want.{Want}
+use Rattle.cluster_types.specs.declared.member.Member.{Member}
+use Rattle.partition_lists.specs.Lists.{in_order}
+use Rattle.node_rules.specs.Facts.{Facts, fresh}
+use Rattle.cluster_rules.specs.declared.event.Event.{Event}
+use Rattle.cluster_rules.specs.Client.{Tables}
+use Rattle.cluster_rules.specs.Network.{Network, silent}
+use Rattle.cluster_rules.specs.Opening.{Header, declared_factor, declared_policy, declared_nodes, declared_role, declared_peers}
+
+-- ---- a value for each number
+
+abbrev pub new_if : {A : Type 0} → A → (ℕ → A) → ℕ → Bool → A
+new_if new f m true = new
+new_if new f m false = f m
+
+-- the function with another value at one number
+abbrev pub at : {A : Type 0} → (ℕ → A) → ℕ → A → ℕ → A
+at f n new m = new_if new f m (n == m)
+
+-- ---- the world
+
+pub record World : Type 0 where
+  -- the declared nodes, in the order in which they were declared
+  pub nodes : List ℕ
+  -- what is known of each node
+  pub facts : ℕ → Facts
+  -- where each node's clock stands
+  pub clocks : ℕ → ℕ
+  pub network : Network
+  -- the client's tables
+  pub tables : Tables
+  -- the event whose step is in progress; none before the first
+  pub event : Option Event
+  -- what the request wants that is in hand: that of the event
+  pub want : Option Want
+
+-- a node as the header declares it
+abbrev pub declared : Header → ℕ → Facts
+declared h n = fresh n (declared_role h n) (declared_peers h n) (declared_factor h) (declared_policy h)
+
+-- the world that a header declares: all nodes run with empty stores, all clocks stand at 0, and nothing was sent
+abbrev pub opened : Header → World
+opened h = record {
+  nodes = declared_nodes h;
+  facts = declared h;
+  clocks = λ n. 0;
+  network = silent (declared_nodes h);
+  tables = [];
+  event = None;
+  want = None;
+}
+
+-- the world with these facts of one node
+abbrev pub with_facts : World → ℕ → Facts → World
+with_facts w n f = record w { facts = at w.facts n f }
+
+-- whether the node is up
+abbrev pub is_up : World → ℕ → Bool
+is_up w n = (w.facts n).up
+
+-- the nodes that are up, in rising order
+abbrev pub up_nodes : World → List ℕ
+up_nodes w = in_order nat_lt (filter (is_up w) w.nodes)
+
+-- the node with the role that it now has
+abbrev pub member_now : World → ℕ → Member
+member_now w n = record { id = n; role = (w.facts n).role }
+
+-- these nodes with their roles
+abbrev pub members_now : World → List ℕ → List Member
+members_now w ns = map (member_now w) ns
