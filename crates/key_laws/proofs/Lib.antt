@@ -1,0 +1,16 @@
+pub mod Order
+pub mod Growth
+pub mod Frames
+pub mod Neighbours
+pub mod StampLaws
+pub mod KeptNodes
+pub mod Kept
+pub mod Wire
+pub mod Quiet
+pub mod DueViews
+pub mod DueTick
+pub mod DueMessages
+pub mod DueSteps
+pub mod Readings
+pub mod Licensed
+pub mod Runs

@@ -1,0 +1,5 @@
+pub mod Order
+pub mod Traced
+pub mod Licences
+pub mod Sound
+pub mod Laws

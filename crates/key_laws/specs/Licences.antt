@@ -1,0 +1,146 @@
+-- Under what condition a mark may stand: what must be so just before it. Only what touches keys has one.
+use Rattle.std.specs.Prelude.{◌≡◌, ℕ, List, [], ◌∷◌, Option, Some, None, slice_get, IsTrue, ◌⊎◌}
+use Rattle.cluster_types.specs.declared.cluster_key.ClusterKey.{ClusterKey}
+use Rattle.cluster_types.specs.declared.copy_state.CopyState.{CopyState}
+use Rattle.cluster_types.specs.declared.copy_state.CopyState.TheVariants.{Empty, Part, Whole}
+use Rattle.cluster_types.specs.declared.member.Member.{Member}
+use Rattle.cluster_types.specs.ClusterKeys.{IsBelow}
+use Rattle.wire_codec.specs.declared.message.Message.{Message}
+use Rattle.wire_codec.specs.declared.message.Message.TheVariants as message
+use Rattle.wire_codec.specs.Decoding.{message_of}
+use Rattle.wire_codec.specs.Keys.{IsKeyField, IsKeyOrNone}
+use Rattle.wire_codec.specs.Nodes.{IsId}
+use Rattle.journal_text.specs.declared.line.Line.{Line}
+use Rattle.journal_text.specs.declared.line.Line.TheVariants as line
+use Rattle.node_rules.specs.Copies.{Row}
+use Rattle.node_rules.specs.Exchange.{is_member}
+use Rattle.cluster_rules.specs.Messages.{Posting}
+use Rattle.cluster_rules.specs.Marks.{Mark, Begins, Writes}
+use Rattle.node_rules.specs.Facts.{view_key}
+use Rattle.key_laws.specs.Order.{AtMost}
+use Rattle.key_laws.specs.Traced.{Traced, facts_of, after}
+
+-- ---- keys that stand somewhere
+
+-- the key is at most what its principal has promised
+pub record Known (t : Traced) (k : ClusterKey) : Type 0 where
+  pub bound : AtMost k (facts_of t k.principal).agreement.promised
+  pub field : IsKeyOrNone k
+
+-- the node has entered the view of the key
+pub record Visited (t : Traced) (n : ℕ) (k : ClusterKey) : Type 0 where
+  pub known : Known t k
+  pub entered : IsTrue (t.entered n k)
+
+-- the key under which a copy is whole
+abbrev pub CopyOf : (ClusterKey → Type 0) → CopyState → Type 0
+CopyOf P Empty = Unit {0}
+CopyOf P Part = Unit {0}
+CopyOf P (Whole k writes) = P k
+
+-- the keys of a row's copies
+abbrev pub RowOf : (ClusterKey → Type 0) → Row → Type 0
+RowOf P [] = Unit {0}
+RowOf P (e ∷ es) = CopyOf P e.1 × RowOf P es
+
+-- ---- messages
+
+-- what a message of that sender says, in terms that can't become false
+abbrev pub Says : Traced → ℕ → Message → Type 0
+Says t a (message.Heartbeat view promised hears role) = IsId a × Known t view × Known t promised
+Says t a (message.Propose k ms) = (k.principal ≡ a) × (t.lists k ≡ Some ms)
+Says t a (message.Accept k) = Known t k
+Says t a (message.Refuse k promised) = Known t k × Known t promised
+Says t a (message.Commit k ms) = t.lists k ≡ Some ms
+Says t a (message.State k wants row) = Known t k × RowOf (λ q. Known t q) row
+Says t a (message.Batch b) = Known t b.key
+Says t a (message.BatchAck k number) = Known t k
+Says t a (message.Progress k wants done handed settled) = Known t k
+Says t a (message.Repl k number nth d v) = Known t k
+Says t a (message.ReplAck k number) = Known t k
+Says t a (message.Ask k number d) = Known t k
+Says t a (message.Answer k number v) = Known t k
+Says t a (message.MapTable table) = Known t table.key
+Says t a (message.Proxy k number d want) = Known t k
+Says t a (message.ProxyReply k number reply) = Known t k
+Says t a (message.Reply k number reply) = Known t k
+Says t a (message.ScanPage page) = Known t page.key
+Says t a _ = Unit {0}
+
+-- bytes that spell no message say nothing
+abbrev pub SaysIf : Traced → ℕ → Option Message → Type 0
+SaysIf t a None = Unit {0}
+SaysIf t a (Some m) = Says t a m
+
+-- a proposal is of the key that its sender has promised, above the last one
+pub record Proposes (t : Traced) (a : ℕ) (k : ClusterKey) : Type 0 where
+  pub promised : k ≡ (facts_of t a).agreement.promised
+  pub above : IsBelow (facts_of t a).agreement.last k
+
+-- what must be so as a message of that sender is sent, beside what it says
+abbrev pub MaySend : Traced → ℕ → Message → Type 0
+MaySend t a (message.Propose k ms) = Proposes t a k
+MaySend t a _ = Unit {0}
+
+abbrev pub MaySendIf : Traced → ℕ → Option Message → Type 0
+MaySendIf t a None = Unit {0}
+MaySendIf t a (Some m) = MaySend t a m
+
+-- a message of this content was sent
+pub record WasSent (t : Traced) (m : Message) : Type 0 where
+  pub number : ℕ
+  pub posting : Posting
+  pub stands : slice_get t.world.network.sent number ≡ Some posting
+  pub read : message_of posting.bytes ≡ Some m
+
+-- ---- lines of a node
+
+-- a key of the node's own, or one that was proposed
+pub record MayPromise (t : Traced) (n : ℕ) (k : ClusterKey) : Type 0 where
+  pub above : IsBelow (facts_of t n).agreement.promised k
+  pub source : (k.principal ≡ n) × IsKeyField k ⊎ ((ms : List Member) × WasSent t (message.Propose k ms))
+
+-- the key that is promised, above the last one: of a view of the node's own, or of one that was committed
+pub record MayEnter (t : Traced) (n : ℕ) (k : ClusterKey) (ms : List Member) : Type 0 where
+  pub promised : k ≡ (facts_of t n).agreement.promised
+  pub above : IsBelow (facts_of t n).agreement.last k
+  pub among : IsTrue (is_member ms n)
+  pub source : (t.lists k ≡ Some ms) ⊎ WasSent t (message.Commit k ms)
+
+-- the exchange ends in the view that the node is in
+pub record MayFinish (t : Traced) (n : ℕ) (k : ClusterKey) : Type 0 where
+  pub visited : Visited t n k
+  pub view : k ≡ view_key (facts_of t n)
+
+abbrev pub OkLine : Traced → Line → Type 0
+OkLine t (line.Promise n k) = MayPromise t n k
+OkLine t (line.Enter n k ms) = MayEnter t n k ms
+OkLine t (line.Sent i a b bytes) = SaysIf t a (message_of bytes) × MaySendIf t a (message_of bytes)
+OkLine t (line.Exchanged n k) = MayFinish t n k
+OkLine t (line.Opened n k number d a) = Visited t n k
+OkLine t (line.Value n k number d v) = Visited t n k
+OkLine t (line.Apply n k number d v) = Visited t n k
+OkLine t (line.Done n k number) = Visited t n k
+OkLine t (line.Aborted n k number) = Known t k
+OkLine t (line.Doubt n k number) = Known t k
+OkLine t (line.Merge n k d v) = Visited t n k
+OkLine t (line.Handed n k p) = Visited t n k
+OkLine t (line.Settled n k p) = Visited t n k
+OkLine t (line.Learn n k p) = Visited t n k
+OkLine t (line.Drop n k p) = Visited t n k
+OkLine t (line.Map n k p ms a) = Visited t n k
+OkLine t (line.Table k) = Known t k
+OkLine t (line.Proxy n k x d a acting) = Known t k
+OkLine t (line.Proxied n k x body) = Known t k
+OkLine t (line.Unproxied n k x) = Known t k
+OkLine t (line.Scanned s n k p size) = Known t k
+OkLine t _ = Unit {0}
+
+abbrev pub Ok : Traced → Mark → Type 0
+Ok t (Begins e) = Unit {0}
+Ok t (Writes l) = OkLine t l
+
+-- each mark has its licence where it stands
+abbrev pub Licensed : Traced → List Mark → Type 0
+Licensed t [] = Unit {0}
+Licensed t (m ∷ ms) = Ok t m × Licensed (after t m) ms
