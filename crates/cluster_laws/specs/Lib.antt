@@ -1,0 +1,10 @@
+pub mod Changed
+pub mod Changes
+pub mod Effect
+pub mod Ground
+pub mod Journals
+pub mod Laws
+pub mod Licences
+pub mod Picture
+pub mod Stay
+pub mod Weaker
