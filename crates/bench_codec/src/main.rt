@@ -5,7 +5,7 @@
 #![tactic(auto)]
 
 ghost use Rattle.std.specs.Prelude.{◌≡◌, ◌≤◌, ◌<◌, ◌+◌, ◌-◌, ◌^◌, OnOk};
-ghost use Rattle.wire_codec.specs.Proper.{IsProper};
+ghost use Rattle.wire_messages.specs.Proper.{IsProper};
 
 use anyhow::{Context, Result};
 use cluster_types::{Bytes, NoMemory, PartitionId};

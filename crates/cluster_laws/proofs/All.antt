@@ -1,8 +1,8 @@
 -- All that holds of every picture of a licensed run.
 use Rattle.std.proofs.Common.{◌≡◌, ℕ, List, [], ◌∷◌, Some, take, slice_get, refl, sym, ap, ◌∙◌, subst, zero, suc, inl, inr}
 use Rattle.conflict_order.specs.Join.{AtMost}
-use Rattle.journal_text.specs.declared.line.Line.{Line}
-use Rattle.journal_text.specs.declared.line.Line.TheVariants as line
+use Rattle.journal_lines.specs.declared.line.Line.{Line}
+use Rattle.journal_lines.specs.declared.line.Line.TheVariants as line
 use Rattle.cluster_laws.specs.Ground.{Ground, IsGround}
 use Rattle.cluster_laws.specs.Stay.{Stay}
 use Rattle.cluster_laws.specs.Picture.{Seen, Owed, Picture, start}

@@ -9,7 +9,7 @@ use Rattle.cluster_types.specs.declared.copy_state.CopyState.{CopyState}
 use Rattle.cluster_types.specs.declared.copy_state.CopyState.TheVariants.{Empty, Part, Whole}
 use Rattle.cluster_types.specs.Partitions.{partition_of}
 use Rattle.cluster_types.specs.Distinct.{without}
-use Rattle.wire_codec.specs.declared.message.Message.TheVariants as message
+use Rattle.wire_messages.specs.declared.message.Message.TheVariants as message
 use Rattle.node_rules.specs.Map.{is_empty}
 use Rattle.node_rules.specs.Tables.{contains}
 use Rattle.cluster_laws.specs.Ground.{Ground, IsGround, is_member, master, acting, is_replica, all_empty, same_class, asks}

@@ -6,7 +6,7 @@ use Rattle.conflict_order.proofs.OrderLaws.{AtMost_trans, AtMost_none}
 use Rattle.conflict_order.proofs.JoinLaws.{join_right, join_least}
 use Rattle.cluster_types.specs.declared.cluster_key.ClusterKey.{ClusterKey}
 use Rattle.cluster_types.specs.Partitions.{partition_of}
-use Rattle.wire_codec.specs.declared.message.Message.TheVariants as message
+use Rattle.wire_messages.specs.declared.message.Message.TheVariants as message
 use Rattle.cluster_laws.specs.Changed.{at_number, at_key}
 use Rattle.cluster_laws.specs.Ground.{Ground, other_replicas}
 use Rattle.cluster_laws.specs.Stay.{Versions, Running, Stay}

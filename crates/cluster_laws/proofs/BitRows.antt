@@ -5,7 +5,7 @@ use Rattle.std.proofs.Math.ListN.{get_or-append}
 use Rattle.std.proofs.lemmas.List.{get_or-replicate, get_or_past}
 use Rattle.std.proofs.lemmas.List.FromFn.{length-map-range_with_len, get_or-map-range_with_len}
 use Rattle.cluster_types.specs.Rows.{bit}
-use Rattle.wire_codec.specs.Rows.{row_bit, row_of}
+use Rattle.wire_messages.specs.Rows.{row_bit, row_of}
 use Rattle.cluster_laws.specs.Weaker.{all_bits, no_bits, last_bit}
 use Rattle.cluster_laws.proofs.At.{differ}
 

@@ -7,7 +7,7 @@ use Rattle.cluster_types.specs.declared.cluster_key.ClusterKey.{ClusterKey}
 use Rattle.cluster_types.specs.Partitions.{partition_of}
 use Rattle.cluster_types.specs.Rows.{bit}
 use Rattle.cluster_types.specs.Distinct.{without}
-use Rattle.wire_codec.specs.declared.message.Message.TheVariants as message
+use Rattle.wire_messages.specs.declared.message.Message.TheVariants as message
 use Rattle.node_rules.specs.Batches.{is_among}
 use Rattle.node_rules.specs.Tables.{contains}
 use Rattle.node_rules.specs.Transactions.{Write}

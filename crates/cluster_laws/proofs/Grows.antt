@@ -9,7 +9,7 @@ use Rattle.conflict_order.proofs.JoinLaws.{join_left, join_right, join_least}
 use Rattle.cluster_types.specs.declared.cluster_key.ClusterKey.{ClusterKey}
 use Rattle.cluster_types.specs.ClusterKeys.{key_lt}
 use Rattle.cluster_types.specs.Partitions.{partition_of}
-use Rattle.wire_codec.specs.declared.message.Message.{Message}
+use Rattle.wire_messages.specs.declared.message.Message.{Message}
 use Rattle.cluster_types.specs.Rows.{bit}
 use Rattle.node_rules.specs.Batches.{is_among}
 use Rattle.node_rules.specs.Stamps.{with_number}

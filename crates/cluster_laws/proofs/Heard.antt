@@ -7,7 +7,7 @@ use Rattle.conflict_order.specs.Order.{is_newer}
 use Rattle.conflict_order.proofs.OrderLaws.{AtMost_trans, not_newer_AtMost}
 use Rattle.cluster_types.specs.declared.cluster_key.ClusterKey.{ClusterKey}
 use Rattle.cluster_types.specs.Partitions.{partition_of}
-use Rattle.wire_codec.specs.declared.message.Message.TheVariants as message
+use Rattle.wire_messages.specs.declared.message.Message.TheVariants as message
 use Rattle.node_rules.specs.Stamps.{with_number}
 use Rattle.node_rules.specs.Tables.{contains}
 use Rattle.cluster_laws.specs.Ground.{Ground, master, is_replica}

@@ -5,7 +5,7 @@ use Rattle.conflict_order.specs.Join.{AtMost}
 use Rattle.conflict_order.proofs.OrderLaws.{AtMost_refl, AtMost_trans, AtMost_none}
 use Rattle.cluster_types.specs.declared.cluster_key.ClusterKey.{ClusterKey}
 use Rattle.cluster_types.specs.Partitions.{partition_of}
-use Rattle.wire_codec.specs.declared.message.Message.TheVariants as message
+use Rattle.wire_messages.specs.declared.message.Message.TheVariants as message
 use Rattle.node_rules.specs.Batches.{is_among}
 use Rattle.cluster_laws.specs.Ground.{Ground, is_replica, sends_to}
 use Rattle.cluster_laws.specs.Stay.{Versions, Applied, Stay}
@@ -53,7 +53,7 @@ held_start G n k = record { entry = λ d. AtMost_refl None; write = λ t e a. no
 -- ---- what came belongs here
 
 abbrev pub AllSays : Ground → Picture → Type 0
-AllSays G w = (n r : ℕ) (m : Rattle.wire_codec.specs.declared.message.Message.Message) → WasSent w n r m → Says G w n r m
+AllSays G w = (n r : ℕ) (m : Rattle.wire_messages.specs.declared.message.Message.Message) → WasSent w n r m → Says G w n r m
 
 abbrev pub AllCross : Ground → Picture → Type 0
 AllCross G w = (n : ℕ) (k : ClusterKey) → Cross G w n k (w.stay n k)

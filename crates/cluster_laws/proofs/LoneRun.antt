@@ -7,8 +7,8 @@ use Rattle.conflict_order.specs.Next.{next}
 use Rattle.conflict_order.specs.Order.{version_cmp, is_newer}
 use Rattle.cluster_types.specs.declared.copy_state.CopyState.TheVariants.{Empty, Whole}
 use Rattle.cluster_types.specs.Partitions.{partition_of}
-use Rattle.journal_text.specs.declared.line.Line.{Line}
-use Rattle.journal_text.specs.declared.line.Line.TheVariants as line
+use Rattle.journal_lines.specs.declared.line.Line.{Line}
+use Rattle.journal_lines.specs.declared.line.Line.TheVariants as line
 use Rattle.partition_lists.specs.Hashes.{fnv1a, jenkins_state, jenkins_end, node_bytes, partition_bytes, place}
 use Rattle.partition_lists.specs.Lists.{list}
 use Rattle.cluster_rules.specs.Examples.{digest, key, version}

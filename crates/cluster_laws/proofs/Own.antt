@@ -4,7 +4,7 @@ use Rattle.conflict_order.specs.declared.version.Version.{Version}
 use Rattle.conflict_order.specs.Join.{AtMost}
 use Rattle.cluster_types.specs.declared.cluster_key.ClusterKey.{ClusterKey}
 use Rattle.cluster_types.specs.Partitions.{partition_of}
-use Rattle.wire_codec.specs.declared.message.Batch.{Batch}
+use Rattle.wire_messages.specs.declared.message.Batch.{Batch}
 use Rattle.cluster_laws.specs.Changed.{at_number, at_pair}
 use Rattle.cluster_laws.specs.Ground.{Ground, sends_to}
 use Rattle.cluster_laws.specs.Stay.{Versions, Stay}

@@ -7,15 +7,15 @@ use Rattle.conflict_order.specs.Next.{next}
 use Rattle.conflict_order.specs.Order.{version_cmp, is_newer}
 use Rattle.conflict_order.proofs.OrderLaws.{AtMost_refl}
 use Rattle.cluster_types.specs.Partitions.{partition_of}
-use Rattle.wire_codec.specs.declared.message.Message.TheVariants as message
-use Rattle.wire_codec.specs.Numbers.{number_field, number_at, byte_field, byte_at, flag_field, flag_at}
-use Rattle.wire_codec.specs.Fields.{field, items_at}
-use Rattle.wire_codec.specs.Keys.{key_field, key_where, key_at}
-use Rattle.wire_codec.specs.Versions.{bytes_at, digest_at, digest_above_at, value_field, value_at, body_field, body_at, version_field, version_at, record_field, record_at, records_field, records_at}
-use Rattle.wire_codec.specs.Rows.{row_of, row_at, state_field, state_at, entry_field, entry_at, state_row_field, state_row_at}
-use Rattle.wire_codec.specs.Kinds.{state_message_at, batch_at, batch_ack_at, progress_at}
-use Rattle.wire_codec.specs.Spelling.{spelling}
-use Rattle.wire_codec.specs.Decoding.{decoded, message_of}
+use Rattle.wire_messages.specs.declared.message.Message.TheVariants as message
+use Rattle.wire_messages.specs.Numbers.{number_field, number_at, byte_field, byte_at, flag_field, flag_at}
+use Rattle.wire_messages.specs.Fields.{field, items_at}
+use Rattle.wire_messages.specs.Keys.{key_field, key_where, key_at}
+use Rattle.wire_messages.specs.Versions.{bytes_at, digest_at, digest_above_at, value_field, value_at, body_field, body_at, version_field, version_at, record_field, record_at, records_field, records_at}
+use Rattle.wire_messages.specs.Rows.{row_of, row_at, state_field, state_at, entry_field, entry_at, state_row_field, state_row_at}
+use Rattle.wire_messages.specs.Kinds.{state_message_at, batch_at, batch_ack_at, progress_at}
+use Rattle.wire_messages.specs.Spelling.{spelling}
+use Rattle.wire_messages.specs.Decoding.{decoded, message_of}
 use Rattle.partition_lists.specs.Hashes.{fnv1a, jenkins_state, jenkins_end, node_bytes, partition_bytes, place}
 use Rattle.partition_lists.specs.Lists.{list}
 use Rattle.cluster_rules.specs.Examples.{digest, second, key, version, two}

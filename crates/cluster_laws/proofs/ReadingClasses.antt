@@ -8,8 +8,8 @@ use Rattle.cluster_types.specs.declared.cluster_key.ClusterKey.{ClusterKey}
 use Rattle.cluster_types.specs.declared.copy_state.CopyState.{CopyState}
 use Rattle.cluster_types.specs.declared.copy_state.CopyState.TheVariants.{Empty, Part, Whole}
 use Rattle.cluster_types.specs.Partitions.{partition_of}
-use Rattle.journal_text.specs.declared.line.Line.{Line}
-use Rattle.journal_text.specs.declared.line.Line.TheVariants as line
+use Rattle.journal_lines.specs.declared.line.Line.{Line}
+use Rattle.journal_lines.specs.declared.line.Line.TheVariants as line
 use Rattle.node_rules.specs.Keys.{same_key}
 use Rattle.node_rules.specs.Map.{is_whole}
 use Rattle.node_rules.specs.Stamps as stamps

@@ -5,8 +5,8 @@ use Rattle.std.specs.List.{list_any}
 use Rattle.conflict_order.specs.declared.policy.Policy.{Policy}
 use Rattle.conflict_order.specs.declared.policy.Policy.TheVariants.{Time}
 use Rattle.script_lang.specs.declared.script.HeaderLine.TheVariants as header
-use Rattle.journal_text.specs.declared.line.Line.{Line}
-use Rattle.journal_text.specs.declared.line.Line.TheVariants as line
+use Rattle.journal_lines.specs.declared.line.Line.{Line}
+use Rattle.journal_lines.specs.declared.line.Line.TheVariants as line
 use Rattle.cluster_rules.specs.Opening as opening
 use Rattle.cluster_rules.specs.Opening.{Header, header_line, header_lines, declared_policy, declared_factor, declared_nodes}
 use Rattle.cluster_rules.specs.Settings.{policy_step, policy_of, factor_step, factor_of, declared_in, nodes}

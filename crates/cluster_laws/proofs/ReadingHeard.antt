@@ -6,12 +6,12 @@ use Rattle.conflict_order.specs.declared.version.Version.{Version}
 use Rattle.cluster_types.specs.declared.cluster_key.ClusterKey.{ClusterKey}
 use Rattle.cluster_types.specs.Partitions.{partition_of}
 use Rattle.partition_lists.proofs.InOrderLaws.{counts_one, counts_none}
-use Rattle.wire_codec.specs.declared.message.Message.{Message}
-use Rattle.wire_codec.specs.declared.message.Message.TheVariants as message
-use Rattle.wire_codec.specs.declared.message.Batch.{Batch}
-use Rattle.wire_codec.specs.Decoding.{message_of}
-use Rattle.journal_text.specs.declared.line.Line.{Line}
-use Rattle.journal_text.specs.declared.line.Line.TheVariants as line
+use Rattle.wire_messages.specs.declared.message.Message.{Message}
+use Rattle.wire_messages.specs.declared.message.Message.TheVariants as message
+use Rattle.wire_messages.specs.declared.message.Batch.{Batch}
+use Rattle.wire_messages.specs.Decoding.{message_of}
+use Rattle.journal_lines.specs.declared.line.Line.{Line}
+use Rattle.journal_lines.specs.declared.line.Line.TheVariants as line
 use Rattle.node_rules.specs.Keys.{same_key}
 use Rattle.node_rules.specs.Stamps as stamps
 use Rattle.cluster_rules.specs.Messages.{Posting, Arrival, posted, posting_of, arrived, arrival, message_between}

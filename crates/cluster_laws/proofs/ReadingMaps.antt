@@ -8,8 +8,8 @@ use Rattle.cluster_types.specs.declared.copy_state.CopyState.TheVariants.{Empty,
 use Rattle.cluster_types.specs.declared.member.Member.{Member}
 use Rattle.cluster_types.specs.ClusterKeys.{key_lt}
 use Rattle.partition_lists.specs.Lists as lists
-use Rattle.journal_text.specs.declared.line.Line.{Line}
-use Rattle.journal_text.specs.declared.line.Line.TheVariants as line
+use Rattle.journal_lines.specs.declared.line.Line.{Line}
+use Rattle.journal_lines.specs.declared.line.Line.TheVariants as line
 use Rattle.node_rules.specs.Map as the_map
 use Rattle.node_rules.specs.Map.{is_whole}
 use Rattle.node_rules.specs.Tables.{contains}

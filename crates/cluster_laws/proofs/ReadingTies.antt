@@ -7,7 +7,7 @@ use Rattle.conflict_order.proofs.JoinLaws.{none_join}
 use Rattle.cluster_types.specs.declared.cluster_key.ClusterKey.{ClusterKey}
 use Rattle.cluster_types.specs.declared.member.Member.{Member}
 use Rattle.script_lang.specs.declared.script.HeaderLine.TheVariants as header
-use Rattle.journal_text.specs.declared.line.Line.{Line}
+use Rattle.journal_lines.specs.declared.line.Line.{Line}
 use Rattle.cluster_rules.specs.Opening.{Header, header_lines}
 use Rattle.cluster_rules.specs.Settings.{nodes, clock_of}
 use Rattle.cluster_rules.specs.Contents.{content, applied}

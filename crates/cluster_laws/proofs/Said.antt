@@ -5,9 +5,9 @@ use Rattle.conflict_order.specs.Join.{AtMost}
 use Rattle.conflict_order.proofs.OrderLaws.{AtMost_trans}
 use Rattle.cluster_types.specs.declared.cluster_key.ClusterKey.{ClusterKey}
 use Rattle.cluster_types.specs.Partitions.{partition_of}
-use Rattle.wire_codec.specs.declared.message.Batch.{Batch}
-use Rattle.wire_codec.specs.declared.message.Message.{Message}
-use Rattle.wire_codec.specs.declared.message.Message.TheVariants as message
+use Rattle.wire_messages.specs.declared.message.Batch.{Batch}
+use Rattle.wire_messages.specs.declared.message.Message.{Message}
+use Rattle.wire_messages.specs.declared.message.Message.TheVariants as message
 use Rattle.cluster_laws.specs.Changed.{at_key}
 use Rattle.cluster_laws.specs.Ground.{Ground}
 use Rattle.cluster_laws.specs.Stay.{Versions, Stay}

@@ -5,7 +5,7 @@ use Rattle.conflict_order.specs.Join.{AtMost}
 use Rattle.conflict_order.proofs.OrderLaws.{AtMost_trans, AtMost_none, AtMost_antisymm}
 use Rattle.cluster_types.specs.declared.cluster_key.ClusterKey.{ClusterKey}
 use Rattle.cluster_types.specs.Partitions.{partition_of}
-use Rattle.wire_codec.specs.declared.message.Message.TheVariants as message
+use Rattle.wire_messages.specs.declared.message.Message.TheVariants as message
 use Rattle.cluster_laws.specs.Ground.{Ground, is_member, master, is_replica, same_class}
 use Rattle.cluster_laws.specs.Stay.{Applied}
 use Rattle.cluster_laws.specs.Picture.{Picture}

@@ -9,17 +9,17 @@ use Rattle.cluster_types.specs.declared.cluster_key.ClusterKey.{ClusterKey}
 use Rattle.cluster_types.specs.declared.copy_state.CopyState.TheVariants.{Empty, Whole}
 use Rattle.cluster_types.specs.Partitions.{partition_of}
 use Rattle.cluster_types.specs.StateRows.{state_of}
-use Rattle.wire_codec.specs.declared.message.Message.TheVariants as message
-use Rattle.wire_codec.specs.Numbers.{number_field, number_at, byte_field, byte_at, flag_field, flag_at}
-use Rattle.wire_codec.specs.Fields.{field, items_at}
-use Rattle.wire_codec.specs.Keys.{key_field, key_where, key_at}
-use Rattle.wire_codec.specs.Versions.{bytes_at, digest_at, option_version_field, option_version_at}
-use Rattle.wire_codec.specs.Rows.{state_field, state_at, entry_field, entry_at, state_row_field, state_row_at}
-use Rattle.wire_codec.specs.Kinds.{state_message_at, ask_at, answer_at}
-use Rattle.wire_codec.specs.Spelling.{spelling}
-use Rattle.wire_codec.specs.Decoding.{decoded, message_of}
-use Rattle.journal_text.specs.declared.line.Line.{Line}
-use Rattle.journal_text.specs.declared.line.Line.TheVariants as line
+use Rattle.wire_messages.specs.declared.message.Message.TheVariants as message
+use Rattle.wire_messages.specs.Numbers.{number_field, number_at, byte_field, byte_at, flag_field, flag_at}
+use Rattle.wire_messages.specs.Fields.{field, items_at}
+use Rattle.wire_messages.specs.Keys.{key_field, key_where, key_at}
+use Rattle.wire_messages.specs.Versions.{bytes_at, digest_at, option_version_field, option_version_at}
+use Rattle.wire_messages.specs.Rows.{state_field, state_at, entry_field, entry_at, state_row_field, state_row_at}
+use Rattle.wire_messages.specs.Kinds.{state_message_at, ask_at, answer_at}
+use Rattle.wire_messages.specs.Spelling.{spelling}
+use Rattle.wire_messages.specs.Decoding.{decoded, message_of}
+use Rattle.journal_lines.specs.declared.line.Line.{Line}
+use Rattle.journal_lines.specs.declared.line.Line.TheVariants as line
 use Rattle.partition_lists.specs.Hashes.{fnv1a, jenkins_state, jenkins_end, node_bytes, partition_bytes, place}
 use Rattle.partition_lists.specs.Lists.{list}
 use Rattle.node_rules.specs.Transactions.{Write}

@@ -8,9 +8,9 @@ use Rattle.cluster_types.specs.declared.cluster_key.ClusterKey.{ClusterKey}
 use Rattle.cluster_types.specs.Distinct.{without}
 use Rattle.cluster_types.specs.Partitions.{partition_of}
 use Rattle.cluster_types.specs.Rows.{bit}
-use Rattle.wire_codec.specs.declared.message.Batch.{Batch}
-use Rattle.wire_codec.specs.declared.message.Message.{Message}
-use Rattle.wire_codec.specs.declared.message.Message.TheVariants as message
+use Rattle.wire_messages.specs.declared.message.Batch.{Batch}
+use Rattle.wire_messages.specs.declared.message.Message.{Message}
+use Rattle.wire_messages.specs.declared.message.Message.TheVariants as message
 use Rattle.node_rules.specs.Batches.{is_among}
 use Rattle.node_rules.specs.Copies.{is_of}
 use Rattle.node_rules.specs.Stamps.{with_number, count_of, recounted, spoiled}

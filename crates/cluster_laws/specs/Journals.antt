@@ -3,8 +3,8 @@ use Rattle.std.specs.Prelude.{◌≡◌, ℕ, true, false, Bool, IsTrue, List, [
 use Rattle.cluster_types.specs.declared.cluster_key.ClusterKey.{ClusterKey}
 use Rattle.cluster_types.specs.declared.member.Member.{Member}
 use Rattle.script_lang.specs.declared.script.HeaderLine.TheVariants as header
-use Rattle.journal_text.specs.declared.line.Line.{Line}
-use Rattle.journal_text.specs.declared.line.Line.TheVariants as line
+use Rattle.journal_lines.specs.declared.line.Line.{Line}
+use Rattle.journal_lines.specs.declared.line.Line.TheVariants as line
 use Rattle.node_rules.specs.Tables.{contains}
 use Rattle.cluster_rules.specs.Opening.{Header, header_lines}
 use Rattle.cluster_rules.specs.Settings.{policy_of, factor_of, nodes}

@@ -5,10 +5,10 @@ use Rattle.conflict_order.specs.Join.{AtMost}
 use Rattle.conflict_order.specs.Next.{next}
 use Rattle.cluster_types.specs.declared.cluster_key.ClusterKey.{ClusterKey}
 use Rattle.cluster_types.specs.Partitions.{partition_of}
-use Rattle.wire_codec.specs.declared.message.Batch.{Batch}
-use Rattle.wire_codec.specs.declared.message.Message.TheVariants as message
-use Rattle.journal_text.specs.declared.line.Line.{Line}
-use Rattle.journal_text.specs.declared.line.Line.TheVariants as line
+use Rattle.wire_messages.specs.declared.message.Batch.{Batch}
+use Rattle.wire_messages.specs.declared.message.Message.TheVariants as message
+use Rattle.journal_lines.specs.declared.line.Line.{Line}
+use Rattle.journal_lines.specs.declared.line.Line.TheVariants as line
 use Rattle.cluster_laws.specs.Ground.{Ground, IsGround, master, is_replica, all_empty, same_class}
 use Rattle.cluster_laws.specs.Stay.{Applied}
 use Rattle.cluster_laws.specs.Picture.{Picture, start}

@@ -13,12 +13,12 @@ use Rattle.cluster_types.specs.ClusterKeys.{key_lt}
 use Rattle.cluster_types.specs.Partitions.{partition_of}
 use Rattle.cluster_types.specs.Rows.{bit}
 use Rattle.cluster_types.specs.StateRows.{state_of}
-use Rattle.wire_codec.specs.declared.message.Batch.{Batch}
-use Rattle.wire_codec.specs.declared.message.Message.{Message}
-use Rattle.wire_codec.specs.declared.message.Message.TheVariants as message
-use Rattle.wire_codec.specs.Decoding.{message_of}
-use Rattle.journal_text.specs.declared.line.Line.{Line}
-use Rattle.journal_text.specs.declared.line.Line.TheVariants as line
+use Rattle.wire_messages.specs.declared.message.Batch.{Batch}
+use Rattle.wire_messages.specs.declared.message.Message.{Message}
+use Rattle.wire_messages.specs.declared.message.Message.TheVariants as message
+use Rattle.wire_messages.specs.Decoding.{message_of}
+use Rattle.journal_lines.specs.declared.line.Line.{Line}
+use Rattle.journal_lines.specs.declared.line.Line.TheVariants as line
 use Rattle.node_rules.specs.Tables.{contains}
 use Rattle.node_rules.specs.Transactions.{Write}
 use Rattle.cluster_laws.specs.Ground.{Ground, is_member, master, acting, is_replica, all_empty}

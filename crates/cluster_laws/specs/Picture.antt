@@ -3,7 +3,7 @@ use Rattle.std.specs.Prelude.{ℕ, Bool, false, List, Option, None}
 use Rattle.conflict_order.specs.declared.version.Version.{Version}
 use Rattle.cluster_types.specs.declared.cluster_key.ClusterKey.{ClusterKey}
 use Rattle.cluster_types.specs.ClusterKeys as keys
-use Rattle.wire_codec.specs.declared.message.Message.{Message}
+use Rattle.wire_messages.specs.declared.message.Message.{Message}
 use Rattle.cluster_laws.specs.Stay.{Versions, Stay, blank}
 
 -- what a node keeps from view to view

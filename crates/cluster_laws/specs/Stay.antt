@@ -5,7 +5,7 @@
 -- the stay of its view's key.
 use Rattle.std.specs.Prelude.{ℕ, Bool, false, List, [], Option, None}
 use Rattle.conflict_order.specs.declared.version.Version.{Version}
-use Rattle.wire_codec.specs.declared.message.Batch.{Batch}
+use Rattle.wire_messages.specs.declared.message.Batch.{Batch}
 use Rattle.node_rules.specs.Transactions.{Write}
 
 -- a version for each digest, or none

@@ -11,15 +11,15 @@ use Rattle.cluster_types.specs.declared.copy_state.CopyState.TheVariants.{Empty,
 use Rattle.cluster_types.specs.declared.member.Member.{Member}
 use Rattle.cluster_types.specs.Partitions.{partition_of}
 use Rattle.cluster_types.specs.StateRows.{state_of}
-use Rattle.wire_codec.specs.declared.message.Batch.{Batch}
-use Rattle.wire_codec.specs.declared.message.Message.{Message}
-use Rattle.wire_codec.specs.declared.message.Message.TheVariants as message
-use Rattle.wire_codec.specs.Decoding.{message_of}
-use Rattle.wire_codec.specs.Keys.{key_field}
-use Rattle.wire_codec.specs.Numbers.{byte_field, flag_field}
-use Rattle.wire_codec.specs.Spelling.{spelling}
-use Rattle.journal_text.specs.declared.line.Line.{Line}
-use Rattle.journal_text.specs.declared.line.Line.TheVariants as line
+use Rattle.wire_messages.specs.declared.message.Batch.{Batch}
+use Rattle.wire_messages.specs.declared.message.Message.{Message}
+use Rattle.wire_messages.specs.declared.message.Message.TheVariants as message
+use Rattle.wire_messages.specs.Decoding.{message_of}
+use Rattle.wire_messages.specs.Keys.{key_field}
+use Rattle.wire_messages.specs.Numbers.{byte_field, flag_field}
+use Rattle.wire_messages.specs.Spelling.{spelling}
+use Rattle.journal_lines.specs.declared.line.Line.{Line}
+use Rattle.journal_lines.specs.declared.line.Line.TheVariants as line
 use Rattle.node_rules.specs.Keys.{same_key}
 use Rattle.cluster_rules.specs.Examples.{digest, second, key, version, one, two, both}
 use Rattle.cluster_laws.specs.Ground.{Ground, IsGround, master, acting, is_replica, all_empty}

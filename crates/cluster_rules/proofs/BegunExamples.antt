@@ -1,7 +1,7 @@
 -- Runs that were begun, of scripts that are known.
 use Rattle.std.proofs.Common.{None, List, [], ◌∷◌, ◌++◌, refl, sym, inl, inr}
 use Rattle.cluster_types.specs.Partitions.{partition_count}
-use Rattle.journal_text.specs.declared.line.Line.TheVariants as line
+use Rattle.journal_lines.specs.declared.line.Line.TheVariants as line
 use Rattle.cluster_rules.specs.declared.event.Event.TheVariants as event
 use Rattle.cluster_rules.specs.Begun.{BegunRun}
 use Rattle.cluster_rules.specs.Steps.{Step}

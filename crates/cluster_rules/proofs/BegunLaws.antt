@@ -3,7 +3,7 @@ use Rattle.std.proofs.Common.{◌≡◌, ℕ, ◌⊎◌, inl, inr, List, [], ◌
 use Rattle.script_lang.specs.declared.script.Command.{Command}
 use Rattle.script_lang.specs.declared.script.Command.TheVariants as command
 use Rattle.script_lang.specs.declared.script.Script.{Script}
-use Rattle.journal_text.specs.declared.line.Line.{Line}
+use Rattle.journal_lines.specs.declared.line.Line.{Line}
 use Rattle.cluster_rules.specs.Begun.{ComesNext, AreBegun, MayPlay, AllBegun, BegunRunOf}
 use Rattle.cluster_rules.specs.Marks.{after_all}
 use Rattle.cluster_rules.specs.Opening.{header_lines}

@@ -2,14 +2,14 @@
 use Rattle.conflict_order.specs.Join.{join}
 use Rattle.conflict_order.specs.Next.{next}
 use Rattle.conflict_order.specs.Order.{version_cmp}
-use Rattle.wire_codec.specs.Numbers.{number_field, number_at, byte_field, byte_at}
-use Rattle.wire_codec.specs.Fields.{field, items_at}
-use Rattle.wire_codec.specs.Keys.{key_field, key_where, key_at}
-use Rattle.wire_codec.specs.Versions.{bytes_at, digest_at, digest_above_at, value_field, value_at, body_field, body_at, version_field, version_at, record_field, record_at, records_field, records_at}
-use Rattle.wire_codec.specs.Nodes.{id_field, id_below_at, id_at, falling_ids_at, ids_at, plain_members_field, plain_members_at}
-use Rattle.wire_codec.specs.Kinds.{propose_at, accept_at, commit_at, batch_at, batch_ack_at, repl_at, repl_ack_at}
-use Rattle.wire_codec.specs.Spelling.{spelling}
-use Rattle.wire_codec.specs.Decoding.{decoded, message_of}
+use Rattle.wire_messages.specs.Numbers.{number_field, number_at, byte_field, byte_at}
+use Rattle.wire_messages.specs.Fields.{field, items_at}
+use Rattle.wire_messages.specs.Keys.{key_field, key_where, key_at}
+use Rattle.wire_messages.specs.Versions.{bytes_at, digest_at, digest_above_at, value_field, value_at, body_field, body_at, version_field, version_at, record_field, record_at, records_field, records_at}
+use Rattle.wire_messages.specs.Nodes.{id_field, id_below_at, id_at, falling_ids_at, ids_at, plain_members_field, plain_members_at}
+use Rattle.wire_messages.specs.Kinds.{propose_at, accept_at, commit_at, batch_at, batch_ack_at, repl_at, repl_ack_at}
+use Rattle.wire_messages.specs.Spelling.{spelling}
+use Rattle.wire_messages.specs.Decoding.{decoded, message_of}
 use Rattle.partition_lists.specs.Hashes.{fnv1a, jenkins_state, jenkins_end, node_bytes, partition_bytes, place}
 use Rattle.partition_lists.specs.Lists.{list}
 use Rattle.cluster_rules.specs.Settings.{policy_of, factor_of, nodes, clock_of, is_up, groups_of, present_role}

@@ -7,7 +7,7 @@ use Rattle.cluster_types.specs.declared.cluster_key.ClusterKey.{ClusterKey}
 use Rattle.cluster_types.specs.declared.member.Member.{Member}
 use Rattle.cluster_types.specs.Partitions.{partition_of}
 use Rattle.partition_lists.specs.Lists as lists
-use Rattle.journal_text.specs.declared.line.Line.{Line}
+use Rattle.journal_lines.specs.declared.line.Line.{Line}
 use Rattle.cluster_rules.specs.Lines.{has_node}
 use Rattle.cluster_rules.specs.Contents.{content}
 use Rattle.cluster_rules.specs.Views.{view, list}

@@ -5,8 +5,8 @@ use Rattle.cluster_types.specs.Partitions.{partition_count}
 use Rattle.cluster_types.specs.Rows.{bit}
 use Rattle.conflict_order.specs.declared.policy.Policy.TheVariants.{Time}
 use Rattle.script_lang.specs.declared.script.Command.TheVariants as command
-use Rattle.journal_text.specs.declared.line.Line.{Line}
-use Rattle.journal_text.specs.declared.line.Line.TheVariants as line
+use Rattle.journal_lines.specs.declared.line.Line.{Line}
+use Rattle.journal_lines.specs.declared.line.Line.TheVariants as line
 use Rattle.node_rules.specs.Copies.{Row, holds_of}
 use Rattle.node_rules.specs.Examples.{key, itself, ticked_twice}
 use Rattle.node_rules.specs.Facts.{Facts, list_at}

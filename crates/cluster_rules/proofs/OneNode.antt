@@ -4,8 +4,8 @@ use Rattle.conflict_order.specs.declared.want.Want.TheVariants as want
 use Rattle.cluster_types.specs.Partitions.{partition_count}
 use Rattle.script_lang.specs.declared.script.Command.{Command}
 use Rattle.script_lang.specs.declared.script.Command.TheVariants as command
-use Rattle.journal_text.specs.declared.line.Line.{Line}
-use Rattle.journal_text.specs.declared.line.Line.TheVariants as line
+use Rattle.journal_lines.specs.declared.line.Line.{Line}
+use Rattle.journal_lines.specs.declared.line.Line.TheVariants as line
 use Rattle.node_rules.specs.Effects.{Effects, lines_only}
 use Rattle.node_rules.specs.Examples.{ticked_twice, in_its_view, having_hi, zeros, hi}
 use Rattle.node_rules.specs.Facts.{Facts}

@@ -5,9 +5,9 @@ use Rattle.conflict_order.specs.declared.version.Version.{Version}
 use Rattle.conflict_order.specs.declared.version.Body.{Body}
 use Rattle.conflict_order.specs.declared.version.Body.TheVariants as body
 use Rattle.cluster_types.specs.declared.member.Member.{Member}
-use Rattle.wire_codec.specs.declared.message.Message.TheVariants as message
-use Rattle.wire_codec.specs.Spelling.{spelling}
-use Rattle.journal_text.specs.declared.line.Line.TheVariants as line
+use Rattle.wire_messages.specs.declared.message.Message.TheVariants as message
+use Rattle.wire_messages.specs.Spelling.{spelling}
+use Rattle.journal_lines.specs.declared.line.Line.TheVariants as line
 use Rattle.conflict_order.specs.declared.policy.Policy.TheVariants.{Time}
 use Rattle.cluster_types.specs.declared.cluster_key.ClusterKey.{ClusterKey}
 use Rattle.std.specs.Prelude.{take}

@@ -8,8 +8,8 @@ use Rattle.cluster_types.specs.Members.{plain_member}
 use Rattle.cluster_types.specs.Partitions.{partition_of}
 use Rattle.partition_lists.specs.Lists as lists
 use Rattle.partition_lists.specs.Ranks.{rank_of, is_smaller}
-use Rattle.journal_text.specs.declared.line.Line.{Line}
-use Rattle.journal_text.specs.declared.line.Line.TheVariants as line
+use Rattle.journal_lines.specs.declared.line.Line.{Line}
+use Rattle.journal_lines.specs.declared.line.Line.TheVariants as line
 use Rattle.cluster_rules.specs.Lines.{has_node, is_settled_line}
 use Rattle.cluster_rules.specs.Contents.{content, applied, holds_any}
 use Rattle.cluster_rules.specs.Views.{view, master, first_of, is_replica}

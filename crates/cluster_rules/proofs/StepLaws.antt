@@ -6,7 +6,7 @@ use Rattle.cluster_rules.specs.Rows.{row, copy_state}
 use Rattle.std.proofs.lemmas.List.Sums.{fold-append}
 use Rattle.conflict_order.specs.declared.policy.Policy.{Policy}
 use Rattle.cluster_types.specs.declared.cluster_key.ClusterKey.{ClusterKey}
-use Rattle.journal_text.specs.declared.line.Line.{Line}
+use Rattle.journal_lines.specs.declared.line.Line.{Line}
 use Rattle.cluster_rules.specs.Lines.{is_enter, lines_before, fold_along}
 use Rattle.cluster_rules.specs.Settings.{is_up, up_step, clock_of, clock_step, present_role, role_step}
 use Rattle.cluster_rules.specs.Contents.{content, content_step, holds_any, copy_step, applied, applied_step}

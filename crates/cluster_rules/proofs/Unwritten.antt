@@ -8,8 +8,8 @@ use Rattle.conflict_order.specs.Join.{join}
 use Rattle.cluster_types.specs.declared.cluster_key.ClusterKey.{ClusterKey}
 use Rattle.cluster_types.specs.declared.member.Member.{Member}
 use Rattle.cluster_types.specs.Partitions.{partition_of}
-use Rattle.journal_text.specs.declared.line.Line.{Line}
-use Rattle.journal_text.specs.declared.line.Line.TheVariants as line
+use Rattle.journal_lines.specs.declared.line.Line.{Line}
+use Rattle.journal_lines.specs.declared.line.Line.TheVariants as line
 use Rattle.cluster_rules.specs.Lines.{same_key, same_digest, lines_before, is_enter}
 use Rattle.cluster_rules.specs.Contents.{content, content_step, applied, applied_step, join_all, joined_if}
 use Rattle.cluster_rules.specs.Entries.{entry, applied_in, applied_in_step, fold_of}

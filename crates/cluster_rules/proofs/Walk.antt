@@ -10,8 +10,8 @@ use Rattle.conflict_order.specs.declared.version.Version.{Version}
 use Rattle.conflict_order.specs.Order.{is_newer, version_cmp}
 use Rattle.partition_lists.specs.Hashes.{fnv1a, jenkins_state, jenkins_end, node_bytes, partition_bytes, place}
 use Rattle.partition_lists.specs.Lists.{list}
-use Rattle.wire_codec.specs.declared.message.Message.TheVariants as message
-use Rattle.journal_text.specs.declared.line.Line.TheVariants as line
+use Rattle.wire_messages.specs.declared.message.Message.TheVariants as message
+use Rattle.journal_lines.specs.declared.line.Line.TheVariants as line
 use Rattle.node_rules.specs.Effects.{Effects}
 use Rattle.node_rules.specs.Examples.{key, zeros}
 use Rattle.node_rules.specs.Messages.{due_message}

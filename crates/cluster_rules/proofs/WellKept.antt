@@ -5,7 +5,7 @@ use Rattle.conflict_order.specs.declared.policy.Policy.TheVariants.{Time}
 use Rattle.cluster_types.specs.declared.cluster_key.ClusterKey.{ClusterKey}
 use Rattle.cluster_types.specs.declared.member.Member.{Member}
 use Rattle.cluster_types.specs.ClusterKeys.{key_lt}
-use Rattle.journal_text.specs.declared.line.Line.{Line}
+use Rattle.journal_lines.specs.declared.line.Line.{Line}
 use Rattle.cluster_rules.specs.Lines.{has_node}
 use Rattle.cluster_rules.specs.Contents.{content, applied, join_all}
 use Rattle.cluster_rules.specs.Views.{promised_key, last_key}

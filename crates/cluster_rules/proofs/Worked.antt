@@ -5,8 +5,8 @@ use Rattle.std.proofs.lemmas.List.Elements.{All-nil, All-cons}
 use Rattle.std.proofs.lemmas.List.Kept.{AllPairs-cons}
 use Rattle.cluster_types.specs.Members.{ids_of}
 use Rattle.cluster_types.specs.Distinct.{IsDescending}
-use Rattle.journal_text.specs.declared.line.Line.{Line}
-use Rattle.journal_text.specs.declared.line.Line.TheVariants as line
+use Rattle.journal_lines.specs.declared.line.Line.{Line}
+use Rattle.journal_lines.specs.declared.line.Line.TheVariants as line
 use Rattle.cluster_rules.specs.Claims.{OneMap, ShowsMap, ReadJoin, JoinsView}
 use Rattle.cluster_rules.specs.Shape.{Shape, follows_header, names_declared, EntersFalling, enters_once, names_entered, follows_entries}
 use Rattle.cluster_rules.specs.Examples.{both, shown, written_and_read}

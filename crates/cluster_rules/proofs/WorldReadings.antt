@@ -19,11 +19,11 @@ use Rattle.cluster_types.specs.Distinct.{AreDistinct}
 use Rattle.cluster_types.specs.Members.{plain_role}
 use Rattle.cluster_types.specs.Partitions.{partition_of}
 use Rattle.script_lang.specs.declared.script.HeaderLine.TheVariants as header
-use Rattle.journal_text.specs.declared.line.Line.{Line}
-use Rattle.journal_text.specs.declared.line.Line.TheVariants as line
-use Rattle.wire_codec.specs.declared.message.Message.{Message}
-use Rattle.wire_codec.specs.declared.message.Message.TheVariants as message
-use Rattle.wire_codec.specs.Decoding.{message_of}
+use Rattle.journal_lines.specs.declared.line.Line.{Line}
+use Rattle.journal_lines.specs.declared.line.Line.TheVariants as line
+use Rattle.wire_messages.specs.declared.message.Message.{Message}
+use Rattle.wire_messages.specs.declared.message.Message.TheVariants as message
+use Rattle.wire_messages.specs.Decoding.{message_of}
 use Rattle.node_rules.specs.Copies.{Content, joined, is_of}
 use Rattle.node_rules.specs.Exchange.{key_of}
 use Rattle.node_rules.specs.Facts.{view_key}
@@ -41,7 +41,7 @@ use Rattle.cluster_rules.specs.Shape.{is_header, AreBehind}
 use Rattle.cluster_rules.specs.Views.{promised_key, promise_step, last_key, last_step, view, view_step, some_key}
 use Rattle.cluster_rules.specs.World.{World, opened}
 use Rattle.cluster_rules.proofs.CopyLaws.{same_digest_is, same_digest_itself}
-use Rattle.wire_codec.proofs.ItemForms.{later_pairs}
+use Rattle.wire_messages.proofs.ItemForms.{later_pairs}
 use Rattle.cluster_rules.proofs.KeptFacts.{num_same, Kept, kept_of, own_step, is_own, kept_step, marks_kept}
 
 -- ---- one reading

@@ -5,7 +5,7 @@ use Rattle.cluster_types.specs.Partitions.{partition_count}
 use Rattle.script_lang.specs.declared.script.Command.{Command}
 use Rattle.script_lang.specs.declared.script.Command.TheVariants as command
 use Rattle.script_lang.specs.declared.script.Script.{Script}
-use Rattle.journal_text.specs.declared.line.Line.{Line}
+use Rattle.journal_lines.specs.declared.line.Line.{Line}
 use Rattle.cluster_rules.specs.Calm.{is_calm_of}
 use Rattle.cluster_rules.specs.Opening.{header_lines}
 use Rattle.cluster_rules.specs.Runs.{Calms, Plays}

@@ -5,8 +5,8 @@ use Rattle.conflict_order.specs.declared.policy.Policy.{Policy}
 use Rattle.cluster_types.specs.declared.cluster_key.ClusterKey.{ClusterKey}
 use Rattle.cluster_types.specs.Partitions.{partition_count, partition_of}
 use Rattle.cluster_types.specs.Members.{ids_of}
-use Rattle.journal_text.specs.declared.line.Line.{Line}
-use Rattle.journal_text.specs.declared.line.Line.TheVariants as line
+use Rattle.journal_lines.specs.declared.line.Line.{Line}
+use Rattle.journal_lines.specs.declared.line.Line.TheVariants as line
 use Rattle.cluster_rules.specs.Settings.{policy_of, factor_of, nodes, is_up, groups_of, up_members}
 use Rattle.cluster_rules.specs.Contents.{content, applied}
 use Rattle.cluster_rules.specs.Views.{view, members, master, is_replica}

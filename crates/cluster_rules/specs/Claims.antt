@@ -6,8 +6,8 @@ use Rattle.cluster_types.specs.declared.cluster_key.ClusterKey.{ClusterKey}
 use Rattle.cluster_types.specs.declared.member.Member.{Member}
 use Rattle.cluster_types.specs.ClusterKeys.{key_lt}
 use Rattle.cluster_types.specs.Partitions.{partition_of}
-use Rattle.journal_text.specs.declared.line.Line.{Line}
-use Rattle.journal_text.specs.declared.line.Line.TheVariants as line
+use Rattle.journal_lines.specs.declared.line.Line.{Line}
+use Rattle.journal_lines.specs.declared.line.Line.TheVariants as line
 use Rattle.cluster_rules.specs.Settings.{policy_of, factor_of, nodes, clock_of}
 use Rattle.cluster_rules.specs.Contents.{content, applied, join_all}
 use Rattle.cluster_rules.specs.Views.{promised_key, last_key, view, master, is_replica}

@@ -3,7 +3,7 @@ use Rattle.std.specs.Prelude.{ℕ, ◌&&◌, ◌||◌, Bool, not, List, find, Op
 use Rattle.std.specs.List.{list_all}
 use Rattle.cluster_types.specs.ClusterKeys.{key_lt}
 use Rattle.cluster_types.specs.Rows.{bit}
-use Rattle.wire_codec.specs.declared.message.MapTable.{MapTable}
+use Rattle.wire_messages.specs.declared.message.MapTable.{MapTable}
 use Rattle.cluster_rules.specs.Lines.{same_key}
 
 -- the tables that reached the client, in the order in which they came

@@ -1,8 +1,8 @@
 -- The codes of what steps are made of. A model whose value is a list of steps finds its code by
 -- `hlevel step_codes`.
 use Rattle.std.specs.Coded.{Coded, codes}
-use Rattle.journal_text.specs.declared.line.Line.{Line}
-use Rattle.journal_text.specs.contracts.line.Line as line
+use Rattle.journal_lines.specs.declared.line.Line.{Line}
+use Rattle.journal_lines.specs.contracts.line.Line as line
 use Rattle.cluster_rules.specs.declared.event.Event.{Event}
 use Rattle.cluster_rules.specs.contracts.event.Event as event
 

@@ -6,11 +6,11 @@ use Rattle.conflict_order.specs.declared.want.Action.TheVariants as action
 use Rattle.cluster_types.specs.declared.cluster_key.ClusterKey.{ClusterKey}
 use Rattle.cluster_types.specs.declared.member.Member.{Member}
 use Rattle.cluster_types.specs.Members.{plain_member}
-use Rattle.wire_codec.specs.declared.message.Message.TheVariants as message
-use Rattle.wire_codec.specs.declared.message.Batch.{Batch}
-use Rattle.wire_codec.specs.Spelling.{spelling}
-use Rattle.journal_text.specs.declared.line.Line.{Line}
-use Rattle.journal_text.specs.declared.line.Line.TheVariants as line
+use Rattle.wire_messages.specs.declared.message.Message.TheVariants as message
+use Rattle.wire_messages.specs.declared.message.Batch.{Batch}
+use Rattle.wire_messages.specs.Spelling.{spelling}
+use Rattle.journal_lines.specs.declared.line.Line.{Line}
+use Rattle.journal_lines.specs.declared.line.Line.TheVariants as line
 
 -- a digest of the last partition, 4095, whose list over nodes 1 and 2 is 2, 1
 abbrev pub digest : List ℕ

@@ -2,11 +2,11 @@
 use Rattle.std.specs.Prelude.{ℕ, ◌==◌, Bool, true, false, List, [], ◌∷◌, ◌++◌, filter_map, Option, Some, None, option_and_then}
 use Rattle.conflict_order.specs.declared.want.Want.{Want}
 use Rattle.conflict_order.specs.declared.want.Want.TheVariants as want
-use Rattle.wire_codec.specs.declared.message.Message.{Message}
-use Rattle.wire_codec.specs.declared.message.Message.TheVariants as message
-use Rattle.wire_codec.specs.Decoding.{message_of}
-use Rattle.journal_text.specs.declared.line.Line.{Line}
-use Rattle.journal_text.specs.declared.line.Line.TheVariants as line
+use Rattle.wire_messages.specs.declared.message.Message.{Message}
+use Rattle.wire_messages.specs.declared.message.Message.TheVariants as message
+use Rattle.wire_messages.specs.Decoding.{message_of}
+use Rattle.journal_lines.specs.declared.line.Line.{Line}
+use Rattle.journal_lines.specs.declared.line.Line.TheVariants as line
 use Rattle.node_rules.specs.Notes.{note, reached, sent}
 use Rattle.cluster_rules.specs.declared.event.Event.{Event}
 use Rattle.cluster_rules.specs.declared.event.Event.TheVariants as event

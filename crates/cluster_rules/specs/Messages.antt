@@ -1,9 +1,9 @@
 -- The messages of a journal: what was sent, and what reaches an endpoint at a line.
 use Rattle.std.specs.Prelude.{ℕ, ◌==◌, nat_le, ◌&&◌, if◌then◌else◌, List, length, filter_map, Option, Some, None, option_and_then, option_map, slice_get}
-use Rattle.wire_codec.specs.declared.message.Message.{Message}
-use Rattle.wire_codec.specs.Decoding.{message_of}
-use Rattle.journal_text.specs.declared.line.Line.{Line}
-use Rattle.journal_text.specs.declared.line.Line.TheVariants as line
+use Rattle.wire_messages.specs.declared.message.Message.{Message}
+use Rattle.wire_messages.specs.Decoding.{message_of}
+use Rattle.journal_lines.specs.declared.line.Line.{Line}
+use Rattle.journal_lines.specs.declared.line.Line.TheVariants as line
 
 -- a message under way: from an endpoint to an endpoint, where 0 is the client, and its bytes
 pub record Posting : Type 0 where

@@ -6,8 +6,8 @@ use Rattle.cluster_types.specs.declared.member.Role.{Role}
 use Rattle.cluster_types.specs.Distinct.{without}
 use Rattle.script_lang.specs.declared.script.HeaderLine.{HeaderLine}
 use Rattle.script_lang.specs.declared.script.HeaderLine.TheVariants as header
-use Rattle.journal_text.specs.declared.line.Line.{Line}
-use Rattle.journal_text.specs.declared.line.Line.TheVariants as line
+use Rattle.journal_lines.specs.declared.line.Line.{Line}
+use Rattle.journal_lines.specs.declared.line.Line.TheVariants as line
 
 -- the lines of a header, in their order
 abbrev pub Header : Type 0

@@ -4,10 +4,10 @@ use Rattle.std.specs.List.{list_any, last_or}
 use Rattle.conflict_order.specs.declared.policy.Policy.{Policy}
 use Rattle.cluster_types.specs.declared.cluster_key.ClusterKey.{ClusterKey}
 use Rattle.cluster_types.specs.Partitions.{partition_of}
-use Rattle.wire_codec.specs.declared.message.Message.{Message}
-use Rattle.wire_codec.specs.declared.message.Message.TheVariants as message
-use Rattle.wire_codec.specs.declared.message.Batch.{Batch}
-use Rattle.journal_text.specs.declared.line.Line.{Line}
+use Rattle.wire_messages.specs.declared.message.Message.{Message}
+use Rattle.wire_messages.specs.declared.message.Message.TheVariants as message
+use Rattle.wire_messages.specs.declared.message.Batch.{Batch}
+use Rattle.journal_lines.specs.declared.line.Line.{Line}
 use Rattle.cluster_rules.specs.Lines.{same_key, same_digest, is_exchanged, lines_before, fold_along}
 use Rattle.cluster_rules.specs.Contents.{content}
 use Rattle.cluster_rules.specs.Views.{is_in_view, is_replica}

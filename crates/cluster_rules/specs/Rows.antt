@@ -3,7 +3,7 @@ use Rattle.std.specs.Prelude.{ℕ, Bool, true, false, if◌then◌else◌, List,
 use Rattle.cluster_types.specs.declared.cluster_key.ClusterKey.{ClusterKey}
 use Rattle.cluster_types.specs.declared.copy_state.CopyState.{CopyState}
 use Rattle.cluster_types.specs.declared.copy_state.CopyState.TheVariants.{Empty, Part, Whole}
-use Rattle.journal_text.specs.declared.line.Line.{Line}
+use Rattle.journal_lines.specs.declared.line.Line.{Line}
 use Rattle.cluster_rules.specs.Lines.{is_enter, lines_before}
 use Rattle.cluster_rules.specs.Contents.{holds_any}
 use Rattle.cluster_rules.specs.Stamps.{stamp}

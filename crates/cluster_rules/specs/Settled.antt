@@ -3,8 +3,8 @@ use Rattle.std.specs.Prelude.{ℕ, ◌==◌, Bool, false, ◌&&◌, ◌||◌, no
 use Rattle.std.specs.List.{list_any}
 use Rattle.cluster_types.specs.declared.cluster_key.ClusterKey.{ClusterKey}
 use Rattle.cluster_types.specs.Partitions.{partition_of}
-use Rattle.journal_text.specs.declared.line.Line.{Line}
-use Rattle.journal_text.specs.declared.line.Line.TheVariants as line
+use Rattle.journal_lines.specs.declared.line.Line.{Line}
+use Rattle.journal_lines.specs.declared.line.Line.TheVariants as line
 use Rattle.cluster_rules.specs.Lines.{same_key, is_exchanged, is_settled_line, is_done}
 use Rattle.cluster_rules.specs.Views.{master}
 use Rattle.cluster_rules.specs.Stamps.{is_empty_everywhere}

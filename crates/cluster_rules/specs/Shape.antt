@@ -5,14 +5,14 @@ use Rattle.cluster_types.specs.declared.cluster_key.ClusterKey.{ClusterKey}
 use Rattle.cluster_types.specs.declared.member.Member.{Member}
 use Rattle.cluster_types.specs.Members.{ids_of}
 use Rattle.cluster_types.specs.Distinct.{AreDistinct, IsDescending}
-use Rattle.wire_codec.specs.declared.reply.ReplyBody.{ReplyBody}
-use Rattle.wire_codec.specs.declared.reply.ReplyBody.TheVariants as reply
-use Rattle.wire_codec.specs.declared.scan.ScanRefusal.{ScanRefusal}
-use Rattle.wire_codec.specs.declared.scan.ScanRefusal.TheVariants as scan_refusal
-use Rattle.journal_text.specs.declared.refusal.Refusal.{Refusal}
-use Rattle.journal_text.specs.declared.refusal.Refusal.TheVariants as refusal
-use Rattle.journal_text.specs.declared.line.Line.{Line}
-use Rattle.journal_text.specs.declared.line.Line.TheVariants as line
+use Rattle.wire_messages.specs.declared.reply.ReplyBody.{ReplyBody}
+use Rattle.wire_messages.specs.declared.reply.ReplyBody.TheVariants as reply
+use Rattle.wire_messages.specs.declared.scan.ScanRefusal.{ScanRefusal}
+use Rattle.wire_messages.specs.declared.scan.ScanRefusal.TheVariants as scan_refusal
+use Rattle.journal_lines.specs.declared.refusal.Refusal.{Refusal}
+use Rattle.journal_lines.specs.declared.refusal.Refusal.TheVariants as refusal
+use Rattle.journal_lines.specs.declared.line.Line.{Line}
+use Rattle.journal_lines.specs.declared.line.Line.TheVariants as line
 use Rattle.cluster_rules.specs.Lines.{is_enter, has_node}
 use Rattle.cluster_rules.specs.Settings.{nodes}
 use Rattle.cluster_rules.specs.Views.{members}

@@ -1,7 +1,7 @@
 -- Steps, one after another: an event with the lines that are due of it, and the world after them. The number of
 -- partitions is an argument.
 use Rattle.std.specs.Prelude.{◌≡◌, ℕ, zero, suc, List, [], ◌∷◌, ◌++◌, map, flat_map}
-use Rattle.journal_text.specs.declared.line.Line.{Line}
+use Rattle.journal_lines.specs.declared.line.Line.{Line}
 use Rattle.cluster_rules.specs.declared.event.Event.{Event}
 use Rattle.cluster_rules.specs.declared.event.Event.TheVariants as event
 use Rattle.cluster_rules.specs.Marks.{Mark, Begins, Writes, after_all}

@@ -4,8 +4,8 @@ use Rattle.cluster_types.specs.declared.cluster_key.ClusterKey.{ClusterKey}
 use Rattle.cluster_types.specs.declared.member.Member.{Member}
 use Rattle.cluster_types.specs.ClusterKeys as keys
 use Rattle.partition_lists.specs.Lists as lists
-use Rattle.journal_text.specs.declared.line.Line.{Line}
-use Rattle.journal_text.specs.declared.line.Line.TheVariants as line
+use Rattle.journal_lines.specs.declared.line.Line.{Line}
+use Rattle.journal_lines.specs.declared.line.Line.TheVariants as line
 use Rattle.cluster_rules.specs.Lines.{same_key}
 
 -- ---- a node's keys

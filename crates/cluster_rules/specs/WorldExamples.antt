@@ -6,14 +6,14 @@ use Rattle.conflict_order.specs.declared.want.Action.TheVariants as action
 use Rattle.cluster_types.specs.declared.cluster_key.ClusterKey.{ClusterKey}
 use Rattle.cluster_types.specs.ClusterKeys.{none}
 use Rattle.cluster_types.specs.Members.{plain_role}
-use Rattle.wire_codec.specs.declared.message.MapTable.{MapTable}
-use Rattle.wire_codec.specs.declared.message.Message.TheVariants as message
-use Rattle.wire_codec.specs.Spelling.{spelling}
+use Rattle.wire_messages.specs.declared.message.MapTable.{MapTable}
+use Rattle.wire_messages.specs.declared.message.Message.TheVariants as message
+use Rattle.wire_messages.specs.Spelling.{spelling}
 use Rattle.script_lang.specs.declared.script.HeaderLine.TheVariants as header
 use Rattle.script_lang.specs.declared.script.Command.TheVariants as command
 use Rattle.script_lang.specs.declared.script.Script.{Script}
-use Rattle.journal_text.specs.declared.line.Line.{Line}
-use Rattle.journal_text.specs.declared.line.Line.TheVariants as line
+use Rattle.journal_lines.specs.declared.line.Line.{Line}
+use Rattle.journal_lines.specs.declared.line.Line.TheVariants as line
 use Rattle.node_rules.specs.Examples.{key, itself, zeros, hi, first_hi, two}
 use Rattle.cluster_rules.specs.declared.event.Event.{Event}
 use Rattle.cluster_rules.specs.declared.event.Event.TheVariants as event

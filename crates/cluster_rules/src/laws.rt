@@ -6,10 +6,10 @@ ghost use Rattle.cluster_types.specs.declared.cluster_key.ClusterKey.{ClusterKey
 ghost use Rattle.cluster_types.specs.declared.copy_state.CopyState.TheVariants.{Empty, Whole};
 ghost use Rattle.cluster_types.specs.Members.{plain_member};
 ghost use Rattle.cluster_types.specs.Partitions.{partition_of};
-ghost use Rattle.journal_text.specs.declared.line.Line.{Line};
+ghost use Rattle.journal_lines.specs.declared.line.Line.{Line};
 ghost use Rattle.std.specs.List.{list_any};
-ghost use Rattle.wire_codec.specs.declared.message.Message.TheVariants as message;
-ghost use Rattle.journal_text.specs.declared.line.Line.TheVariants as line;
+ghost use Rattle.wire_messages.specs.declared.message.Message.TheVariants as message;
+ghost use Rattle.journal_lines.specs.declared.line.Line.TheVariants as line;
 ghost use Rattle.cluster_rules.specs.Lines.{is_enter};
 ghost use Rattle.cluster_rules.specs.Messages.{arrival, arrival_between};
 ghost use Rattle.cluster_rules.specs.Settings.{is_up, up_step, clock_of, clock_step, present_role, role_step, present_members, up_members};

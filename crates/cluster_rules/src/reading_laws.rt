@@ -2,7 +2,7 @@
 ghost use Rattle.std.specs.Prelude.{◌≡◌, ◌++◌, ℕ, List};
 ghost use Rattle.std.specs.FinMap as finite;
 ghost use Rattle.cluster_types.specs.Distinct.{AreDistinct};
-ghost use Rattle.journal_text.specs.declared.line.Line.{Line};
+ghost use Rattle.journal_lines.specs.declared.line.Line.{Line};
 ghost use Rattle.node_rules.specs.Facts.{view_key};
 ghost use Rattle.cluster_rules.specs.Contents.{content};
 ghost use Rattle.cluster_rules.specs.Marks.{Mark, after_all, lines_among};

@@ -1,7 +1,7 @@
 -- A journal's text, written line by line behind a buffer.
 use Rattle.std.proofs.Common.{◌≡◌, ℕ, ◌+◌, ◌<◌, List, [], ◌∷◌, ◌++◌, length, take, drop, Option, refl, sym, ap, subst, ◌∙◌, append_assoc, zero, suc, get_or}
 use Rattle.std.proofs.lemmas.List.{take_more, append-nil}
-use Rattle.journal_text.specs.declared.line.Line.{Line}
+use Rattle.journal_lines.specs.declared.line.Line.{Line}
 use Rattle.journal_text.specs.Text.{text, line_text}
 use Rattle.cluster_top.specs.Streams.{WroteFront}
 use Rattle.cluster_top.proofs.StreamLaws.{Buffered, buffered_more, buffered_front, front_written}

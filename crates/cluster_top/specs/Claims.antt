@@ -2,8 +2,8 @@
 use Rattle.std.specs.Prelude.{◌≡◌, ℕ, List, [], ◌∷◌, ◌++◌, map, take}
 use Rattle.conflict_order.specs.declared.policy.Policy.{Policy}
 use Rattle.conflict_order.specs.Next.{next}
-use Rattle.journal_text.specs.declared.line.Line.{Line}
-use Rattle.journal_text.specs.declared.line.Line.TheVariants as line
+use Rattle.journal_lines.specs.declared.line.Line.{Line}
+use Rattle.journal_lines.specs.declared.line.Line.TheVariants as line
 use Rattle.cluster_top.specs.Reading.{policy_of, clock_of, content, applied, nodes, join_all, fold_of}
 
 -- after every line, the newest version of a record in any store is the newest that was ever applied

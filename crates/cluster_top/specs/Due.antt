@@ -10,9 +10,9 @@ use Rattle.conflict_order.specs.Action.{action_of}
 use Rattle.cluster_types.specs.declared.member.Member.{Member}
 use Rattle.cluster_types.specs.declared.cluster_key.ClusterKey.{ClusterKey}
 use Rattle.cluster_types.specs.ClusterKeys as keys
-use Rattle.journal_text.specs.declared.line.Line.{Line}
-use Rattle.journal_text.specs.declared.line.Line.TheVariants as line
-use Rattle.journal_text.specs.declared.refusal.Refusal.TheVariants as refusal
+use Rattle.journal_lines.specs.declared.line.Line.{Line}
+use Rattle.journal_lines.specs.declared.line.Line.TheVariants as line
+use Rattle.journal_lines.specs.declared.refusal.Refusal.TheVariants as refusal
 use Rattle.cluster_top.specs.Facts.{Facts, note}
 
 -- ---- a tick

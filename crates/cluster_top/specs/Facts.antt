@@ -7,8 +7,8 @@ use Rattle.cluster_types.specs.declared.member.Member.{Member}
 use Rattle.cluster_types.specs.declared.member.Role.{Role}
 use Rattle.cluster_types.specs.ClusterKeys as keys
 use Rattle.cluster_types.specs.Partitions.{partition_count}
-use Rattle.journal_text.specs.declared.line.Line.{Line}
-use Rattle.journal_text.specs.declared.line.Line.TheVariants as line
+use Rattle.journal_lines.specs.declared.line.Line.{Line}
+use Rattle.journal_lines.specs.declared.line.Line.TheVariants as line
 use Rattle.record_store.specs.Store.{Records, Stamps, digests_of, joined}
 
 pub record Facts : Type 0 where

@@ -5,8 +5,8 @@ use Rattle.std.specs.Option.{unwrap_or}
 use Rattle.conflict_order.specs.declared.policy.Policy.{Policy}
 use Rattle.conflict_order.specs.declared.policy.Policy.TheVariants.{Time}
 use Rattle.cluster_types.specs.declared.member.Member.{Member}
-use Rattle.journal_text.specs.declared.line.Line.{Line}
-use Rattle.journal_text.specs.declared.line.Line.TheVariants as line
+use Rattle.journal_lines.specs.declared.line.Line.{Line}
+use Rattle.journal_lines.specs.declared.line.Line.TheVariants as line
 use Rattle.script_lang.specs.declared.script.HeaderLine.{HeaderLine}
 use Rattle.script_lang.specs.declared.script.HeaderLine.TheVariants as header
 

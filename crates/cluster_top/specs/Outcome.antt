@@ -6,7 +6,7 @@ use Rattle.script_lang.specs.declared.fault.Cause.{Cause}
 use Rattle.script_lang.specs.declared.script.Script.{Script}
 use Rattle.script_lang.specs.declared.script.Command.{Command}
 use Rattle.script_lang.specs.Grammar.{Fault, script_of}
-use Rattle.journal_text.specs.declared.line.Line.{Line}
+use Rattle.journal_lines.specs.declared.line.Line.{Line}
 use Rattle.journal_text.specs.Text.{text}
 use Rattle.journal_text.specs.Journals.{IsWithin, line_limit, text_limit}
 use Rattle.cluster_top.specs.declared.status.Status.{Status}

@@ -5,7 +5,7 @@ ghost use Rattle.std.specs.FinMap as map;
 ghost use Rattle.conflict_order.specs.Next.{next};
 ghost use Rattle.cluster_top.specs.Facts.{fresh, ticked, note, noted, stamped, with_stamp};
 ghost use Rattle.cluster_top.specs.Due.{due_propose, due_tick, due_request, entering, resolving, writing};
-ghost use Rattle.journal_text.specs.declared.line.Line.TheVariants as line;
+ghost use Rattle.journal_lines.specs.declared.line.Line.TheVariants as line;
 ghost use Rattle.record_store.specs.Store.{joined};
 
 use cluster_types::partition::PARTITIONS;

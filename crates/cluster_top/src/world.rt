@@ -2,7 +2,7 @@
 ghost use Rattle.std.specs.Prelude.{◌≡◌, ◌<◌, ◌≤◌, ◌+◌, ◌++◌, ◌∷◌, [], IfOk, OnOk, MatchOption};
 ghost use Rattle.cluster_types.specs.NodeLists.{IsNodeList};
 ghost use Rattle.script_lang.specs.Before.{nodes_of};
-ghost use Rattle.journal_text.specs.declared.line.Line.TheVariants as line;
+ghost use Rattle.journal_lines.specs.declared.line.Line.TheVariants as line;
 ghost use Rattle.cluster_top.specs.Due.{due_tick, due_request};
 ghost use Rattle.cluster_top.specs.Run as run;
 

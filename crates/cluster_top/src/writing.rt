@@ -5,7 +5,7 @@ ghost use Rattle.cluster_top.specs.Streams.{Wrote, WroteFront};
 ghost use Rattle.journal_text.specs.Text as texts;
 
 use byte_ends::{Pushed, Sink};
-use journal_text::Line;
+use journal_text::{Line, LineText};
 use std::alloc::{AllocError, Global};
 use std::fmt::Write;
 
@@ -40,6 +40,7 @@ pub fn write_lines<K: Sink>(alloc: Global, lines: &[Line], out: &mut K) -> Resul
 {
     let mut text = String::new(alloc);
     for line in lines {
+        let line = LineText(line);
         writeln!(text, "{line}")?;
         if text.len() >= PIECE {
             write_all(out, text.as_bytes())?;

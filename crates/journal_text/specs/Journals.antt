@@ -1,7 +1,7 @@
 -- Journals, and how long they may be.
 use Rattle.std.specs.Prelude.{ℕ, ◌≤◌, List, length, refl}
 use Rattle.std.specs.Coded.{Coded, code_by, coded×, coded_list, coded_ℕ}
-use Rattle.journal_text.specs.declared.line.Line.{Line}
+use Rattle.journal_lines.specs.declared.line.Line.{Line}
 use Rattle.journal_text.specs.Text.{text}
 
 -- the most lines that a journal has

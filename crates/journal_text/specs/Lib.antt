@@ -1,9 +1,7 @@
-pub mod Fields
+pub mod FieldTexts
 pub mod Journals
 pub mod LineFields
-pub mod Parts
-pub mod Proper
+pub mod LineGroups
 pub mod PushFaults
-pub mod Reading
 pub mod Text
-pub mod Words
+pub mod Values

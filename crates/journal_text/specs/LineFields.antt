@@ -3,15 +3,15 @@ use Rattle.std.specs.Prelude.{ℕ, List, [], ◌∷◌, ◌++◌, map, Option, S
 use Rattle.std.specs.Fmt.{decimal}
 use Rattle.hex.specs.Hex.{encode_lower}
 use Rattle.cluster_types.specs.Texts.{key_text, digest_text, node_text, partition_text}
-use Rattle.wire_codec.specs.declared.reply.ReplyBody.{ReplyBody}
-use Rattle.wire_codec.specs.declared.reply.ReplyBody.TheVariants as reply
-use Rattle.wire_codec.specs.declared.scan.ScanRefusal.{ScanRefusal}
-use Rattle.wire_codec.specs.declared.scan.ScanRefusal.TheVariants as scan_refusal
-use Rattle.journal_text.specs.declared.refusal.Refusal.{Refusal}
-use Rattle.journal_text.specs.declared.refusal.Refusal.TheVariants as refusal
-use Rattle.journal_text.specs.declared.line.Line.{Line}
-use Rattle.journal_text.specs.declared.line.Line.TheVariants as line
-use Rattle.journal_text.specs.Text.{version_text, optional_text, policy_word, action_word, members_text}
+use Rattle.wire_messages.specs.declared.reply.ReplyBody.{ReplyBody}
+use Rattle.wire_messages.specs.declared.reply.ReplyBody.TheVariants as reply
+use Rattle.wire_messages.specs.declared.scan.ScanRefusal.{ScanRefusal}
+use Rattle.wire_messages.specs.declared.scan.ScanRefusal.TheVariants as scan_refusal
+use Rattle.journal_lines.specs.declared.refusal.Refusal.{Refusal}
+use Rattle.journal_lines.specs.declared.refusal.Refusal.TheVariants as refusal
+use Rattle.journal_lines.specs.declared.line.Line.{Line}
+use Rattle.journal_lines.specs.declared.line.Line.TheVariants as line
+use Rattle.journal_text.specs.Values.{version_text, optional_text, policy_word, action_word, members_text}
 
 abbrev pub rack_fields : Option ℕ → List (List ℕ)
 rack_fields None = []

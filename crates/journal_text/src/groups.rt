@@ -1,6 +1,6 @@
 //! The text of groups.
 ghost use Rattle.std.specs.Prelude.{Some};
-ghost use Rattle.journal_text.specs.Text as texts;
+ghost use Rattle.journal_text.specs.Values as texts;
 
 use cluster_types::{NodeId, NodeList};
 use std::fmt;

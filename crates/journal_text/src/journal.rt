@@ -3,9 +3,10 @@ ghost use Rattle.std.specs.Prelude.{◌≡◌, ◌≢◌, ◌+◌, ◌<◌, ◌�
 ghost use Rattle.std.specs.Option.{option_copied};
 ghost use Rattle.journal_text.specs.Journals.{IsWithin};
 
-use crate::line::Line;
+use crate::line_length::text_len;
 use crate::line_list::LineList;
 use cluster_types::NoMemory;
+use journal_lines::Line;
 use std::alloc::{AllocFailed, Global};
 use std::error::Error;
 use std::fmt;
@@ -75,7 +76,7 @@ pub struct Journal {
 
 impl Model for Journal {
     ghost use Rattle.std.specs.Prelude.{◌≡◌, ◌+◌, ◌≤◌, length, vec_len, vec_capacity};
-    ghost use Rattle.journal_text.specs.contracts.line.Line as line;
+    ghost use Rattle.journal_lines.specs.contracts.line.Line as line;
     ghost use Rattle.journal_text.specs.Journals.{Contents, IsWithin, contents_code};
     ghost use Rattle.journal_text.specs.Text.{text};
 
@@ -124,7 +125,7 @@ impl Journal {
         // Memory suffices where there is room.
         ensures spared { 0 < self.old.spare → ¬ IsErrOf result PushFault.NoMemory }
     {
-        let bytes = self.bytes.saturating_add(line.text_len());
+        let bytes = self.bytes.saturating_add(text_len(&line));
         if self.lines.len() == LINE_LIMIT || bytes > TEXT_LIMIT {
             return Err(PushFault::Full);
         }

@@ -1,13 +1,20 @@
 //! How many bytes the parts of a line have, without writing them.
-ghost use Rattle.std.specs.Prelude.{◌≡◌, ◌≤◌, length};
+ghost use Rattle.std.specs.Prelude.{◌≡◌, ◌≤◌, ◌^◌, ◌-◌, length, min};
 ghost use Rattle.std.specs.Fmt as formats;
 ghost use Rattle.cluster_types.specs.Texts.{key_text, digest_text, node_text, partition_text};
-ghost use Rattle.journal_text.specs.Text as texts;
+ghost use Rattle.journal_text.specs.Values as texts;
 
-use crate::refusal::Refusal;
 use cluster_types::{ClusterKey, Digest, Member, NodeId, NodeList, PartitionId, Role};
 use conflict_order::{Action, Body, Policy, Version};
-use wire_codec::{ReplyBody, ScanRefusal};
+use journal_lines::Refusal;
+use wire_messages::{ReplyBody, ScanRefusal};
+
+/// A word.
+pub fn word(text: &str) -> usize
+    ensures { result ≡ min (length text.now) (2 ^ 64 - 1) }
+{
+    text.len()
+}
 
 /// A number in decimal.
 pub fn decimal(n: u64) -> usize
@@ -142,116 +149,55 @@ fn member(m: Member) -> usize
 
 /// Members, each with a comma before it.
 fn more_members(members: &[Member]) -> usize
-    requires { length members.now ≤ 16 }
-    ensures len { result ≡ length (texts.more_members_text members.now) }
-    ensures bound { result ≤ 688 }
+    ensures { result ≡ min (length (texts.more_members_text members.now)) (2 ^ 64 - 1) }
 {
-    let mut bytes = 0;
+    let mut bytes: usize = 0;
     for m in members {
-        bytes += ",".len() + member(*m);
+        bytes = bytes.saturating_add(",".len() + member(*m));
     }
     bytes
 }
 
 /// Members with commas between them, or the word for none.
 pub fn members(members: &[Member]) -> usize
-    requires { length members.now ≤ 16 }
-    ensures len { result ≡ length (texts.members_text members.now) }
-    ensures bound { result ≤ 730 }
+    ensures { result ≡ min (length (texts.members_text members.now)) (2 ^ 64 - 1) }
 {
     match members {
         [] => "none".len(),
-        [first, more @ ..] => member(*first) + more_members(more),
-    }
-}
-
-/// The rack of a node that was declared with one.
-pub fn declared_rack(rack: Option<u8>) -> usize
-    ensures len { result ≡ length (texts.declared_rack_text rack) }
-    ensures bound { result ≤ 21 }
-{
-    match rack {
-        None => 0,
-        Some(rack) => " ".len() + decimal(u64::from(rack)),
+        [first, more @ ..] => member(*first).saturating_add(more_members(more)),
     }
 }
 
 /// Ids, each with a space before it.
 fn ids(ids: &[NodeId]) -> usize
-    requires { length ids.now ≤ 16 }
-    ensures len { result ≡ length (texts.ids_text ids.now) }
-    ensures bound { result ≤ 336 }
+    ensures { result ≡ min (length (texts.ids_text ids.now)) (2 ^ 64 - 1) }
 {
-    let mut bytes = 0;
+    let mut bytes: usize = 0;
     for id in ids {
-        bytes += " ".len() + node(*id);
+        bytes = bytes.saturating_add(" ".len() + node(*id));
     }
     bytes
 }
 
 /// Groups, each with a bar before it.
 fn more_groups(groups: &[NodeList]) -> usize
-    requires { length groups.now ≤ 16 }
-    ensures len { result ≡ length (texts.more_groups_text groups.now) }
-    ensures bound { result ≤ 5408 }
+    ensures { result ≡ min (length (texts.more_groups_text groups.now)) (2 ^ 64 - 1) }
 {
-    let mut bytes = 0;
+    let mut bytes: usize = 0;
     for group in groups {
-        bytes += " |".len() + ids(group.as_slice());
+        bytes = bytes.saturating_add(" |".len().saturating_add(ids(group.as_slice())));
     }
     bytes
 }
 
 /// Groups with bars between them, and a space before each id and bar.
 pub fn groups(groups: &[NodeList]) -> usize
-    requires { length groups.now ≤ 16 }
-    ensures len { result ≡ length (texts.groups_text groups.now) }
-    ensures bound { result ≤ 5744 }
+    ensures { result ≡ min (length (texts.groups_text groups.now)) (2 ^ 64 - 1) }
 {
     match groups {
         [] => 0,
-        [first, more @ ..] => ids(first.as_slice()) + more_groups(more),
+        [first, more @ ..] => ids(first.as_slice()).saturating_add(more_groups(more)),
     }
-}
-
-/// A node, its view, a number in it and the record that it is about.
-pub fn request(id: NodeId, k: ClusterKey, number: u32, d: &Digest) -> usize
-    ensures len { result ≡ length (texts.request_text id k number d.now) }
-    ensures bound { result ≤ 124 }
-{
-    number_in_view(id, k, number) + " ".len() + digest(d)
-}
-
-/// A node, its view and a number in it.
-pub fn number_in_view(id: NodeId, k: ClusterKey, number: u32) -> usize
-    ensures len { result ≡ length (texts.number_text id k number) }
-    ensures bound { result ≤ 83 }
-{
-    node(id) + " ".len() + key(k) + " ".len() + decimal(u64::from(number))
-}
-
-/// A node, its view and a partition.
-pub fn copy(id: NodeId, k: ClusterKey, p: PartitionId) -> usize
-    ensures len { result ≡ length (texts.copy_text id k p) }
-    ensures bound { result ≤ 83 }
-{
-    node(id) + " ".len() + key(k) + " ".len() + partition(p)
-}
-
-/// A node, its view and a record.
-pub fn record(id: NodeId, k: ClusterKey, d: &Digest) -> usize
-    ensures len { result ≡ length (texts.record_text id k d.now) }
-    ensures bound { result ≤ 103 }
-{
-    node(id) + " ".len() + key(k) + " ".len() + digest(d)
-}
-
-/// A message's number and its two ends.
-pub fn message(number: u64, from: u16, to: u16) -> usize
-    ensures len { result ≡ length (texts.message_text number from to) }
-    ensures bound { result ≤ 62 }
-{
-    decimal(number) + " ".len() + decimal(u64::from(from)) + " ".len() + decimal(u64::from(to))
 }
 
 /// The reply to a request.

@@ -1,27 +1,22 @@
-//! The journal of a run: its lines, and the text in which a transcript shows them.
+//! The journal of a run, and the text in which a transcript shows its lines. The lines themselves stand
+//! in `journal_lines`, and are handed on here.
 #![tactic(auto)]
 
 mod digits;
+mod fields;
 mod groups;
-pub mod journal;
-pub mod laws;
+mod journal;
 mod lengths;
-pub mod line;
 mod line_copy;
 mod line_length;
-pub mod line_list;
-mod line_text;
-pub mod reading;
-pub mod refusal;
+mod line_list;
 mod words;
-pub mod writing;
+mod writing;
 
+pub use fields::{Field, fields_of};
 pub use journal::{Journal, PushFault};
-pub use line::Line;
+pub use journal_lines::{Line, Refusal};
+pub use line_copy::copy_line;
+pub use line_length::text_len;
 pub use line_list::LineList;
-pub use reading::read;
-pub use refusal::Refusal;
-pub use writing::text;
-
-#[cfg(test)]
-mod tests;
+pub use writing::{LineText, text};

@@ -3,8 +3,10 @@ ghost use Rattle.std.specs.Prelude.{◌≡◌, ◌↔◌, ◌^◌, ◌-◌, ◌+
 ghost use Rattle.std.specs.Option.{option_copied};
 ghost use Rattle.journal_text.specs.Text.{text};
 
-use crate::line::Line;
+use crate::line_copy::copy_line;
+use crate::line_length::text_len;
 use cluster_types::NoMemory;
+use journal_lines::Line;
 use std::alloc::Global;
 use std::collections::VecDeque;
 use std::marker::Model;
@@ -17,7 +19,7 @@ pub struct LineList {
 
 impl Model for LineList {
     ghost use Rattle.std.specs.Prelude.{List};
-    ghost use Rattle.journal_text.specs.declared.line.Line.{Line};
+    ghost use Rattle.journal_lines.specs.declared.line.Line.{Line};
 
     ghost Value = { List Line };
 
@@ -49,7 +51,7 @@ impl LineList {
     {
         let mut lines = VecDeque::new(alloc);
         for i in 0..self.lines.len() {
-            lines.push_back(self.lines[i].copy(alloc)?)?;
+            lines.push_back(copy_line(alloc, &self.lines[i])?)?;
         }
         Ok(LineList { lines })
     }
@@ -75,7 +77,7 @@ impl LineList {
     {
         let mut bytes = 0usize;
         for i in 0..self.lines.len() {
-            bytes = bytes.saturating_add(self.lines[i].text_len());
+            bytes = bytes.saturating_add(text_len(&self.lines[i]));
         }
         bytes
     }

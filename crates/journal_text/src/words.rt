@@ -1,12 +1,13 @@
 //! The words of a line that stand for a value of another crate.
 ghost use Rattle.std.specs.Prelude.{Some};
-ghost use Rattle.journal_text.specs.Text as texts;
+ghost use Rattle.journal_text.specs.Values as texts;
 
 use crate::digits::Digits;
 use cluster_types::{ClusterKey, Digest, Member, NodeId, PartitionId, Role};
 use conflict_order::{Action, Body, Policy, Version};
+use journal_lines::Refusal;
 use std::fmt;
-use wire_codec::{ReplyBody, ScanRefusal};
+use wire_messages::{ReplyBody, ScanRefusal};
 
 /// The name of a conflict policy.
 #[derive(Clone, Copy)]
@@ -145,135 +146,6 @@ impl fmt::Display for MembersText<'_> {
     }
 }
 
-/// The rack of a node that was declared with one.
-#[derive(Clone, Copy)]
-pub struct DeclaredRackText(pub Option<u8>);
-
-impl fmt::Display for DeclaredRackText {
-    ghost output = { λ r. Some (texts.declared_rack_text r.0) };
-
-    fn fmt<W: fmt::Write>(&self, f: &mut fmt::Formatter<W>) -> fmt::Result {
-        match self.0 {
-            None => Ok(()),
-            Some(rack) => write!(f, " {rack}"),
-        }
-    }
-}
-
-/// A node, its view, a transaction of it and the record that it is about.
-#[derive(Clone, Copy)]
-pub struct RequestText<'a> {
-    pub node: NodeId,
-    pub key: ClusterKey,
-    pub transaction: u32,
-    pub digest: &'a Digest,
-}
-
-impl fmt::Display for RequestText<'_> {
-    ghost output = { λ r. Some (texts.request_text r.node r.key r.transaction r.digest.now) };
-
-    fn fmt<W: fmt::Write>(&self, f: &mut fmt::Formatter<W>) -> fmt::Result {
-        let node = self.node;
-        let key = self.key;
-        let transaction = self.transaction;
-        let digest = self.digest;
-        write!(f, "{node} {key} {transaction} {digest}")
-    }
-}
-
-/// What a request does, and the record that it is about.
-#[derive(Clone, Copy)]
-pub struct ActionText<'a> {
-    pub digest: &'a Digest,
-    pub action: Action,
-}
-
-impl fmt::Display for ActionText<'_> {
-    ghost output = { λ a. Some (texts.action_text a.digest.now a.action) };
-
-    fn fmt<W: fmt::Write>(&self, f: &mut fmt::Formatter<W>) -> fmt::Result {
-        let digest = self.digest;
-        let action = ActionWord(self.action);
-        write!(f, "{digest} {action}")
-    }
-}
-
-/// A node, its view and a number in it.
-#[derive(Clone, Copy)]
-pub struct NumberText {
-    pub node: NodeId,
-    pub key: ClusterKey,
-    pub number: u32,
-}
-
-impl fmt::Display for NumberText {
-    ghost output = { λ t. Some (texts.number_text t.node t.key t.number) };
-
-    fn fmt<W: fmt::Write>(&self, f: &mut fmt::Formatter<W>) -> fmt::Result {
-        let node = self.node;
-        let key = self.key;
-        let number = self.number;
-        write!(f, "{node} {key} {number}")
-    }
-}
-
-/// A node, its view and a partition.
-#[derive(Clone, Copy)]
-pub struct CopyText {
-    pub node: NodeId,
-    pub key: ClusterKey,
-    pub partition: PartitionId,
-}
-
-impl fmt::Display for CopyText {
-    ghost output = { λ c. Some (texts.copy_text c.node c.key c.partition) };
-
-    fn fmt<W: fmt::Write>(&self, f: &mut fmt::Formatter<W>) -> fmt::Result {
-        let node = self.node;
-        let key = self.key;
-        let partition = self.partition;
-        write!(f, "{node} {key} {partition}")
-    }
-}
-
-/// A node, its view and a record.
-#[derive(Clone, Copy)]
-pub struct RecordText<'a> {
-    pub node: NodeId,
-    pub key: ClusterKey,
-    pub digest: &'a Digest,
-}
-
-impl fmt::Display for RecordText<'_> {
-    ghost output = { λ r. Some (texts.record_text r.node r.key r.digest.now) };
-
-    fn fmt<W: fmt::Write>(&self, f: &mut fmt::Formatter<W>) -> fmt::Result {
-        let node = self.node;
-        let key = self.key;
-        let digest = self.digest;
-        write!(f, "{node} {key} {digest}")
-    }
-}
-
-/// A message's number and its two ends.
-#[derive(Clone, Copy)]
-pub struct MessageText {
-    pub message: u64,
-    pub from: u16,
-    pub to: u16,
-}
-
-impl fmt::Display for MessageText {
-    ghost output = { λ m. Some (texts.message_text m.message m.from m.to) };
-
-    fn fmt<W: fmt::Write>(&self, f: &mut fmt::Formatter<W>) -> fmt::Result {
-        let message = self.message;
-        let from = self.from;
-        let to = self.to;
-        write!(f, "{message} {from} {to}")
-    }
-}
-
 /// The reply to a request.
 #[derive(Clone, Copy)]
 pub struct ReplyText<'a>(pub &'a ReplyBody);
@@ -311,6 +183,24 @@ impl fmt::Display for ScanRefusalText {
             ScanRefusal::NotMaster(node) => write!(f, "notmaster {node}"),
             ScanRefusal::NotSettled => write!(f, "notsettled"),
             ScanRefusal::Open(transaction) => write!(f, "open {transaction}"),
+        }
+    }
+}
+
+/// Why a node refuses a request.
+#[derive(Clone, Copy)]
+pub struct RefusalText(pub Refusal);
+
+impl fmt::Display for RefusalText {
+    ghost output = { λ c. Some (texts.refusal_text c.0) };
+
+    fn fmt<W: fmt::Write>(&self, f: &mut fmt::Formatter<W>) -> fmt::Result {
+        match self.0 {
+            Refusal::Down => write!(f, "down"),
+            Refusal::NoView => write!(f, "noview"),
+            Refusal::Exchanging(node) => write!(f, "exchanging {node}"),
+            Refusal::NotMaster(node) => write!(f, "notmaster {node}"),
+            Refusal::Busy(transaction) => write!(f, "busy {transaction}"),
         }
     }
 }

@@ -6,10 +6,10 @@ use Rattle.conflict_order.specs.declared.want.Want.{Want}
 use Rattle.cluster_types.specs.declared.cluster_key.ClusterKey.{ClusterKey}
 use Rattle.cluster_types.specs.declared.member.Member.{Member}
 use Rattle.cluster_types.specs.ClusterKeys.{IsBelow, none}
-use Rattle.wire_codec.specs.declared.message.Batch.{Batch}
-use Rattle.wire_codec.specs.declared.message.Message.TheVariants as message
-use Rattle.journal_text.specs.declared.line.Line.{Line}
-use Rattle.journal_text.specs.declared.line.Line.TheVariants as line
+use Rattle.wire_messages.specs.declared.message.Batch.{Batch}
+use Rattle.wire_messages.specs.declared.message.Message.TheVariants as message
+use Rattle.journal_lines.specs.declared.line.Line.{Line}
+use Rattle.journal_lines.specs.declared.line.Line.TheVariants as line
 use Rattle.node_rules.specs.Agreement.{Agreement}
 use Rattle.node_rules.specs.Batches.{Target, Targets, batch_after, fresh_batch, next_batch}
 use Rattle.node_rules.specs.Copies.{Content}

@@ -8,7 +8,7 @@ use Rattle.std.specs.Ordering.{nat_cmp}
 use Rattle.std.specs.FinMap.{put}
 use Rattle.cluster_types.specs.declared.member.Member.{Member}
 use Rattle.cluster_types.specs.declared.member.Role.{Role}
-use Rattle.wire_codec.specs.Nodes.{IsId}
+use Rattle.wire_messages.specs.Nodes.{IsId}
 use Rattle.cluster_types.specs.Members.{ids_of}
 use Rattle.node_rules.specs.Exchange.{is_member}
 use Rattle.node_rules.specs.Hearing.{Heard, neighbours_of, aged, older, names, member_of, timeout}

@@ -14,11 +14,11 @@ use Rattle.script_lang.specs.declared.script.HeaderLine.{HeaderLine}
 use Rattle.script_lang.specs.declared.script.HeaderLine.TheVariants as header
 use Rattle.script_lang.specs.declared.script.Script.{Script}
 use Rattle.script_lang.specs.Proper.{IsNode, IsProperHeaderLine, IsProperCommand}
-use Rattle.wire_codec.specs.declared.message.Message.{Message}
-use Rattle.wire_codec.specs.declared.message.Message.TheVariants as message
-use Rattle.wire_codec.specs.Nodes.{IsId}
-use Rattle.journal_text.specs.declared.line.Line.{Line}
-use Rattle.journal_text.specs.declared.line.Line.TheVariants as line
+use Rattle.wire_messages.specs.declared.message.Message.{Message}
+use Rattle.wire_messages.specs.declared.message.Message.TheVariants as message
+use Rattle.wire_messages.specs.Nodes.{IsId}
+use Rattle.journal_lines.specs.declared.line.Line.{Line}
+use Rattle.journal_lines.specs.declared.line.Line.TheVariants as line
 use Rattle.cluster_rules.specs.declared.event.Event.{Event}
 use Rattle.cluster_rules.specs.declared.event.Event.TheVariants as event
 use Rattle.cluster_rules.specs.Claims.{KeysRise}

@@ -15,24 +15,24 @@ use Rattle.cluster_types.specs.declared.member.Member.{Member}
 use Rattle.cluster_types.specs.declared.member.Role.{Role}
 use Rattle.cluster_types.specs.ClusterKeys.{none}
 use Rattle.cluster_types.specs.Partitions.{partition_count}
-use Rattle.wire_codec.specs.declared.message.Batch.{Batch}
-use Rattle.wire_codec.specs.declared.message.MapTable.{MapTable}
-use Rattle.wire_codec.specs.declared.message.Message.{Message}
-use Rattle.wire_codec.specs.declared.message.Message.TheVariants as message
-use Rattle.wire_codec.specs.declared.reading.FieldFault.{FieldFault}
-use Rattle.wire_codec.specs.declared.reading.FieldFault.TheVariants.{Bad, Short}
-use Rattle.wire_codec.specs.Decoding.{message_of, decoded, are_bytes, of_kind, whole, alone}
-use Rattle.wire_codec.specs.Fields.{◌>>=◌, items_at, if_allowed, whole_field, field}
-use Rattle.wire_codec.specs.Keys.{IsKeyField, IsKeyOrNone, key_field, key_where, key_at, key_or_none_at}
-use Rattle.wire_codec.specs.Kinds.{kind_of, heartbeat_at, heartbeat_with_role_at, propose_at, propose_with_roles_at, accept_at, refuse_at, commit_at, commit_with_roles_at, state_message_at, batch_at, batch_ack_at, progress_at, repl_at, repl_ack_at, ask_at, answer_at, map_ask_at, map_table_at}
-use Rattle.wire_codec.specs.Nodes.{AreMembersField, is_plain, all_plain, ids_at, ids_field, role_at, role_field, id_field, plain_members_field, plain_members_at, members_field, members_at, member_field, table_at}
-use Rattle.wire_codec.specs.Numbers.{between, positive, every, number_at, byte_at, byte_field, flag_at, flag_field, number_field}
-use Rattle.wire_codec.specs.Rows.{row_at, row_field, state_row_at, state_row_field, state_at, state_field, entry_at, entry_field, with_entry, whole_if, is_above}
-use Rattle.wire_codec.specs.Spelling.{spelling, view_fields}
-use Rattle.wire_codec.specs.Versions.{digest_at, version_at, version_field, option_version_at, option_version_field, records_at, records_field}
-use Rattle.wire_codec.proofs.DecodingLaws.{are_small, read_back}
-use Rattle.wire_codec.proofs.Forms.{Small}
-use Rattle.wire_codec.proofs.NumberForms.{flag_form, key_form, key_or_none_form}
+use Rattle.wire_messages.specs.declared.message.Batch.{Batch}
+use Rattle.wire_messages.specs.declared.message.MapTable.{MapTable}
+use Rattle.wire_messages.specs.declared.message.Message.{Message}
+use Rattle.wire_messages.specs.declared.message.Message.TheVariants as message
+use Rattle.wire_messages.specs.declared.fault.FieldFault.{FieldFault}
+use Rattle.wire_messages.specs.declared.fault.FieldFault.TheVariants.{Bad, Short}
+use Rattle.wire_messages.specs.Decoding.{message_of, decoded, are_bytes, of_kind, whole, alone}
+use Rattle.wire_messages.specs.Fields.{◌>>=◌, items_at, if_allowed, whole_field, field}
+use Rattle.wire_messages.specs.Keys.{IsKeyField, IsKeyOrNone, key_field, key_where, key_at, key_or_none_at}
+use Rattle.wire_messages.specs.Kinds.{kind_of, heartbeat_at, heartbeat_with_role_at, propose_at, propose_with_roles_at, accept_at, refuse_at, commit_at, commit_with_roles_at, state_message_at, batch_at, batch_ack_at, progress_at, repl_at, repl_ack_at, ask_at, answer_at, map_ask_at, map_table_at}
+use Rattle.wire_messages.specs.Nodes.{AreMembersField, is_plain, all_plain, ids_at, ids_field, role_at, role_field, id_field, plain_members_field, plain_members_at, members_field, members_at, member_field, table_at}
+use Rattle.wire_messages.specs.Numbers.{between, positive, every, number_at, byte_at, byte_field, flag_at, flag_field, number_field}
+use Rattle.wire_messages.specs.Rows.{row_at, row_field, state_row_at, state_row_field, state_at, state_field, entry_at, entry_field, with_entry, whole_if, is_above}
+use Rattle.wire_messages.specs.Spelling.{spelling, view_fields}
+use Rattle.wire_messages.specs.Versions.{digest_at, version_at, version_field, option_version_at, option_version_field, records_at, records_field}
+use Rattle.wire_messages.proofs.DecodingLaws.{are_small, read_back}
+use Rattle.wire_messages.proofs.Forms.{Small}
+use Rattle.wire_messages.proofs.NumberForms.{flag_form, key_form, key_or_none_form}
 use Rattle.key_laws.specs.Sound.{GoodList}
 use Rattle.key_laws.proofs.Neighbours.{all_cons, all_none}
 

@@ -4,8 +4,8 @@ use Rattle.cluster_types.specs.declared.cluster_key.ClusterKey.{ClusterKey}
 use Rattle.cluster_types.specs.declared.member.Member.{Member}
 use Rattle.script_lang.specs.declared.script.Script.{Script}
 use Rattle.script_lang.specs.Proper.{IsProperHeaderLine, IsProperCommand}
-use Rattle.journal_text.specs.declared.line.Line.{Line}
-use Rattle.journal_text.specs.declared.line.Line.TheVariants as line
+use Rattle.journal_lines.specs.declared.line.Line.{Line}
+use Rattle.journal_lines.specs.declared.line.Line.TheVariants as line
 use Rattle.cluster_rules.specs.Opening.{Header}
 use Rattle.cluster_rules.specs.Runs.{run_marks}
 use Rattle.cluster_rules.specs.Shape.{EntersFalling, enters_once, names_entered}

@@ -6,12 +6,12 @@ use Rattle.cluster_types.specs.declared.member.Member.{Member}
 use Rattle.cluster_types.specs.ClusterKeys.{IsBelow}
 use Rattle.cluster_types.specs.Distinct.{IsDescending}
 use Rattle.cluster_types.specs.Members.{ids_of}
-use Rattle.wire_codec.specs.declared.message.Message.{Message}
-use Rattle.wire_codec.specs.declared.message.MapTable.{MapTable}
-use Rattle.wire_codec.specs.Decoding.{message_of}
-use Rattle.wire_codec.specs.Keys.{IsKeyField}
-use Rattle.wire_codec.specs.Nodes.{IsId}
-use Rattle.wire_codec.specs.declared.message.Batch.{Batch}
+use Rattle.wire_messages.specs.declared.message.Message.{Message}
+use Rattle.wire_messages.specs.declared.message.MapTable.{MapTable}
+use Rattle.wire_messages.specs.Decoding.{message_of}
+use Rattle.wire_messages.specs.Keys.{IsKeyField}
+use Rattle.wire_messages.specs.Nodes.{IsId}
+use Rattle.wire_messages.specs.declared.message.Batch.{Batch}
 use Rattle.node_rules.specs.Agreement.{Agreement, Proposal}
 use Rattle.node_rules.specs.Batches.{Targets}
 use Rattle.node_rules.specs.declared.member_row.MemberRow.{MemberRow}

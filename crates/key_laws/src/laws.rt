@@ -2,10 +2,10 @@
 ghost use Rattle.std.specs.Prelude.{slice_get, ◌≡◌, ℕ, List, Some};
 ghost use Rattle.cluster_types.specs.declared.cluster_key.ClusterKey.{ClusterKey};
 ghost use Rattle.cluster_types.specs.declared.member.Member.{Member};
-ghost use Rattle.wire_codec.specs.declared.message.Message.{Message};
-ghost use Rattle.wire_codec.specs.Decoding.{message_of};
+ghost use Rattle.wire_messages.specs.declared.message.Message.{Message};
+ghost use Rattle.wire_messages.specs.Decoding.{message_of};
 ghost use Rattle.script_lang.specs.declared.script.Script.{Script};
-ghost use Rattle.journal_text.specs.declared.line.Line.{Line};
+ghost use Rattle.journal_lines.specs.declared.line.Line.{Line};
 ghost use Rattle.cluster_rules.specs.Claims.{KeysRise};
 ghost use Rattle.cluster_rules.specs.Messages.{Posting};
 ghost use Rattle.cluster_rules.specs.Opening.{Header};

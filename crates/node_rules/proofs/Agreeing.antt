@@ -6,8 +6,8 @@ use Rattle.cluster_types.specs.declared.cluster_key.ClusterKey.{ClusterKey}
 use Rattle.cluster_types.specs.declared.member.Member.{Member}
 use Rattle.cluster_types.specs.ClusterKeys.{key_lt}
 use Rattle.cluster_types.proofs.ClusterKeyLaws.{key_lt_decides}
-use Rattle.journal_text.specs.declared.line.Line.TheVariants as line
-use Rattle.wire_codec.specs.declared.message.Message.TheVariants as message
+use Rattle.journal_lines.specs.declared.line.Line.TheVariants as line
+use Rattle.wire_messages.specs.declared.message.Message.TheVariants as message
 use Rattle.node_rules.specs.Agreement as agreement
 use Rattle.node_rules.specs.Agreement.{Agreement, Proposal, proposes, proposal_of, without_missing}
 use Rattle.node_rules.specs.Copies.{is_nil}

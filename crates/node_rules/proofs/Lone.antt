@@ -14,8 +14,8 @@ use Rattle.conflict_order.specs.Next.{next}
 use Rattle.cluster_types.specs.Partitions.{partition_count}
 use Rattle.cluster_types.specs.Rows.{bit}
 use Rattle.partition_lists.specs.Lists.{list}
-use Rattle.journal_text.specs.declared.line.Line.{Line}
-use Rattle.journal_text.specs.declared.line.Line.TheVariants as line
+use Rattle.journal_lines.specs.declared.line.Line.{Line}
+use Rattle.journal_lines.specs.declared.line.Line.TheVariants as line
 use Rattle.node_rules.specs.Bits.{clear_row}
 use Rattle.node_rules.specs.Copies.{Row, joined, row_from, empty_store, holds_of}
 use Rattle.node_rules.specs.Effects.{Effects, nothing, lines_only, followed_by}

@@ -1,8 +1,8 @@
 -- What lines and messages add, one part of them after another.
 use Rattle.std.proofs.Common.{◌≡◌, ℕ, List, [], ◌∷◌, ◌++◌, Option, refl}
 use Rattle.conflict_order.specs.declared.want.Want.{Want}
-use Rattle.journal_text.specs.declared.line.Line.{Line}
-use Rattle.wire_codec.specs.declared.message.Message.{Message}
+use Rattle.journal_lines.specs.declared.line.Line.{Line}
+use Rattle.wire_messages.specs.declared.message.Message.{Message}
 use Rattle.node_rules.specs.Facts.{Facts}
 use Rattle.node_rules.specs.Notes.{note, noted, sent, all_sent}
 

@@ -2,7 +2,7 @@
 use Rattle.std.proofs.Common.{◌≡◌, [], ◌∷◌, Option, Some, None, refl, ap, ◌∙◌}
 use Rattle.conflict_order.specs.declared.version.Version.{Version}
 use Rattle.partition_lists.specs.Lists.{list}
-use Rattle.journal_text.specs.declared.line.Line.TheVariants as line
+use Rattle.journal_lines.specs.declared.line.Line.TheVariants as line
 use Rattle.node_rules.specs.Effects.{Effects, lines_only}
 use Rattle.node_rules.specs.Examples.{key, lone, itself, in_its_view, zeros, first_hi, having_hi}
 use Rattle.node_rules.specs.Shows.{due_map, due_show}

@@ -9,8 +9,8 @@ use Rattle.conflict_order.specs.declared.want.Want.TheVariants as want
 use Rattle.conflict_order.specs.Join.{join}
 use Rattle.conflict_order.specs.Next.{next}
 use Rattle.conflict_order.specs.Order.{is_newer}
-use Rattle.journal_text.specs.declared.line.Line.TheVariants as line
-use Rattle.wire_codec.specs.declared.message.Message.TheVariants as message
+use Rattle.journal_lines.specs.declared.line.Line.TheVariants as line
+use Rattle.wire_messages.specs.declared.message.Message.TheVariants as message
 use Rattle.partition_lists.specs.Hashes.{fnv1a, jenkins_state, jenkins_end, node_bytes, partition_bytes, place}
 use Rattle.partition_lists.specs.Lists.{list}
 use Rattle.node_rules.specs.Effects.{Effects, lines_only, to_one}

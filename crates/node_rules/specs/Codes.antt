@@ -8,7 +8,7 @@ use Rattle.cluster_types.specs.declared.cluster_key.ClusterKey.{ClusterKey}
 use Rattle.cluster_types.specs.declared.copy_state.CopyState.{CopyState}
 use Rattle.cluster_types.specs.declared.member.Member.{Member}
 use Rattle.cluster_types.specs.declared.member.Role.{Role}
-use Rattle.wire_codec.specs.declared.message.Batch.{Batch}
+use Rattle.wire_messages.specs.declared.message.Batch.{Batch}
 use Rattle.node_rules.specs.declared.beat.Beat.{Beat}
 use Rattle.node_rules.specs.declared.member_row.MemberRow.{MemberRow}
 use Rattle.conflict_order.specs.contracts.policy.Policy as policy
@@ -18,7 +18,7 @@ use Rattle.cluster_types.specs.contracts.cluster_key.ClusterKey as key
 use Rattle.cluster_types.specs.contracts.copy_state.CopyState as copy_state
 use Rattle.cluster_types.specs.contracts.member.Member as member
 use Rattle.cluster_types.specs.contracts.member.Role as role
-use Rattle.wire_codec.specs.contracts.message.Batch as batch
+use Rattle.wire_messages.specs.contracts.message.Batch as batch
 use Rattle.node_rules.specs.contracts.beat.Beat as beat
 use Rattle.node_rules.specs.contracts.member_row.MemberRow as member_row
 use Rattle.node_rules.specs.Copies.{content_code, stamps_code}

@@ -1,7 +1,7 @@
 -- What a step does: its lines, and the messages that it sends.
 use Rattle.std.specs.Prelude.{ℕ, List, [], ◌∷◌, ◌++◌, map}
-use Rattle.journal_text.specs.declared.line.Line.{Line}
-use Rattle.wire_codec.specs.declared.message.Message.{Message}
+use Rattle.journal_lines.specs.declared.line.Line.{Line}
+use Rattle.wire_messages.specs.declared.message.Message.{Message}
 
 -- what one step of a node does
 pub record Effects : Type 0 where

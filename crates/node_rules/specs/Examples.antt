@@ -14,11 +14,11 @@ use Rattle.cluster_types.specs.declared.copy_state.CopyState.TheVariants.{Part, 
 use Rattle.node_rules.specs.declared.member_row.MemberRow.{MemberRow}
 use Rattle.node_rules.specs.Exchange.{begun}
 use Rattle.cluster_types.specs.ClusterKeys.{none}
-use Rattle.wire_codec.specs.declared.message.Batch.{Batch}
+use Rattle.wire_messages.specs.declared.message.Batch.{Batch}
 use Rattle.node_rules.specs.Batches.{Target}
 use Rattle.node_rules.specs.Facts.{Facts, fresh}
 use Rattle.node_rules.specs.Stamps.{no_class}
-use Rattle.wire_codec.specs.declared.message.Message.TheVariants as message
+use Rattle.wire_messages.specs.declared.message.Message.TheVariants as message
 use Rattle.node_rules.specs.Steps.{after_tick, after_request, after_message, after_stop, after_start}
 use Rattle.node_rules.specs.Transactions.{Write}
 

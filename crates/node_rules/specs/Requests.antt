@@ -4,10 +4,10 @@ use Rattle.conflict_order.specs.declared.want.Want.{Want}
 use Rattle.conflict_order.specs.Action.{action_of}
 use Rattle.cluster_types.specs.declared.map_view.MapEntry.{MapEntry}
 use Rattle.cluster_types.specs.Partitions.{partition_of}
-use Rattle.journal_text.specs.declared.line.Line.TheVariants as line
-use Rattle.journal_text.specs.declared.refusal.Refusal.{Refusal}
-use Rattle.journal_text.specs.declared.refusal.Refusal.TheVariants as refusal
-use Rattle.wire_codec.specs.declared.message.Message.TheVariants as message
+use Rattle.journal_lines.specs.declared.line.Line.TheVariants as line
+use Rattle.journal_lines.specs.declared.refusal.Refusal.{Refusal}
+use Rattle.journal_lines.specs.declared.refusal.Refusal.TheVariants as refusal
+use Rattle.wire_messages.specs.declared.message.Message.TheVariants as message
 use Rattle.node_rules.specs.Effects.{Effects, lines_only, sends_only, to_each, followed_by}
 use Rattle.node_rules.specs.Entering.{closing}
 use Rattle.node_rules.specs.Exchange.{View, first_missing}

@@ -1,7 +1,7 @@
 -- Hand-over, settling, learning and dropping, partition by partition, whose list is an argument.
 use Rattle.std.specs.Prelude.{ℕ, zero, suc, ◌+◌, Bool, true, false, List, [], ◌∷◌, ◌++◌, None}
-use Rattle.journal_text.specs.declared.line.Line.{Line}
-use Rattle.journal_text.specs.declared.line.Line.TheVariants as line
+use Rattle.journal_lines.specs.declared.line.Line.{Line}
+use Rattle.journal_lines.specs.declared.line.Line.TheVariants as line
 use Rattle.node_rules.specs.Bits as bits
 use Rattle.node_rules.specs.Facts.{Facts, view_key, list_at}
 use Rattle.node_rules.specs.Notes.{noted}

@@ -5,9 +5,9 @@ use Rattle.std.specs.FinMap as finite
 use Rattle.cluster_types.specs.declared.map_view.MapEntry.{MapEntry}
 use Rattle.cluster_types.specs.declared.member.Member.{Member}
 use Rattle.cluster_types.specs.Members.{plain_role, role_of}
-use Rattle.journal_text.specs.declared.line.Line.{Line}
-use Rattle.journal_text.specs.declared.line.Line.TheVariants as line
-use Rattle.journal_text.specs.declared.refusal.Refusal.{Refusal}
+use Rattle.journal_lines.specs.declared.line.Line.{Line}
+use Rattle.journal_lines.specs.declared.line.Line.TheVariants as line
+use Rattle.journal_lines.specs.declared.refusal.Refusal.{Refusal}
 use Rattle.node_rules.specs.Effects.{Effects, lines_only}
 use Rattle.node_rules.specs.Facts.{Facts, view_key, members, list_at}
 use Rattle.node_rules.specs.Map.{entry_of}

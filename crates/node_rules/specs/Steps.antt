@@ -1,7 +1,7 @@
 -- The facts of a node after a step.
 use Rattle.std.specs.Prelude.{ℕ, List, Option, Some, None}
 use Rattle.conflict_order.specs.declared.want.Want.{Want}
-use Rattle.wire_codec.specs.declared.message.Message.{Message}
+use Rattle.wire_messages.specs.declared.message.Message.{Message}
 use Rattle.node_rules.specs.Effects.{Effects}
 use Rattle.node_rules.specs.Facts.{Facts}
 use Rattle.node_rules.specs.Messages.{due_message}

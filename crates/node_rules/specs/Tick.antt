@@ -4,10 +4,10 @@ use Rattle.cluster_types.specs.declared.cluster_key.ClusterKey.{ClusterKey}
 use Rattle.cluster_types.specs.declared.member.Member.{Member}
 use Rattle.cluster_types.specs.MembersEqual.{same_members}
 use Rattle.cluster_types.specs.Partitions.{partition_count}
-use Rattle.journal_text.specs.declared.line.Line.TheVariants as line
-use Rattle.wire_codec.specs.declared.message.Batch.{Batch}
-use Rattle.wire_codec.specs.declared.message.Message.{Message}
-use Rattle.wire_codec.specs.declared.message.Message.TheVariants as message
+use Rattle.journal_lines.specs.declared.line.Line.TheVariants as line
+use Rattle.wire_messages.specs.declared.message.Batch.{Batch}
+use Rattle.wire_messages.specs.declared.message.Message.{Message}
+use Rattle.wire_messages.specs.declared.message.Message.TheVariants as message
 use Rattle.node_rules.specs.Agreement as agreement
 use Rattle.node_rules.specs.Agreement.{Proposal, next_key, has_round}
 use Rattle.node_rules.specs.Batches.{next_batch}

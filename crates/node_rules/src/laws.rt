@@ -8,9 +8,9 @@ ghost use Rattle.cluster_types.specs.declared.cluster_key.ClusterKey.{ClusterKey
 ghost use Rattle.cluster_types.specs.declared.member.Member.{Member};
 ghost use Rattle.cluster_types.specs.declared.member.Role.{Role};
 ghost use Rattle.cluster_types.specs.declared.copy_state.CopyState.TheVariants.{Part, Whole};
-ghost use Rattle.journal_text.specs.declared.line.Line.TheVariants as line;
-ghost use Rattle.journal_text.specs.declared.refusal.Refusal.TheVariants as refusal;
-ghost use Rattle.wire_codec.specs.declared.message.Message.TheVariants as message;
+ghost use Rattle.journal_lines.specs.declared.line.Line.TheVariants as line;
+ghost use Rattle.journal_lines.specs.declared.refusal.Refusal.TheVariants as refusal;
+ghost use Rattle.wire_messages.specs.declared.message.Message.TheVariants as message;
 ghost use Rattle.cluster_types.specs.ClusterKeys.{none};
 ghost use Rattle.cluster_types.specs.Members.{plain_role, plain_member};
 ghost use Rattle.node_rules.specs.Agreement as agreement;

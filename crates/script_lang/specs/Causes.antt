@@ -1,5 +1,8 @@
--- The names of the causes.
-use Rattle.std.specs.Prelude.{ℕ, List, codes}
+-- The names of the causes, and what is said of a fault.
+use Rattle.std.specs.Prelude.{ℕ, List, ◌++◌, codes}
+use Rattle.std.specs.Fmt.{decimal}
+use Rattle.script_lang.specs.declared.fault.ScriptFault.{ScriptFault}
+use Rattle.script_lang.specs.declared.fault.ScriptFault.TheVariants.{At, NoMemory}
 use Rattle.script_lang.specs.declared.fault.Cause.{Cause}
 use Rattle.script_lang.specs.declared.fault.Cause.TheVariants.{BadUtf8, UnknownWord, NotBuilt, HeaderLate, MissingField, ExtraField, BadNumber, BadFactor, BadPolicy, UnknownNode, RepeatedNode, TooManyNodes, BadDigest, TooLongValue, BadGroups, VersionLate}
 
@@ -20,3 +23,7 @@ cause_name BadDigest = codes "BadDigest"
 cause_name TooLongValue = codes "TooLongValue"
 cause_name BadGroups = codes "BadGroups"
 cause_name VersionLate = codes "VersionLate"
+
+abbrev pub fault_text : ScriptFault → List ℕ
+fault_text (At line cause) = codes "line " ++ decimal line ++ codes ": " ++ cause_name cause
+fault_text NoMemory = codes "no memory"

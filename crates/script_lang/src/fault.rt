@@ -3,6 +3,7 @@ ghost use Rattle.std.specs.Prelude.{◌≡◌};
 ghost use Rattle.script_lang.specs.Reading.{fault_at};
 
 use std::alloc::{AllocError, AllocFailed};
+use std::error::Error;
 use std::fmt;
 
 /// What is wrong with a line. Where several hold, the first in this order is named.
@@ -76,6 +77,7 @@ impl fmt::Display for Cause {
 pub enum LineFault {
     /// The line is bad.
     Bad(Cause),
+    /// The allocator refused.
     NoMemory,
 }
 
@@ -129,8 +131,25 @@ impl<T: Drop> From<AllocFailed<T>> for LineFault {
 pub enum ScriptFault {
     /// The first bad line, counted from 1, and its cause.
     At { line: u64, cause: Cause },
+    /// The allocator refused.
     NoMemory,
 }
+
+impl fmt::Display for ScriptFault {
+    ghost use Rattle.std.specs.Prelude.{Some};
+    ghost use Rattle.script_lang.specs.Causes.{fault_text};
+
+    ghost output = { λ f. Some (fault_text f) };
+
+    fn fmt<W: fmt::Write>(&self, f: &mut fmt::Formatter<W>) -> fmt::Result {
+        match self {
+            ScriptFault::At { line, cause } => write!(f, "line {line}: {cause}"),
+            ScriptFault::NoMemory => write!(f, "no memory"),
+        }
+    }
+}
+
+impl Error for ScriptFault {}
 
 impl From<AllocError> for ScriptFault {
     ghost use Rattle.std.specs.Prelude.{◌≡◌};

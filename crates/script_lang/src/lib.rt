@@ -13,8 +13,6 @@ mod nodes;
 mod numbers;
 mod reader;
 mod script;
-#[cfg(test)]
-mod tests;
 mod values;
 mod words;
 

@@ -2,19 +2,20 @@
 use Rattle.std.proofs.Common.{◌≡◌, ℕ, zero, suc, ◌<◌, ◌≤◌, List, [], ◌∷◌, length, Some, None, Result, Ok, Err, refl, ap, subst, ◌∙◌, arith, inl, inr}
 use Rattle.std.specs.Prelude.{slice_get, IfOk}
 use Rattle.std.proofs.lemmas.Bool.{cases_lt}
-use Rattle.wire_codec.specs.declared.message.Message.{Message}
-use Rattle.wire_codec.specs.declared.fault.DecodeFault.{DecodeFault}
-use Rattle.wire_codec.specs.declared.reading.FieldFault.{FieldFault}
-use Rattle.wire_codec.specs.declared.reading.FieldFault.TheVariants.{Bad, Short}
+use Rattle.wire_messages.specs.declared.message.Message.{Message}
+use Rattle.wire_messages.specs.declared.fault.DecodeFault.{DecodeFault}
+use Rattle.wire_messages.specs.declared.fault.FieldFault.{FieldFault}
+use Rattle.wire_messages.specs.declared.fault.FieldFault.TheVariants.{Bad, Short}
 use Rattle.wire_codec.specs.declared.reading.ReadFault.{ReadFault}
 use Rattle.wire_codec.specs.declared.reading.ReadFault.TheVariants.{Field, NoMemory}
-use Rattle.wire_codec.specs.Decoding.{alone, whole, of_kind, decoded, located, Decodes}
-use Rattle.wire_codec.specs.Kinds.{kinds, kind_of}
-use Rattle.wire_codec.specs.Proper.{IsProper}
+use Rattle.wire_messages.specs.Decoding.{alone, whole, of_kind, decoded}
+use Rattle.wire_codec.specs.Decoding.{located, Decodes}
+use Rattle.wire_messages.specs.Kinds.{kinds, kind_of}
+use Rattle.wire_messages.specs.Proper.{IsProper}
 use Rattle.wire_codec.specs.Reading.{Fails}
-use Rattle.wire_codec.specs.Spelling.{spelling}
-use Rattle.wire_codec.proofs.DecodingLaws.{decoded_again, decoded_spelled}
-use Rattle.wire_codec.proofs.Forms.{IsBytes, Small}
+use Rattle.wire_messages.specs.Spelling.{spelling}
+use Rattle.wire_messages.proofs.DecodingLaws.{decoded_again, decoded_spelled}
+use Rattle.wire_messages.proofs.Forms.{IsBytes, Small}
 
 -- ---- kinds
 

@@ -2,7 +2,7 @@
 use Rattle.std.proofs.Common.{◌≡◌, ℕ, ◌<◌, ◌≤◌, List, [], ◌∷◌, ◌++◌, get_or, Option, Some, None, All, refl, arith}
 use Rattle.std.proofs.lemmas.List.Elements.{All-append, All-cons, All-nil}
 use Rattle.cluster_types.specs.declared.copy_state.CopyState.{CopyState}
-use Rattle.wire_codec.specs.Rows.{entry_at}
+use Rattle.wire_messages.specs.Rows.{entry_at}
 
 abbrev pub AtLeast : Option ℕ → ℕ → Type 0
 AtLeast None x = ⊥

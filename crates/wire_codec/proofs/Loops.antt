@@ -1,11 +1,11 @@
 -- A loop that reads items: those so far, and those that are read of the bytes left, are all of them.
 use Rattle.std.proofs.Common.{Option, ◌≡◌, ℕ, suc, List, [], ◌∷◌, ◌++◌, ◌≤◌, length, take, Result, Ok, Err, refl, sym, ap, ◌∙◌, append_assoc}
 use Rattle.std.proofs.lemmas.List.{append-nil, take_all}
-use Rattle.wire_codec.specs.declared.reading.FieldFault.{FieldFault}
+use Rattle.wire_messages.specs.declared.fault.FieldFault.{FieldFault}
 use Rattle.wire_codec.specs.declared.reading.ReadFault.{ReadFault}
 use Rattle.wire_codec.specs.declared.reading.ReadFault.TheVariants.{Field, NoMemory}
-use Rattle.wire_codec.specs.Fields.{◌>>=◌, items_at}
-use Rattle.wire_codec.specs.Versions.{record_at}
+use Rattle.wire_messages.specs.Fields.{◌>>=◌, items_at}
+use Rattle.wire_messages.specs.Versions.{record_at}
 use Rattle.wire_codec.specs.Reading.{Fails}
 
 -- what was read, behind what was read before

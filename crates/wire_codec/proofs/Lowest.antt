@@ -5,13 +5,13 @@ use Rattle.std.specs.Int.{w16, from_be_bytes}
 use Rattle.std.proofs.lemmas.Bool.{and_parts}
 use Rattle.std.proofs.lemmas.Option.{cond_some}
 use Rattle.std.proofs.lemmas.List.Elements.{All-append, All-cons, All-nil}
-use Rattle.wire_codec.specs.declared.reading.FieldFault.TheVariants.{Short}
-use Rattle.wire_codec.specs.Fields.{if_allowed, field}
-use Rattle.wire_codec.specs.Numbers.{number_at}
-use Rattle.wire_codec.specs.Nodes.{is_below, id_below_at}
-use Rattle.wire_codec.proofs.Forms.{chosen, whole_ok}
-use Rattle.wire_codec.proofs.ItemForms.{Follows}
-use Rattle.wire_codec.proofs.NodeForms.{Below, below_is}
+use Rattle.wire_messages.specs.declared.fault.FieldFault.TheVariants.{Short}
+use Rattle.wire_messages.specs.Fields.{if_allowed, field}
+use Rattle.wire_messages.specs.Numbers.{number_at}
+use Rattle.wire_messages.specs.Nodes.{is_below, id_below_at}
+use Rattle.wire_messages.proofs.Forms.{chosen, whole_ok}
+use Rattle.wire_messages.proofs.ItemForms.{Follows}
+use Rattle.wire_messages.proofs.NodeForms.{Below, below_is}
 
 abbrev pub AtMost : Option ℕ → ℕ → Type 0
 AtMost None x = ⊥

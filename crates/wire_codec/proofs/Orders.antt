@@ -5,16 +5,16 @@ use Rattle.std.proofs.lemmas.List.{length-map}
 use Rattle.cluster_types.specs.declared.member.Member.{Member}
 use Rattle.cluster_types.specs.Distinct.{IsDescending}
 use Rattle.cluster_types.specs.Members.{AreMembers, ids_of, plain_member}
-use Rattle.wire_codec.specs.declared.reading.FieldFault.{FieldFault}
-use Rattle.wire_codec.specs.declared.reading.members.Before.{Before}
-use Rattle.wire_codec.specs.Fields.{◌>>=◌, items_at}
-use Rattle.wire_codec.specs.Nodes.{id_below_at, falling_id_at, falling_ids_at, role_at, nobody_before, with_member, member_at}
-use Rattle.wire_codec.proofs.Forms.{bind_ok, ok_is, done}
-use Rattle.wire_codec.proofs.ItemForms.{AreItems, Follows, Next, last_key, each_pair}
+use Rattle.wire_messages.specs.declared.fault.FieldFault.{FieldFault}
+use Rattle.wire_messages.specs.declared.before.Before.{Before}
+use Rattle.wire_messages.specs.Fields.{◌>>=◌, items_at}
+use Rattle.wire_messages.specs.Nodes.{id_below_at, falling_id_at, falling_ids_at, role_at, nobody_before, with_member, member_at}
+use Rattle.wire_messages.proofs.Forms.{bind_ok, ok_is, done}
+use Rattle.wire_messages.proofs.ItemForms.{AreItems, Follows, Next, last_key, each_pair}
 use Rattle.wire_codec.proofs.Lowest.{id_follows}
-use Rattle.wire_codec.proofs.MemberForms.{ids_again}
-use Rattle.wire_codec.proofs.NodeForms.{Below, itself, below_trans}
-use Rattle.wire_codec.proofs.NumberForms.{always}
+use Rattle.wire_messages.proofs.MemberForms.{ids_again}
+use Rattle.wire_messages.proofs.NodeForms.{Below, itself, below_trans}
+use Rattle.wire_messages.proofs.NumberForms.{always}
 
 abbrev Item : Type 0 → Type 0 → Type 0
 Item A C = C → ℕ → List ℕ → Result (A × List ℕ) FieldFault

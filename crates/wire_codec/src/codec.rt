@@ -1,24 +1,24 @@
 //! Messages as bytes, and bytes as messages.
 ghost use Rattle.std.specs.Prelude.{◌≡◌, ◌↔◌, ◌<◌, ◌≤◌, IsTrue, IfOk, Ok};
-ghost use Rattle.wire_codec.specs.declared.message.Message.{Message};
-ghost use Rattle.wire_codec.specs.Decoding as decoding;
-ghost use Rattle.wire_codec.specs.Decoding.{of_kind, decoded, located, Decodes};
-ghost use Rattle.wire_codec.specs.Kinds.{kind_of};
-ghost use Rattle.wire_codec.specs.Proper.{IsProper};
-ghost use Rattle.wire_codec.specs.Spelling.{spelling};
+ghost use Rattle.wire_messages.specs.declared.message.Message.{Message};
+ghost use Rattle.wire_codec.specs.Decoding.{located, Decodes};
+ghost use Rattle.wire_messages.specs.Decoding as decoding;
+ghost use Rattle.wire_messages.specs.Decoding.{of_kind, decoded};
+ghost use Rattle.wire_messages.specs.Kinds.{kind_of};
+ghost use Rattle.wire_messages.specs.Proper.{IsProper};
+ghost use Rattle.wire_messages.specs.Spelling.{spelling};
 
-use crate::fault::DecodeFault;
-use crate::message::Message;
-use crate::reading::{FieldFault, ReadFault, Reader};
+use crate::reading::{ReadFault, Reader};
 use crate::writing::put_message;
 use cluster_types::{Bytes, NoMemory};
 use std::alloc::Global;
+use wire_messages::{DecodeFault, FieldFault, Message};
 
 /// How many kinds of messages there are. They are counted from 1.
 const KINDS: u8 = 25;
 
 /// The message's one spelling.
-#[tactic(auto, unfolding(crate::specs::Spelling::spelling))]
+#[tactic(auto, unfolding(wire_messages::specs::Spelling::spelling))]
 pub fn encode(alloc: Global, m: &Message) -> Result<Bytes, NoMemory>
     requires { IsProper m.now }
     ensures { IfOk result (λ bytes. bytes ≡ spelling m.now) }
@@ -72,7 +72,7 @@ fn decode_kind(alloc: Global, kind: u8, fields: &[u8]) -> Result<Message, Decode
     }
 }
 
-#[tactic(auto, unfolding(crate::specs::Decoding::decoded))]
+#[tactic(auto, unfolding(wire_messages::specs::Decoding::decoded))]
 fn decode_whole(alloc: Global, bytes: &[u8]) -> Result<Message, DecodeFault>
     ensures { Decodes result (decoded bytes.now) }
 {

@@ -1,24 +1,14 @@
-//! The messages that nodes and the client send each other, and their bytes.
+//! Messages as bytes, and bytes as messages. The messages themselves, what spells them and what bytes
+//! are read as stand in `wire_messages`, and are handed on here.
 #![tactic(auto)]
 
-pub mod boxed;
-pub mod codec;
-pub mod fault;
-pub mod laws;
-pub mod message;
+mod codec;
 mod reading;
-pub mod records;
-pub mod reply;
-pub mod scan;
+mod roles;
 mod writing;
 
-pub use boxed::{BoxedIds, BoxedRow};
 pub use codec::{decode, encode};
-pub use fault::DecodeFault;
-pub use message::{Batch, MapTable, Message};
-pub use records::Records;
-pub use reply::{Known, ReplyBody};
-pub use scan::{ScanPage, ScanRefusal};
-
-#[cfg(test)]
-mod tests;
+pub use wire_messages::{
+    Batch, BoxedIds, BoxedRow, DecodeFault, Known, MapTable, Message, Records, ReplyBody, ScanPage,
+    ScanRefusal,
+};

@@ -1,11 +1,11 @@
 //! Fields are read one by one, up to the first fault.
 ghost use Rattle.std.specs.Prelude.{◌≡◌, length};
-ghost use Rattle.wire_codec.specs.declared.reading.FieldFault.TheVariants.{Bad, Short};
+ghost use Rattle.wire_messages.specs.declared.fault.FieldFault.TheVariants.{Bad, Short};
 ghost use Rattle.wire_codec.specs.declared.reading.ReadFault.TheVariants.{Field, NoMemory};
 
 mod keys;
 mod kinds;
-pub(crate) mod members;
+mod members;
 mod nodes;
 mod numbers;
 mod requests;
@@ -13,21 +13,13 @@ mod rows;
 mod versions;
 
 use std::alloc::{AllocError, AllocFailed};
+use wire_messages::FieldFault;
 
 /// The bytes that are left to read. Each of its calls reads what stands first in them, and leaves the
 /// bytes after it.
 #[derive(Drop)]
 pub(crate) struct Reader<'a> {
     pub(crate) rest: &'a [u8],
-}
-
-/// What is wrong with the bytes from a field on.
-#[derive(Clone, Copy, Debug, PartialEq, Eq)]
-pub enum FieldFault {
-    /// A whole field has a value that isn't allowed. So many bytes stand from its first one on.
-    Bad { left: usize },
-    /// The bytes end before the field does.
-    Short,
 }
 
 /// Why a field isn't read.

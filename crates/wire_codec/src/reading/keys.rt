@@ -1,6 +1,6 @@
 //! Keys of views are read.
 ghost use Rattle.std.specs.Prelude.{◌≡◌};
-ghost use Rattle.wire_codec.specs.Keys as keys;
+ghost use Rattle.wire_messages.specs.Keys as keys;
 ghost use Rattle.wire_codec.specs.Reading.{Reads};
 
 use crate::reading::{ReadFault, Reader, bad};
@@ -31,7 +31,7 @@ pub(crate) fn is_none(key: ClusterKey) -> bool
 
 impl<'a> Reader<'a> {
     /// The key of some view.
-    #[tactic(auto, unfolding(crate::specs::Fields::field, crate::specs::Numbers::number_at, crate::specs::Keys::key_where, crate::specs::Keys::key_at))]
+    #[tactic(auto, unfolding(wire_messages::specs::Fields::field, wire_messages::specs::Numbers::number_at, wire_messages::specs::Keys::key_where, wire_messages::specs::Keys::key_at))]
     pub(crate) fn key(&mut self) -> Result<ClusterKey, ReadFault>
         ensures { Reads result (keys.key_at self.old.rest.now) self.new.rest.now }
     {
@@ -44,7 +44,7 @@ impl<'a> Reader<'a> {
     }
 
     /// The key of some view, or none.
-    #[tactic(auto, unfolding(crate::specs::Fields::field, crate::specs::Numbers::number_at, crate::specs::Keys::key_where, crate::specs::Keys::key_or_none_at))]
+    #[tactic(auto, unfolding(wire_messages::specs::Fields::field, wire_messages::specs::Numbers::number_at, wire_messages::specs::Keys::key_where, wire_messages::specs::Keys::key_or_none_at))]
     pub(crate) fn key_or_none(&mut self) -> Result<ClusterKey, ReadFault>
         ensures { Reads result (keys.key_or_none_at self.old.rest.now) self.new.rest.now }
     {

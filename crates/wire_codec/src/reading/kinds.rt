@@ -1,20 +1,19 @@
 //! Each kind of message is read: its fields, behind the byte of the kind.
 ghost use Rattle.std.specs.Prelude.{◌≡◌, ◌<◌, ◌≤◌, List, ℕ, Result, Some};
-ghost use Rattle.wire_codec.specs.declared.message.Message.{Message};
-ghost use Rattle.wire_codec.specs.declared.reading.FieldFault.{FieldFault};
-ghost use Rattle.wire_codec.specs.Kinds as kinds;
+ghost use Rattle.wire_messages.specs.declared.message.Message.{Message};
+ghost use Rattle.wire_messages.specs.declared.fault.FieldFault.{FieldFault};
+ghost use Rattle.wire_messages.specs.Kinds as kinds;
 ghost use Rattle.wire_codec.specs.Reading.{Reads};
 
-use crate::message::{Batch, MapTable, Message};
 use crate::reading::keys::is_none;
 use crate::reading::{ReadFault, Reader};
-use crate::scan::ScanPage;
 use cluster_types::Role;
 use std::alloc::Global;
+use wire_messages::{Batch, MapTable, Message, ScanPage};
 
 impl<'a> Reader<'a> {
     /// A heartbeat of a plain role.
-    #[tactic(auto, unfolding(crate::specs::Kinds::heartbeat_at))]
+    #[tactic(auto, unfolding(wire_messages::specs::Kinds::heartbeat_at))]
     fn heartbeat(&mut self) -> Result<Message, ReadFault>
         ensures { Reads result (kinds.heartbeat_at self.old.rest.now) self.new.rest.now }
     {
@@ -30,7 +29,7 @@ impl<'a> Reader<'a> {
     }
 
     /// A proposal of plain members.
-    #[tactic(auto, unfolding(crate::specs::Kinds::propose_at))]
+    #[tactic(auto, unfolding(wire_messages::specs::Kinds::propose_at))]
     fn propose(&mut self) -> Result<Message, ReadFault>
         ensures { Reads result (kinds.propose_at self.old.rest.now) self.new.rest.now }
     {
@@ -40,7 +39,7 @@ impl<'a> Reader<'a> {
     }
 
     /// A proposal is accepted.
-    #[tactic(auto, unfolding(crate::specs::Kinds::accept_at))]
+    #[tactic(auto, unfolding(wire_messages::specs::Kinds::accept_at))]
     fn accept(&mut self) -> Result<Message, ReadFault>
         ensures { Reads result (kinds.accept_at self.old.rest.now) self.new.rest.now }
     {
@@ -49,7 +48,7 @@ impl<'a> Reader<'a> {
     }
 
     /// A proposal is refused.
-    #[tactic(auto, unfolding(crate::specs::Kinds::refuse_at))]
+    #[tactic(auto, unfolding(wire_messages::specs::Kinds::refuse_at))]
     fn refuse(&mut self) -> Result<Message, ReadFault>
         ensures { Reads result (kinds.refuse_at self.old.rest.now) self.new.rest.now }
     {
@@ -59,7 +58,7 @@ impl<'a> Reader<'a> {
     }
 
     /// A view of plain members is entered.
-    #[tactic(auto, unfolding(crate::specs::Kinds::commit_at))]
+    #[tactic(auto, unfolding(wire_messages::specs::Kinds::commit_at))]
     fn commit(&mut self) -> Result<Message, ReadFault>
         ensures { Reads result (kinds.commit_at self.old.rest.now) self.new.rest.now }
     {
@@ -69,7 +68,7 @@ impl<'a> Reader<'a> {
     }
 
     /// The states of the copies.
-    #[tactic(auto, unfolding(crate::specs::Kinds::state_message_at))]
+    #[tactic(auto, unfolding(wire_messages::specs::Kinds::state_message_at))]
     fn state_message(&mut self, alloc: Global) -> Result<Message, ReadFault>
         ensures { Reads result (kinds.state_message_at self.old.rest.now) self.new.rest.now }
     {
@@ -80,7 +79,7 @@ impl<'a> Reader<'a> {
     }
 
     /// A batch of records.
-    #[tactic(auto, unfolding(crate::specs::Kinds::batch_at))]
+    #[tactic(auto, unfolding(wire_messages::specs::Kinds::batch_at))]
     fn batch(&mut self, alloc: Global) -> Result<Message, ReadFault>
         ensures { Reads result (kinds.batch_at self.old.rest.now) self.new.rest.now }
     {
@@ -95,7 +94,7 @@ impl<'a> Reader<'a> {
     }
 
     /// A batch came.
-    #[tactic(auto, unfolding(crate::specs::Kinds::batch_ack_at))]
+    #[tactic(auto, unfolding(wire_messages::specs::Kinds::batch_ack_at))]
     fn batch_ack(&mut self) -> Result<Message, ReadFault>
         ensures { Reads result (kinds.batch_ack_at self.old.rest.now) self.new.rest.now }
     {
@@ -105,7 +104,7 @@ impl<'a> Reader<'a> {
     }
 
     /// How far the copies have come.
-    #[tactic(auto, unfolding(crate::specs::Kinds::progress_at))]
+    #[tactic(auto, unfolding(wire_messages::specs::Kinds::progress_at))]
     fn progress(&mut self, alloc: Global) -> Result<Message, ReadFault>
         ensures { Reads result (kinds.progress_at self.old.rest.now) self.new.rest.now }
     {
@@ -124,7 +123,7 @@ impl<'a> Reader<'a> {
     }
 
     /// A write is replicated.
-    #[tactic(auto, unfolding(crate::specs::Kinds::repl_at))]
+    #[tactic(auto, unfolding(wire_messages::specs::Kinds::repl_at))]
     fn repl(&mut self, alloc: Global) -> Result<Message, ReadFault>
         ensures { Reads result (kinds.repl_at self.old.rest.now) self.new.rest.now }
     {
@@ -143,7 +142,7 @@ impl<'a> Reader<'a> {
     }
 
     /// A write came.
-    #[tactic(auto, unfolding(crate::specs::Kinds::repl_ack_at))]
+    #[tactic(auto, unfolding(wire_messages::specs::Kinds::repl_ack_at))]
     fn repl_ack(&mut self) -> Result<Message, ReadFault>
         ensures { Reads result (kinds.repl_ack_at self.old.rest.now) self.new.rest.now }
     {
@@ -153,7 +152,7 @@ impl<'a> Reader<'a> {
     }
 
     /// A version is asked for.
-    #[tactic(auto, unfolding(crate::specs::Kinds::ask_at))]
+    #[tactic(auto, unfolding(wire_messages::specs::Kinds::ask_at))]
     fn ask(&mut self) -> Result<Message, ReadFault>
         ensures { Reads result (kinds.ask_at self.old.rest.now) self.new.rest.now }
     {
@@ -168,7 +167,7 @@ impl<'a> Reader<'a> {
     }
 
     /// The version that was asked for.
-    #[tactic(auto, unfolding(crate::specs::Kinds::answer_at))]
+    #[tactic(auto, unfolding(wire_messages::specs::Kinds::answer_at))]
     fn answer(&mut self, alloc: Global) -> Result<Message, ReadFault>
         ensures { Reads result (kinds.answer_at self.old.rest.now) self.new.rest.now }
     {
@@ -183,7 +182,7 @@ impl<'a> Reader<'a> {
     }
 
     /// The table is asked for.
-    #[tactic(auto, unfolding(crate::specs::Kinds::map_ask_at))]
+    #[tactic(auto, unfolding(wire_messages::specs::Kinds::map_ask_at))]
     fn map_ask(&mut self) -> Result<Message, ReadFault>
         ensures { Reads result (kinds.map_ask_at self.old.rest.now) self.new.rest.now }
     {
@@ -191,7 +190,7 @@ impl<'a> Reader<'a> {
     }
 
     /// The table of acting nodes.
-    #[tactic(auto, unfolding(crate::specs::Kinds::map_table_at))]
+    #[tactic(auto, unfolding(wire_messages::specs::Kinds::map_table_at))]
     fn map_table(&mut self, alloc: Global) -> Result<Message, ReadFault>
         ensures { Reads result (kinds.map_table_at self.old.rest.now) self.new.rest.now }
     {
@@ -202,7 +201,7 @@ impl<'a> Reader<'a> {
     }
 
     /// A heartbeat of another role.
-    #[tactic(auto, unfolding(crate::specs::Kinds::heartbeat_with_role_at))]
+    #[tactic(auto, unfolding(wire_messages::specs::Kinds::heartbeat_with_role_at))]
     fn heartbeat_with_role(&mut self) -> Result<Message, ReadFault>
         ensures { Reads result (kinds.heartbeat_with_role_at self.old.rest.now) self.new.rest.now }
     {
@@ -219,7 +218,7 @@ impl<'a> Reader<'a> {
     }
 
     /// A proposal of members that aren't all plain.
-    #[tactic(auto, unfolding(crate::specs::Kinds::propose_with_roles_at))]
+    #[tactic(auto, unfolding(wire_messages::specs::Kinds::propose_with_roles_at))]
     fn propose_with_roles(&mut self) -> Result<Message, ReadFault>
         ensures { Reads result (kinds.propose_with_roles_at self.old.rest.now) self.new.rest.now }
     {
@@ -229,7 +228,7 @@ impl<'a> Reader<'a> {
     }
 
     /// A view of members that aren't all plain is entered.
-    #[tactic(auto, unfolding(crate::specs::Kinds::commit_with_roles_at))]
+    #[tactic(auto, unfolding(wire_messages::specs::Kinds::commit_with_roles_at))]
     fn commit_with_roles(&mut self) -> Result<Message, ReadFault>
         ensures { Reads result (kinds.commit_with_roles_at self.old.rest.now) self.new.rest.now }
     {
@@ -239,7 +238,7 @@ impl<'a> Reader<'a> {
     }
 
     /// A request is passed on.
-    #[tactic(auto, unfolding(crate::specs::Kinds::proxy_at))]
+    #[tactic(auto, unfolding(wire_messages::specs::Kinds::proxy_at))]
     fn proxy(&mut self, alloc: Global) -> Result<Message, ReadFault>
         ensures { Reads result (kinds.proxy_at self.old.rest.now) self.new.rest.now }
     {
@@ -256,7 +255,7 @@ impl<'a> Reader<'a> {
     }
 
     /// The reply to a request that was passed on.
-    #[tactic(auto, unfolding(crate::specs::Kinds::proxy_reply_at))]
+    #[tactic(auto, unfolding(wire_messages::specs::Kinds::proxy_reply_at))]
     fn proxy_reply(&mut self, alloc: Global) -> Result<Message, ReadFault>
         ensures { Reads result (kinds.proxy_reply_at self.old.rest.now) self.new.rest.now }
     {
@@ -267,7 +266,7 @@ impl<'a> Reader<'a> {
     }
 
     /// A request of the client.
-    #[tactic(auto, unfolding(crate::specs::Kinds::call_at))]
+    #[tactic(auto, unfolding(wire_messages::specs::Kinds::call_at))]
     fn call(&mut self, alloc: Global) -> Result<Message, ReadFault>
         ensures { Reads result (kinds.call_at self.old.rest.now) self.new.rest.now }
     {
@@ -282,7 +281,7 @@ impl<'a> Reader<'a> {
     }
 
     /// The reply to the client.
-    #[tactic(auto, unfolding(crate::specs::Kinds::reply_message_at))]
+    #[tactic(auto, unfolding(wire_messages::specs::Kinds::reply_message_at))]
     fn reply_message(&mut self, alloc: Global) -> Result<Message, ReadFault>
         ensures { Reads result (kinds.reply_message_at self.old.rest.now) self.new.rest.now }
     {
@@ -293,7 +292,7 @@ impl<'a> Reader<'a> {
     }
 
     /// A page of a scan is asked for.
-    #[tactic(auto, unfolding(crate::specs::Kinds::scan_ask_at))]
+    #[tactic(auto, unfolding(wire_messages::specs::Kinds::scan_ask_at))]
     fn scan_ask(&mut self) -> Result<Message, ReadFault>
         ensures { Reads result (kinds.scan_ask_at self.old.rest.now) self.new.rest.now }
     {
@@ -308,7 +307,7 @@ impl<'a> Reader<'a> {
     }
 
     /// A page of a scan.
-    #[tactic(auto, unfolding(crate::specs::Kinds::scan_page_at))]
+    #[tactic(auto, unfolding(wire_messages::specs::Kinds::scan_page_at))]
     fn scan_page(&mut self, alloc: Global) -> Result<Message, ReadFault>
         ensures { Reads result (kinds.scan_page_at self.old.rest.now) self.new.rest.now }
     {
@@ -329,7 +328,7 @@ impl<'a> Reader<'a> {
     }
 
     /// There is no page.
-    #[tactic(auto, unfolding(crate::specs::Kinds::scan_no_at))]
+    #[tactic(auto, unfolding(wire_messages::specs::Kinds::scan_no_at))]
     fn scan_no(&mut self) -> Result<Message, ReadFault>
         ensures { Reads result (kinds.scan_no_at self.old.rest.now) self.new.rest.now }
     {

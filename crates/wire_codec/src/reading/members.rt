@@ -1,52 +1,38 @@
 //! Members are read.
 ghost use Rattle.std.specs.Prelude.{◌≡◌, ◌<◌, ◌≤◌, length};
-ghost use Rattle.wire_codec.specs.Fields.{items_at};
-ghost use Rattle.wire_codec.specs.Nodes as nodes;
-ghost use Rattle.wire_codec.specs.Nodes.{nobody_before, with_member, member_at, plain_members_at, members_at};
+ghost use Rattle.wire_messages.specs.Fields.{items_at};
+ghost use Rattle.wire_messages.specs.Nodes as nodes;
+ghost use Rattle.wire_messages.specs.Nodes.{nobody_before, with_member, member_at, plain_members_at, members_at};
 ghost use Rattle.wire_codec.specs.Reading.{Reads, Fills};
 
 use crate::reading::{ReadFault, Reader};
-use cluster_types::{Member, Members, NodeId, Role};
+use crate::roles::is_plain;
+use cluster_types::{Member, Members, NodeId};
+use wire_messages::Before;
 
-/// What stands before a member.
-#[derive(Clone, Copy, Debug)]
-pub struct Before {
-    /// The id of the last member, if there is one.
-    pub id: Option<NodeId>,
-    /// Whether all roles are plain.
-    pub plain: bool,
-}
-
-impl Before {
-    fn nobody() -> Before
-        ensures { result ≡ nobody_before }
-    {
-        Before {
-            id: None,
-            plain: true,
-        }
-    }
-
-    fn with(&self, member: &Member) -> Before
-        ensures { result ≡ with_member self.now member.now }
-    {
-        Before {
-            id: Some(member.id),
-            plain: self.plain && is_plain(member.role),
-        }
-    }
-}
-
-/// Whether the role has no rack and isn't quiesced.
-pub(crate) fn is_plain(role: Role) -> bool
-    ensures { result ≡ nodes.is_plain role }
+/// No member stands before the first one.
+fn nobody_before() -> Before
+    ensures { result ≡ nodes.nobody_before }
 {
-    role.rack == 0 && !role.quiesced
+    Before {
+        id: None,
+        plain: true,
+    }
+}
+
+/// What stands before the member behind this one.
+fn with_member(before: Before, member: Member) -> Before
+    ensures { result ≡ nodes.with_member before member }
+{
+    Before {
+        id: Some(member.id),
+        plain: before.plain && is_plain(member.role),
+    }
 }
 
 impl<'a> Reader<'a> {
     /// 1 to 16 members of plain roles.
-    #[tactic(auto, unfolding(crate::specs::Nodes::plain_members_at))]
+    #[tactic(auto, unfolding(wire_messages::specs::Nodes::plain_members_at))]
     pub(crate) fn plain_members(&mut self) -> Result<Members, ReadFault>
         ensures { Reads result (plain_members_at self.old.rest.now) self.new.rest.now }
     {
@@ -58,7 +44,7 @@ impl<'a> Reader<'a> {
     }
 
     /// A member behind those before it, with so many after it.
-    #[tactic(auto, unfolding(crate::specs::Nodes::member_at))]
+    #[tactic(auto, unfolding(wire_messages::specs::Nodes::member_at))]
     fn member(&mut self, before: &Before, after: usize) -> Result<Member, ReadFault>
         ensures { Reads result (member_at before.now after self.old.rest.now) self.new.rest.now }
     {
@@ -71,10 +57,10 @@ impl<'a> Reader<'a> {
     fn fill_members(&mut self, places: &mut [Member]) -> Result<(), ReadFault>
         ensures { Fills result places.new (items_at member_at with_member (length places.old) nobody_before self.old.rest.now) self.new.rest.now }
     {
-        let mut before = Before::nobody();
+        let mut before = nobody_before();
         for i in 0..places.len() {
             let member = self.member(&before, places.len() - i - 1)?;
-            before = before.with(&member);
+            before = with_member(before, member);
             places[i] = member;
         }
         Ok(())
@@ -94,7 +80,7 @@ impl<'a> Reader<'a> {
     }
 
     /// 1 to 16 members with their roles.
-    #[tactic(auto, unfolding(crate::specs::Nodes::members_at))]
+    #[tactic(auto, unfolding(wire_messages::specs::Nodes::members_at))]
     pub(crate) fn members(&mut self) -> Result<Members, ReadFault>
         ensures { Reads result (members_at self.old.rest.now) self.new.rest.now }
     {

@@ -1,7 +1,7 @@
 //! Ids and roles are read.
 ghost use Rattle.std.specs.Prelude.{◌≡◌, ◌≤◌, length, IfOk};
 ghost use Rattle.cluster_types.specs.Distinct.{IsDescending};
-ghost use Rattle.wire_codec.specs.Nodes.{id_below_at, falling_ids_at, ids_at, id_at, role_at};
+ghost use Rattle.wire_messages.specs.Nodes.{id_below_at, falling_ids_at, ids_at, id_at, role_at};
 ghost use Rattle.wire_codec.specs.Reading.{Reads};
 
 use crate::reading::{ReadFault, Reader, bad, short};
@@ -9,7 +9,7 @@ use cluster_types::{NodeId, NodeList, Role};
 
 impl<'a> Reader<'a> {
     /// The id of a node.
-    #[tactic(auto, unfolding(crate::specs::Fields::field, crate::specs::Numbers::number_at, crate::specs::Nodes::id_at))]
+    #[tactic(auto, unfolding(wire_messages::specs::Fields::field, wire_messages::specs::Numbers::number_at, wire_messages::specs::Nodes::id_at))]
     pub(crate) fn id(&mut self) -> Result<NodeId, ReadFault>
         ensures { Reads result (id_at self.old.rest.now) self.new.rest.now }
     {
@@ -22,7 +22,7 @@ impl<'a> Reader<'a> {
     }
 
     /// An id below the one before it, if there is one.
-    #[tactic(auto, unfolding(crate::specs::Fields::field, crate::specs::Numbers::number_at, crate::specs::Nodes::id_at, crate::specs::Nodes::id_below_at))]
+    #[tactic(auto, unfolding(wire_messages::specs::Fields::field, wire_messages::specs::Numbers::number_at, wire_messages::specs::Nodes::id_at, wire_messages::specs::Nodes::id_below_at))]
     pub(crate) fn id_below(&mut self, before: Option<NodeId>) -> Result<NodeId, ReadFault>
         ensures { Reads result (id_below_at before self.old.rest.now) self.new.rest.now }
     {
@@ -54,7 +54,7 @@ impl<'a> Reader<'a> {
     }
 
     /// `least` to `most` ids in falling order, behind their number.
-    #[tactic(auto, unfolding(crate::specs::Nodes::ids_at))]
+    #[tactic(auto, unfolding(wire_messages::specs::Nodes::ids_at))]
     pub(crate) fn ids(&mut self, least: u8, most: u8) -> Result<NodeList, ReadFault>
         requires { most ≤ 16 }
         ensures reads { Reads result (ids_at least most self.old.rest.now) self.new.rest.now }
@@ -66,7 +66,7 @@ impl<'a> Reader<'a> {
     }
 
     /// A rack, and a mark that is 0 or 1. Both may be 0 where `plain` says so.
-    #[tactic(auto, unfolding(crate::specs::Fields::field, crate::specs::Nodes::role_at))]
+    #[tactic(auto, unfolding(wire_messages::specs::Fields::field, wire_messages::specs::Nodes::role_at))]
     pub(crate) fn role(&mut self, plain: bool) -> Result<Role, ReadFault>
         ensures { Reads result (role_at plain self.old.rest.now) self.new.rest.now }
     {

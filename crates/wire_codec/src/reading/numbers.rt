@@ -1,14 +1,14 @@
 //! Numbers, bytes and flags are read.
 ghost use Rattle.std.specs.Prelude.{◌≡◌, ◌≤◌, IfOk};
 ghost use Rattle.std.specs.Int.{w16, w32, w64};
-ghost use Rattle.wire_codec.specs.Numbers.{every, positive, between, number_at, byte_at, flag_at};
+ghost use Rattle.wire_messages.specs.Numbers.{every, positive, between, number_at, byte_at, flag_at};
 ghost use Rattle.wire_codec.specs.Reading.{Reads};
 
 use crate::reading::{ReadFault, Reader, bad, short};
 
 impl<'a> Reader<'a> {
     /// A number of 16 bits.
-    #[tactic(auto, unfolding(crate::specs::Fields::field, crate::specs::Numbers::number_at))]
+    #[tactic(auto, unfolding(wire_messages::specs::Fields::field, wire_messages::specs::Numbers::number_at))]
     pub(crate) fn u16(&mut self) -> Result<u16, ReadFault>
         ensures { Reads result (number_at w16 every self.old.rest.now) self.new.rest.now }
     {
@@ -21,7 +21,7 @@ impl<'a> Reader<'a> {
     }
 
     /// A number of 32 bits.
-    #[tactic(auto, unfolding(crate::specs::Fields::field, crate::specs::Numbers::number_at))]
+    #[tactic(auto, unfolding(wire_messages::specs::Fields::field, wire_messages::specs::Numbers::number_at))]
     pub(crate) fn u32(&mut self) -> Result<u32, ReadFault>
         ensures { Reads result (number_at w32 every self.old.rest.now) self.new.rest.now }
     {
@@ -35,7 +35,7 @@ impl<'a> Reader<'a> {
     }
 
     /// A number of 32 bits that isn't 0.
-    #[tactic(auto, unfolding(crate::specs::Fields::field, crate::specs::Numbers::number_at))]
+    #[tactic(auto, unfolding(wire_messages::specs::Fields::field, wire_messages::specs::Numbers::number_at))]
     pub(crate) fn positive(&mut self) -> Result<u32, ReadFault>
         ensures { Reads result (number_at w32 positive self.old.rest.now) self.new.rest.now }
     {
@@ -48,7 +48,7 @@ impl<'a> Reader<'a> {
     }
 
     /// A number of 64 bits.
-    #[tactic(auto, unfolding(crate::specs::Fields::field, crate::specs::Numbers::number_at))]
+    #[tactic(auto, unfolding(wire_messages::specs::Fields::field, wire_messages::specs::Numbers::number_at))]
     pub(crate) fn u64(&mut self) -> Result<u64, ReadFault>
         ensures { Reads result (number_at w64 every self.old.rest.now) self.new.rest.now }
     {
@@ -64,7 +64,7 @@ impl<'a> Reader<'a> {
     }
 
     /// A byte from `least` to `most`.
-    #[tactic(auto, unfolding(crate::specs::Fields::field, crate::specs::Numbers::byte_at))]
+    #[tactic(auto, unfolding(wire_messages::specs::Fields::field, wire_messages::specs::Numbers::byte_at))]
     pub(crate) fn byte(&mut self, least: u8, most: u8) -> Result<u8, ReadFault>
         ensures reads { Reads result (byte_at (between least most) self.old.rest.now) self.new.rest.now }
         ensures range { IfOk result (λ b. (least ≤ b) × (b ≤ most)) }
@@ -82,7 +82,7 @@ impl<'a> Reader<'a> {
     }
 
     /// A byte that is 0 or 1.
-    #[tactic(auto, unfolding(crate::specs::Numbers::flag_at))]
+    #[tactic(auto, unfolding(wire_messages::specs::Numbers::flag_at))]
     pub(crate) fn flag(&mut self) -> Result<bool, ReadFault>
         ensures { Reads result (flag_at self.old.rest.now) self.new.rest.now }
     {

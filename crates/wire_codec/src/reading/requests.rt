@@ -1,18 +1,17 @@
 //! Wants, replies and refusals are read.
 ghost use Rattle.std.specs.Prelude.{◌≡◌};
-ghost use Rattle.wire_codec.specs.Numbers.{byte_at};
+ghost use Rattle.wire_messages.specs.Numbers.{byte_at};
 ghost use Rattle.wire_codec.specs.Reading.{Reads};
-ghost use Rattle.wire_codec.specs.Requests.{is_reply_tag, want_at, reply_at, refusal_at};
+ghost use Rattle.wire_messages.specs.Requests.{is_reply_tag, want_at, reply_at, refusal_at};
 
 use crate::reading::{ReadFault, Reader, bad};
-use crate::reply::ReplyBody;
-use crate::scan::ScanRefusal;
 use conflict_order::Want;
 use std::alloc::Global;
+use wire_messages::{ReplyBody, ScanRefusal};
 
 impl<'a> Reader<'a> {
     /// 0 get, 1 put and the value, 2 del.
-    #[tactic(auto, unfolding(crate::specs::Requests::want_at))]
+    #[tactic(auto, unfolding(wire_messages::specs::Requests::want_at))]
     pub(crate) fn want(&mut self, alloc: Global) -> Result<Want, ReadFault>
         ensures { Reads result (want_at self.old.rest.now) self.new.rest.now }
     {
@@ -24,7 +23,7 @@ impl<'a> Reader<'a> {
     }
 
     /// The tag of a reply: below 6, and 6 too where there may be no view.
-    #[tactic(auto, unfolding(crate::specs::Fields::field, crate::specs::Numbers::byte_at))]
+    #[tactic(auto, unfolding(wire_messages::specs::Fields::field, wire_messages::specs::Numbers::byte_at))]
     fn reply_tag(&mut self, no_view: bool) -> Result<u8, ReadFault>
         ensures { Reads result (byte_at (is_reply_tag no_view) self.old.rest.now) self.new.rest.now }
     {
@@ -37,7 +36,7 @@ impl<'a> Reader<'a> {
     }
 
     /// A reply, which may be that there is no view where `no_view` says so.
-    #[tactic(auto, unfolding(crate::specs::Requests::reply_at))]
+    #[tactic(auto, unfolding(wire_messages::specs::Requests::reply_at))]
     pub(crate) fn reply(&mut self, alloc: Global, no_view: bool) -> Result<ReplyBody, ReadFault>
         ensures { Reads result (reply_at no_view self.old.rest.now) self.new.rest.now }
     {
@@ -53,7 +52,7 @@ impl<'a> Reader<'a> {
     }
 
     /// Why there is no page.
-    #[tactic(auto, unfolding(crate::specs::Requests::refusal_at))]
+    #[tactic(auto, unfolding(wire_messages::specs::Requests::refusal_at))]
     pub(crate) fn refusal(&mut self) -> Result<ScanRefusal, ReadFault>
         ensures { Reads result (refusal_at self.old.rest.now) self.new.rest.now }
     {

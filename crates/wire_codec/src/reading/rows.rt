@@ -4,19 +4,19 @@ ghost use Rattle.std.specs.Int.{w16};
 ghost use Rattle.cluster_types.specs.declared.copy_state.CopyState.TheVariants.{Empty};
 ghost use Rattle.cluster_types.specs.Partitions.{partition_count};
 ghost use Rattle.cluster_types.specs.Rows.{bit};
-ghost use Rattle.wire_codec.specs.Fields.{items_at};
-ghost use Rattle.wire_codec.specs.Nodes.{any_id_at, with_any_id, table_at};
-ghost use Rattle.wire_codec.specs.Numbers.{between, number_at};
+ghost use Rattle.wire_messages.specs.Fields.{items_at};
+ghost use Rattle.wire_messages.specs.Nodes.{any_id_at, with_any_id, table_at};
+ghost use Rattle.wire_messages.specs.Numbers.{between, number_at};
 ghost use Rattle.wire_codec.specs.Reading.{Reads, Fills};
-ghost use Rattle.wire_codec.specs.RowFronts.{HasFront, second};
-ghost use Rattle.wire_codec.specs.Rows as rows;
-ghost use Rattle.wire_codec.specs.Rows.{is_above, row_at, state_at, entry_at, with_entry, state_row_at};
+ghost use Rattle.wire_messages.specs.RowFronts.{HasFront, second};
+ghost use Rattle.wire_messages.specs.Rows as rows;
+ghost use Rattle.wire_messages.specs.Rows.{is_above, row_at, state_at, entry_at, with_entry, state_row_at};
 
-use crate::boxed::{BoxedIds, BoxedRow};
 use crate::reading::{ReadFault, Reader, bad, short};
 use cluster_types::partition::PARTITIONS;
 use cluster_types::{CopyState, NodeId, PartitionId, Row4096, StateRow};
 use std::alloc::Global;
+use wire_messages::{BoxedIds, BoxedRow};
 
 /// The bytes of a bit row.
 const ROW_BYTES: usize = 512;
@@ -77,7 +77,7 @@ fn row_of(bytes: &[u8]) -> Row4096
 
 impl<'a> Reader<'a> {
     /// A bit row.
-    #[tactic(auto, unfolding(crate::specs::Fields::field, crate::specs::Rows::row_at))]
+    #[tactic(auto, unfolding(wire_messages::specs::Fields::field, wire_messages::specs::Rows::row_at))]
     pub(crate) fn row(&mut self, alloc: Global) -> Result<BoxedRow, ReadFault>
         ensures { Reads result (row_at self.old.rest.now) self.new.rest.now }
     {
@@ -90,7 +90,7 @@ impl<'a> Reader<'a> {
     }
 
     /// A partition.
-    #[tactic(auto, unfolding(crate::specs::Fields::field, crate::specs::Numbers::number_at))]
+    #[tactic(auto, unfolding(wire_messages::specs::Fields::field, wire_messages::specs::Numbers::number_at))]
     pub(crate) fn partition(&mut self) -> Result<PartitionId, ReadFault>
         ensures { Reads result (number_at w16 (λ p. nat_lt p partition_count) self.old.rest.now) self.new.rest.now }
     {
@@ -103,7 +103,7 @@ impl<'a> Reader<'a> {
     }
 
     /// A partition above the one before it, if there is one.
-    #[tactic(auto, unfolding(crate::specs::Fields::field, crate::specs::Numbers::number_at))]
+    #[tactic(auto, unfolding(wire_messages::specs::Fields::field, wire_messages::specs::Numbers::number_at))]
     fn partition_above(&mut self, before: Option<PartitionId>) -> Result<PartitionId, ReadFault>
         ensures reads { Reads result (number_at w16 (λ p. nat_lt p partition_count && is_above before p) self.old.rest.now) self.new.rest.now }
         ensures above { IfOk result (λ p. (b : ℕ) → before ≡ Some b → b < p) }
@@ -119,7 +119,7 @@ impl<'a> Reader<'a> {
     }
 
     /// The state of a copy that isn't empty.
-    #[tactic(auto, unfolding(crate::specs::Rows::state_at))]
+    #[tactic(auto, unfolding(wire_messages::specs::Rows::state_at))]
     fn state(&mut self) -> Result<CopyState, ReadFault>
         ensures reads { Reads result (state_at self.old.rest.now) self.new.rest.now }
         ensures some { IfOk result (λ s. s ≢ Empty) }
@@ -134,7 +134,7 @@ impl<'a> Reader<'a> {
     }
 
     /// A partition above the one before it, and the state of its copy.
-    #[tactic(auto, unfolding(crate::specs::Rows::entry_at))]
+    #[tactic(auto, unfolding(wire_messages::specs::Rows::entry_at))]
     fn entry(&mut self, before: Option<PartitionId>) -> Result<(PartitionId, CopyState), ReadFault>
         ensures reads { Reads result (entry_at before 0 self.old.rest.now) self.new.rest.now }
         ensures above { IfOk result (λ e. (b : ℕ) → before ≡ Some b → b < e.0) }
@@ -146,7 +146,7 @@ impl<'a> Reader<'a> {
     }
 
     /// The number of entries.
-    #[tactic(auto, unfolding(crate::specs::Fields::field, crate::specs::Numbers::number_at))]
+    #[tactic(auto, unfolding(wire_messages::specs::Fields::field, wire_messages::specs::Numbers::number_at))]
     fn entry_count(&mut self) -> Result<u16, ReadFault>
         ensures { Reads result (number_at w16 (between 0 4096) self.old.rest.now) self.new.rest.now }
     {
@@ -173,7 +173,7 @@ impl<'a> Reader<'a> {
     }
 
     /// The entries behind their number.
-    #[tactic(auto, unfolding(crate::specs::Rows::state_row_at))]
+    #[tactic(auto, unfolding(wire_messages::specs::Rows::state_row_at))]
     pub(crate) fn state_row(&mut self, alloc: Global) -> Result<StateRow, ReadFault>
         ensures { Reads result (state_row_at self.old.rest.now) self.new.rest.now }
     {
@@ -193,7 +193,7 @@ impl<'a> Reader<'a> {
     }
 
     /// An id for each partition.
-    #[tactic(auto, unfolding(crate::specs::Nodes::table_at))]
+    #[tactic(auto, unfolding(wire_messages::specs::Nodes::table_at))]
     pub(crate) fn table(&mut self, alloc: Global) -> Result<BoxedIds, ReadFault>
         ensures { Reads result (table_at self.old.rest.now) self.new.rest.now }
     {

@@ -1,18 +1,18 @@
 //! Digests, values, versions and records are read.
 ghost use Rattle.std.specs.Prelude.{◌≡◌, None};
-ghost use Rattle.wire_codec.specs.Fields.{items_at};
+ghost use Rattle.wire_messages.specs.Fields.{items_at};
 ghost use Rattle.wire_codec.specs.Reading.{Reads};
-ghost use Rattle.wire_codec.specs.Versions.{digest_at, digest_above_at, option_digest_at, value_at, body_at, version_at, option_version_at, record_at, with_record, records_at};
+ghost use Rattle.wire_messages.specs.Versions.{digest_at, digest_above_at, option_digest_at, value_at, body_at, version_at, option_version_at, record_at, with_record, records_at};
 
 use crate::reading::{ReadFault, Reader, bad, short};
-use crate::records::Records;
 use cluster_types::Digest;
 use conflict_order::{Body, ValueBytes, Version};
 use std::alloc::Global;
+use wire_messages::Records;
 
 impl<'a> Reader<'a> {
     /// A digest.
-    #[tactic(auto, unfolding(crate::specs::Fields::field, crate::specs::Versions::bytes_at, crate::specs::Versions::digest_at))]
+    #[tactic(auto, unfolding(wire_messages::specs::Fields::field, wire_messages::specs::Versions::bytes_at, wire_messages::specs::Versions::digest_at))]
     pub(crate) fn digest(&mut self) -> Result<Digest, ReadFault>
         ensures { Reads result (digest_at self.old.rest.now) self.new.rest.now }
     {
@@ -27,7 +27,7 @@ impl<'a> Reader<'a> {
     }
 
     /// A digest above the one before it, if there is one.
-    #[tactic(auto, unfolding(crate::specs::Fields::field, crate::specs::Versions::bytes_at, crate::specs::Versions::digest_at, crate::specs::Versions::digest_above_at))]
+    #[tactic(auto, unfolding(wire_messages::specs::Fields::field, wire_messages::specs::Versions::bytes_at, wire_messages::specs::Versions::digest_at, wire_messages::specs::Versions::digest_above_at))]
     pub(crate) fn digest_above(&mut self, before: Option<Digest>) -> Result<Digest, ReadFault>
         ensures { Reads result (digest_above_at before self.old.rest.now) self.new.rest.now }
     {
@@ -42,7 +42,7 @@ impl<'a> Reader<'a> {
     }
 
     /// 0, or 1 and a digest.
-    #[tactic(auto, unfolding(crate::specs::Versions::option_digest_at))]
+    #[tactic(auto, unfolding(wire_messages::specs::Versions::option_digest_at))]
     pub(crate) fn option_digest(&mut self) -> Result<Option<Digest>, ReadFault>
         ensures { Reads result (option_digest_at self.old.rest.now) self.new.rest.now }
     {
@@ -54,7 +54,7 @@ impl<'a> Reader<'a> {
     }
 
     /// A value behind the number of its bytes.
-    #[tactic(auto, unfolding(crate::specs::Fields::field, crate::specs::Versions::bytes_at, crate::specs::Versions::value_at))]
+    #[tactic(auto, unfolding(wire_messages::specs::Fields::field, wire_messages::specs::Versions::bytes_at, wire_messages::specs::Versions::value_at))]
     pub(crate) fn value(&mut self, alloc: Global) -> Result<ValueBytes, ReadFault>
         ensures { Reads result (value_at self.old.rest.now) self.new.rest.now }
     {
@@ -68,7 +68,7 @@ impl<'a> Reader<'a> {
     }
 
     /// 0 for a tombstone, or 1 and a value.
-    #[tactic(auto, unfolding(crate::specs::Versions::body_at))]
+    #[tactic(auto, unfolding(wire_messages::specs::Versions::body_at))]
     pub(crate) fn body(&mut self, alloc: Global) -> Result<Body, ReadFault>
         ensures { Reads result (body_at self.old.rest.now) self.new.rest.now }
     {
@@ -80,7 +80,7 @@ impl<'a> Reader<'a> {
     }
 
     /// A version.
-    #[tactic(auto, unfolding(crate::specs::Versions::version_at))]
+    #[tactic(auto, unfolding(wire_messages::specs::Versions::version_at))]
     pub(crate) fn version(&mut self, alloc: Global) -> Result<Version, ReadFault>
         ensures { Reads result (version_at self.old.rest.now) self.new.rest.now }
     {
@@ -95,7 +95,7 @@ impl<'a> Reader<'a> {
     }
 
     /// 0, or 1 and a version.
-    #[tactic(auto, unfolding(crate::specs::Versions::option_version_at))]
+    #[tactic(auto, unfolding(wire_messages::specs::Versions::option_version_at))]
     pub(crate) fn option_version(&mut self, alloc: Global) -> Result<Option<Version>, ReadFault>
         ensures { Reads result (option_version_at self.old.rest.now) self.new.rest.now }
     {
@@ -107,7 +107,7 @@ impl<'a> Reader<'a> {
     }
 
     /// A record whose digest is above the one before it, if there is one.
-    #[tactic(auto, unfolding(crate::specs::Versions::record_at))]
+    #[tactic(auto, unfolding(wire_messages::specs::Versions::record_at))]
     fn record(
         &mut self,
         alloc: Global,
@@ -135,7 +135,7 @@ impl<'a> Reader<'a> {
     }
 
     /// `least` to 64 records behind their number.
-    #[tactic(auto, unfolding(crate::specs::Versions::records_at))]
+    #[tactic(auto, unfolding(wire_messages::specs::Versions::records_at))]
     pub(crate) fn records(&mut self, alloc: Global, least: u8) -> Result<Records, ReadFault>
         ensures { Reads result (records_at least self.old.rest.now) self.new.rest.now }
     {

@@ -1,12 +1,12 @@
 //! Keys of views are written.
 ghost use Rattle.std.specs.Prelude.{◌≡◌, ◌++◌, ◌<◌, ◌^◌, OnOk};
-ghost use Rattle.wire_codec.specs.Keys.{key_field};
+ghost use Rattle.wire_messages.specs.Keys.{key_field};
 
 use crate::writing::numbers::put_u64;
 use cluster_types::{ClusterKey, NoMemory};
 
 /// A key, or none.
-#[tactic(auto, unfolding(crate::specs::Numbers::number_field, crate::specs::Keys::key_field))]
+#[tactic(auto, unfolding(wire_messages::specs::Numbers::number_field, wire_messages::specs::Keys::key_field))]
 pub(crate) fn put_key(out: &mut Vec<u8>, key: ClusterKey) -> Result<(), NoMemory>
     requires { key.round < 2 ^ 48 }
     ensures { OnOk result (out.new.items ≡ out.old.items ++ key_field key) }

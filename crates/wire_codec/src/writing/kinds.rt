@@ -1,20 +1,16 @@
 //! Each kind of message is written: the byte of the kind, and then its fields.
 ghost use Rattle.std.specs.Prelude.{◌≡◌, ◌∷◌, [], OnOk};
 ghost use Rattle.std.specs.Int.{w32};
-ghost use Rattle.wire_codec.specs.declared.message.Message.TheVariants as message;
-ghost use Rattle.wire_codec.specs.Keys.{key_field, IsKeyField};
-ghost use Rattle.wire_codec.specs.Nodes as nodes;
-ghost use Rattle.wire_codec.specs.Numbers.{byte_field, number_field};
-ghost use Rattle.wire_codec.specs.Proper.{IsProper};
-ghost use Rattle.wire_codec.specs.Spelling.{fields_of, view_fields};
-ghost use Rattle.wire_codec.specs.Versions.{option_digest_field};
-ghost use Rattle.wire_codec.specs.Writing.{appended};
+ghost use Rattle.wire_messages.specs.declared.message.Message.TheVariants as message;
+ghost use Rattle.wire_messages.specs.Keys.{key_field, IsKeyField};
+ghost use Rattle.wire_messages.specs.Nodes as nodes;
+ghost use Rattle.wire_messages.specs.Numbers.{byte_field, number_field};
+ghost use Rattle.wire_messages.specs.Proper.{IsProper};
+ghost use Rattle.wire_messages.specs.Spelling.{fields_of, view_fields};
+ghost use Rattle.wire_messages.specs.Versions.{option_digest_field};
+ghost use Rattle.wire_messages.specs.Writing.{appended};
 
-use crate::boxed::BoxedRow;
-use crate::message::{Batch, MapTable, Message};
-use crate::reading::members::is_plain;
-use crate::reply::ReplyBody;
-use crate::scan::{ScanPage, ScanRefusal};
+use crate::roles::is_plain;
 use crate::writing::keys::put_key;
 use crate::writing::members::{put_members, put_plain_members};
 use crate::writing::nodes::{put_each_id, put_ids, put_role};
@@ -28,9 +24,10 @@ use cluster_types::{
     ClusterKey, Digest, Member, Members, NoMemory, NodeList, PartitionId, Role, StateRow,
 };
 use conflict_order::{Version, Want};
+use wire_messages::{Batch, BoxedRow, MapTable, Message, ReplyBody, ScanPage, ScanRefusal};
 
 /// A node tells of itself. A plain role isn't written.
-#[tactic(auto, unfolding(crate::specs::Numbers::byte_field))]
+#[tactic(auto, unfolding(wire_messages::specs::Numbers::byte_field))]
 fn put_heartbeat(
     out: &mut Vec<u8>,
     view: ClusterKey,
@@ -50,7 +47,7 @@ fn put_heartbeat(
 }
 
 /// A proposal is accepted.
-#[tactic(auto, unfolding(crate::specs::Numbers::byte_field))]
+#[tactic(auto, unfolding(wire_messages::specs::Numbers::byte_field))]
 fn put_accept(out: &mut Vec<u8>, key: ClusterKey) -> Result<(), NoMemory>
     requires { IsProper (message.Accept key) }
     ensures { OnOk result (out.new.items ≡ appended out.old.items (fields_of (message.Accept key))) }
@@ -60,7 +57,7 @@ fn put_accept(out: &mut Vec<u8>, key: ClusterKey) -> Result<(), NoMemory>
 }
 
 /// A proposal is refused.
-#[tactic(auto, unfolding(crate::specs::Numbers::byte_field))]
+#[tactic(auto, unfolding(wire_messages::specs::Numbers::byte_field))]
 fn put_refuse(out: &mut Vec<u8>, refused: ClusterKey, promised: ClusterKey) -> Result<(), NoMemory>
     requires { IsProper (message.Refuse refused promised) }
     ensures { OnOk result (out.new.items ≡ appended out.old.items (fields_of (message.Refuse refused promised))) }
@@ -71,7 +68,7 @@ fn put_refuse(out: &mut Vec<u8>, refused: ClusterKey, promised: ClusterKey) -> R
 }
 
 /// The states of the copies.
-#[tactic(auto, unfolding(crate::specs::Numbers::byte_field))]
+#[tactic(auto, unfolding(wire_messages::specs::Numbers::byte_field))]
 fn put_state(
     out: &mut Vec<u8>,
     key: ClusterKey,
@@ -88,7 +85,7 @@ fn put_state(
 }
 
 /// A batch of records.
-#[tactic(auto, unfolding(crate::specs::Numbers::byte_field))]
+#[tactic(auto, unfolding(wire_messages::specs::Numbers::byte_field))]
 fn put_batch(out: &mut Vec<u8>, batch: &Batch) -> Result<(), NoMemory>
     requires { IsProper (message.Batch batch.now) }
     ensures { OnOk result (out.new.items ≡ appended out.old.items (fields_of (message.Batch batch.now))) }
@@ -100,7 +97,7 @@ fn put_batch(out: &mut Vec<u8>, batch: &Batch) -> Result<(), NoMemory>
 }
 
 /// A batch came.
-#[tactic(auto, unfolding(crate::specs::Numbers::byte_field))]
+#[tactic(auto, unfolding(wire_messages::specs::Numbers::byte_field))]
 fn put_batch_ack(out: &mut Vec<u8>, key: ClusterKey, number: u32) -> Result<(), NoMemory>
     requires { IsProper (message.BatchAck key number) }
     ensures { OnOk result (out.new.items ≡ appended out.old.items (fields_of (message.BatchAck key number))) }
@@ -111,7 +108,7 @@ fn put_batch_ack(out: &mut Vec<u8>, key: ClusterKey, number: u32) -> Result<(), 
 }
 
 /// How far the copies have come.
-#[tactic(auto, unfolding(crate::specs::Numbers::byte_field))]
+#[tactic(auto, unfolding(wire_messages::specs::Numbers::byte_field))]
 fn put_progress(
     out: &mut Vec<u8>,
     key: ClusterKey,
@@ -132,7 +129,7 @@ fn put_progress(
 }
 
 /// A write is replicated.
-#[tactic(auto, unfolding(crate::specs::Numbers::byte_field))]
+#[tactic(auto, unfolding(wire_messages::specs::Numbers::byte_field))]
 fn put_repl(
     out: &mut Vec<u8>,
     key: ClusterKey,
@@ -153,7 +150,7 @@ fn put_repl(
 }
 
 /// A write came.
-#[tactic(auto, unfolding(crate::specs::Numbers::byte_field))]
+#[tactic(auto, unfolding(wire_messages::specs::Numbers::byte_field))]
 fn put_repl_ack(out: &mut Vec<u8>, key: ClusterKey, transaction: u32) -> Result<(), NoMemory>
     requires { IsProper (message.ReplAck key transaction) }
     ensures { OnOk result (out.new.items ≡ appended out.old.items (fields_of (message.ReplAck key transaction))) }
@@ -164,7 +161,7 @@ fn put_repl_ack(out: &mut Vec<u8>, key: ClusterKey, transaction: u32) -> Result<
 }
 
 /// A version is asked for.
-#[tactic(auto, unfolding(crate::specs::Numbers::byte_field))]
+#[tactic(auto, unfolding(wire_messages::specs::Numbers::byte_field))]
 fn put_ask(
     out: &mut Vec<u8>,
     key: ClusterKey,
@@ -181,7 +178,7 @@ fn put_ask(
 }
 
 /// The version that was asked for.
-#[tactic(auto, unfolding(crate::specs::Numbers::byte_field))]
+#[tactic(auto, unfolding(wire_messages::specs::Numbers::byte_field))]
 fn put_answer(
     out: &mut Vec<u8>,
     key: ClusterKey,
@@ -198,7 +195,7 @@ fn put_answer(
 }
 
 /// The table of acting nodes.
-#[tactic(auto, unfolding(crate::specs::Numbers::byte_field))]
+#[tactic(auto, unfolding(wire_messages::specs::Numbers::byte_field))]
 fn put_map_table(out: &mut Vec<u8>, table: &MapTable) -> Result<(), NoMemory>
     requires { IsProper (message.MapTable table.now) }
     ensures { OnOk result (out.new.items ≡ appended out.old.items (fields_of (message.MapTable table.now))) }
@@ -210,7 +207,7 @@ fn put_map_table(out: &mut Vec<u8>, table: &MapTable) -> Result<(), NoMemory>
 }
 
 /// A request is passed on.
-#[tactic(auto, unfolding(crate::specs::Numbers::byte_field))]
+#[tactic(auto, unfolding(wire_messages::specs::Numbers::byte_field))]
 fn put_proxy(
     out: &mut Vec<u8>,
     key: ClusterKey,
@@ -229,7 +226,7 @@ fn put_proxy(
 }
 
 /// The reply to a request that was passed on.
-#[tactic(auto, unfolding(crate::specs::Numbers::byte_field))]
+#[tactic(auto, unfolding(wire_messages::specs::Numbers::byte_field))]
 fn put_proxy_reply(
     out: &mut Vec<u8>,
     key: ClusterKey,
@@ -246,7 +243,7 @@ fn put_proxy_reply(
 }
 
 /// A request of the client.
-#[tactic(auto, unfolding(crate::specs::Numbers::byte_field))]
+#[tactic(auto, unfolding(wire_messages::specs::Numbers::byte_field))]
 fn put_call(out: &mut Vec<u8>, number: u32, digest: &Digest, want: &Want) -> Result<(), NoMemory>
     requires { IsProper (message.Call number digest.now want.now) }
     ensures { OnOk result (out.new.items ≡ appended out.old.items (fields_of (message.Call number digest.now want.now))) }
@@ -258,7 +255,7 @@ fn put_call(out: &mut Vec<u8>, number: u32, digest: &Digest, want: &Want) -> Res
 }
 
 /// The reply to the client.
-#[tactic(auto, unfolding(crate::specs::Numbers::byte_field))]
+#[tactic(auto, unfolding(wire_messages::specs::Numbers::byte_field))]
 fn put_client_reply(
     out: &mut Vec<u8>,
     key: ClusterKey,
@@ -275,7 +272,7 @@ fn put_client_reply(
 }
 
 /// A page of a scan is asked for.
-#[tactic(auto, unfolding(crate::specs::Numbers::byte_field))]
+#[tactic(auto, unfolding(wire_messages::specs::Numbers::byte_field))]
 fn put_scan_ask(
     out: &mut Vec<u8>,
     scan: u32,
@@ -292,7 +289,7 @@ fn put_scan_ask(
 }
 
 /// There is no page.
-#[tactic(auto, unfolding(crate::specs::Numbers::byte_field))]
+#[tactic(auto, unfolding(wire_messages::specs::Numbers::byte_field))]
 fn put_scan_no(out: &mut Vec<u8>, scan: u32, refusal: &ScanRefusal) -> Result<(), NoMemory>
     requires { IsProper (message.ScanNo scan refusal.now) }
     ensures { OnOk result (out.new.items ≡ appended out.old.items (fields_of (message.ScanNo scan refusal.now))) }
@@ -310,7 +307,7 @@ fn all_plain(members: &[Member]) -> bool
 }
 
 /// A key and members, whose roles aren't written where all are plain.
-#[tactic(auto, unfolding(crate::specs::Numbers::byte_field))]
+#[tactic(auto, unfolding(wire_messages::specs::Numbers::byte_field))]
 fn put_view(
     out: &mut Vec<u8>,
     plain_kind: u8,
@@ -332,7 +329,7 @@ fn put_view(
 }
 
 /// A view is proposed. Roles aren't written where all are plain.
-#[tactic(auto, unfolding(crate::specs::Numbers::byte_field))]
+#[tactic(auto, unfolding(wire_messages::specs::Numbers::byte_field))]
 fn put_propose(out: &mut Vec<u8>, key: ClusterKey, members: &Members) -> Result<(), NoMemory>
     requires { IsProper (message.Propose key members.now) }
     ensures { OnOk result (out.new.items ≡ appended out.old.items (fields_of (message.Propose key members.now))) }
@@ -341,7 +338,7 @@ fn put_propose(out: &mut Vec<u8>, key: ClusterKey, members: &Members) -> Result<
 }
 
 /// A proposed view is entered. Roles aren't written where all are plain.
-#[tactic(auto, unfolding(crate::specs::Numbers::byte_field))]
+#[tactic(auto, unfolding(wire_messages::specs::Numbers::byte_field))]
 fn put_commit(out: &mut Vec<u8>, key: ClusterKey, members: &Members) -> Result<(), NoMemory>
     requires { IsProper (message.Commit key members.now) }
     ensures { OnOk result (out.new.items ≡ appended out.old.items (fields_of (message.Commit key members.now))) }
@@ -350,7 +347,7 @@ fn put_commit(out: &mut Vec<u8>, key: ClusterKey, members: &Members) -> Result<(
 }
 
 /// The numbers of a page of a scan.
-#[tactic(auto, unfolding(crate::specs::Numbers::byte_field))]
+#[tactic(auto, unfolding(wire_messages::specs::Numbers::byte_field))]
 fn put_page_head(out: &mut Vec<u8>, page: &ScanPage) -> Result<(), NoMemory>
     requires { IsKeyField page.now.key }
     ensures { OnOk result (out.new.items ≡ appended out.old.items (byte_field 24 ∷ key_field page.now.key ∷ number_field w32 page.now.scan ∷ option_digest_field page.now.after ∷ number_field w32 page.now.writes ∷ [])) }
@@ -363,7 +360,7 @@ fn put_page_head(out: &mut Vec<u8>, page: &ScanPage) -> Result<(), NoMemory>
 }
 
 /// A page of a scan.
-#[tactic(auto, unfolding(crate::specs::Numbers::byte_field))]
+#[tactic(auto, unfolding(wire_messages::specs::Numbers::byte_field))]
 fn put_scan_page(out: &mut Vec<u8>, page: &ScanPage) -> Result<(), NoMemory>
     requires { IsProper (message.ScanPage page.now) }
     ensures { OnOk result (out.new.items ≡ appended out.old.items (fields_of (message.ScanPage page.now))) }
@@ -374,7 +371,7 @@ fn put_scan_page(out: &mut Vec<u8>, page: &ScanPage) -> Result<(), NoMemory>
 }
 
 /// The message's fields in their order, behind its kind.
-#[tactic(auto, unfolding(crate::specs::Numbers::byte_field))]
+#[tactic(auto, unfolding(wire_messages::specs::Numbers::byte_field))]
 pub(crate) fn put_message(out: &mut Vec<u8>, m: &Message) -> Result<(), NoMemory>
     requires { IsProper m.now }
     ensures { OnOk result (out.new.items ≡ appended out.old.items (fields_of m.now)) }

@@ -1,7 +1,7 @@
 //! Members are written.
 ghost use Rattle.std.specs.Prelude.{◌≡◌, ◌++◌, OnOk};
 ghost use Rattle.std.specs.List.{flat_map};
-ghost use Rattle.wire_codec.specs.Nodes.{id_field, plain_members_field, member_field, members_field};
+ghost use Rattle.wire_messages.specs.Nodes.{id_field, plain_members_field, member_field, members_field};
 
 use crate::writing::nodes::{put_id, put_role};
 use crate::writing::numbers::put_byte;
@@ -18,7 +18,7 @@ fn put_each_id(out: &mut Vec<u8>, members: &[Member]) -> Result<(), NoMemory>
 }
 
 /// The ids of members, behind their number.
-#[tactic(auto, unfolding(crate::specs::Nodes::plain_members_field))]
+#[tactic(auto, unfolding(wire_messages::specs::Nodes::plain_members_field))]
 pub(crate) fn put_plain_members(out: &mut Vec<u8>, members: &Members) -> Result<(), NoMemory>
     ensures { OnOk result (out.new.items ≡ out.old.items ++ plain_members_field members.now) }
 {
@@ -27,7 +27,7 @@ pub(crate) fn put_plain_members(out: &mut Vec<u8>, members: &Members) -> Result<
 }
 
 /// A member with its role.
-#[tactic(auto, unfolding(crate::specs::Nodes::member_field))]
+#[tactic(auto, unfolding(wire_messages::specs::Nodes::member_field))]
 fn put_member(out: &mut Vec<u8>, member: &Member) -> Result<(), NoMemory>
     ensures { OnOk result (out.new.items ≡ out.old.items ++ member_field member.now) }
 {
@@ -46,7 +46,7 @@ fn put_each_member(out: &mut Vec<u8>, members: &[Member]) -> Result<(), NoMemory
 }
 
 /// Members with their roles, behind their number.
-#[tactic(auto, unfolding(crate::specs::Nodes::members_field))]
+#[tactic(auto, unfolding(wire_messages::specs::Nodes::members_field))]
 pub(crate) fn put_members(out: &mut Vec<u8>, members: &Members) -> Result<(), NoMemory>
     ensures { OnOk result (out.new.items ≡ out.old.items ++ members_field members.now) }
 {

@@ -1,13 +1,13 @@
 //! Ids and roles are written.
 ghost use Rattle.std.specs.Prelude.{◌≡◌, ◌++◌, OnOk};
 ghost use Rattle.std.specs.List.{flat_map};
-ghost use Rattle.wire_codec.specs.Nodes.{id_field, ids_field, role_field};
+ghost use Rattle.wire_messages.specs.Nodes.{id_field, ids_field, role_field};
 
 use crate::writing::numbers::{put_byte, put_flag, put_u16};
 use cluster_types::{NoMemory, NodeId, NodeList, Role};
 
 /// The id of a node.
-#[tactic(auto, unfolding(crate::specs::Nodes::id_field))]
+#[tactic(auto, unfolding(wire_messages::specs::Nodes::id_field))]
 pub(crate) fn put_id(out: &mut Vec<u8>, id: NodeId) -> Result<(), NoMemory>
     ensures { OnOk result (out.new.items ≡ out.old.items ++ id_field id) }
 {
@@ -25,7 +25,7 @@ pub(crate) fn put_each_id(out: &mut Vec<u8>, ids: &[NodeId]) -> Result<(), NoMem
 }
 
 /// Ids behind their number.
-#[tactic(auto, unfolding(crate::specs::Nodes::ids_field))]
+#[tactic(auto, unfolding(wire_messages::specs::Nodes::ids_field))]
 pub(crate) fn put_ids(out: &mut Vec<u8>, ids: &NodeList) -> Result<(), NoMemory>
     ensures { OnOk result (out.new.items ≡ out.old.items ++ ids_field ids.now) }
 {
@@ -34,7 +34,7 @@ pub(crate) fn put_ids(out: &mut Vec<u8>, ids: &NodeList) -> Result<(), NoMemory>
 }
 
 /// A rack, and 1 where the node is quiesced.
-#[tactic(auto, unfolding(crate::specs::Numbers::byte_field, crate::specs::Numbers::flag_field, crate::specs::Nodes::role_field))]
+#[tactic(auto, unfolding(wire_messages::specs::Numbers::byte_field, wire_messages::specs::Numbers::flag_field, wire_messages::specs::Nodes::role_field))]
 pub(crate) fn put_role(out: &mut Vec<u8>, role: Role) -> Result<(), NoMemory>
     ensures { OnOk result (out.new.items ≡ out.old.items ++ role_field role) }
 {

@@ -1,21 +1,20 @@
 //! Wants, replies and refusals are written.
 ghost use Rattle.std.specs.Prelude.{◌≡◌, ◌++◌, ◌∷◌, OnOk};
 ghost use Rattle.std.specs.Int.{w32};
-ghost use Rattle.wire_codec.specs.Nodes.{id_field};
-ghost use Rattle.wire_codec.specs.Numbers.{number_field};
-ghost use Rattle.wire_codec.specs.Versions.{version_field};
-ghost use Rattle.wire_codec.specs.Requests.{want_field, reply_field, refusal_field};
+ghost use Rattle.wire_messages.specs.Nodes.{id_field};
+ghost use Rattle.wire_messages.specs.Numbers.{number_field};
+ghost use Rattle.wire_messages.specs.Versions.{version_field};
+ghost use Rattle.wire_messages.specs.Requests.{want_field, reply_field, refusal_field};
 
-use crate::reply::ReplyBody;
-use crate::scan::ScanRefusal;
 use crate::writing::nodes::put_id;
 use crate::writing::numbers::{put_byte, put_u32};
 use crate::writing::versions::{put_value, put_version};
 use cluster_types::{NoMemory, NodeId};
 use conflict_order::{Version, Want};
+use wire_messages::{ReplyBody, ScanRefusal};
 
 /// 0 get, 1 put and the value, 2 del.
-#[tactic(auto, unfolding(crate::specs::Numbers::byte_field, crate::specs::Requests::want_field))]
+#[tactic(auto, unfolding(wire_messages::specs::Numbers::byte_field, wire_messages::specs::Requests::want_field))]
 pub(crate) fn put_want(out: &mut Vec<u8>, want: &Want) -> Result<(), NoMemory>
     ensures { OnOk result (out.new.items ≡ out.old.items ++ want_field want.now) }
 {
@@ -30,7 +29,7 @@ pub(crate) fn put_want(out: &mut Vec<u8>, want: &Want) -> Result<(), NoMemory>
 }
 
 /// A tag and an id.
-#[tactic(auto, unfolding(crate::specs::Numbers::byte_field))]
+#[tactic(auto, unfolding(wire_messages::specs::Numbers::byte_field))]
 fn put_tagged_id(out: &mut Vec<u8>, tag: u8, id: NodeId) -> Result<(), NoMemory>
     ensures { OnOk result (out.new.items ≡ out.old.items ++ tag ∷ id_field id) }
 {
@@ -39,7 +38,7 @@ fn put_tagged_id(out: &mut Vec<u8>, tag: u8, id: NodeId) -> Result<(), NoMemory>
 }
 
 /// A tag and a number of 32 bits.
-#[tactic(auto, unfolding(crate::specs::Numbers::byte_field))]
+#[tactic(auto, unfolding(wire_messages::specs::Numbers::byte_field))]
 fn put_tagged_number(out: &mut Vec<u8>, tag: u8, number: u32) -> Result<(), NoMemory>
     ensures { OnOk result (out.new.items ≡ out.old.items ++ tag ∷ number_field w32 number) }
 {
@@ -48,7 +47,7 @@ fn put_tagged_number(out: &mut Vec<u8>, tag: u8, number: u32) -> Result<(), NoMe
 }
 
 /// A tag and a version.
-#[tactic(auto, unfolding(crate::specs::Numbers::byte_field))]
+#[tactic(auto, unfolding(wire_messages::specs::Numbers::byte_field))]
 fn put_tagged_version(out: &mut Vec<u8>, tag: u8, version: &Version) -> Result<(), NoMemory>
     ensures { OnOk result (out.new.items ≡ out.old.items ++ tag ∷ version_field version.now) }
 {
@@ -57,7 +56,7 @@ fn put_tagged_version(out: &mut Vec<u8>, tag: u8, version: &Version) -> Result<(
 }
 
 /// A reply behind its tag.
-#[tactic(auto, unfolding(crate::specs::Numbers::byte_field, crate::specs::Requests::reply_field))]
+#[tactic(auto, unfolding(wire_messages::specs::Numbers::byte_field, wire_messages::specs::Requests::reply_field))]
 pub(crate) fn put_reply(out: &mut Vec<u8>, reply: &ReplyBody) -> Result<(), NoMemory>
     ensures { OnOk result (out.new.items ≡ out.old.items ++ reply_field reply.now) }
 {
@@ -73,7 +72,7 @@ pub(crate) fn put_reply(out: &mut Vec<u8>, reply: &ReplyBody) -> Result<(), NoMe
 }
 
 /// Why there is no page.
-#[tactic(auto, unfolding(crate::specs::Numbers::byte_field, crate::specs::Requests::refusal_field))]
+#[tactic(auto, unfolding(wire_messages::specs::Numbers::byte_field, wire_messages::specs::Requests::refusal_field))]
 pub(crate) fn put_refusal(out: &mut Vec<u8>, refusal: &ScanRefusal) -> Result<(), NoMemory>
     ensures { OnOk result (out.new.items ≡ out.old.items ++ refusal_field refusal.now) }
 {

@@ -3,8 +3,8 @@ ghost use Rattle.std.specs.Prelude.{◌≡◌, ◌≢◌, ◌++◌, ◌+◌, ◌
 ghost use Rattle.std.specs.List.{flat_map, range_with_len};
 ghost use Rattle.cluster_types.specs.declared.copy_state.CopyState.TheVariants.{Empty};
 ghost use Rattle.cluster_types.specs.Rows.{bit};
-ghost use Rattle.wire_codec.specs.Rows as rows;
-ghost use Rattle.wire_codec.specs.Rows.{bit_number, row_field, state_field, entry_field, state_row_field, FitsState};
+ghost use Rattle.wire_messages.specs.Rows as rows;
+ghost use Rattle.wire_messages.specs.Rows.{bit_number, row_field, state_field, entry_field, state_row_field, FitsState};
 
 use crate::writing::keys::put_key;
 use crate::writing::numbers::{put_byte, put_u16, put_u32};
@@ -39,7 +39,7 @@ fn row_byte(row: &Row4096, i: u16) -> u8
 }
 
 /// A bit row.
-#[tactic(auto, unfolding(crate::specs::Rows::row_field))]
+#[tactic(auto, unfolding(wire_messages::specs::Rows::row_field))]
 pub(crate) fn put_row(out: &mut Vec<u8>, row: &Row4096) -> Result<(), NoMemory>
     ensures { OnOk result (out.new.items ≡ out.old.items ++ row_field row.now) }
 {
@@ -50,7 +50,7 @@ pub(crate) fn put_row(out: &mut Vec<u8>, row: &Row4096) -> Result<(), NoMemory>
 }
 
 /// The state of a copy that isn't empty.
-#[tactic(auto, unfolding(crate::specs::Numbers::byte_field, crate::specs::Rows::state_field))]
+#[tactic(auto, unfolding(wire_messages::specs::Numbers::byte_field, wire_messages::specs::Rows::state_field))]
 fn put_state(out: &mut Vec<u8>, state: &CopyState) -> Result<(), NoMemory>
     requires { FitsState state.now }
     ensures { OnOk result (out.new.items ≡ out.old.items ++ state_field state.now) }
@@ -67,7 +67,7 @@ fn put_state(out: &mut Vec<u8>, state: &CopyState) -> Result<(), NoMemory>
 }
 
 /// A partition and the state of its copy.
-#[tactic(auto, unfolding(crate::specs::Rows::entry_field))]
+#[tactic(auto, unfolding(wire_messages::specs::Rows::entry_field))]
 fn put_entry(out: &mut Vec<u8>, entry: &(PartitionId, CopyState)) -> Result<(), NoMemory>
     requires { FitsState entry.now.1 }
     ensures { OnOk result (out.new.items ≡ out.old.items ++ entry_field entry.now) }
@@ -88,7 +88,7 @@ fn put_each_entry(out: &mut Vec<u8>, entries: &[(PartitionId, CopyState)]) -> Re
 }
 
 /// Entries behind their number.
-#[tactic(auto, unfolding(crate::specs::Rows::state_row_field))]
+#[tactic(auto, unfolding(wire_messages::specs::Rows::state_row_field))]
 pub(crate) fn put_state_row(out: &mut Vec<u8>, row: &StateRow) -> Result<(), NoMemory>
     requires states { All (λ e. FitsState e.1) row.now }
     requires limit { length row.now ≤ 4096 }

@@ -2,12 +2,12 @@
 ghost use Rattle.std.specs.Prelude.{◌≡◌, ◌++◌, ◌≤◌, length, take, OnOk};
 ghost use Rattle.std.specs.Option.{option_copied};
 ghost use Rattle.std.specs.List.{flat_map};
-ghost use Rattle.wire_codec.specs.Versions.{option_digest_field, value_field, body_field, version_field, option_version_field, record_field, records_field};
+ghost use Rattle.wire_messages.specs.Versions.{option_digest_field, value_field, body_field, version_field, option_version_field, record_field, records_field};
 
-use crate::records::Records;
 use crate::writing::numbers::{put_byte, put_u32, put_u64};
 use cluster_types::{Digest, NoMemory};
 use conflict_order::{Body, ValueBytes, Version};
+use wire_messages::Records;
 
 /// A digest.
 pub(crate) fn put_digest(out: &mut Vec<u8>, digest: &Digest) -> Result<(), NoMemory>
@@ -17,7 +17,7 @@ pub(crate) fn put_digest(out: &mut Vec<u8>, digest: &Digest) -> Result<(), NoMem
 }
 
 /// 0, or 1 and a digest.
-#[tactic(auto, unfolding(crate::specs::Numbers::byte_field, crate::specs::Versions::option_digest_field))]
+#[tactic(auto, unfolding(wire_messages::specs::Numbers::byte_field, wire_messages::specs::Versions::option_digest_field))]
 pub(crate) fn put_option_digest(out: &mut Vec<u8>, digest: &Option<Digest>) -> Result<(), NoMemory>
     ensures { OnOk result (out.new.items ≡ out.old.items ++ option_digest_field digest.now) }
 {
@@ -31,7 +31,7 @@ pub(crate) fn put_option_digest(out: &mut Vec<u8>, digest: &Option<Digest>) -> R
 }
 
 /// A value behind the number of its bytes.
-#[tactic(auto, unfolding(crate::specs::Versions::value_field))]
+#[tactic(auto, unfolding(wire_messages::specs::Versions::value_field))]
 pub(crate) fn put_value(out: &mut Vec<u8>, value: &ValueBytes) -> Result<(), NoMemory>
     ensures { OnOk result (out.new.items ≡ out.old.items ++ value_field value.now) }
 {
@@ -41,7 +41,7 @@ pub(crate) fn put_value(out: &mut Vec<u8>, value: &ValueBytes) -> Result<(), NoM
 }
 
 /// 0 for a tombstone, or 1 and the value.
-#[tactic(auto, unfolding(crate::specs::Numbers::byte_field, crate::specs::Versions::body_field))]
+#[tactic(auto, unfolding(wire_messages::specs::Numbers::byte_field, wire_messages::specs::Versions::body_field))]
 fn put_body(out: &mut Vec<u8>, body: &Body) -> Result<(), NoMemory>
     ensures { OnOk result (out.new.items ≡ out.old.items ++ body_field body.now) }
 {
@@ -55,7 +55,7 @@ fn put_body(out: &mut Vec<u8>, body: &Body) -> Result<(), NoMemory>
 }
 
 /// A version.
-#[tactic(auto, unfolding(crate::specs::Versions::version_field))]
+#[tactic(auto, unfolding(wire_messages::specs::Versions::version_field))]
 pub(crate) fn put_version(out: &mut Vec<u8>, version: &Version) -> Result<(), NoMemory>
     ensures { OnOk result (out.new.items ≡ out.old.items ++ version_field version.now) }
 {
@@ -65,7 +65,7 @@ pub(crate) fn put_version(out: &mut Vec<u8>, version: &Version) -> Result<(), No
 }
 
 /// 0, or 1 and a version.
-#[tactic(auto, unfolding(crate::specs::Numbers::byte_field, crate::specs::Versions::option_version_field))]
+#[tactic(auto, unfolding(wire_messages::specs::Numbers::byte_field, wire_messages::specs::Versions::option_version_field))]
 pub(crate) fn put_option_version(
     out: &mut Vec<u8>,
     version: &Option<Version>,
@@ -82,7 +82,7 @@ pub(crate) fn put_option_version(
 }
 
 /// A digest and its version.
-#[tactic(auto, unfolding(crate::specs::Versions::record_field))]
+#[tactic(auto, unfolding(wire_messages::specs::Versions::record_field))]
 fn put_record(out: &mut Vec<u8>, item: &(Digest, Version)) -> Result<(), NoMemory>
     ensures { OnOk result (out.new.items ≡ out.old.items ++ record_field item.now) }
 {
@@ -94,14 +94,14 @@ fn put_record(out: &mut Vec<u8>, item: &(Digest, Version)) -> Result<(), NoMemor
 fn put_each_record(out: &mut Vec<u8>, records: &Records) -> Result<(), NoMemory>
     ensures { OnOk result (out.new.items ≡ out.old.items ++ flat_map record_field records.now) }
 {
-    for i in 0..records.len() {
-        put_record(out, &records.items[i])?;
+    for record in records {
+        put_record(out, record)?;
     }
     Ok(())
 }
 
 /// Records behind their number.
-#[tactic(auto, unfolding(crate::specs::Versions::records_field))]
+#[tactic(auto, unfolding(wire_messages::specs::Versions::records_field))]
 pub(crate) fn put_records(out: &mut Vec<u8>, records: &Records) -> Result<(), NoMemory>
     requires { length records.now ≤ 64 }
     ensures { OnOk result (out.new.items ≡ out.old.items ++ records_field records.now) }

@@ -1,7 +1,7 @@
 use Rattle.std.proofs.Common.{length, ap, arith}
 use Rattle.hex.specs.Hex.{lower_digits}
 use Rattle.hex.proofs.HexLemmas.{length-encode_with}
-use Rattle.journal_text.specs.Text.{body_text}
+use Rattle.journal_text.specs.Values.{body_text}
 use Rattle.journal_text.proofs.lengths.body.Goals as goal
 
 pub returns-in-Value-clause-len : goal.returns-in-Value-clause-len

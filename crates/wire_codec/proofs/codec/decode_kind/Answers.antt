@@ -1,6 +1,6 @@
 use Rattle.std.proofs.Common.{◌≡◌, suc, ◌+◌, length, arith, ap}
 use Rattle.std.proofs.lemmas.Bool.{iff_false}
-use Rattle.wire_codec.specs.Decoding.{of_kind}
+use Rattle.wire_messages.specs.Decoding.{of_kind}
 use Rattle.wire_codec.proofs.CodecLaws.{other_kind, some_kind, read_decodes, fault_decodes}
 use Rattle.wire_codec.proofs.codec.decode_kind.Goals as goal
 

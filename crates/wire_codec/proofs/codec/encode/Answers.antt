@@ -1,7 +1,7 @@
 use Rattle.std.proofs.Common.{[], ap, ◌∙◌}
-use Rattle.wire_codec.specs.Spelling.{fields_of, spelling}
-use Rattle.wire_codec.specs.Writing.{appended}
-use Rattle.wire_codec.proofs.KindLaws.{appended_is}
+use Rattle.wire_messages.specs.Spelling.{fields_of, spelling}
+use Rattle.wire_messages.specs.Writing.{appended}
+use Rattle.wire_messages.proofs.KindLaws.{appended_is}
 use Rattle.wire_codec.proofs.codec.encode.Goals as goal
 
 pub returns : goal.returns

@@ -1,6 +1,6 @@
 use Rattle.std.proofs.Common.{take}
 use Rattle.std.specs.Fmt.{HasWritten, IsPlainFormatter}
-use Rattle.journal_text.specs.Text.{ids_text}
+use Rattle.journal_text.specs.Values.{ids_text}
 use Rattle.journal_text.proofs.groups.IdsTextDisplay.fmt.Given as goal
 
 abbrev pub invariant-loop-id : goal.invariant-loop-id

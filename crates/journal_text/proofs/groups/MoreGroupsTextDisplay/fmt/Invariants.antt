@@ -1,6 +1,6 @@
 use Rattle.std.proofs.Common.{take}
 use Rattle.std.specs.Fmt.{HasWritten, IsPlainFormatter}
-use Rattle.journal_text.specs.Text.{more_groups_text}
+use Rattle.journal_text.specs.Values.{more_groups_text}
 use Rattle.journal_text.proofs.groups.MoreGroupsTextDisplay.fmt.Given as goal
 
 abbrev pub invariant-loop-group : goal.invariant-loop-group

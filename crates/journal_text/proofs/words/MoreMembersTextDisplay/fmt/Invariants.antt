@@ -1,6 +1,6 @@
 use Rattle.std.proofs.Common.{take}
 use Rattle.std.specs.Fmt.{HasWritten, IsPlainFormatter}
-use Rattle.journal_text.specs.Text.{more_members_text}
+use Rattle.journal_text.specs.Values.{more_members_text}
 use Rattle.journal_text.proofs.words.MoreMembersTextDisplay.fmt.Given as goal
 
 abbrev pub invariant-loop-member : goal.invariant-loop-member

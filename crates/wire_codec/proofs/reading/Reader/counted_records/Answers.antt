@@ -1,8 +1,8 @@
 use Rattle.std.proofs.Common.{◌≡◌, suc, ◌+◌, ◌-◌, None, arith, sym, subst, ◌∙◌}
 use Rattle.std.proofs.lemmas.Result.{err_from_is_err_and}
-use Rattle.wire_codec.specs.Fields.{items_at}
+use Rattle.wire_messages.specs.Fields.{items_at}
 use Rattle.wire_codec.specs.Reading.{Fails}
-use Rattle.wire_codec.specs.Versions.{record_at, with_record}
+use Rattle.wire_messages.specs.Versions.{record_at, with_record}
 use Rattle.wire_codec.proofs.Loops.{items_more, items_fail, items_done, record_any}
 use Rattle.wire_codec.proofs.reading.Reader.counted_records.Goals as goal
 

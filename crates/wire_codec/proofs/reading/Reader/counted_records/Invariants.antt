@@ -1,6 +1,6 @@
 use Rattle.std.proofs.Common.{◌≡◌, ◌-◌, None}
-use Rattle.wire_codec.specs.Fields.{items_at}
-use Rattle.wire_codec.specs.Versions.{record_at, with_record}
+use Rattle.wire_messages.specs.Fields.{items_at}
+use Rattle.wire_messages.specs.Versions.{record_at, with_record}
 use Rattle.wire_codec.proofs.Loops.{with_front}
 use Rattle.wire_codec.proofs.reading.Reader.counted_records.Given as goal
 

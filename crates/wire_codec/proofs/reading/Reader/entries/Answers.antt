@@ -1,8 +1,8 @@
 use Rattle.std.proofs.Common.{◌≡◌, suc, ◌+◌, ◌-◌, None, arith, sym, subst, ◌∙◌}
 use Rattle.std.proofs.lemmas.Result.{err_from_is_err_and}
-use Rattle.wire_codec.specs.Fields.{items_at}
+use Rattle.wire_messages.specs.Fields.{items_at}
 use Rattle.wire_codec.specs.Reading.{Fails}
-use Rattle.wire_codec.specs.Rows.{entry_at, with_entry}
+use Rattle.wire_messages.specs.Rows.{entry_at, with_entry}
 use Rattle.wire_codec.proofs.Highest.{none_highest, highest_above, highest_more, entry_any}
 use Rattle.wire_codec.proofs.Loops.{items_start, items_more, items_fail, items_done}
 use Rattle.wire_codec.proofs.reading.Reader.entries.Goals as goal

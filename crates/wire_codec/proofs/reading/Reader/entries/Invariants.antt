@@ -1,6 +1,6 @@
 use Rattle.std.proofs.Common.{◌≡◌, ◌-◌, None}
-use Rattle.wire_codec.specs.Fields.{items_at}
-use Rattle.wire_codec.specs.Rows.{entry_at, with_entry}
+use Rattle.wire_messages.specs.Fields.{items_at}
+use Rattle.wire_messages.specs.Rows.{entry_at, with_entry}
 use Rattle.wire_codec.proofs.Highest.{IsHighest}
 use Rattle.wire_codec.proofs.Loops.{with_front}
 use Rattle.wire_codec.proofs.reading.Reader.entries.Given as goal

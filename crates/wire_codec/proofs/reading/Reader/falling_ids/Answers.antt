@@ -1,6 +1,6 @@
 use Rattle.std.proofs.Common.{◌≡◌, None, suc, ◌+◌, ◌-◌, length, length-append, arith, ap}
 use Rattle.std.proofs.lemmas.Result.{err_from_is_err_and}
-use Rattle.wire_codec.specs.Nodes.{falling_id_at, with_id, falling_ids_at}
+use Rattle.wire_messages.specs.Nodes.{falling_id_at, with_id, falling_ids_at}
 use Rattle.wire_codec.proofs.Loops.{items_start, items_more, items_fail, items_done}
 use Rattle.wire_codec.proofs.Lowest.{none_lowest, lowest_more, lowest_new, id_follows}
 use Rattle.wire_codec.proofs.Orders.{falling_ids_fall}

@@ -1,6 +1,6 @@
 use Rattle.std.proofs.Common.{◌≡◌, ◌-◌, length}
-use Rattle.wire_codec.specs.Fields.{items_at}
-use Rattle.wire_codec.specs.Nodes.{falling_id_at, with_id, falling_ids_at}
+use Rattle.wire_messages.specs.Fields.{items_at}
+use Rattle.wire_messages.specs.Nodes.{falling_id_at, with_id, falling_ids_at}
 use Rattle.wire_codec.proofs.Loops.{with_front}
 use Rattle.wire_codec.proofs.Lowest.{IsLowest}
 use Rattle.wire_codec.proofs.reading.Reader.falling_ids.Given as goal

@@ -1,8 +1,8 @@
 use Rattle.std.proofs.Common.{◌≡◌, ◌<◌, suc, ◌+◌, ◌-◌, None, length, take, arith}
 use Rattle.std.proofs.lemmas.List.{take_more_set}
 use Rattle.std.proofs.lemmas.Result.{err_from_is_err_and}
-use Rattle.wire_codec.specs.Fields.{items_at}
-use Rattle.wire_codec.specs.Nodes.{any_id_at, with_any_id}
+use Rattle.wire_messages.specs.Fields.{items_at}
+use Rattle.wire_messages.specs.Nodes.{any_id_at, with_any_id}
 use Rattle.wire_codec.proofs.Loops.{items_more, items_fail, items_filled}
 use Rattle.wire_codec.proofs.reading.Reader.fill_ids.Goals as goal
 

@@ -1,6 +1,6 @@
 use Rattle.std.proofs.Common.{◌≡◌, ◌-◌, None, length, take}
-use Rattle.wire_codec.specs.Fields.{items_at}
-use Rattle.wire_codec.specs.Nodes.{any_id_at, with_any_id}
+use Rattle.wire_messages.specs.Fields.{items_at}
+use Rattle.wire_messages.specs.Nodes.{any_id_at, with_any_id}
 use Rattle.wire_codec.proofs.Loops.{with_front}
 use Rattle.wire_codec.proofs.reading.Reader.fill_ids.Given as goal
 

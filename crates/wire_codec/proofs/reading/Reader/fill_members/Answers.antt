@@ -1,8 +1,8 @@
 use Rattle.std.proofs.Common.{◌≡◌, ◌<◌, suc, ◌+◌, ◌-◌, length, take, arith}
 use Rattle.std.proofs.lemmas.List.{take_more_set}
 use Rattle.std.proofs.lemmas.Result.{err_from_is_err_and}
-use Rattle.wire_codec.specs.Fields.{items_at}
-use Rattle.wire_codec.specs.Nodes.{member_at, with_member, nobody_before}
+use Rattle.wire_messages.specs.Fields.{items_at}
+use Rattle.wire_messages.specs.Nodes.{member_at, with_member, nobody_before}
 use Rattle.wire_codec.proofs.Loops.{items_more, items_fail, items_filled}
 use Rattle.wire_codec.proofs.reading.Reader.fill_members.Goals as goal
 

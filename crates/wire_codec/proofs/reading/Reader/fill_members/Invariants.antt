@@ -1,6 +1,6 @@
 use Rattle.std.proofs.Common.{◌≡◌, ◌-◌, length, take}
-use Rattle.wire_codec.specs.Fields.{items_at}
-use Rattle.wire_codec.specs.Nodes.{member_at, with_member, nobody_before}
+use Rattle.wire_messages.specs.Fields.{items_at}
+use Rattle.wire_messages.specs.Nodes.{member_at, with_member, nobody_before}
 use Rattle.wire_codec.proofs.Loops.{with_front}
 use Rattle.wire_codec.proofs.reading.Reader.fill_members.Given as goal
 

@@ -1,8 +1,8 @@
 use Rattle.std.proofs.Common.{◌||◌, ◌&&◌, ap, ◌∙◌, subst, arith}
 use Rattle.std.specs.Prelude.{◌≡◌, ◌==◌, ◌+◌, ◌*◌}
 use Rattle.cluster_types.specs.Rows.{bit}
-use Rattle.wire_codec.specs.RowFronts.{HasFront, second}
-use Rattle.wire_codec.proofs.RowForms.{more_bits}
+use Rattle.wire_messages.specs.RowFronts.{HasFront, second}
+use Rattle.wire_messages.proofs.RowForms.{more_bits}
 use Rattle.wire_codec.proofs.reading.rows.put_bits.Goals as goal
 
 pub loop-p-preserved : goal.loop-p-preserved

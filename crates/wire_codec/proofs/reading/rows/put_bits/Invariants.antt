@@ -1,4 +1,4 @@
-use Rattle.wire_codec.specs.RowFronts.{HasFront, second}
+use Rattle.wire_messages.specs.RowFronts.{HasFront, second}
 use Rattle.wire_codec.proofs.reading.rows.put_bits.Given as goal
 
 -- the bits of the first partitions are there, and no others

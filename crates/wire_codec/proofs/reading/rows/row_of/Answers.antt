@@ -1,6 +1,6 @@
 use Rattle.std.proofs.Common.{◌≡◌, ◌+◌, ◌*◌, ◌∙◌, subst, arith}
-use Rattle.wire_codec.specs.RowFronts.{HasFront, second}
-use Rattle.wire_codec.proofs.RowForms.{no_bits, all_bits}
+use Rattle.wire_messages.specs.RowFronts.{HasFront, second}
+use Rattle.wire_messages.proofs.RowForms.{no_bits, all_bits}
 use Rattle.wire_codec.proofs.RowPairs.{second_is_there}
 use Rattle.wire_codec.proofs.reading.rows.row_of.Goals as goal
 

@@ -1,5 +1,5 @@
 use Rattle.std.proofs.Common.{◌*◌}
-use Rattle.wire_codec.specs.RowFronts.{HasFront, second}
+use Rattle.wire_messages.specs.RowFronts.{HasFront, second}
 use Rattle.wire_codec.proofs.reading.rows.row_of.Given as goal
 
 -- the bits of the first bytes are there, and no others

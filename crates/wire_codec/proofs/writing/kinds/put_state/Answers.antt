@@ -1,4 +1,4 @@
-use Rattle.wire_codec.proofs.StateForms.{row_limit}
+use Rattle.wire_messages.proofs.StateForms.{row_limit}
 use Rattle.wire_codec.proofs.writing.kinds.put_state.Goals as goal
 
 pub put_state_row-requires-clause-limit : goal.put_state_row-requires-clause-limit

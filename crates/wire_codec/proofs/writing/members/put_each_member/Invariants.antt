@@ -1,6 +1,6 @@
 use Rattle.std.proofs.Common.{◌≡◌, ◌++◌, take}
 use Rattle.std.specs.List.{flat_map}
-use Rattle.wire_codec.specs.Nodes.{member_field}
+use Rattle.wire_messages.specs.Nodes.{member_field}
 use Rattle.wire_codec.proofs.writing.members.put_each_member.Given as goal
 
 -- the first members stand behind what stood there

@@ -1,6 +1,6 @@
 use Rattle.std.proofs.Common.{◌≡◌, ◌++◌, take}
 use Rattle.std.specs.List.{flat_map}
-use Rattle.wire_codec.specs.Nodes.{id_field}
+use Rattle.wire_messages.specs.Nodes.{id_field}
 use Rattle.wire_codec.proofs.writing.nodes.put_each_id.Given as goal
 
 -- the first ids stand behind what stood there

@@ -1,6 +1,6 @@
 use Rattle.std.proofs.Common.{◌≡◌, ◌++◌, take}
 use Rattle.std.specs.List.{flat_map}
-use Rattle.wire_codec.specs.Rows.{entry_field}
+use Rattle.wire_messages.specs.Rows.{entry_field}
 use Rattle.wire_codec.proofs.writing.rows.put_each_entry.Given as goal
 
 -- the first entries stand behind what stood there

@@ -2,7 +2,7 @@ use Rattle.std.proofs.Common.{◌≡◌, ◌++◌, map, arith, ap, ◌∙◌}
 use Rattle.std.specs.List.{range_with_len}
 use Rattle.std.proofs.lemmas.Grind.{common_steps}
 use Rattle.std.proofs.lemmas.List.FromFn.{map-range_with_len_more}
-use Rattle.wire_codec.specs.Rows.{row_byte, row_field}
+use Rattle.wire_messages.specs.Rows.{row_byte, row_field}
 use Rattle.wire_codec.proofs.writing.rows.put_row.Goals as goal
 
 pub loop-i-preserved : goal.loop-i-preserved

@@ -1,6 +1,6 @@
 use Rattle.std.proofs.Common.{◌≡◌, ◌++◌, map}
 use Rattle.std.specs.List.{range_with_len}
-use Rattle.wire_codec.specs.Rows.{row_byte}
+use Rattle.wire_messages.specs.Rows.{row_byte}
 use Rattle.wire_codec.proofs.writing.rows.put_row.Given as goal
 
 -- the first bytes of the row stand behind what stood there

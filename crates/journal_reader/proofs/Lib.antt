@@ -1,0 +1,17 @@
+pub mod ByteFields
+pub mod CauseFields
+pub mod GroupFields
+pub mod KeyFields
+pub mod LineLaws
+pub mod LineReaders
+pub mod ListFields
+pub mod Loops
+pub mod MemberFields
+pub mod NumberFields
+pub mod NumberTexts
+pub mod PairLaws
+pub mod Parts
+pub mod ReadLaws
+pub mod Readers
+pub mod VersionFields
+pub mod WordLaws

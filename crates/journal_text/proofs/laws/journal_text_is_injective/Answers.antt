@@ -1,5 +1,0 @@
-use Rattle.journal_text.proofs.LineLaws.{journals_injective}
-use Rattle.journal_text.proofs.laws.journal_text_is_injective.Goals as goal
-
-pub returns : goal.returns
-returns c = journals_injective

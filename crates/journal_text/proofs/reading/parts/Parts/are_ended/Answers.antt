@@ -1,5 +1,0 @@
-use Rattle.journal_text.proofs.Parts.{are_left}
-use Rattle.journal_text.proofs.reading.parts.Parts.are_ended.Goals as goal
-
-pub returns : goal.returns
-returns c = are_left _ _ _ _ c.is_none.ensures c.self.view_is

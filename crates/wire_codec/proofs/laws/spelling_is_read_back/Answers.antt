@@ -1,8 +1,0 @@
-use Rattle.wire_codec.proofs.DecodingLaws.{read_back, spelling_bytes}
-use Rattle.wire_codec.proofs.laws.spelling_is_read_back.Goals as goal
-
-pub returns-clause-message : goal.returns-clause-message
-returns-clause-message c = read_back
-
-pub returns-clause-bytes : goal.returns-clause-bytes
-returns-clause-bytes c = spelling_bytes

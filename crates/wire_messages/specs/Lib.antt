@@ -1,0 +1,13 @@
+pub mod Decoding
+pub mod Fields
+pub mod Keys
+pub mod Kinds
+pub mod Nodes
+pub mod Numbers
+pub mod Proper
+pub mod Requests
+pub mod RowFronts
+pub mod Rows
+pub mod Spelling
+pub mod Versions
+pub mod Writing
