@@ -135,6 +135,22 @@ impl Journal {
         Ok(())
     }
 
+    /// Moves the lines to the end. They pass no limit, and there is room for them. None is measured
+    /// again.
+    pub fn append(&mut self, lines: &mut LineList)
+        requires within { IsWithin (self.old.lines ++ lines.old) }
+        requires room { length lines.old ≤ self.old.spare }
+        ensures lines { self.new.lines ≡ self.old.lines ++ lines.old }
+        ensures none_left { lines.new ≡ [] }
+        ensures spare { self.new.spare + length lines.old ≡ self.old.spare }
+    {
+        let bytes = self.bytes.saturating_add(lines.text_len());
+        let count = lines.len();
+        lines.move_to(&mut self.lines);
+        self.bytes = bytes;
+        self.spare -= count;
+    }
+
     /// Whether all of the lines can be added without passing a limit.
     pub fn fits(&self, lines: &LineList) -> bool
         ensures { IsTrue result ↔ IsWithin (self.now.lines ++ lines.now) }

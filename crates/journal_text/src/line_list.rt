@@ -1,5 +1,5 @@
 //! Lists of lines.
-ghost use Rattle.std.specs.Prelude.{◌≡◌, ◌↔◌, ◌^◌, ◌-◌, ◌++◌, ◌∷◌, [], ℕ, length, drop, min, IsTrue, IfOk, OnOk, OnErr, slice_get};
+ghost use Rattle.std.specs.Prelude.{◌≡◌, ◌↔◌, ◌^◌, ◌+◌, ◌-◌, ◌<◌, ◌≤◌, ◌++◌, ◌∷◌, [], ℕ, length, drop, min, vec_len, vec_capacity, IsTrue, IfOk, OnOk, OnErr, slice_get};
 ghost use Rattle.std.specs.Option.{option_copied};
 ghost use Rattle.journal_text.specs.Text.{text};
 
@@ -15,15 +15,20 @@ use std::marker::Model;
 #[derive(Drop)]
 pub struct LineList {
     lines: VecDeque<Line>,
+    /// How many bytes the text of the lines has, or the greatest number where it has more.
+    bytes: usize,
 }
 
 impl Model for LineList {
-    ghost use Rattle.std.specs.Prelude.{List};
+    ghost use Rattle.std.specs.Prelude.{◌≡◌, ◌^◌, ◌-◌, List, length, min};
     ghost use Rattle.journal_lines.specs.declared.line.Line.{Line};
+    ghost use Rattle.journal_text.specs.Text.{text};
 
     ghost Value = { List Line };
 
     ghost view = { λ l. l.lines.items };
+
+    ghost invariant = { λ l. l.bytes ≡ min (length (text l.lines.items)) (2 ^ 64 - 1) };
 }
 
 impl LineList {
@@ -33,6 +38,7 @@ impl LineList {
     {
         LineList {
             lines: VecDeque::new(alloc),
+            bytes: 0,
         }
     }
 
@@ -41,7 +47,9 @@ impl LineList {
         ensures ok { OnOk result (self.new ≡ self.old ++ line ∷ []) }
         ensures err { OnErr result (self.new ≡ self.old) }
     {
+        let bytes = self.bytes.saturating_add(text_len(&line));
         self.lines.push_back(line)?;
+        self.bytes = bytes;
         Ok(())
     }
 
@@ -53,7 +61,8 @@ impl LineList {
         for i in 0..self.lines.len() {
             lines.push_back(copy_line(alloc, &self.lines[i])?)?;
         }
-        Ok(LineList { lines })
+        let bytes = self.bytes;
+        Ok(LineList { lines, bytes })
     }
 
     /// Takes the first line out, and `None` where there are none.
@@ -61,7 +70,24 @@ impl LineList {
         ensures first { result ≡ slice_get self.old 0 }
         ensures rest { self.new ≡ drop 1 self.old }
     {
-        self.lines.pop_front()
+        let line = self.lines.pop_front()?;
+        self.bytes = if self.bytes < usize::MAX {
+            self.bytes - text_len(&line)
+        } else {
+            measured(&self.lines)
+        };
+        Some(line)
+    }
+
+    /// Moves the lines to the end of others, which have room for them.
+    pub(crate) fn move_to(&mut self, into: &mut Vec<Line>)
+        requires { vec_len into.old + length self.old ≤ vec_capacity into.old }
+        ensures lines { into.new.items ≡ into.old.items ++ self.old }
+        ensures room { vec_capacity into.old ≤ vec_capacity into.new }
+        ensures none_left { self.new ≡ [] }
+    {
+        move_lines(&mut self.lines, into);
+        self.bytes = 0;
     }
 
     /// How many lines there are.
@@ -75,11 +101,7 @@ impl LineList {
     pub fn text_len(&self) -> usize
         ensures { result ≡ min (length (text self.now)) (2 ^ 64 - 1) }
     {
-        let mut bytes = 0usize;
-        for i in 0..self.lines.len() {
-            bytes = bytes.saturating_add(text_len(&self.lines[i]));
-        }
-        bytes
+        self.bytes
     }
 
     /// Whether there are none.
@@ -95,4 +117,37 @@ impl LineList {
     {
         self.lines.get(i)
     }
+}
+
+/// Moves the lines to the end of others, which have room for them.
+fn move_lines(left: &mut VecDeque<Line>, into: &mut Vec<Line>)
+    requires { vec_len into.old + length left.old.items ≤ vec_capacity into.old }
+    ensures lines { into.new.items ≡ into.old.items ++ left.old.items }
+    ensures room { vec_capacity into.old ≤ vec_capacity into.new }
+    ensures none_left { left.new.items ≡ [] }
+{
+    while let Some(line) = left.pop_front() {
+        push_in_room(into, line);
+    }
+}
+
+/// Adds a line at the end, for which there is room.
+fn push_in_room(into: &mut Vec<Line>, line: Line)
+    requires { vec_len into.old < vec_capacity into.old }
+    ensures lines { into.new.items ≡ into.old.items ++ line ∷ [] }
+    ensures count { vec_len into.new ≡ vec_len into.old + 1 }
+    ensures room { vec_capacity into.old ≤ vec_capacity into.new }
+{
+    let _ = into.push(line);
+}
+
+/// How many bytes the text of the lines has, or the greatest number where it has more.
+fn measured(lines: &VecDeque<Line>) -> usize
+    ensures { result ≡ min (length (text lines.now.items)) (2 ^ 64 - 1) }
+{
+    let mut bytes = 0usize;
+    for i in 0..lines.len() {
+        bytes = bytes.saturating_add(text_len(&lines[i]));
+    }
+    bytes
 }
