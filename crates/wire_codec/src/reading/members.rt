@@ -21,8 +21,8 @@ fn nobody_before() -> Before
 }
 
 /// What stands before the member behind this one.
-fn with_member(before: Before, member: Member) -> Before
-    ensures { result ≡ nodes.with_member before member }
+fn with_member(before: &Before, member: &Member) -> Before
+    ensures { result ≡ nodes.with_member before.now member.now }
 {
     Before {
         id: Some(member.id),
@@ -60,7 +60,7 @@ impl<'a> Reader<'a> {
         let mut before = nobody_before();
         for i in 0..places.len() {
             let member = self.member(&before, places.len() - i - 1)?;
-            before = with_member(before, member);
+            before = with_member(&before, &member);
             places[i] = member;
         }
         Ok(())

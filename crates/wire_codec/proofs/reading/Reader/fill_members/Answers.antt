@@ -21,7 +21,7 @@ loop-i-preserved c =
     let within : c.loop-i.i < length c.loop-i.places = omega (arith, c.loop-i-test.true, c.loop-i.auto.places) in
     let left : length c.loop-i.places - c.loop-i.i - 1 ≡ k = omega (arith, c.loop-i.auto.places) in
     let is : n - c.loop-i.i ≡ suc k = omega (arith, c.loop-i-test.true) in
-    rw (take_more_set c.loop-i.places c.loop-i.i m within, c.with-before.ensures)
+    rw (take_more_set c.loop-i.places c.loop-i.i m within, c.with_member-before.ensures)
     (items_more member_at with_member (take c.loop-i.i c.loop-i.places) m (n - c.loop-i.i) k c.loop-i.before c.loop-i.self.rest.now c.member.new.self.rest.now (items_at member_at with_member n nobody_before c.args.self.now.rest.now) is (rw (← left) c.in_ok-member.ensures) c.loop-i.invariant)
 
 pub returns : goal.returns
