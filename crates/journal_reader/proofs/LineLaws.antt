@@ -14,9 +14,8 @@ use Rattle.journal_text.specs.LineFields.{fields}
 use Rattle.journal_lines.specs.Proper.{IsProper}
 use Rattle.journal_reader.specs.Reading.{line_of, only_line, read_line}
 use Rattle.journal_text.specs.Text.{words, line_text, text}
-use Rattle.journal_reader.proofs.Readers.{Reads, IsFull, reads_parts, reads_same}
+use Rattle.journal_reader.proofs.Readers.{Reads, IsFull, reads_parts}
 use Rattle.journal_reader.proofs.KeyFields.{IsVisible}
-use Rattle.journal_text.proofs.Joins.{words_join}
 use Rattle.journal_reader.proofs.LineReaders.{line_fields}
 
 -- a byte that is no line feed
@@ -91,11 +90,8 @@ full (line.Scanned s n k p count) h = tt
 full (line.Record s d v) h = tt
 full (line.Unscanned s c) h = tt
 
-words_of : Reads IsNoFeed IsProper (λ l. join_with_byte 32 (fields l)) (λ t. line_of (parts_of 32 t))
-words_of = reads_parts 32 (λ b v. let above = v.above in ne_eqb b 32 (λ e. omega arith)) visible_no_feed (record { other = λ e. omega arith }) full line_fields
-
 line_words : Reads IsNoFeed IsProper words (λ t. line_of (parts_of 32 t))
-line_words = reads_same words (λ t. line_of (parts_of 32 t)) (λ l. sym (words_join l)) (λ t. refl) words_of
+line_words = reads_parts 32 (λ b v. let above = v.above in ne_eqb b 32 (λ e. omega arith)) visible_no_feed (record { other = λ e. omega arith }) full line_fields
 
 no_feed : (l : Line) → IsProper l → All (λ b. (b == 10) ≡ false) (words l)
 no_feed l p = All-weaker IsNoFeed (λ b. (b == 10) ≡ false) (λ b f. ne_eqb b 10 f.other) (words l) (line_words.clean l p)

@@ -6,8 +6,8 @@ use Rattle.std.specs.Option.{option_map, option_and_then}
 use Rattle.std.proofs.lemmas.Bool.{eq-eqb}
 use Rattle.std.proofs.lemmas.List.Elements.{All-nil, All-cons, All-append, All-weaker}
 use Rattle.std.proofs.lemmas.List.Splits.{slice_split_at, slice_split_none, join_with_byte-slice_split}
-use Rattle.std.proofs.lemmas.Option.{option_and_then_some, none-some, same_Some}
-use Rattle.journal_reader.specs.Fields.{Reader, parts_of, ended, with_field, with_rest}
+use Rattle.std.proofs.lemmas.Option.{none-some, same_Some}
+use Rattle.journal_reader.specs.Fields.{Reader, parts_of, ended, first, with_field, with_rest}
 
 -- a field: what has a meaning is read back, what is read is written so, and its bytes are of a kind
 pub record Reads {A : Type 0} (P : ℕ → Type 0) (Good : A → Type 0) (write : A → List ℕ) (read : List ℕ → Option A) : Type 0 where
@@ -39,9 +39,9 @@ ended_back P x = record { again = refl; clean = tt }
 
 pub field_back : {A B : Type 0} {P : ℕ → Type 0} {Good : A → Type 0} {write : A → List ℕ} {read : List ℕ → Option A} (next : A → Reader B) {fields : List (List ℕ)} {y : B}
     → Reads P Good write read → (x : A) → Good x → Back P (next x) fields y → Back P (with_field read next) (write x ∷ fields) y
-unfolding with_field
-field_back next {fields = fields} r x g b = record {
-  again = ap (option_and_then (λ z. next z fields)) (r.again x g) ∙ b.again;
+unfolding with_field first
+field_back {A = A} next {fields = fields} r x g b = record {
+  again = ap (λ o. option_and_then (λ (z : A × List (List ℕ)). next z.0 z.1) (option_map (λ z. (z, fields)) o)) (r.again x g) ∙ b.again;
   clean = (r.clean x g, b.clean);
 }
 
@@ -58,15 +58,20 @@ ended_at W x w (field ∷ fields) y e = absurd (none-some y e)
 pub ended_only : {A : Type 0} {W : List (List ℕ) → A → Type 0} (x : A) → W [] x → Only (ended x) W
 ended_only {W = W} x w = record { only = ended_at W x w }
 
+taken : {A B : Type 0} (next : A → Reader B) (fields : List (List ℕ)) (o : Option A) (y : B) (W : Type 0)
+    → ((x : A) → o ≡ Some x → next x fields ≡ Some y → W) → option_and_then (λ (z : A × List (List ℕ)). next z.0 z.1) (option_map (λ z. (z, fields)) o) ≡ Some y → W
+taken next fields None y W k e = absurd (none-some y e)
+taken next fields (Some x) y W k e = k x refl e
+
 field_at : {A B : Type 0} {P : ℕ → Type 0} (Good : A → Type 0) (write : A → List ℕ) (read : List ℕ → Option A) (next : A → Reader B) (W : List (List ℕ) → B → Type 0)
     → Reads P Good write read → ((x : A) → Good x → Only (next x) (λ fields y. W (write x ∷ fields) y))
     → (fields : List (List ℕ)) (y : B) → with_field read next fields ≡ Some y → W fields y
-unfolding with_field
+unfolding with_field first
 field_at Good write read next W r k [] y e = absurd (none-some y e)
 field_at Good write read next W r k (field ∷ fields) y e =
-    option_and_then_some (λ x. next x fields) (read field) y e (λ x is rest.
+    taken next fields (read field) y (W (field ∷ fields) y) (λ x is rest.
     let w = r.written field x is in
-    subst (λ t. W (t ∷ fields) y) w.0 ((k x w.1).only fields y rest))
+    subst (λ t. W (t ∷ fields) y) w.0 ((k x w.1).only fields y rest)) e
 
 pub field_only : {A B : Type 0} {P : ℕ → Type 0} {Good : A → Type 0} {write : A → List ℕ} {read : List ℕ → Option A} {next : A → Reader B} {W : List (List ℕ) → B → Type 0}
     → Reads P Good write read → ((x : A) → Good x → Only (next x) (λ fields y. W (write x ∷ fields) y)) → Only (with_field read next) W

@@ -17,7 +17,7 @@ use Rattle.conflict_order.specs.declared.version.Body.{Body}
 use Rattle.conflict_order.specs.declared.version.Body.TheVariants as body
 use Rattle.wire_messages.specs.Numbers.{IsNumber}
 use Rattle.wire_messages.specs.Versions.{IsValue, IsBody, IsVersion, IsOptionVersion}
-use Rattle.journal_reader.specs.Fields.{Reader, parts_of, with_field, ended, long_of, number_of, nothing_of, value_of, tombstone_of, written_value_of, stamp_of, version_of, optional_of}
+use Rattle.journal_reader.specs.Fields.{Reader, parts_of, first, with_field, ended, long_of, number_of, nothing_of, value_of, tombstone_of, written_value_of, stamp_of, version_of, optional_of}
 use Rattle.journal_text.specs.Values.{body_text, version_text, optional_text}
 use Rattle.journal_reader.proofs.Readers.{Reads, Back, Only, ended_back, field_back, ended_only, field_only, reads_all, reads_wider, reads_parts, reads_same, map_some}
 use Rattle.journal_reader.proofs.NumberFields.{IsDigit, other_than_digit, decimal_is_clean}
@@ -137,14 +137,14 @@ stamp_text s = decimal s.0 ++ body_text s.1
 abbrev IsStamp : Stamp → Type 0
 IsStamp s = IsNumber s.0 × IsBody s.1
 
-nothing_then : {A B : Type 0} (o : Option A) → option_and_then {U = B} (λ n. None) o ≡ None
-nothing_then None = refl
-nothing_then (Some n) = refl
+nothing_then : {A B : Type 0} (next : A × List (List ℕ) → Option B) → ((x : A) → next (x, []) ≡ None) → (o : Option A) → option_and_then next (option_map (λ x. (x, [])) o) ≡ None
+nothing_then next none None = refl
+nothing_then next none (Some n) = none n
 
 -- with one part there is no second field
 one_part : (text : List ℕ) → value_in (text ∷ []) ≡ None
-unfolding with_field
-one_part text = nothing_then (number_of text)
+unfolding with_field first
+one_part text = nothing_then (λ x. with_field value_of (λ bytes. ended (x.0, body.Value bytes)) x.1) (λ n. refl) (number_of text)
 
 no_value : (g : ℕ) → IsNumber g → written_value_of (join_with_byte 45 (decimal g ∷ [] ∷ [])) ≡ None
 no_value g n =

@@ -1,12 +1,12 @@
 -- The words with which lines begin.
-use Rattle.std.proofs.Common.{◌≡◌, ℕ, true, nat_lt, List, [], ◌∷◌, Option, Some, None, refl, sym, ap, ◌∙◌}
+use Rattle.std.proofs.Common.{◌≡◌, ℕ, true, nat_lt, List, [], ◌∷◌, Some, refl, sym, ap, ◌∙◌, map}
 use Rattle.std.specs.Prelude.{All, codes}
 use Rattle.std.specs.List.{AllByRecursion, list_all}
-use Rattle.std.specs.Option.{option_or}
 use Rattle.std.proofs.lemmas.Option.{none-some, same_Some}
 use Rattle.journal_reader.specs.declared.reading.word.Word.{Word}
 use Rattle.journal_reader.specs.declared.reading.word.Word.TheVariants as word
-use Rattle.journal_reader.specs.Words.{Table, word_in, word_of, script_words, node_words, message_words, view_words, request_words, answer_words, call_words, scan_words}
+use Rattle.journal_reader.specs.Words.{word_in, word_of}
+use Rattle.journal_reader.specs.declared.reading.word.TheConstants.{WORDS}
 use Rattle.journal_reader.proofs.KeyFields.{IsVisible}
 use Rattle.journal_reader.proofs.ByteFields.{word_case, word_clean}
 
@@ -209,53 +209,22 @@ visible_word word.Unscanned = refl
 pub word_is_clean : (w : Word) → All IsVisible (word_text w)
 word_is_clean w = word_clean (word_text w) (visible_word w)
 
+abbrev Table : Type 0
+Table = List (List ℕ × Word)
+
 abbrev IsTable : Table → Type 0
 IsTable table = AllByRecursion (λ e. e.0 ≡ word_text e.1) table
 
 in_table : (table : Table) → IsTable table → (text : List ℕ) (w : Word) → word_in table text ≡ Some w → word_text w ≡ text
 in_table [] h text w e = absurd (none-some w e)
 in_table (entry ∷ table) h text w e =
-    word_case (word_text w ≡ text) text entry.0 (Some entry.1) (word_in table text) w
-    (λ s i. ap word_text (sym (same_Some entry.1 w i)) ∙ sym h.0 ∙ s)
+    word_case (word_text w ≡ text) entry.0 text (Some entry.1) (word_in table text) w
+    (λ s i. ap word_text (sym (same_Some entry.1 w i)) ∙ sym h.0 ∙ sym s)
     (λ rest. in_table table h.1 text w rest) e
 
-either : (o p : Option Word) (w : Word) (W : Type 0) → (o ≡ Some w → W) → (p ≡ Some w → W) → option_or o p ≡ Some w → W
-either None p w W first second e = second e
-either (Some v) p w W first second e = first e
-
-script_table : IsTable script_words
-script_table = (refl, (refl, (refl, (refl, (refl, (refl, tt))))))
-
-node_table : IsTable node_words
-node_table = (refl, (refl, (refl, (refl, (refl, (refl, (refl, tt)))))))
-
-message_table : IsTable message_words
-message_table = (refl, (refl, (refl, (refl, (refl, (refl, (refl, (refl, (refl, (refl, (refl, tt)))))))))))
-
-view_table : IsTable view_words
-view_table = (refl, (refl, (refl, (refl, (refl, (refl, (refl, tt)))))))
-
-request_table : IsTable request_words
-request_table = (refl, (refl, (refl, (refl, (refl, (refl, (refl, (refl, tt))))))))
-
-answer_table : IsTable answer_words
-answer_table = (refl, (refl, (refl, (refl, (refl, (refl, (refl, (refl, (refl, tt)))))))))
-
-call_table : IsTable call_words
-call_table = (refl, (refl, (refl, (refl, (refl, (refl, (refl, (refl, tt))))))))
-
-scan_table : IsTable scan_words
-scan_table = (refl, (refl, (refl, (refl, (refl, (refl, (refl, tt)))))))
+the_table : IsTable (map (λ entry. (entry.0.now, entry.1)) WORDS)
+the_table = (refl, (refl, (refl, (refl, (refl, (refl, (refl, (refl, (refl, (refl, (refl, (refl, (refl, (refl, (refl, (refl, (refl, (refl, (refl, (refl, (refl, (refl, (refl, (refl, (refl, (refl, (refl, (refl, (refl, (refl, (refl, (refl, (refl, (refl, (refl, (refl, (refl, (refl, (refl, (refl, (refl, (refl, (refl, (refl, (refl, (refl, (refl, (refl, (refl, (refl, (refl, (refl, (refl, (refl, (refl, (refl, (refl, (refl, (refl, (refl, (refl, (refl, (refl, tt)))))))))))))))))))))))))))))))))))))))))))))))))))))))))))))))
 
 pub word_only : (text : List ℕ) (w : Word) → word_of text ≡ Some w → word_text w ≡ text
 unfolding word_of
-word_only text w e =
-    let W : Type 0 = word_text w ≡ text in
-    either (word_in script_words text) _ w W (in_table script_words script_table text w)
-    (either (word_in node_words text) _ w W (in_table node_words node_table text w)
-    (either (word_in message_words text) _ w W (in_table message_words message_table text w)
-    (either (word_in view_words text) _ w W (in_table view_words view_table text w)
-    (either (word_in request_words text) _ w W (in_table request_words request_table text w)
-    (either (word_in answer_words text) _ w W (in_table answer_words answer_table text w)
-    (either (word_in call_words text) _ w W (in_table call_words call_table text w)
-    (in_table scan_words scan_table text w))))))) e
+word_only text w e = in_table (map (λ entry. (entry.0.now, entry.1)) WORDS) the_table text w e

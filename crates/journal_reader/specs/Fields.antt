@@ -35,10 +35,14 @@ unfoldable pub ended : {A : Type 0} → A → Reader A
 ended x [] = Some x
 ended x (field ∷ fields) = None
 
+-- the first field's value, and the fields behind it
+unfoldable pub first : {A : Type 0} → (List ℕ → Option A) → List (List ℕ) → Option (A × List (List ℕ))
+first read [] = None
+first read (field ∷ fields) = option_map (λ x. (x, fields)) (read field)
+
 -- the first field, and what the fields behind it say then
 unfoldable pub with_field : {A B : Type 0} → (List ℕ → Option A) → (A → Reader B) → Reader B
-with_field read next [] = None
-with_field read next (field ∷ fields) = option_and_then (λ x. next x fields) (read field)
+with_field read next fields = option_and_then (λ x. next x.0 x.1) (first read fields)
 
 -- what all fields that are left say
 unfoldable pub with_rest : {A B : Type 0} → Reader A → (A → B) → Reader B

@@ -1,4 +1,5 @@
 pub mod Fields
 pub mod Parts
 pub mod Reading
+pub mod Unread
 pub mod Words

@@ -3,6 +3,7 @@ ghost use Rattle.std.specs.Prelude.{◌≡◌, IfOk, IfSome, Some};
 ghost use Rattle.journal_reader.specs.Reading as grammar;
 ghost use Rattle.journal_lines.specs.declared.line.Line.{Line};
 ghost use Rattle.journal_reader.specs.Reading.{of_word, read_line};
+ghost use Rattle.journal_reader.specs.Unread.{Reads};
 ghost use Rattle.journal_lines.specs.Proper.{IsProper};
 ghost use Rattle.journal_text.specs.Text.{line_text};
 
@@ -10,6 +11,7 @@ mod answer_lines;
 mod call_lines;
 mod causes;
 mod digits;
+mod fields;
 mod groups;
 mod members;
 mod message_lines;
@@ -21,11 +23,11 @@ mod replies;
 mod request_lines;
 mod scan_lines;
 mod script_lines;
+mod unread;
 mod versions;
 mod view_lines;
 mod word;
 
-use journal_lines::Line;
 use answer_lines::{
     calm_line, client_line, hash_line, holds_line, map_line, mapless_line, no_map_line, place_line,
     table_line,
@@ -35,6 +37,7 @@ use call_lines::{
     unproxied_line,
 };
 use cluster_types::NoMemory;
+use journal_lines::Line;
 use message_lines::{
     blocked_line, cut_line, deliver_line, full_line, lost_line, no_message_line, repeat_line,
     sent_line, short_line, spent_line, stale_line,
@@ -52,6 +55,7 @@ use scan_lines::{
 };
 use script_lines::{clock_line, factor_line, groups_line, node_line, policy_line, script_line};
 use std::alloc::Global;
+use unread::Unread;
 use view_lines::{
     drop_line, enter_line, exchanged_line, handed_line, learn_line, promise_line, settled_line,
 };
@@ -81,89 +85,89 @@ fn line_of_text(alloc: Global, text: &[u8]) -> Result<Option<Line>, NoMemory>
     if !behind.is_empty() || !lines.are_ended() {
         return Ok(None);
     }
-    line_of(alloc, Parts::of(line, b' '))
+    match line_of(alloc, Parts::of(line, b' ')) {
+        Ok(line) => Ok(Some(line)),
+        Err(Unread::NoLine) => Ok(None),
+        Err(Unread::NoMemory) => Err(NoMemory),
+    }
 }
 
 #[tactic(auto, unfolding(crate::specs::Reading::line_of))]
-fn line_of(alloc: Global, mut fields: Parts) -> Result<Option<Line>, NoMemory>
-    ensures { IfOk result (λ l. l ≡ grammar.line_of fields.entry) }
+fn line_of(alloc: Global, mut fields: Parts) -> Result<Line, Unread>
+    ensures { Reads result (grammar.line_of fields.entry) }
 {
-    let Some(name) = fields.take_first() else {
-        return Ok(None);
-    };
-    let Some(word) = word_of(name) else {
-        return Ok(None);
-    };
+    let name = fields.take_first().ok_or(Unread::NoLine)?;
+    let word = word_of(name).ok_or(Unread::NoLine)?;
     line_of_word(alloc, word, fields)
 }
 
 /// The line of that word with these fields.
-fn line_of_word(alloc: Global, word: Word, fields: Parts) -> Result<Option<Line>, NoMemory>
-    ensures { IfOk result (λ l. l ≡ of_word word fields.entry) }
+fn line_of_word(alloc: Global, word: Word, fields: Parts) -> Result<Line, Unread>
+    ensures { Reads result (of_word word fields.entry) }
 {
     match word {
-        Word::Script => Ok(script_line(fields)),
-        Word::Factor => Ok(factor_line(fields)),
-        Word::Node => Ok(node_line(fields)),
-        Word::Policy => Ok(policy_line(fields)),
-        Word::Clock => Ok(clock_line(fields)),
+        Word::Script => script_line(fields),
+        Word::Factor => factor_line(fields),
+        Word::Node => node_line(fields),
+        Word::Policy => policy_line(fields),
+        Word::Clock => clock_line(fields),
         Word::Groups => groups_line(alloc, fields),
-        Word::Tick => Ok(tick_line(fields)),
-        Word::Stop => Ok(stop_line(fields)),
-        Word::Start => Ok(start_line(fields)),
-        Word::Down => Ok(down_line(fields)),
-        Word::Up => Ok(up_line(fields)),
-        Word::Quiesce => Ok(quiesce_line(fields)),
-        Word::Unquiesce => Ok(unquiesce_line(fields)),
-        Word::Deliver => Ok(deliver_line(fields)),
-        Word::Repeat => Ok(repeat_line(fields)),
-        Word::Cut => Ok(cut_line(fields)),
-        Word::Lost => Ok(lost_line(fields)),
-        Word::Blocked => Ok(blocked_line(fields)),
-        Word::NoMessage => Ok(no_message_line(fields)),
+        Word::Tick => tick_line(fields),
+        Word::Stop => stop_line(fields),
+        Word::Start => start_line(fields),
+        Word::Down => down_line(fields),
+        Word::Up => up_line(fields),
+        Word::Quiesce => quiesce_line(fields),
+        Word::Unquiesce => unquiesce_line(fields),
+        Word::Deliver => deliver_line(fields),
+        Word::Repeat => repeat_line(fields),
+        Word::Cut => cut_line(fields),
+        Word::Lost => lost_line(fields),
+        Word::Blocked => blocked_line(fields),
+        Word::NoMessage => no_message_line(fields),
         Word::Sent => sent_line(alloc, fields),
-        Word::Full => Ok(full_line(fields)),
-        Word::Short => Ok(short_line(fields)),
-        Word::Stale => Ok(stale_line(fields)),
-        Word::Spent => Ok(spent_line(fields)),
-        Word::Promise => Ok(promise_line(fields)),
+        Word::Full => full_line(fields),
+        Word::Short => short_line(fields),
+        Word::Stale => stale_line(fields),
+        Word::Spent => spent_line(fields),
+        Word::Promise => promise_line(fields),
         Word::Enter => enter_line(alloc, fields),
-        Word::Exchanged => Ok(exchanged_line(fields)),
-        Word::Handed => Ok(handed_line(fields)),
-        Word::Settled => Ok(settled_line(fields)),
-        Word::Learn => Ok(learn_line(fields)),
-        Word::Drop => Ok(drop_line(fields)),
-        Word::Opened => Ok(opened_line(fields)),
-        Word::Refused => Ok(refused_line(fields)),
+        Word::Exchanged => exchanged_line(fields),
+        Word::Handed => handed_line(fields),
+        Word::Settled => settled_line(fields),
+        Word::Learn => learn_line(fields),
+        Word::Drop => drop_line(fields),
+        Word::Opened => opened_line(fields),
+        Word::Refused => refused_line(fields),
         Word::Value => value_line(alloc, fields),
         Word::Apply => apply_line(alloc, fields),
-        Word::Done => Ok(done_line(fields)),
-        Word::Aborted => Ok(aborted_line(fields)),
-        Word::Doubt => Ok(doubt_line(fields)),
+        Word::Done => done_line(fields),
+        Word::Aborted => aborted_line(fields),
+        Word::Doubt => doubt_line(fields),
         Word::Merge => merge_line(alloc, fields),
         Word::Map => map_line(alloc, fields),
-        Word::Mapless => Ok(mapless_line(fields)),
+        Word::Mapless => mapless_line(fields),
         Word::Place => place_line(alloc, fields),
-        Word::Hash => Ok(hash_line(fields)),
+        Word::Hash => hash_line(fields),
         Word::Holds => holds_line(alloc, fields),
-        Word::Client => Ok(client_line(fields)),
-        Word::NoMap => Ok(no_map_line(fields)),
-        Word::Table => Ok(table_line(fields)),
-        Word::Calm => Ok(calm_line(fields)),
-        Word::Proxy => Ok(proxy_line(fields)),
+        Word::Client => client_line(fields),
+        Word::NoMap => no_map_line(fields),
+        Word::Table => table_line(fields),
+        Word::Calm => calm_line(fields),
+        Word::Proxy => proxy_line(fields),
         Word::Proxied => proxied_line(alloc, fields),
-        Word::Unproxied => Ok(unproxied_line(fields)),
-        Word::CallFull => Ok(call_full_line(fields)),
-        Word::Call => Ok(call_line(fields)),
-        Word::NoOpen => Ok(no_open_line(fields)),
-        Word::Again => Ok(again_line(fields)),
+        Word::Unproxied => unproxied_line(fields),
+        Word::CallFull => call_full_line(fields),
+        Word::Call => call_line(fields),
+        Word::NoOpen => no_open_line(fields),
+        Word::Again => again_line(fields),
         Word::Reply => reply_line(alloc, fields),
-        Word::Scan => Ok(scan_line(fields)),
-        Word::NoScan => Ok(no_scan_line(fields)),
-        Word::Rescan => Ok(rescan_line(fields)),
-        Word::Page => Ok(page_line(fields)),
-        Word::Scanned => Ok(scanned_line(fields)),
+        Word::Scan => scan_line(fields),
+        Word::NoScan => no_scan_line(fields),
+        Word::Rescan => rescan_line(fields),
+        Word::Page => page_line(fields),
+        Word::Scanned => scanned_line(fields),
         Word::Record => record_line(alloc, fields),
-        Word::Unscanned => Ok(unscanned_line(fields)),
+        Word::Unscanned => unscanned_line(fields),
     }
 }

@@ -73,7 +73,7 @@ fn each_member_of(alloc: Global, mut parts: Parts) -> Result<Option<Vec<Member>>
 }
 
 /// An id alone, or behind it a slash and the role.
-#[tactic(auto, unfolding(crate::specs::Fields::member_of, crate::specs::Fields::member_in, crate::specs::Fields::with_field, crate::specs::Fields::ended))]
+#[tactic(auto, unfolding(crate::specs::Fields::member_of, crate::specs::Fields::member_in, crate::specs::Fields::first, crate::specs::Fields::with_field, crate::specs::Fields::ended))]
 fn member_of(text: &[u8]) -> Option<Member>
     ensures { result ≡ grammar.member_of text.now }
 {
@@ -91,7 +91,7 @@ fn member_of(text: &[u8]) -> Option<Member>
 }
 
 /// The rack behind the slash: above 0, or with the mark of a quiesced node.
-#[tactic(auto, unfolding(crate::specs::Fields::role_of, crate::specs::Fields::role_in, crate::specs::Fields::with_field, crate::specs::Fields::ended))]
+#[tactic(auto, unfolding(crate::specs::Fields::role_of, crate::specs::Fields::role_in, crate::specs::Fields::first, crate::specs::Fields::with_field, crate::specs::Fields::ended))]
 fn role_of(text: &[u8]) -> Option<Role>
     ensures { result ≡ grammar.role_of text.now }
 {

@@ -1,80 +1,66 @@
 //! What is done to a node.
 #![tactic(auto, unfolding(crate::specs::Reading::of_word, crate::specs::Fields::with_field, crate::specs::Fields::with_rest, crate::specs::Fields::ended))]
 
-ghost use Rattle.std.specs.Prelude.{◌≡◌};
 ghost use Rattle.journal_reader.specs.Reading.{of_word};
+ghost use Rattle.journal_reader.specs.Unread.{Reads};
 ghost use Rattle.journal_reader.specs.declared.reading.word.Word.TheVariants as word;
 
-use journal_lines::Line;
-use crate::reading::numbers::node_of;
 use crate::reading::parts::Parts;
+use crate::reading::unread::Unread;
+use journal_lines::Line;
 
-pub fn tick_line(mut fields: Parts) -> Option<Line>
-    ensures { result ≡ of_word word.Tick fields.entry }
+pub fn tick_line(mut fields: Parts) -> Result<Line, Unread>
+    ensures { Reads result (of_word word.Tick fields.entry) }
 {
-    let node = node_of(fields.take_first()?)?;
-    if !fields.are_ended() {
-        return None;
-    }
-    Some(Line::Tick { node })
+    let node = fields.node()?;
+    fields.end()?;
+    Ok(Line::Tick { node })
 }
 
-pub fn stop_line(mut fields: Parts) -> Option<Line>
-    ensures { result ≡ of_word word.Stop fields.entry }
+pub fn stop_line(mut fields: Parts) -> Result<Line, Unread>
+    ensures { Reads result (of_word word.Stop fields.entry) }
 {
-    let node = node_of(fields.take_first()?)?;
-    if !fields.are_ended() {
-        return None;
-    }
-    Some(Line::Stop { node })
+    let node = fields.node()?;
+    fields.end()?;
+    Ok(Line::Stop { node })
 }
 
-pub fn start_line(mut fields: Parts) -> Option<Line>
-    ensures { result ≡ of_word word.Start fields.entry }
+pub fn start_line(mut fields: Parts) -> Result<Line, Unread>
+    ensures { Reads result (of_word word.Start fields.entry) }
 {
-    let node = node_of(fields.take_first()?)?;
-    if !fields.are_ended() {
-        return None;
-    }
-    Some(Line::Start { node })
+    let node = fields.node()?;
+    fields.end()?;
+    Ok(Line::Start { node })
 }
 
-pub fn down_line(mut fields: Parts) -> Option<Line>
-    ensures { result ≡ of_word word.Down fields.entry }
+pub fn down_line(mut fields: Parts) -> Result<Line, Unread>
+    ensures { Reads result (of_word word.Down fields.entry) }
 {
-    let node = node_of(fields.take_first()?)?;
-    if !fields.are_ended() {
-        return None;
-    }
-    Some(Line::Down { node })
+    let node = fields.node()?;
+    fields.end()?;
+    Ok(Line::Down { node })
 }
 
-pub fn up_line(mut fields: Parts) -> Option<Line>
-    ensures { result ≡ of_word word.Up fields.entry }
+pub fn up_line(mut fields: Parts) -> Result<Line, Unread>
+    ensures { Reads result (of_word word.Up fields.entry) }
 {
-    let node = node_of(fields.take_first()?)?;
-    if !fields.are_ended() {
-        return None;
-    }
-    Some(Line::Up { node })
+    let node = fields.node()?;
+    fields.end()?;
+    Ok(Line::Up { node })
 }
 
-pub fn quiesce_line(mut fields: Parts) -> Option<Line>
-    ensures { result ≡ of_word word.Quiesce fields.entry }
+pub fn quiesce_line(mut fields: Parts) -> Result<Line, Unread>
+    ensures { Reads result (of_word word.Quiesce fields.entry) }
 {
-    let node = node_of(fields.take_first()?)?;
-    if !fields.are_ended() {
-        return None;
-    }
-    Some(Line::Quiesce { node })
+    let node = fields.node()?;
+    fields.end()?;
+    Ok(Line::Quiesce { node })
 }
 
-pub fn unquiesce_line(mut fields: Parts) -> Option<Line>
-    ensures { result ≡ of_word word.Unquiesce fields.entry }
+pub fn unquiesce_line(mut fields: Parts) -> Result<Line, Unread>
+    ensures { Reads result (of_word word.Unquiesce fields.entry) }
 {
-    let node = node_of(fields.take_first()?)?;
-    if !fields.are_ended() {
-        return None;
-    }
-    Some(Line::Unquiesce { node })
+    let node = fields.node()?;
+    fields.end()?;
+    Ok(Line::Unquiesce { node })
 }

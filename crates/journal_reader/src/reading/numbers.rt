@@ -1,5 +1,5 @@
 //! Numbers, ids and keys, in decimal digits.
-#![tactic(auto, unfolding(crate::specs::Fields::with_field, crate::specs::Fields::ended))]
+#![tactic(auto, unfolding(crate::specs::Fields::first, crate::specs::Fields::with_field, crate::specs::Fields::ended))]
 
 ghost use Rattle.std.specs.Prelude.{◌≡◌, ◌≤◌, IfSome};
 ghost use Rattle.journal_reader.specs.Fields as grammar;
@@ -81,7 +81,7 @@ pub fn positive_rack_of(text: &[u8]) -> Option<u8>
 }
 
 /// The rack of a node, or nothing where no field is left.
-#[tactic(auto, unfolding(crate::specs::Reading::declared_rack_of, crate::specs::Fields::with_field, crate::specs::Fields::ended))]
+#[tactic(auto, unfolding(crate::specs::Reading::declared_rack_of, crate::specs::Fields::first, crate::specs::Fields::with_field, crate::specs::Fields::ended))]
 pub fn declared_rack_of(mut fields: Parts) -> Option<Option<u8>>
     ensures { result ≡ reading.declared_rack_of fields.entry }
 {
@@ -138,7 +138,7 @@ pub fn count_of(text: &[u8]) -> Option<u32>
 }
 
 /// The round and the principal, with a dot between them.
-#[tactic(auto, unfolding(crate::specs::Fields::key_of, crate::specs::Fields::with_field, crate::specs::Fields::ended))]
+#[tactic(auto, unfolding(crate::specs::Fields::key_of, crate::specs::Fields::first, crate::specs::Fields::with_field, crate::specs::Fields::ended))]
 pub fn key_of(text: &[u8]) -> Option<ClusterKey>
     ensures { result ≡ grammar.key_of text.now }
 {

@@ -1,5 +1,5 @@
 //! Replies to requests.
-#![tactic(auto, unfolding(crate::specs::Fields::with_field, crate::specs::Fields::ended))]
+#![tactic(auto, unfolding(crate::specs::Fields::first, crate::specs::Fields::with_field, crate::specs::Fields::ended))]
 
 ghost use Rattle.std.specs.Prelude.{◌≡◌, IfOk};
 ghost use Rattle.journal_reader.specs.Reading as reading;
@@ -7,13 +7,13 @@ ghost use Rattle.journal_reader.specs.Reading as reading;
 use crate::reading::causes::cause_of;
 use crate::reading::parts::Parts;
 use crate::reading::versions::optional_of;
-use journal_lines::Refusal;
 use cluster_types::NoMemory;
+use journal_lines::Refusal;
 use std::alloc::Global;
 use wire_messages::ReplyBody;
 
 /// A reply. Whether it may be that there is no view is said before.
-#[tactic(auto, unfolding(crate::specs::Reading::reply_of, crate::specs::Fields::with_field, crate::specs::Fields::ended))]
+#[tactic(auto, unfolding(crate::specs::Reading::reply_of, crate::specs::Fields::first, crate::specs::Fields::with_field, crate::specs::Fields::ended))]
 pub fn reply_of(
     alloc: Global,
     no_view: bool,
