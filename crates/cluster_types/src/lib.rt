@@ -40,6 +40,3 @@ pub use partition::{PartitionId, partition_of};
 pub use row::Row4096;
 pub use state_row::StateRow;
 pub use std::alloc::AllocError as NoMemory;
-
-#[cfg(test)]
-mod tests;

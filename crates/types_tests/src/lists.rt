@@ -1,5 +1,5 @@
-use super::node;
-use crate::{
+use crate::made::node;
+use cluster_types::{
     Bytes, Digest, DigestList, Groups, IdList, ListFault, Member, MemberList, Members,
     MembersFault, NodeId, NodeList, Role,
 };

@@ -1,5 +1,5 @@
-use super::{key, node, partition};
-use crate::{ClusterKey, Digest, NodeId, PartitionId, partition_of};
+use crate::made::{key, node, partition};
+use cluster_types::{ClusterKey, Digest, NodeId, PartitionId, partition_of};
 use std::test::Fail;
 
 #[test]

@@ -1,7 +1,9 @@
-ghost use Rattle.std.specs.Prelude.{[], false};
+ghost use Rattle.std.specs.Prelude.{◌==◌, true};
 
-use super::{key, node, partition};
-use crate::{CopyState, MapEntry, MapView, NodeId, NodeList, PartitionId, Row4096, StateRow};
+use crate::made::{key, node, partition};
+use cluster_types::{
+    CopyState, MapEntry, MapView, NodeId, NodeList, PartitionId, Row4096, StateRow,
+};
 use std::test::Fail;
 
 #[test]
@@ -40,40 +42,58 @@ fn keeps_the_states_that_are_not_empty(rt: HostRuntime) -> Result<(), Fail> {
     Ok(())
 }
 
-/// A map on which one node does all.
+/// A map on which one node acts for every partition, and sends its copy to all others.
 #[derive(Drop)]
-struct Alone(NodeId);
+struct Acted {
+    list: NodeList,
+    acting: NodeId,
+}
 
-impl MapView for Alone {
-    ghost entry = { λ view p. record { list = []; acting = view.0; all_empty = false } };
+impl MapView for Acted {
+    ghost entry = { λ view p. record { list = view.list; acting = view.acting; all_empty = true } };
 
-    ghost sends_to = { λ view p from to. false };
+    ghost sends_to = { λ view p from to. from == view.acting };
 
-    ghost asked_by = { λ view p by. [] };
+    ghost asked_by = { λ view p by. view.list };
 
     fn map(&self, _p: PartitionId) -> MapEntry {
         MapEntry {
-            list: NodeList::new(),
-            acting: self.0,
-            all_empty: false,
+            list: self.list,
+            acting: self.acting,
+            all_empty: true,
         }
     }
 
-    fn sends(&self, _p: PartitionId, _from: NodeId, _to: NodeId) -> bool {
-        false
+    fn sends(&self, _p: PartitionId, from: NodeId, _to: NodeId) -> bool {
+        from == self.acting
     }
 
     fn asks(&self, _p: PartitionId, _by: NodeId) -> NodeList {
-        NodeList::new()
+        self.list
     }
 }
 
-fn nobody_helps<X: MapView>(x: &X, p: PartitionId) -> bool {
-    let acting = x.map(p).acting;
-    x.asks(p, acting).is_empty() && !x.sends(p, acting, acting)
+/// Whether the first node sends to the second and not back.
+fn sends_one_way<X: MapView>(x: &X, p: PartitionId, from: NodeId, to: NodeId) -> bool {
+    x.sends(p, from, to) && !x.sends(p, to, from)
+}
+
+/// How many nodes the acting node asks.
+fn asked_by_acting<X: MapView>(x: &X, p: PartitionId) -> usize {
+    x.asks(p, x.map(p).acting).len()
 }
 
 #[test]
-fn is_seen_through_a_bound(rt: HostRuntime) {
-    assert!(rt; nobody_helps(&Alone(node(&rt, 1)), partition(&rt, 0)));
+fn a_map_answers_through_a_bound(rt: HostRuntime) -> Result<(), Fail> {
+    let (first, second) = (node(&rt, 1), node(&rt, 2));
+    let view = Acted {
+        list: NodeList::from_slice(&[first, second])?,
+        acting: second,
+    };
+    let p = partition(&rt, 0);
+    assert!(rt; sends_one_way(&view, p, second, first));
+    assert!(rt; !sends_one_way(&view, p, first, second));
+    assert_eq!(rt; asked_by_acting(&view, p), 2);
+    assert!(rt; view.map(p).all_empty);
+    Ok(())
 }
