@@ -57,8 +57,7 @@ fn append(journal: &mut Journal, due: &mut LineList) -> Result<(), PushFault>
     if !journal.fits(due) {
         return Err(PushFault::Full);
     }
-    while let Some(line) = due.take_first() {
-        journal.push(line)?;
-    }
+    journal.reserve(due.len())?;
+    journal.append(due);
     Ok(())
 }
