@@ -4,6 +4,7 @@ use conflict_order::Body;
 use journal_reader::read;
 use journal_text::{Line, Refusal, text};
 use std::alloc::Global;
+use std::process::Abort;
 use std::test::Fail;
 use wire_messages::ReplyBody;
 
@@ -67,27 +68,27 @@ fn line(alloc: Global, bytes: &str) -> Result<Line, Fail> {
     Ok(read(alloc, bytes.as_bytes())?.ok_or("no line")?)
 }
 
+/// The line of that text has it.
+fn is_read_back(rt: &impl Abort, alloc: Global, expected: &str) -> Result<(), Fail> {
+    let line = line(alloc, expected)?;
+    assert_eq!(rt; text(alloc, &line)?.as_slice(), expected.as_bytes());
+    Ok(())
+}
+
 #[test]
 fn each_line_is_read_back(rt: HostRuntime) -> Result<(), Fail> {
-    let alloc = rt.alloc();
     for expected in LINES {
-        match read(alloc, expected.as_bytes())? {
-            None => panic!(rt; "{expected:?} isn't read"),
-            Some(line) => {
-                let bytes = text(alloc, &line)?;
-                assert_eq!(rt; bytes.as_slice(), expected.as_bytes());
-            }
-        }
+        is_read_back(&rt, rt.alloc(), expected)?;
     }
     Ok(())
 }
 
 #[test]
-fn what_is_read_has_the_parts_that_stand_there(rt: HostRuntime) -> Result<(), Fail> {
-    let alloc = rt.alloc();
+fn a_line_of_a_message_has_the_parts_that_stand_there(rt: HostRuntime) -> Result<(), Fail> {
+    let cut = line(rt.alloc(), "cut 18 1 2 8\n")?;
     assert!(rt;
         matches!(
-            line(alloc, "cut 18 1 2 8\n")?,
+            cut,
             Line::Cut {
                 message: 18,
                 from: 1,
@@ -96,10 +97,13 @@ fn what_is_read_has_the_parts_that_stand_there(rt: HostRuntime) -> Result<(), Fa
             }
         )
     );
-    match line(
-        alloc,
-        "merge 1 2.3 ffff000000000000000000000000000000000000 9.4-\n",
-    )? {
+    Ok(())
+}
+
+#[test]
+fn a_version_has_the_parts_that_stand_there(rt: HostRuntime) -> Result<(), Fail> {
+    let text = "merge 1 2.3 ffff000000000000000000000000000000000000 9.4-\n";
+    match line(rt.alloc(), text)? {
         Line::Merge {
             node,
             key,
@@ -107,52 +111,55 @@ fn what_is_read_has_the_parts_that_stand_there(rt: HostRuntime) -> Result<(), Fa
             version,
         } => {
             assert_eq!(rt; node.number(), 1);
-            assert_eq!(rt; key.round, 2);
-            assert_eq!(rt; key.principal, 3);
+            assert_eq!(rt; (key.round, key.principal), (2, 3));
             assert_eq!(rt; digest.bytes()[1], 255);
-            assert_eq!(rt; version.lut, 9);
-            assert_eq!(rt; version.generation, 4);
+            assert_eq!(rt; (version.lut, version.generation), (9, 4));
             assert!(rt; matches!(version.body, Body::Tombstone));
         }
         _ => panic!(rt; "another line"),
     }
-    match line(alloc, "enter 3 2.3 3/0q,2/7\n")? {
+    Ok(())
+}
+
+#[test]
+fn members_have_their_racks_and_marks(rt: HostRuntime) -> Result<(), Fail> {
+    match line(rt.alloc(), "enter 3 2.3 3/0q,2/7\n")? {
         Line::Enter { members, .. } => {
+            let members = members.as_slice();
             assert_eq!(rt; members.len(), 2);
-            let roles = members.as_slice();
-            assert_eq!(rt; roles[0].id.number(), 3);
-            assert!(rt; roles[0].role.quiesced);
-            assert_eq!(rt; roles[1].role.rack, 7);
-            assert!(rt; !roles[1].role.quiesced);
+            assert_eq!(rt; members[0].id.number(), 3);
+            assert!(rt; members[0].role.quiesced);
+            assert_eq!(rt; members[1].role.rack, 7);
+            assert!(rt; !members[1].role.quiesced);
         }
         _ => panic!(rt; "another line"),
     }
-    match line(alloc, "groups 1 2 | 4\n")? {
+    Ok(())
+}
+
+#[test]
+fn groups_are_told_apart(rt: HostRuntime) -> Result<(), Fail> {
+    match line(rt.alloc(), "groups 1 2 | 4\n")? {
         Line::Groups { groups } => assert_eq!(rt; groups.groups().len(), 2),
         _ => panic!(rt; "another line"),
     }
-    assert!(rt;
-        matches!(
-            line(
-                alloc,
-                "refused 2 ffff000000000000000000000000000000000000 busy 5\n"
-            )?,
-            Line::Refused {
-                cause: Refusal::Busy(5),
-                ..
-            }
-        )
-    );
-    assert!(rt;
-        matches!(
-            line(alloc, "reply 7 3 done\n")?,
-            Line::Reply {
-                number: 7,
-                reply: ReplyBody::Done,
-                ..
-            }
-        )
-    );
+    Ok(())
+}
+
+#[test]
+fn causes_and_replies_have_their_parts(rt: HostRuntime) -> Result<(), Fail> {
+    let text = "refused 2 ffff000000000000000000000000000000000000 busy 5\n";
+    match line(rt.alloc(), text)? {
+        Line::Refused { cause, .. } => assert_eq!(rt; cause, Refusal::Busy(5)),
+        _ => panic!(rt; "another line"),
+    }
+    match line(rt.alloc(), "reply 7 3 done\n")? {
+        Line::Reply { number, reply, .. } => {
+            assert_eq!(rt; number, 7);
+            assert_eq!(rt; reply, ReplyBody::Done);
+        }
+        _ => panic!(rt; "another line"),
+    }
     Ok(())
 }
 

@@ -3,11 +3,12 @@ use crate::lines::LINES;
 use cluster_types::{ClusterKey, Digest, Member, MemberList, NodeId, PartitionId, Role};
 use conflict_order::{Action, Policy};
 use journal_reader::read;
-use journal_text::{Journal, Line, LineList, LineText, text, text_len};
+use journal_text::{Journal, Line, LineList, LineText, copy_line, text, text_len};
 use std::alloc::Global;
 use std::mem::size_of;
+use std::process::Abort;
 use std::test::Fail;
-use wire_messages::{ReplyBody, ScanRefusal};
+use wire_messages::ReplyBody;
 
 fn node(number: u16) -> Result<NodeId, &'static str> {
     NodeId::new(number).ok_or("no node has the id 0")
@@ -28,10 +29,11 @@ const KEY: ClusterKey = ClusterKey {
     principal: 3,
 };
 
-/// The words of the line.
-fn words(alloc: Global, line: &Line) -> Result<String, Fail> {
-    let line = LineText(line);
-    Ok(line.to_string(alloc)?)
+/// The line is shown so.
+fn shows(rt: &impl Abort, alloc: Global, line: Line, expected: &str) -> Result<(), Fail> {
+    let line = LineText(&line);
+    assert_eq!(rt; line.to_string(alloc)?.as_str(), expected);
+    Ok(())
 }
 
 #[test]
@@ -40,24 +42,34 @@ fn a_line_takes_at_most_128_bytes(rt: HostRuntime) {
 }
 
 #[test]
-fn a_line_shows_its_parts_in_their_order(rt: HostRuntime) -> Result<(), Fail> {
-    let alloc = rt.alloc();
-    let policy = Line::Policy {
-        policy: Policy::Generation,
-    };
-    assert_eq!(rt; words(alloc, &policy)?.as_str(), "policy generation");
+fn a_line_of_the_script_shows_its_parts_in_their_order(rt: HostRuntime) -> Result<(), Fail> {
+    let policy = Policy::Generation;
+    shows(
+        &rt,
+        rt.alloc(),
+        Line::Policy { policy },
+        "policy generation",
+    )?;
     let declared = Line::Node {
         node: node(3)?,
         rack: Some(0),
     };
-    assert_eq!(rt; words(alloc, &declared)?.as_str(), "node 3 0");
+    shows(&rt, rt.alloc(), declared, "node 3 0")
+}
+
+#[test]
+fn a_line_of_a_message_names_both_ends(rt: HostRuntime) -> Result<(), Fail> {
     let cut = Line::Cut {
         message: 18,
         from: 1,
         to: 65_535,
         length: 8,
     };
-    assert_eq!(rt; words(alloc, &cut)?.as_str(), "cut 18 1 65535 8");
+    shows(&rt, rt.alloc(), cut, "cut 18 1 65535 8")
+}
+
+#[test]
+fn a_line_of_a_request_shows_its_parts_in_their_order(rt: HostRuntime) -> Result<(), Fail> {
     let proxy = Line::Proxy {
         node: node(1)?,
         key: KEY,
@@ -66,25 +78,18 @@ fn a_line_shows_its_parts_in_their_order(rt: HostRuntime) -> Result<(), Fail> {
         action: Action::Get,
         acting: node(2)?,
     };
-    assert_eq!(rt;
-        words(alloc, &proxy)?.as_str(),
-        "proxy 1 2.3 4 ff00000000000000000000000000000000000000 get 2"
-    );
+    shows(
+        &rt,
+        rt.alloc(),
+        proxy,
+        "proxy 1 2.3 4 ff00000000000000000000000000000000000000 get 2",
+    )?;
     let reply = Line::Reply {
         number: 2,
         node: node(3)?,
         reply: ReplyBody::NotMaster(node(1)?),
     };
-    assert_eq!(rt;
-        words(alloc, &reply)?.as_str(),
-        "reply 2 3 refused notmaster 1"
-    );
-    let unscanned = Line::Unscanned {
-        scan: 1,
-        cause: ScanRefusal::Open(7),
-    };
-    assert_eq!(rt; words(alloc, &unscanned)?.as_str(), "unscanned 1 open 7");
-    Ok(())
+    shows(&rt, rt.alloc(), reply, "reply 2 3 refused notmaster 1")
 }
 
 #[test]
@@ -108,41 +113,51 @@ fn members_show_their_racks_and_marks(rt: HostRuntime) -> Result<(), Fail> {
         partition: partition(4095)?,
         members: MemberList::from_slice(&[plain, in_rack, quiesced])?,
     };
-    assert_eq!(rt;
-        words(rt.alloc(), &place)?.as_str(),
-        "place 4095 1,3/255,2/0q"
-    );
+    shows(&rt, rt.alloc(), place, "place 4095 1,3/255,2/0q")
+}
+
+/// The line of that text is as long as it, and so is its copy.
+fn copies(rt: &impl Abort, alloc: Global, expected: &str) -> Result<(), Fail> {
+    let line = read(alloc, expected.as_bytes())?.ok_or("no line")?;
+    assert_eq!(rt; text_len(&line), expected.len(), "{expected:?}");
+    let copy = copy_line(alloc, &line)?;
+    assert_eq!(rt; text(alloc, &copy)?.as_slice(), expected.as_bytes());
     Ok(())
 }
 
 #[test]
 fn lines_are_copied_and_measured(rt: HostRuntime) -> Result<(), Fail> {
-    let alloc = rt.alloc();
     for expected in LINES {
-        let line = read(alloc, expected.as_bytes())?.ok_or("no line")?;
-        assert_eq!(rt; text_len(&line), expected.len(), "{expected:?}");
-        let mut lines = LineList::new(alloc);
-        lines.push(line)?;
-        let mut copies = lines.copy(alloc)?;
-        let copy = copies.take_first().ok_or("no copy")?;
-        assert_eq!(rt; text(alloc, &copy)?.as_slice(), expected.as_bytes());
-        assert!(rt; copies.is_empty());
-        assert_eq!(rt; lines.len(), 1);
-        assert!(rt; lines.get(0).is_some());
+        copies(&rt, rt.alloc(), expected)?;
     }
+    Ok(())
+}
+
+#[test]
+fn a_list_of_lines_is_copied_whole(rt: HostRuntime) -> Result<(), Fail> {
+    let alloc = rt.alloc();
+    let mut lines = LineList::new(alloc);
+    lines.push(Line::CallFull)?;
+    let mut copies = lines.copy(alloc)?;
+    assert!(rt; matches!(copies.take_first(), Some(Line::CallFull)));
+    assert!(rt; copies.is_empty());
+    assert_eq!(rt; copies.text_len(), 0);
+    assert_eq!(rt; lines.len(), 1);
+    assert!(rt; lines.get(0).is_some());
     Ok(())
 }
 
 #[test]
 fn a_journal_keeps_its_lines_in_order(rt: HostRuntime) -> Result<(), Fail> {
     let alloc = rt.alloc();
-    let mut journal = Journal::new(alloc);
-    journal.reserve(2)?;
     let mut due = LineList::new(alloc);
     due.push(Line::Tick { node: node(1)? })?;
     assert_eq!(rt; due.text_len(), "tick 1\n".len());
+    let mut journal = Journal::new(alloc);
+    journal.reserve(due.len())?;
     assert!(rt; journal.fits(&due));
-    journal.push(Line::Tick { node: node(1)? })?;
+    journal.append(&mut due);
+    assert!(rt; due.is_empty());
     journal.push(Line::Stop { node: node(2)? })?;
     assert_eq!(rt; journal.lines(), 2);
     let mut shown = Vec::new(alloc);
@@ -152,5 +167,14 @@ fn a_journal_keeps_its_lines_in_order(rt: HostRuntime) -> Result<(), Fail> {
     assert_eq!(rt; shown.as_slice(), b"tick 1\nstop 2\n".as_slice());
     assert!(rt; matches!(journal.get(1), Some(Line::Stop { .. })));
     assert!(rt; journal.get(2).is_none());
+    Ok(())
+}
+
+#[test]
+fn refused_room_leaves_a_journal_as_it_was(rt: HostRuntime) -> Result<(), Fail> {
+    let mut journal = Journal::new(rt.alloc());
+    journal.push(Line::CallFull)?;
+    assert!(rt; journal.reserve(usize::MAX).is_err());
+    assert_eq!(rt; journal.lines(), 1);
     Ok(())
 }
