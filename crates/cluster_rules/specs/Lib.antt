@@ -16,7 +16,6 @@ pub mod Claims
 pub mod CalmEnd
 pub mod Shape
 pub mod Network
-pub mod Client
 pub mod Opening
 pub mod World
 pub mod Marks

@@ -29,7 +29,7 @@ ghost use Rattle.cluster_rules.specs.declared.event.Event.TheVariants as event;
 ghost use Rattle.cluster_rules.specs.Calm.{is_calm_of};
 ghost use Rattle.cluster_types.specs.Partitions.{partition_count};
 ghost use Rattle.cluster_rules.specs.CalmBound.{calm_limit, IsWithinCalm};
-ghost use Rattle.cluster_rules.specs.Client.{node_for};
+ghost use Rattle.node_rules.specs.Client.{node_for};
 ghost use Rattle.cluster_rules.specs.DueEvents.{due_of, due_at_client, sent_lines};
 ghost use Rattle.std.specs.List.{list_all};
 ghost use Rattle.cluster_rules.specs.Allowed.{AreAllowed, may_come, is_playable};

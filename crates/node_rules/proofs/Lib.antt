@@ -8,3 +8,7 @@ pub mod Merged
 pub mod Agreeing
 pub mod Ticking
 pub mod NoteLaws
+pub mod Forms
+pub mod PartLaws
+pub mod TickParts
+pub mod SettlingLaws

@@ -1,7 +1,7 @@
 -- What a batch merges is what is newer in it than what is held.
 use Rattle.std.proofs.Common.{◌≡◌, Bool, true, false, List, [], ◌∷◌, ◌++◌, None, map, refl, ap}
 use Rattle.node_rules.specs.Facts.{Facts, view_key}
-use Rattle.node_rules.specs.Merging.{Record, is_newer_than_held, record_if, joined_if, newer_records, joined_all}
+use Rattle.node_rules.specs.Merging.{Record, is_newer_than_held, record_if, joined_if, newer_records, joined_all, store_merged_all}
 use Rattle.node_rules.specs.Messages.{merging_all, merge_line}
 use Rattle.node_rules.specs.Notes.{note, noted}
 use Rattle.node_rules.specs.Settling.{line_if}
@@ -10,6 +10,7 @@ use Rattle.node_rules.specs.Settling.{line_if}
 record Merges (f : Facts) (rs : List Record) : Type 0 where
   lines : merging_all f rs ≡ map (merge_line f.me (view_key f)) (newer_records f.store.by f.store.content rs)
   content : (noted None f (merging_all f rs)).store.content ≡ joined_all f.store.by f.store.content (newer_records f.store.by f.store.content rs)
+  facts : noted None f (merging_all f rs) ≡ record f { store = store_merged_all f.store (view_key f) (newer_records f.store.by f.store.content rs) }
 
 -- the facts with the record where the test holds
 abbrev with_record : Facts → Record → Bool → Facts
@@ -20,18 +21,20 @@ record MergesFirst (f : Facts) (r : Record) (rs : List Record) (b : Bool) : Type
       ≡ map (merge_line f.me (view_key f)) (record_if r b ++ newer_records f.store.by (joined_if f.store.by f.store.content r b) rs)
   content : (noted None f (line_if (merge_line f.me (view_key f) r) b ++ merging_all (with_record f r b) rs)).store.content
       ≡ joined_all f.store.by f.store.content (record_if r b ++ newer_records f.store.by (joined_if f.store.by f.store.content r b) rs)
+  facts : noted None f (line_if (merge_line f.me (view_key f) r) b ++ merging_all (with_record f r b) rs)
+      ≡ record f { store = store_merged_all f.store (view_key f) (record_if r b ++ newer_records f.store.by (joined_if f.store.by f.store.content r b) rs) }
 
 first : (f : Facts) (r : Record) (rs : List Record) → ((g : Facts) → Merges g rs) → (b : Bool) → MergesFirst f r rs b
 first f r rs rest true =
     let h = rest (note None f (merge_line f.me (view_key f) r)) in
-    record { lines = ap (λ ls. merge_line f.me (view_key f) r ∷ ls) h.lines; content = h.content }
-first f r rs rest false = let h = rest f in record { lines = h.lines; content = h.content }
+    record { lines = ap (λ ls. merge_line f.me (view_key f) r ∷ ls) h.lines; content = h.content; facts = h.facts }
+first f r rs rest false = let h = rest f in record { lines = h.lines; content = h.content; facts = h.facts }
 
 merges_all : (f : Facts) (rs : List Record) → Merges f rs
-merges_all f [] = record { lines = refl; content = refl }
+merges_all f [] = record { lines = refl; content = refl; facts = refl }
 merges_all f (r ∷ rs) =
     let h = first f r rs (λ g. merges_all g rs) (is_newer_than_held f.store.by f.store.content r) in
-    record { lines = h.lines; content = h.content }
+    record { lines = h.lines; content = h.content; facts = h.facts }
 
 pub merges_lines : (f : Facts) (rs : List Record) → merging_all f rs ≡ map (merge_line f.me (view_key f)) (newer_records f.store.by f.store.content rs)
 merges_lines f rs = (merges_all f rs).lines
@@ -39,3 +42,7 @@ merges_lines f rs = (merges_all f rs).lines
 pub merges_content : (f : Facts) (rs : List Record)
     → (noted None f (merging_all f rs)).store.content ≡ joined_all f.store.by f.store.content (newer_records f.store.by f.store.content rs)
 merges_content f rs = (merges_all f rs).content
+
+pub merges_facts : (f : Facts) (rs : List Record)
+    → noted None f (merging_all f rs) ≡ record f { store = store_merged_all f.store (view_key f) (newer_records f.store.by f.store.content rs) }
+merges_facts f rs = (merges_all f rs).facts

@@ -1,12 +1,12 @@
 -- The records that a node hands on to the replicas, in batches.
-use Rattle.std.specs.Prelude.{ℕ, ◌+◌, ◌==◌, Bool, false, not, if◌then◌else◌, List, [], ◌∷◌, Option, Some, None, find, filter, filter_map, map, option_map, option_and_then, take, bytes_eq}
+use Rattle.std.specs.Prelude.{ℕ, ◌+◌, ◌==◌, ◌&&◌, Bool, false, not, if◌then◌else◌, List, [], ◌∷◌, Option, Some, None, find, filter, filter_map, map, option_map, option_and_then, take, bytes_eq}
 use Rattle.std.specs.List.{list_any}
 use Rattle.std.specs.FinMap as finite
 use Rattle.conflict_order.specs.declared.version.Version.{Version}
 use Rattle.cluster_types.specs.declared.cluster_key.ClusterKey.{ClusterKey}
 use Rattle.wire_messages.specs.declared.message.Batch.{Batch}
 use Rattle.node_rules.specs.Copies.{Content, digests, is_of}
-use Rattle.node_rules.specs.Tables.{changed_if}
+use Rattle.node_rules.specs.Tables.{changed_if, bits_from}
 
 -- what is handed on to one member
 pub record Target : Type 0 where
@@ -59,6 +59,15 @@ has_number (Some b) number = b.number == number
 -- whether a digest of the partition is pending to some member
 abbrev pub is_pending : Targets → ℕ → Bool
 is_pending targets p = list_any (λ t. list_any (is_of p) t.pending) targets
+
+-- whether the digest is pending to that member
+abbrev pub is_pending_to : Targets → ℕ → List ℕ → Bool
+is_pending_to targets n digest = list_any (λ t. (t.node == n) && list_any (λ d. bytes_eq d digest) t.pending) targets
+
+-- at which of so many partitions, from one on, a node with these targets is done, where it has finished the exchange
+-- or hasn't
+abbrev pub done_row : Bool → Targets → ℕ → ℕ → List Bool
+done_row exchanged targets n p = bits_from (λ q. exchanged && not (is_pending targets q)) n p
 
 -- the records of these digests, as they are held
 abbrev pub records_of : Content → List (List ℕ) → List (List ℕ × Version)

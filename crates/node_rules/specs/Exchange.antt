@@ -1,5 +1,5 @@
 -- The view that a node has entered, and the rows of its members.
-use Rattle.std.specs.Prelude.{ℕ, ◌==◌, Bool, true, false, List, [], ◌∷◌, ◌++◌, Option, Some, None, find, length}
+use Rattle.std.specs.Prelude.{ℕ, ◌-◌, ◌==◌, take, Bool, true, false, List, [], ◌∷◌, ◌++◌, Option, Some, None, find, length}
 use Rattle.std.specs.List.{list_any}
 use Rattle.cluster_types.specs.declared.cluster_key.ClusterKey.{ClusterKey}
 use Rattle.cluster_types.specs.declared.member.Member.{Member}
@@ -51,6 +51,14 @@ with_row_if rows n row false = rows
 -- the rows with the member's, unless that is there
 abbrev pub with_row : List MemberRow → ℕ → Row → List MemberRow
 with_row rows n row = with_row_if rows n row (lacks rows n)
+
+-- the exchange is finished
+abbrev pub finished : Exchange → Exchange
+finished x = record x { exchanged = true }
+
+-- the exchange before its last row came
+abbrev pub before_last : Exchange → Exchange
+before_last x = record x { rows = take (length x.rows - 1) x.rows; exchanged = false }
 
 -- the first member, in member order, whose row isn't there
 abbrev pub first_missing : List MemberRow → List Member → Option ℕ

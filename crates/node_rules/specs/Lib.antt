@@ -1,7 +1,9 @@
 pub mod Agreement
 pub mod Batches
 pub mod Bits
+pub mod ByParts
 pub mod Classes
+pub mod Client
 pub mod Codes
 pub mod Copies
 pub mod Effects
@@ -10,6 +12,7 @@ pub mod Examples
 pub mod Exchange
 pub mod Facts
 pub mod Hearing
+pub mod Here
 pub mod Keys
 pub mod Map
 pub mod Merging

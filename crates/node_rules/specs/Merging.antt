@@ -4,7 +4,10 @@ use Rattle.std.specs.FinMap as finite
 use Rattle.conflict_order.specs.declared.policy.Policy.{Policy}
 use Rattle.conflict_order.specs.declared.version.Version.{Version}
 use Rattle.conflict_order.specs.Order.{is_newer}
-use Rattle.node_rules.specs.Copies.{Content, joined}
+use Rattle.cluster_types.specs.declared.cluster_key.ClusterKey.{ClusterKey}
+use Rattle.cluster_types.specs.Partitions.{partition_of}
+use Rattle.node_rules.specs.Copies.{Content, Store, Stamps, joined}
+use Rattle.node_rules.specs.Stamps.{spoiled, changed_stamps}
 
 -- a digest with a version of it
 abbrev pub Record : Type 0
@@ -33,3 +36,15 @@ newer_records by content (r ∷ rs) =
 -- the content after these records came
 abbrev pub joined_all : Policy → Content → List Record → Content
 joined_all by content rs = fold (λ held r. joined by held r.0 r.1) content rs
+
+-- the stamps after such a record came of another node, in a view of that key
+abbrev pub spoiled_at : ClusterKey → Stamps → Record → Stamps
+spoiled_at key stamps r = changed_stamps stamps (partition_of r.0) (spoiled key) (finite.get stamps (partition_of r.0))
+
+-- the stamps after these records came
+abbrev pub spoiled_all : ClusterKey → Stamps → List Record → Stamps
+spoiled_all key stamps rs = fold (spoiled_at key) stamps rs
+
+-- the store after these records came, all of which were newer
+abbrev pub store_merged_all : Store → ClusterKey → List Record → Store
+store_merged_all s key rs = record s { content = joined_all s.by s.content rs; stamps = spoiled_all key s.stamps rs }

@@ -21,12 +21,12 @@ use Rattle.node_rules.specs.Batches.{Target, Targets}
 use Rattle.node_rules.specs.Bits as bits
 use Rattle.node_rules.specs.Bits.{progressing, no_bits}
 use Rattle.node_rules.specs.Classes.{sends_to}
-use Rattle.node_rules.specs.Copies.{Store, Stamps, Row, row_from, storing, stamping, dropping}
-use Rattle.node_rules.specs.Exchange.{begun, outside, is_view, with_row}
+use Rattle.node_rules.specs.Copies.{Store, Stamps, Row, row_from, dropping}
+use Rattle.node_rules.specs.Exchange.{begun, outside, is_view, with_row, finished}
 use Rattle.node_rules.specs.Facts.{Facts, list_at}
 use Rattle.node_rules.specs.Hearing.{Hearing, ticked, deaf, without_quiet, beat_heard, neighbours_of}
 use Rattle.node_rules.specs.Map.{master}
-use Rattle.node_rules.specs.Stamps.{Writes, no_writes, applying, applies_at, hearing_write, count_at, recounted, spoiled, with_stamp}
+use Rattle.node_rules.specs.Stamps.{Writes, no_writes, applying, applies_at, hearing_write, count_at, stamped_with, store_counted, store_merged, store_applied, store_learnt}
 use Rattle.node_rules.specs.Standing.{others, asked, is_master, is_all_empty, is_replica, other_replicas}
 use Rattle.node_rules.specs.Transactions as transactions
 use Rattle.node_rules.specs.Transactions.{Transaction, no_transactions}
@@ -94,8 +94,7 @@ count_in f l p = count_at f.writes (is_master f l) p
 
 -- the stamps with one more where the test holds
 abbrev pub stamped_if : Facts → ClusterKey → List ℕ → ℕ → Stamps → Bool → Stamps
-stamped_if f key l p stamps true = finite.insert stamps p (key, count_in f l p)
-stamped_if f key l p stamps false = stamps
+stamped_if f key l p stamps b = stamped_with key (count_in f l p) p stamps b
 
 -- at the end of the exchange a copy of a partition that is empty everywhere is stamped, where the
 -- node is a replica
@@ -122,7 +121,7 @@ targets_of f = batches.targets_of (is_for f) f.store.content (others f)
 -- the exchange is finished: copies are stamped, and digests are pending
 abbrev pub exchanged : Facts → ClusterKey → Facts
 exchanged f key = record f {
-  exchange = record f.exchange { exchanged = true };
+  exchange = finished f.exchange;
   store = record f.store { stamps = stamped_from f key f.store.stamps partition_count 0 };
   batches = targets_of f;
 }
@@ -155,8 +154,7 @@ next_nth f p = applies_at f.writes p + 1
 
 -- the store after the node applied a write under that key; these are the writes afterwards
 abbrev pub applied_store : Facts → ClusterKey → List ℕ → List ℕ → Version → Writes → Store
-applied_store f key l digest v w =
-    with_stamp (storing f.store digest v) (partition_of digest) (λ s. recounted key (count_at w (is_master f l) (partition_of digest)) (spoiled key s))
+applied_store f key l digest v w = store_applied f.store key digest v (count_at w (is_master f l) (partition_of digest))
 
 -- the node applied the transaction's write: it counts, and each other replica is to acknowledge it
 abbrev pub applied : Facts → ClusterKey → List ℕ → ℕ → List ℕ → Version → Facts
@@ -168,7 +166,7 @@ applied f key l number digest v = record f {
 
 -- a newer version came from another node
 abbrev pub merged : Facts → ClusterKey → List ℕ → Version → Facts
-merged f key digest v = record f { store = with_stamp (storing f.store digest v) (partition_of digest) (spoiled key) }
+merged f key digest v = record f { store = store_merged f.store key digest v }
 
 -- ---- hand-over and settling
 
@@ -182,7 +180,7 @@ settled f p = record f { bits = bits.settling f.bits p }
 
 -- the copy is whole under that key
 abbrev pub learnt : Facts → ClusterKey → List ℕ → ℕ → Facts
-learnt f key l p = record f { store = stamping f.store p (key, count_in f l p); bits = bits.learning f.bits p }
+learnt f key l p = record f { store = store_learnt f.store key p (count_in f l p); bits = bits.learning f.bits p }
 
 -- the partition's copy and its stamp are gone
 abbrev pub dropped : Facts → ℕ → Facts
@@ -232,47 +230,45 @@ heard_beat f from beat = record f { hearing = beat_heard f.hearing from beat; ag
 abbrev pub refused_by : Facts → ClusterKey → ClusterKey → Facts
 refused_by f key promised = record f { agreement = agreement.seeing (agreement.refused f.agreement key) promised }
 
+-- the facts with a message where it is of the view, and without it otherwise
+abbrev pub if_view : Bool → Facts → Facts → Facts
+if_view true came f = came
+if_view false came f = f
+
 -- a row came, where the test says whether it is of the view
 abbrev pub row_came : Facts → ℕ → Row → Bool → Facts
-row_came f from row true = record f { exchange = record f.exchange { rows = with_row f.exchange.rows from row } }
-row_came f from row false = f
+row_came f from row of_view = if_view of_view (record f { exchange = record f.exchange { rows = with_row f.exchange.rows from row } }) f
 
 -- a BatchAck came, where the test says whether it is of the view
 abbrev pub batch_acked : Facts → ℕ → ℕ → Bool → Facts
-batch_acked f from number true = record f { batches = batches.acking f.batches from number }
-batch_acked f from number false = f
+batch_acked f from number of_view = if_view of_view (record f { batches = batches.acking f.batches from number }) f
 
 -- a Progress came, where the test says whether it is of the view
 abbrev pub progress_came : Facts → ℕ → List Bool → List Bool → List Bool → Bool → Facts
-progress_came f from done handed settled true = record f { bits = progressing f.bits from done handed settled }
-progress_came f from done handed settled false = f
+progress_came f from done handed settled of_view = if_view of_view (record f { bits = progressing f.bits from done handed settled }) f
 
 -- the list master's write of that number came, of a partition with that list
 abbrev pub write_counted : Facts → ClusterKey → List ℕ → ℕ → ℕ → Facts
 write_counted f key l p nth = record f {
   writes = hearing_write f.writes p nth;
-  store = with_stamp f.store p (recounted key (count_at (hearing_write f.writes p nth) (is_master f l) p));
+  store = store_counted f.store key p (count_at (hearing_write f.writes p nth) (is_master f l) p);
 }
 
 -- the write counts where the test holds
 abbrev pub counted_if : Facts → ClusterKey → List ℕ → ℕ → ℕ → Bool → Facts
-counted_if f key l p nth true = write_counted f key l p nth
-counted_if f key l p nth false = f
+counted_if f key l p nth b = if_view b (write_counted f key l p nth) f
 
 -- a write of the view came: it counts where the list master sent it
 abbrev pub write_came : Facts → ℕ → ClusterKey → ℕ → ℕ → Bool → Facts
-write_came f from key nth p true = counted_if f key (list_at f p) p nth (from == master (list_at f p))
-write_came f from key nth p false = f
+write_came f from key nth p of_view = if_view of_view (counted_if f key (list_at f p) p nth (from == master (list_at f p))) f
 
 -- a ReplAck came, where the test says whether it is of the view
 abbrev pub write_acked : Facts → ℕ → ℕ → Bool → Facts
-write_acked f from number true = record f { transactions = transactions.acknowledging f.transactions from number }
-write_acked f from number false = f
+write_acked f from number of_view = if_view of_view (record f { transactions = transactions.acknowledging f.transactions from number }) f
 
 -- an Answer came, where the test says whether it is of the view
 abbrev pub answer_came : Facts → ℕ → ℕ → Option Version → Bool → Facts
-answer_came f from number v true = record f { transactions = transactions.answering f.store.by f.transactions from number v }
-answer_came f from number v false = f
+answer_came f from number v of_view = if_view of_view (record f { transactions = transactions.answering f.store.by f.transactions from number v }) f
 
 -- what a message adds that reached the node
 abbrev pub reached : Facts → ℕ → Message → Facts

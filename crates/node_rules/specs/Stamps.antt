@@ -1,20 +1,19 @@
 -- How many of the list master's writes a copy has had, by their numbers.
-use Rattle.std.specs.Prelude.{ℕ, ◌+◌, ◌==◌, nat_lt, Bool, true, false, if◌then◌else◌, List, [], ◌∷◌, length, Option, Some, None, unwrap_or, nat_eq}
+pub use Rattle.partition_lists.specs.Classes.{no_class}
+use Rattle.std.specs.Prelude.{ℕ, zero, suc, ◌+◌, ◌==◌, nat_lt, Bool, true, false, if◌then◌else◌, List, [], ◌∷◌, length, Option, Some, None, unwrap_or, nat_eq}
 use Rattle.std.specs.Cmp.Lexicographic.{pointwise}
 use Rattle.std.specs.List.{range_with_len}
 use Rattle.std.specs.FinMap as map
+use Rattle.conflict_order.specs.declared.version.Version.{Version}
 use Rattle.cluster_types.specs.declared.cluster_key.ClusterKey.{ClusterKey}
+use Rattle.cluster_types.specs.Partitions.{partition_of}
 use Rattle.node_rules.specs.Keys.{same_key}
 use Rattle.node_rules.specs.Tables.{Table, at, with_entry}
-use Rattle.node_rules.specs.Copies.{Store, Stamp, Stamps}
+use Rattle.node_rules.specs.Copies.{Store, Stamp, Stamps, storing, stamping}
 
 -- a set of numbers, as their list in strictly rising order
 abbrev pub Numbers : Type 0
 Numbers = List ℕ
-
--- the count of a copy that belongs to no class
-abbrev pub no_class : ℕ
-no_class = 4294967295
 
 -- the set with a number more
 abbrev pub with_number : Numbers → ℕ → Numbers
@@ -78,3 +77,35 @@ changed_stamps stamps p change (Some stamp) = map.insert stamps p (change stamp)
 -- a change of the partition's stamp, where it has one
 abbrev pub with_stamp : Store → ℕ → (Stamp → Stamp) → Store
 with_stamp s p change = record s { stamps = changed_stamps s.stamps p change (map.get s.stamps p) }
+
+-- ---- what becomes of a store, in a view of that key
+
+-- the list master's write reached the copy, whose count is this now
+abbrev pub store_counted : Store → ClusterKey → ℕ → ℕ → Store
+store_counted s key p count = with_stamp s p (recounted key count)
+
+-- a newer version came from another node
+abbrev pub store_merged : Store → ClusterKey → List ℕ → Version → Store
+store_merged s key digest v = with_stamp (storing s digest v) (partition_of digest) (spoiled key)
+
+-- the node applied a write to the copy, whose count is this now
+abbrev pub store_applied : Store → ClusterKey → List ℕ → Version → ℕ → Store
+store_applied s key digest v count = with_stamp (storing s digest v) (partition_of digest) (λ stamp. recounted key count (spoiled key stamp))
+
+-- the copy was learnt: it is whole under the key, with that count
+abbrev pub store_learnt : Store → ClusterKey → ℕ → ℕ → Store
+store_learnt s key p count = stamping s p (key, count)
+
+-- ---- the end of an exchange
+
+-- the stamps with one more where the test holds: under that key, with that count
+abbrev pub stamped_with : ClusterKey → ℕ → ℕ → Stamps → Bool → Stamps
+stamped_with key count p stamps true = map.insert stamps p (key, count)
+stamped_with key count p stamps false = stamps
+
+-- the stamps with one more for each of so many partitions, from one on, that passes the test: under that key, with
+-- its count
+unfoldable pub stamped_by : (ℕ → Bool) → (ℕ → ℕ) → ClusterKey → Stamps → ℕ → ℕ → Stamps
+stamped_by which count key stamps zero p = stamps
+stamped_by which count key stamps (suc n) p =
+    stamped_by which count key (stamped_with key (count p) p stamps (which p)) n (p + 1)

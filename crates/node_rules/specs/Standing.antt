@@ -4,6 +4,7 @@ use Rattle.cluster_types.specs.Distinct.{without}
 use Rattle.cluster_types.specs.Partitions.{partition_count}
 use Rattle.cluster_types.specs.Rows.{bit}
 use Rattle.partition_lists.specs.Lists.{replicas}
+use Rattle.node_rules.specs.declared.member_row.MemberRow.{MemberRow}
 use Rattle.node_rules.specs.Tables.{contains}
 use Rattle.node_rules.specs.Agreement as agreement
 use Rattle.node_rules.specs.Map.{acting, master, all_empty}
@@ -57,9 +58,14 @@ knows_handed f p = bit f.bits.handed p
 abbrev pub has_settled_bit : Facts → ℕ → Bool
 has_settled_bit f p = bit f.bits.settled p
 
+-- whether a node knows a partition settled: it has the settled bit, or it has finished the exchange and all copies
+-- were empty
+abbrev pub knows_settled_by : Bool → Bool → Bool → Bool
+knows_settled_by settled exchanged empty = settled || (exchanged && empty)
+
 -- whether the node knows the partition settled: by the bit, or since all copies were empty
 abbrev pub knows_settled : Facts → ℕ → Bool
-knows_settled f p = has_settled_bit f p || (f.exchange.exchanged && is_all_empty f p)
+knows_settled f p = knows_settled_by (has_settled_bit f p) f.exchange.exchanged (is_all_empty f p)
 
 -- whether the node knows each of so many partitions settled, from one on
 unfoldable pub knows_all_settled : Facts → ℕ → ℕ → Bool
@@ -70,22 +76,34 @@ knows_all_settled f (suc n) p = knows_settled f p && knows_all_settled f n (p + 
 abbrev pub has_moved : Facts → ℕ → Bool
 has_moved f p = knows_handed f p || knows_settled f p
 
+-- whether a node takes requests that has finished the exchange or hasn't: it is the acting master by the rows and
+-- hasn't handed the partition over, or it is the list master, where that is another, and has settled it
+abbrev pub acts_by : Bool → Bool → Bool → Bool → Bool → Bool
+acts_by exchanged acting handed master settled = exchanged && ((acting && not handed) || (master && (not acting && settled)))
+
 -- whether the node takes requests: the acting master by the rows until it hands the partition over,
 -- and the list master, where that is another, from its settling on
 abbrev pub acts : Facts → List ℕ → ℕ → Bool
-acts f l p =
-    f.exchange.exchanged
-    && ((is_acting f l p && not (knows_handed f p)) || (is_master f l && (not (is_acting f l p) && has_settled_bit f p)))
+acts f l p = acts_by f.exchange.exchanged (is_acting f l p) (knows_handed f p) (is_master f l) (has_settled_bit f p)
+
+-- the node that is to be asked of a list with that acting master, where the partition has come to its list master
+-- or hasn't
+abbrev pub named_by : Bool → List ℕ → ℕ → ℕ
+named_by moved l acting = if moved then master l else acting
 
 -- the node that is to be asked: the list master once the node knows the partition handed over or
 -- settled, and before that the acting master by the rows
 abbrev pub named : Facts → List ℕ → ℕ → ℕ
-named f l p = if has_moved f p then master l else acting_at f l p
+named f l p = named_by (has_moved f p) l (acting_at f l p)
+
+-- whom a node asks of a partition that it knows settled or doesn't: nobody, or the firsts of all classes but its own
+abbrev pub asked_by_known : Bool → List ℕ → List MemberRow → ℕ → ℕ → List ℕ
+asked_by_known known l rows p by = if known then [] else asked_by l rows p by
 
 -- whom a transaction asks that opens now: nobody where the node knows the partition settled, and
 -- otherwise the firsts of all classes but its own
 abbrev pub asked : Facts → List ℕ → ℕ → List ℕ
-asked f l p = if knows_settled f p then [] else asked_by l f.exchange.rows p f.me
+asked f l p = asked_by_known (knows_settled f p) l f.exchange.rows p f.me
 
 -- whether the node is to learn the partition: it is settled, the node is a replica, and hasn't learnt it
 abbrev pub is_to_learn : Facts → List ℕ → ℕ → Bool

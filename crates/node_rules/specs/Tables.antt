@@ -1,5 +1,5 @@
 -- Tables by a number, such as a node's or a partition's, and lists of numbers.
-use Rattle.std.specs.Prelude.{ℕ, ◌==◌, Bool, true, false, List, Option}
+use Rattle.std.specs.Prelude.{ℕ, zero, suc, ◌+◌, ◌==◌, ◌&&◌, Bool, true, false, List, [], ◌∷◌, Option}
 use Rattle.std.specs.List.{list_any}
 use Rattle.std.specs.Ordering.{nat_cmp}
 use Rattle.std.specs.FinMap.{find, put}
@@ -24,3 +24,15 @@ changed_if change x false = x
 -- whether the number is one of those
 abbrev pub contains : List ℕ → ℕ → Bool
 contains ns n = list_any (λ m. m == n) ns
+
+-- ---- tests of numbers in succession
+
+-- whether so many numbers, from one on, all pass the test
+unfoldable pub all_from : (ℕ → Bool) → ℕ → ℕ → Bool
+all_from test zero p = true
+all_from test (suc n) p = test p && all_from test n (p + 1)
+
+-- what the test says of each of so many numbers, from one on
+unfoldable pub bits_from : (ℕ → Bool) → ℕ → ℕ → List Bool
+bits_from test zero p = []
+bits_from test (suc n) p = test p ∷ bits_from test n (p + 1)

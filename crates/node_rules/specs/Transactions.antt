@@ -1,5 +1,5 @@
 -- The transactions that are open at a node.
-use Rattle.std.specs.Prelude.{ℕ, ◌+◌, ◌==◌, ◌&&◌, Bool, not, List, [], ◌∷◌, ◌++◌, Option, Some, None, find, filter, map, is_some, bytes_eq}
+use Rattle.std.specs.Prelude.{ℕ, ◌+◌, ◌==◌, ◌&&◌, Bool, false, not, if◌then◌else◌, List, [], ◌∷◌, ◌++◌, Option, Some, None, find, filter, map, is_some, bytes_eq}
 use Rattle.std.specs.List.{list_any}
 use Rattle.conflict_order.specs.declared.policy.Policy.{Policy}
 use Rattle.conflict_order.specs.declared.version.Version.{Version}
@@ -99,6 +99,15 @@ acknowledging ts from number = changing ts number (λ t. changed_if (acknowledge
 -- whether the node is the only one that is awaited
 abbrev pub is_last_awaited : Transaction → ℕ → Bool
 is_last_awaited t from = is_nil (without t.awaiting from)
+
+-- whether an acknowledgement of that node ends the transaction, if it is open: it is the only one that is awaited
+abbrev pub ends_by_ack : Option Transaction → ℕ → Bool
+ends_by_ack None from = false
+ends_by_ack (Some t) from = awaits_ack t from && is_last_awaited t from
+
+-- one is closed where the test holds
+abbrev pub closing_if : Transactions → ℕ → Bool → Transactions
+closing_if ts number b = if b then closing ts number else ts
 
 -- the number of each open transaction, and whether its write is applied
 abbrev pub ends : Transactions → List (ℕ × Bool)

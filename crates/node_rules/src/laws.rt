@@ -1,6 +1,6 @@
 //! Worked examples of the rules, which the prover computes. A call does nothing: what it ensures is
 //! the example.
-ghost use Rattle.std.specs.Prelude.{◌≡◌, ◌↔◌, ◌<◌, ◌≤◌, length, map, List, ◌∷◌, [], ℕ, true, false, Some, None};
+ghost use Rattle.std.specs.Prelude.{◌≡◌, ◌↔◌, ◌<◌, ◌≤◌, ◌+◌, ◌&&◌, ◌||◌, not, length, map, flat_map, Bool, List, ◌∷◌, [], ℕ, true, false, Some, None};
 ghost use Rattle.conflict_order.specs.declared.policy.Policy.TheVariants.{Time};
 ghost use Rattle.conflict_order.specs.declared.want.Want.TheVariants as want;
 ghost use Rattle.conflict_order.specs.declared.want.Action.TheVariants as action;
@@ -14,23 +14,25 @@ ghost use Rattle.wire_messages.specs.declared.message.Message.TheVariants as mes
 ghost use Rattle.cluster_types.specs.ClusterKeys.{none};
 ghost use Rattle.cluster_types.specs.Members.{plain_role, plain_member};
 ghost use Rattle.node_rules.specs.Agreement as agreement;
-ghost use Rattle.node_rules.specs.Batches.{next_batch, acking, new_target};
+ghost use Rattle.node_rules.specs.Batches.{next_batch, acking, new_target, done_row};
 ghost use Rattle.node_rules.specs.Classes.{class_first, sends, asked_by};
-ghost use Rattle.node_rules.specs.Copies.{Content, Store, copy_state, row_from};
+ghost use Rattle.node_rules.specs.Copies.{Content, Store, Stamps, copy_state, row_from};
 ghost use Rattle.node_rules.specs.Facts.{Facts, fresh, list_at, view_key, view_members, has_exchanged_in};
-ghost use Rattle.node_rules.specs.Standing.{is_done, knows_settled, knows_all_settled, is_to_learn, is_to_drop, has_nothing_to_learn_or_drop, is_at_rest_of};
+ghost use Rattle.node_rules.specs.Standing.{is_done, knows_settled, knows_all_settled, is_to_learn, is_to_drop, has_nothing_to_learn_or_drop, is_at_rest_of, has_moved, is_all_empty, is_replica};
 ghost use Rattle.cluster_types.specs.Partitions.{partition_count};
 ghost use Rattle.cluster_types.specs.Rows.{bit};
 ghost use Rattle.cluster_types.specs.StateRows.{IsStateRow, state_of};
 ghost use Rattle.node_rules.specs.Effects.{nothing, lines_only, sends_only, to_one, to_each};
 ghost use Rattle.node_rules.specs.Examples.{key, lone, itself, ticked_twice, in_its_view, zeros, hi, first_hi, having_hi, seven, writing_hi, hi_written, promised_two, two, five_rows, five, hearing_one, proposing_two, migrating, whole_and_part, batch_of_hi, sent_hi, restarted, waiting_for, second_hi, lacking_two, racked};
+ghost use Rattle.node_rules.specs.Here.{Here, HasRows, IsAsleep, IsOver, part_lines, lines_here, lines_from, live_from};
 ghost use Rattle.node_rules.specs.Map.{acting, all_empty};
-ghost use Rattle.node_rules.specs.Merging.{Record, newer_records, joined_all};
-ghost use Rattle.node_rules.specs.Messages.{due_message, merging_all, merge_line};
-ghost use Rattle.node_rules.specs.Notes.{note, noted, neighbours, after_ages, stopped, marked, with_role};
+ghost use Rattle.node_rules.specs.Merging.{Record, newer_records, joined_all, store_merged_all};
+ghost use Rattle.node_rules.specs.Messages.{due_message, merging_all, merge_line, moved_from};
+ghost use Rattle.node_rules.specs.Notes.{note, noted, neighbours, after_ages, stopped, marked, with_role, count_in, stamped_from};
 ghost use Rattle.node_rules.specs.Requests.{due_request, due_stop, refusal_of, request_at};
-ghost use Rattle.node_rules.specs.Settling.{settling_at};
-ghost use Rattle.node_rules.specs.Stamps.{count_of, with_number, no_class};
+ghost use Rattle.node_rules.specs.Settling.{settling_at, settling_from};
+ghost use Rattle.node_rules.specs.Stamps.{count_of, with_number, no_class, stamped_by};
+ghost use Rattle.node_rules.specs.Tables.{all_from, bits_from};
 ghost use Rattle.node_rules.specs.Shows.{due_map, due_show, with_roles};
 ghost use Rattle.node_rules.specs.Steps.{after_tick, after_message, after_stop, after_start};
 ghost use Rattle.node_rules.specs.Tick.{due_tick, done_from, is_candidate, propose, proposal_sends};
@@ -220,6 +222,7 @@ pub fn agreement_goes_by_its_own_rules()
 pub fn batch_merges_what_is_newer()
     ensures lines { (f : Facts) → (rs : List Record) → merging_all f rs ≡ map (merge_line f.me (view_key f)) (newer_records f.store.by f.store.content rs) }
     ensures content { (f : Facts) → (rs : List Record) → (noted None f (merging_all f rs)).store.content ≡ joined_all f.store.by f.store.content (newer_records f.store.by f.store.content rs) }
+    ensures facts { (f : Facts) → (rs : List Record) → noted None f (merging_all f rs) ≡ record f { store = store_merged_all f.store (view_key f) (newer_records f.store.by f.store.content rs) } }
 {}
 
 /// What is told of many partitions at once says of each what holds of it, and nothing of others.
@@ -230,4 +233,29 @@ pub fn rows_tell_of_each_partition()
     ensures size { (f : Facts) → (n : ℕ) → length (done_from f n 0) ≡ n }
     ensures settled { (f : Facts) → (n : ℕ) → (knows_all_settled f n 0 ≡ true) ↔ ((p : ℕ) → p < n → knows_settled f p ≡ true) }
     ensures rest { (f : Facts) → (n : ℕ) → (has_nothing_to_learn_or_drop f n 0 ≡ true) ↔ ((p : ℕ) → p < n → (is_to_learn f (list_at f p) p ≡ false) × (is_to_drop f (list_at f p) p ≡ false)) }
+{}
+
+/// What is told of many partitions at once is a test of each.
+pub fn many_partitions_are_tested_one_by_one()
+    ensures settled { (f : Facts) → (n : ℕ) → (p : ℕ) → knows_all_settled f n p ≡ all_from (knows_settled f) n p }
+    ensures rest { (f : Facts) → (n : ℕ) → (p : ℕ) → has_nothing_to_learn_or_drop f n p ≡ all_from (λ q. not (is_to_learn f (list_at f q) q || is_to_drop f (list_at f q) q)) n p }
+    ensures done { (f : Facts) → (n : ℕ) → (p : ℕ) → done_from f n p ≡ done_row f.exchange.exchanged f.batches n p }
+    ensures moved { (f : Facts) → (n : ℕ) → (p : ℕ) → moved_from f n p ≡ bits_from (has_moved f) n p }
+    ensures stamps { (f : Facts) → (k : ClusterKey) → (stamps : Stamps) → (n : ℕ) → (p : ℕ) → stamped_from f k stamps n p ≡ stamped_by (λ q. is_all_empty f q && is_replica f (list_at f q)) (λ q. count_in f (list_at f q) q) k stamps n p }
+{}
+
+/// What is due of settling at a partition goes by the facts before any of them is settled.
+pub fn partitions_settle_apart()
+    ensures { (f : Facts) → (n : ℕ) → (p : ℕ) → HasRows f → p + n ≤ partition_count → settling_from n p f ≡ lines_from n p f }
+{}
+
+/// No line of settling is due at a partition that sleeps or is over.
+pub fn quiet_partitions_have_no_lines()
+    ensures asleep { (me : ℕ) → (k : ClusterKey) → (p : ℕ) → (h : Here) → IsAsleep h → lines_here me k p h ≡ [] }
+    ensures over { (me : ℕ) → (k : ClusterKey) → (p : ℕ) → (h : Here) → IsOver h → lines_here me k p h ≡ [] }
+{}
+
+/// Where all others have no lines of settling, those of the live partitions are all.
+pub fn live_partitions_are_enough()
+    ensures { (f : Facts) → (live : ℕ → Bool) → (n : ℕ) → (p : ℕ) → ((q : ℕ) → live q ≡ false → part_lines f q ≡ []) → lines_from n p f ≡ flat_map (part_lines f) (live_from live n p) }
 {}

@@ -9,6 +9,7 @@
 pub mod beat;
 pub mod laws;
 pub mod member_row;
+pub mod step_laws;
 
 pub use beat::Beat;
 pub use member_row::MemberRow;

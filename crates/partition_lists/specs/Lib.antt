@@ -1,4 +1,6 @@
+pub mod Acting
 pub mod Candidates
+pub mod Classes
 pub mod Hashes
 pub mod Leaving
 pub mod Lists

@@ -4,7 +4,7 @@ use Rattle.std.specs.List.{list_all}
 use Rattle.cluster_types.specs.ClusterKeys.{key_lt}
 use Rattle.cluster_types.specs.Rows.{bit}
 use Rattle.wire_messages.specs.declared.message.MapTable.{MapTable}
-use Rattle.cluster_rules.specs.Lines.{same_key}
+use Rattle.node_rules.specs.Keys.{same_key}
 
 -- the tables that reached the client, in the order in which they came
 abbrev pub Tables : Type 0
