@@ -10,6 +10,8 @@ pub mod WellKept
 pub mod EqualCopies
 pub mod Resting
 pub mod MarkLaws
+pub mod NodeLaws
+pub mod OwnLines
 pub mod RunLaws
 pub mod BegunLaws
 pub mod AllowedLaws

@@ -22,6 +22,7 @@ pub mod Marks
 pub mod DueEvents
 pub mod Calm
 pub mod Steps
+pub mod NodeSteps
 pub mod Runs
 pub mod Allowed
 pub mod Begun

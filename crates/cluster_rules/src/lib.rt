@@ -11,6 +11,7 @@
 
 mod event;
 pub mod laws;
+pub mod node_laws;
 pub mod reading_laws;
 pub mod world_laws;
 
