@@ -50,7 +50,7 @@ note_me q f (line.Learn n key p) = refl
 note_me q f (line.Drop n key p) = refl
 note_me q f _ = refl
 
-noted_me : (q : Option Want) (f : Facts) (ls : List Line) → (noted q f ls).me ≡ f.me
+pub noted_me : (q : Option Want) (f : Facts) (ls : List Line) → (noted q f ls).me ≡ f.me
 noted_me q f [] = refl
 noted_me q f (l ∷ ls) = noted_me q (note q f l) ls ∙ note_me q f l
 

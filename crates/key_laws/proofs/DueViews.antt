@@ -256,7 +256,7 @@ entering_visits t f k ms =
 
 -- ---- messages of the view
 
-found_row : (t : Traced) (n : ℕ) (rs : List MemberRow) → RowsKnown t rs → RowOf (λ k. Known t k) (unwrap_or (row_of rs n) [])
+pub found_row : (t : Traced) (n : ℕ) (rs : List MemberRow) → RowsKnown t rs → RowOf (λ k. Known t k) (unwrap_or (row_of rs n) [])
 found_row t n [] h = tt
 found_row t n (r ∷ rs) h = go (r.node == n) (found_row t n rs h.1)
   where

@@ -7,10 +7,14 @@ pub mod KeptNodes
 pub mod Kept
 pub mod Wire
 pub mod Quiet
+pub mod Addressed
+pub mod Directed
 pub mod DueViews
 pub mod DueTick
 pub mod DueMessages
+pub mod DueDirected
 pub mod DueSteps
 pub mod Readings
 pub mod Licensed
 pub mod Runs
+pub mod AllowedRuns

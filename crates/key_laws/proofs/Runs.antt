@@ -45,7 +45,7 @@ use Rattle.key_laws.proofs.Licensed.{Starts, licensed_keys_rise, licensed_entrie
 
 -- ---- nodes with ids
 
-abbrev AreIds : List ℕ → Type 0
+abbrev pub AreIds : List ℕ → Type 0
 AreIds [] = Unit {0}
 AreIds (n ∷ ns) = IsId n × AreIds ns
 
@@ -81,7 +81,7 @@ of_others P x xs h k d within = h (suc k) d (omega (arith, within))
 node_id : (n : ℕ) → IsNode n → IsId n
 node_id n h = record { positive = h.positive; fits = h.fits }
 
-declared_ids : (h : Header) → All IsProperHeaderLine h → AreIds (declared_nodes h)
+pub declared_ids : (h : Header) → All IsProperHeaderLine h → AreIds (declared_nodes h)
 declared_ids [] p = tt
 declared_ids (l ∷ h) p = go l (of_first IsProperHeaderLine l h p) (declared_ids h (of_others IsProperHeaderLine l h p))
   where
@@ -116,7 +116,7 @@ line_nodes w (line.Cut i a b size) = came_nodes w (option_and_then (arrived_cut 
 line_nodes w (line.Sent i a b bytes) = sent_nodes _ a b _
 line_nodes w _ = refl
 
-marks_nodes : (w : World) (ms : List Mark) → (marks.after_all w ms).nodes ≡ w.nodes
+pub marks_nodes : (w : World) (ms : List Mark) → (marks.after_all w ms).nodes ≡ w.nodes
 marks_nodes w [] = refl
 marks_nodes w (Begins e ∷ ms) = marks_nodes (marks.begun w e) ms
 marks_nodes w (Writes l ∷ ms) = marks_nodes (marks.after_line w l) ms ∙ line_nodes w l
@@ -126,7 +126,7 @@ follows_nodes n w x h = ap (λ (v : World). v.nodes) (sym h.leads) ∙ marks_nod
 
 -- ---- who ticks has an id
 
-abbrev AllBegun : List Step → Type 0
+abbrev pub AllBegun : List Step → Type 0
 AllBegun [] = Unit {0}
 AllBegun (s ∷ ss) = Begun s.event × AllBegun ss
 
@@ -196,12 +196,12 @@ begun_commands n (c ∷ cs) w x ids p h =
 
 -- ---- due steps are licensed
 
-world_of : (t : Traced) (ms : List Mark) → (after_all t ms).world ≡ marks.after_all t.world ms
+pub world_of : (t : Traced) (ms : List Mark) → (after_all t ms).world ≡ marks.after_all t.world ms
 world_of t [] = refl
 world_of t (Begins e ∷ ms) = world_of (after t (Begins e)) ms
 world_of t (Writes l ∷ ms) = world_of (after t (Writes l)) ms
 
-steps_ok : (n : ℕ) (t : Traced) (ss : List Step) → Sound t → AllBegun ss → AreDue n t.world ss → Licensed t (all_marks ss)
+pub steps_ok : (n : ℕ) (t : Traced) (ss : List Step) → Sound t → AllBegun ss → AreDue n t.world ss → Licensed t (all_marks ss)
 steps_ok n t [] s b d = tt
 steps_ok n t (x ∷ ss) s b d =
     let ok : Licensed t (marks_of x) = subst (λ ls. Licensed t (Begins x.event ∷ writes ls)) (sym d.0) (step_ok n t x.event b.0 s) in

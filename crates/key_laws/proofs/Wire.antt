@@ -384,3 +384,29 @@ read_commit P k ms n key good h = go (between 1 16 (length ms)) refl (are_bytes 
     go false e b u = many e (all_plain ms)
     go true e false u = subst (λ c. If P (if c then result_ok (decoded (spelling (message.Commit k ms))) else None)) (sym u) tt
     go true e true u = subst (λ o. If P o) (sym (read_back (message.Commit k ms) (key, members_fit n ms good (racks_of 5 18 k ms (are_small _ u)) e))) h
+
+-- ---- kinds of the agreement, whatever they carry
+
+pub any_propose : (P : Message → Type 0) (k : ClusterKey) (ms : List Member) → ((q : ClusterKey) (xs : List Member) → P (message.Propose q xs)) → Read P (message.Propose k ms)
+unfolding spelling byte_field propose_at propose_with_roles_at
+any_propose P k ms h = go (all_plain ms)
+  where
+    go : (b : Bool) → If P (message_of (concat (if b then byte_field 2 ∷ key_field k ∷ plain_members_field ms ∷ [] else (byte_field 17 ∷ key_field k ∷ members_field ms ∷ []))))
+    go true =
+        from_fields P 2 (key_field k ++ (plain_members_field ms ++ [])) propose_at refl
+        (onward (λ x. P x.0) (key_at (key_field k ++ (plain_members_field ms ++ []))) _ (λ q. onward (λ x. P x.0) (plain_members_at q.1) _ (λ xs. h q.0 xs.0)))
+    go false =
+        from_fields P 17 (key_field k ++ (members_field ms ++ [])) propose_with_roles_at refl
+        (onward (λ x. P x.0) (key_at (key_field k ++ (members_field ms ++ []))) _ (λ q. onward (λ x. P x.0) (members_at q.1) _ (λ xs. h q.0 xs.0)))
+
+pub any_commit : (P : Message → Type 0) (k : ClusterKey) (ms : List Member) → ((q : ClusterKey) (xs : List Member) → P (message.Commit q xs)) → Read P (message.Commit k ms)
+unfolding spelling byte_field commit_at commit_with_roles_at
+any_commit P k ms h = go (all_plain ms)
+  where
+    go : (b : Bool) → If P (message_of (concat (if b then byte_field 5 ∷ key_field k ∷ plain_members_field ms ∷ [] else (byte_field 18 ∷ key_field k ∷ members_field ms ∷ []))))
+    go true =
+        from_fields P 5 (key_field k ++ (plain_members_field ms ++ [])) commit_at refl
+        (onward (λ x. P x.0) (key_at (key_field k ++ (plain_members_field ms ++ []))) _ (λ q. onward (λ x. P x.0) (plain_members_at q.1) _ (λ xs. h q.0 xs.0)))
+    go false =
+        from_fields P 18 (key_field k ++ (members_field ms ++ [])) commit_with_roles_at refl
+        (onward (λ x. P x.0) (key_at (key_field k ++ (members_field ms ++ []))) _ (λ q. onward (λ x. P x.0) (members_at q.1) _ (λ xs. h q.0 xs.0)))

@@ -3,3 +3,4 @@ pub mod Traced
 pub mod Licences
 pub mod Sound
 pub mod Laws
+pub mod Addressed

@@ -1,17 +1,22 @@
 //! The laws of keys. A call does nothing: what it ensures is the law.
-ghost use Rattle.std.specs.Prelude.{slice_get, ◌≡◌, ℕ, List, Some};
+ghost use Rattle.std.specs.Prelude.{slice_get, ◌≡◌, ℕ, List, Some, All};
 ghost use Rattle.cluster_types.specs.declared.cluster_key.ClusterKey.{ClusterKey};
 ghost use Rattle.cluster_types.specs.declared.member.Member.{Member};
 ghost use Rattle.wire_messages.specs.declared.message.Message.{Message};
 ghost use Rattle.wire_messages.specs.Decoding.{message_of};
 ghost use Rattle.script_lang.specs.declared.script.Script.{Script};
+ghost use Rattle.script_lang.specs.Proper.{IsProperHeaderLine};
 ghost use Rattle.journal_lines.specs.declared.line.Line.{Line};
+ghost use Rattle.cluster_rules.specs.Allowed.{AreAllowed};
 ghost use Rattle.cluster_rules.specs.Claims.{KeysRise};
+ghost use Rattle.cluster_rules.specs.Marks as marks;
 ghost use Rattle.cluster_rules.specs.Messages.{Posting};
 ghost use Rattle.cluster_rules.specs.Opening.{Header};
 ghost use Rattle.cluster_rules.specs.Runs.{RunOf, run_marks};
+ghost use Rattle.cluster_rules.specs.Steps.{Step, all_marks};
 ghost use Rattle.cluster_rules.specs.World.{opened};
-ghost use Rattle.key_laws.specs.Traced.{Traced, facts_of, untouched};
+ghost use Rattle.key_laws.specs.Addressed.{GoesBetween, ComesFromOther};
+ghost use Rattle.key_laws.specs.Traced.{Traced, facts_of, untouched, after_all};
 ghost use Rattle.key_laws.specs.Licences.{Says, Licensed};
 ghost use Rattle.key_laws.specs.Laws.{KeepsRanges, traced_at, EntriesAgree};
 ghost use Rattle.key_laws.specs.Sound.{NodeKeys, Listed, Shown};
@@ -45,4 +50,16 @@ pub fn keys_rise_in_every_journal()
 /// is in it and enters a key once. A line of a node in its view names a view that the node has entered.
 pub fn entries_agree_in_every_journal()
     ensures { (n : ℕ) → (s : Script) → KeepsRanges s → (j : List Line) → RunOf n s j → EntriesAgree j }
+{}
+
+/// A message of kinds State to Answer goes between two members of the list of its key, after whatever steps are
+/// allowed; and one of the view of its receiver comes from another member of that view.
+pub fn messages_of_a_view_go_between_its_members()
+    ensures between { (n : ℕ) → (h : Header) → (ss : List Step) → All IsProperHeaderLine h → AreAllowed n (opened h) ss → (i : ℕ) → (p : Posting) → (m : Message) → slice_get (after_all (untouched (opened h)) (all_marks ss)).world.network.sent i ≡ Some p → message_of p.bytes ≡ Some m → GoesBetween (after_all (untouched (opened h)) (all_marks ss)) p.from p.to m }
+    ensures at_receiver { (n : ℕ) → (h : Header) → (ss : List Step) → All IsProperHeaderLine h → AreAllowed n (opened h) ss → (i : ℕ) → (p : Posting) → (m : Message) → slice_get (marks.after_all (opened h) (all_marks ss)).network.sent i ≡ Some p → message_of p.bytes ≡ Some m → ComesFromOther ((marks.after_all (opened h) (all_marks ss)).facts p.to) p.from m }
+{}
+
+/// What is due of steps that are allowed has its licence, mark by mark.
+pub fn allowed_steps_are_licensed()
+    ensures { (n : ℕ) → (h : Header) → (ss : List Step) → All IsProperHeaderLine h → AreAllowed n (opened h) ss → Licensed (untouched (opened h)) (all_marks ss) }
 {}

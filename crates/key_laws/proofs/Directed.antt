@@ -1,0 +1,178 @@
+-- Each message of a view that is sent goes between two members of it: at every mark, and what is due of every event.
+use Rattle.std.proofs.Common.{◌≡◌, ℕ, zero, suc, ◌+◌, ◌==◌, ◌⊎◌, inl, inr, ⊎_elim, Bool, true, false, ◌&&◌, not, List, [], ◌∷◌, ◌++◌, Option, Some, None, map, refl, sym, ap, subst, ◌∙◌, arith, if◌then◌else◌}
+use Rattle.std.specs.Prelude.{slice_get, find, filter, filter_map, flat_map, IsTrue, option_map, option_and_then, length, nat_lt, is_none}
+use Rattle.std.specs.List.{cons_option}
+use Rattle.std.specs.FinMap as finite
+use Rattle.conflict_order.specs.declared.version.Version.{Version}
+use Rattle.conflict_order.specs.declared.want.Want.{Want}
+use Rattle.conflict_order.specs.declared.want.Want.TheVariants as want
+use Rattle.cluster_types.specs.declared.cluster_key.ClusterKey.{ClusterKey}
+use Rattle.cluster_types.specs.declared.member.Member.{Member}
+use Rattle.cluster_types.specs.Partitions.{partition_count, partition_of}
+use Rattle.wire_messages.specs.declared.message.Batch.{Batch}
+use Rattle.wire_messages.specs.declared.message.MapTable.{MapTable}
+use Rattle.wire_messages.specs.declared.message.Message.{Message}
+use Rattle.wire_messages.specs.declared.message.Message.TheVariants as message
+use Rattle.wire_messages.specs.Decoding.{message_of}
+use Rattle.wire_messages.specs.Keys.{IsKeyOrNone}
+use Rattle.wire_messages.specs.Spelling.{spelling}
+use Rattle.journal_lines.specs.declared.line.Line.{Line}
+use Rattle.journal_lines.specs.declared.line.Line.TheVariants as line
+use Rattle.journal_lines.specs.declared.refusal.Refusal.{Refusal}
+use Rattle.node_rules.specs.Agreement as agreement
+use Rattle.node_rules.specs.Agreement.{Proposal}
+use Rattle.node_rules.specs.Batches as batches
+use Rattle.node_rules.specs.Batches.{Target, Targets, next_batch, batch_after, fresh_batch}
+use Rattle.node_rules.specs.Copies.{Content, is_nil}
+use Rattle.node_rules.specs.Effects.{Effects, to_each, to_one}
+use Rattle.node_rules.specs.Facts.{Facts, view_key, members, list_at}
+use Rattle.node_rules.specs.Notes as notes
+use Rattle.node_rules.specs.Notes.{note, reached, sent, in_view}
+use Rattle.node_rules.specs.Standing.{others, other_replicas}
+use Rattle.node_rules.specs.Tables.{contains}
+use Rattle.node_rules.specs.Transactions.{Transaction, Write}
+use Rattle.cluster_rules.specs.declared.event.Event.{Event}
+use Rattle.cluster_rules.specs.declared.event.Event.TheVariants as event
+use Rattle.cluster_rules.specs.DueEvents.{sent_lines, full_unless, one_more_if, written}
+use Rattle.cluster_rules.specs.Marks as marks
+use Rattle.cluster_rules.specs.Marks.{Mark, Begins, Writes}
+use Rattle.cluster_rules.specs.Messages.{Posting, Arrival, arrived, arrived_cut}
+use Rattle.cluster_rules.specs.Network.{Network, client, posting, posting_at, has_place}
+use Rattle.cluster_rules.specs.NodeSteps.{IsOf, AreOf}
+use Rattle.cluster_rules.specs.World.{World, at, with_facts}
+use Rattle.key_laws.specs.Addressed.{Addressed, GoesBetween}
+use Rattle.key_laws.specs.Licences.{Known, OkLine}
+use Rattle.key_laws.specs.Sound.{NodeKeys, Sound, Grows, Outs, OutKnown}
+use Rattle.key_laws.specs.Traced.{Traced, facts_of, after, after_all}
+use Rattle.key_laws.proofs.Addressed.{member_id, NodeGoes, TargetsGo, TargetGoes, OutGoes, AllAwait, Among, node_goes_grows, goes_grows, addressed_grows, note_goes, reached_goes, sent_goes, to_other, back, asked_among_others, replicas_among_others}
+use Rattle.key_laws.proofs.Frames.{at_each, num_same, never}
+use Rattle.key_laws.proofs.Growth.{same_grows, grows_on}
+use Rattle.key_laws.proofs.Kept.{Keeps, kept_line, kept_begun, WasPosted, was_posted}
+use Rattle.key_laws.proofs.Wire.{If, Read, read_accept, read_refuse, read_batch, read_batch_ack, read_progress, read_repl, read_repl_ack, read_ask, read_answer, read_map_ask, read_table, read_state, read_heartbeat, read_propose, read_commit}
+
+-- ---- the invariant
+
+pub record Directed (t : Traced) : Type 0 where
+  pub nodes : (n : ℕ) → NodeGoes t (facts_of t n)
+  pub sent : (i : ℕ) (p : Posting) (m : Message) → slice_get t.world.network.sent i ≡ Some p → message_of p.bytes ≡ Some m → GoesBetween t p.from p.to m
+
+-- whatever the bytes are read as goes between members
+abbrev pub GoesIf : Traced → ℕ → ℕ → Option Message → Type 0
+GoesIf t a b o = If (λ m. GoesBetween t a b m) o
+
+pub goes_if_grows : (t u : Traced) → Grows t u → (a b : ℕ) (o : Option Message) → GoesIf t a b o → GoesIf u a b o
+goes_if_grows t u g a b None h = h
+goes_if_grows t u g a b (Some m) h = goes_grows t u g a b m h
+
+-- what a line that sends is to say; others say nothing
+abbrev pub LineGoes : Traced → Line → Type 0
+LineGoes t (line.Sent i a b bytes) = GoesIf t a b (message_of bytes)
+LineGoes t _ = Unit {0}
+
+line_goes_grows : (t u : Traced) → Grows t u → (l : Line) → LineGoes t l → LineGoes u l
+line_goes_grows t u g (line.Sent i a b bytes) h = goes_if_grows t u g a b (message_of bytes) h
+line_goes_grows t u g _ h = h
+
+abbrev pub AllGo : Traced → List Line → Type 0
+AllGo t [] = Unit {0}
+AllGo t (l ∷ ls) = LineGoes t l × AllGo t ls
+
+pub all_go_grow : (t u : Traced) → Grows t u → (ls : List Line) → AllGo t ls → AllGo u ls
+all_go_grow t u g [] h = tt
+all_go_grow t u g (l ∷ ls) h = (line_goes_grows t u g l h.0, all_go_grow t u g ls h.1)
+
+-- ---- each line keeps it
+
+-- nothing that counts here has changed but one node
+one_node : (t u : Traced) (n : ℕ) (new : Facts) → Grows t u → u.world.facts ≡ at t.world.facts n new → u.world.network.sent ≡ t.world.network.sent
+    → Directed t → NodeGoes u new → Directed u
+one_node t u n new g facts sent h here = record {
+  nodes = λ m. subst (λ (fs : ℕ → Facts). NodeGoes u (fs m)) (sym facts) (at_each (λ k f. NodeGoes u f) t.world.facts n new (λ k. node_goes_grows t u g (facts_of t k) (h.nodes k)) here m);
+  sent = λ i p m e r. goes_grows t u g p.from p.to m (h.sent i p m (subst (λ xs. slice_get xs i ≡ Some p) sent e) r);
+}
+
+beside : (t u : Traced) → Grows t u → u.world.facts ≡ t.world.facts → u.world.network.sent ≡ t.world.network.sent → Directed t → Directed u
+beside t u g facts sent h = record {
+  nodes = λ m. subst (λ (fs : ℕ → Facts). NodeGoes u (fs m)) (sym facts) (node_goes_grows t u g (facts_of t m) (h.nodes m));
+  sent = λ i p m e r. goes_grows t u g p.from p.to m (h.sent i p m (subst (λ xs. slice_get xs i ≡ Some p) sent e) r);
+}
+
+noted_by : (t u : Traced) (n : ℕ) (l : Line) → Grows t u → u.world.facts ≡ at t.world.facts n (note t.world.want (facts_of t n) l) → u.world.network.sent ≡ t.world.network.sent → Directed t → Directed u
+noted_by t u n l g facts sent h =
+    one_node t u n (note t.world.want (facts_of t n) l) g facts sent h (note_goes u t.world.want (facts_of t n) l (node_goes_grows t u g (facts_of t n) (h.nodes n)))
+
+arrived_goes : (t : Traced) (x : Option Arrival) → (u : Traced) → u ≡ record { world = marks.came t.world x; lists = t.lists; entered = t.entered } → Grows t u → Directed t → Directed u
+arrived_goes t None u same g h = beside t u g (ap (λ (v : Traced). v.world.facts) same) (ap (λ (v : Traced). v.world.network.sent) same) h
+arrived_goes t (Some x) u same g h = go (x.to == client) same
+  where
+    at_client : (m : Message) → u ≡ record { world = marks.came_to_client t.world m; lists = t.lists; entered = t.entered } → Directed u
+    at_client (message.MapTable table) same = beside t u g (ap (λ (v : Traced). v.world.facts) same) (ap (λ (v : Traced). v.world.network.sent) same) h
+    at_client _ same = beside t u g (ap (λ (v : Traced). v.world.facts) same) (ap (λ (v : Traced). v.world.network.sent) same) h
+
+    go : (b : Bool) → u ≡ record { world = marks.came_to t.world x b; lists = t.lists; entered = t.entered } → Directed u
+    go true same = at_client x.message same
+    go false same =
+        one_node t u x.to (reached (facts_of t x.to) x.from x.message) g (ap (λ (v : Traced). v.world.facts) same) (ap (λ (v : Traced). v.world.network.sent) same) h
+        (reached_goes u (facts_of t x.to) x.from x.message (node_goes_grows t u g (facts_of t x.to) (h.nodes x.to)))
+
+more : {A : Type 0} (xs : List A) (x y : A) (i : ℕ) → slice_get (xs ++ x ∷ []) i ≡ Some y → (slice_get xs i ≡ Some y) ⊎ (y ≡ x)
+more [] x y zero e = inr (grind arith)
+more [] x y (suc i) e = absurd (grind arith)
+more (z ∷ xs) x y zero e = inl e
+more (z ∷ xs) x y (suc i) e = more xs x y i e
+
+-- a message more, and what it makes of its sender
+posted_goes : (t u : Traced) (i : ℕ) (p : Posting) → (facts_of t p.from).me ≡ p.from → u ≡ record { world = marks.posted_by t.world i p; lists = t.lists; entered = t.entered } → Grows t u
+    → GoesIf t p.from p.to (message_of p.bytes) → Directed t → Directed u
+posted_goes t u i p me same g goes h = record { nodes = nodes (message_of p.bytes) same goes; sent = λ j q m e r. sends j q m (subst (λ xs. slice_get xs j ≡ Some q) (net (message_of p.bytes) same) e) r }
+  where
+    net : (o : Option Message) → u ≡ record { world = marks.sent_by (record t.world { network = posting t.world.network i p }) p.from p.to o; lists = t.lists; entered = t.entered } → u.world.network.sent ≡ (t.world.network.sent ++ p ∷ [])
+    net None same = ap (λ (v : Traced). v.world.network.sent) same
+    net (Some m) same = ap (λ (v : Traced). v.world.network.sent) same
+
+    nodes : (o : Option Message) → u ≡ record { world = marks.sent_by (record t.world { network = posting t.world.network i p }) p.from p.to o; lists = t.lists; entered = t.entered } → GoesIf t p.from p.to o → (n : ℕ) → NodeGoes u (facts_of u n)
+    nodes None same go n = subst (λ (v : Traced). NodeGoes u (facts_of v n)) (sym same) (node_goes_grows t u g (facts_of t n) (h.nodes n))
+    nodes (Some m) same go n =
+        subst (λ (v : Traced). NodeGoes u (facts_of v n)) (sym same)
+        (at_each (λ k f. NodeGoes u f) t.world.facts p.from (sent (facts_of t p.from) p.to m) (λ k. node_goes_grows t u g (facts_of t k) (h.nodes k))
+        (sent_goes u (facts_of t p.from) p.to m (subst (λ (a : ℕ). GoesBetween u a p.to m) (sym me) (goes_grows t u g p.from p.to m go)) (node_goes_grows t u g (facts_of t p.from) (h.nodes p.from))) n)
+
+    last : (q : Posting) (m : Message) → q ≡ p → message_of q.bytes ≡ Some m → GoesBetween u q.from q.to m
+    last q m e r =
+        subst (λ (x : Posting). GoesBetween u x.from x.to m) (sym e)
+        (subst (λ o. GoesIf u p.from p.to o) (sym (ap (λ (x : Posting). message_of x.bytes) e) ∙ r) (goes_if_grows t u g p.from p.to (message_of p.bytes) goes))
+
+    sends : (j : ℕ) (q : Posting) (m : Message) → slice_get (t.world.network.sent ++ p ∷ []) j ≡ Some q → message_of q.bytes ≡ Some m → GoesBetween u q.from q.to m
+    sends j q m e r = ⊎_elim (λ z. goes_grows t u g q.from q.to m (h.sent j q m z r)) (λ z. last q m z r) (more t.world.network.sent p q j e)
+
+pub line_goes : (t : Traced) (l : Line) → Sound t → Grows t (after t (Writes l)) → LineGoes t l → Directed t → Directed (after t (Writes l))
+line_goes t (line.Deliver i a b) s g go h = arrived_goes t (option_and_then (arrived b) (posting_at t.world.network i)) _ refl g h
+line_goes t (line.Repeat i a b) s g go h = arrived_goes t (option_and_then (arrived b) (posting_at t.world.network i)) _ refl g h
+line_goes t (line.Cut i a b size) s g go h = arrived_goes t (option_and_then (arrived_cut b size) (posting_at t.world.network i)) _ refl g h
+line_goes t (line.Sent i a b bytes) s g go h = posted_goes t (after t (Writes (line.Sent i a b bytes))) i (record { from = a; to = b; bytes = bytes }) (s.nodes a).me refl g go h
+line_goes t (line.Tick n) s g go h = noted_by t _ n (line.Tick n) g refl refl h
+line_goes t (line.Stop n) s g go h = noted_by t _ n (line.Stop n) g refl refl h
+line_goes t (line.Start n) s g go h = noted_by t _ n (line.Start n) g refl refl h
+line_goes t (line.Quiesce n) s g go h = noted_by t _ n (line.Quiesce n) g refl refl h
+line_goes t (line.Unquiesce n) s g go h = noted_by t _ n (line.Unquiesce n) g refl refl h
+line_goes t (line.Promise n k) s g go h = noted_by t _ n (line.Promise n k) g refl refl h
+line_goes t (line.Enter n k ms) s g go h = noted_by t _ n (line.Enter n k ms) g refl refl h
+line_goes t (line.Exchanged n k) s g go h = noted_by t _ n (line.Exchanged n k) g refl refl h
+line_goes t (line.Opened n k number d a) s g go h = noted_by t _ n (line.Opened n k number d a) g refl refl h
+line_goes t (line.Value n k number d v) s g go h = noted_by t _ n (line.Value n k number d v) g refl refl h
+line_goes t (line.Apply n k number d v) s g go h = noted_by t _ n (line.Apply n k number d v) g refl refl h
+line_goes t (line.Done n k number) s g go h = noted_by t _ n (line.Done n k number) g refl refl h
+line_goes t (line.Aborted n k number) s g go h = noted_by t _ n (line.Aborted n k number) g refl refl h
+line_goes t (line.Doubt n k number) s g go h = noted_by t _ n (line.Doubt n k number) g refl refl h
+line_goes t (line.Merge n k d v) s g go h = noted_by t _ n (line.Merge n k d v) g refl refl h
+line_goes t (line.Handed n k p) s g go h = noted_by t _ n (line.Handed n k p) g refl refl h
+line_goes t (line.Settled n k p) s g go h = noted_by t _ n (line.Settled n k p) g refl refl h
+line_goes t (line.Learn n k p) s g go h = noted_by t _ n (line.Learn n k p) g refl refl h
+line_goes t (line.Drop n k p) s g go h = noted_by t _ n (line.Drop n k p) g refl refl h
+line_goes t _ s g go h = beside t _ g refl refl h
+
+pub begun_goes : (t : Traced) (e : Event) → Grows t (after t (Begins e)) → Directed t → Directed (after t (Begins e))
+begun_goes t (event.Deliver i) g h = beside t _ g refl refl h
+begun_goes t (event.Lose i) g h = beside t _ g refl refl h
+begun_goes t (event.Cut i size) g h = beside t _ g refl refl h
+begun_goes t _ g h = beside t _ g refl refl h
