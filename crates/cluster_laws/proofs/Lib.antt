@@ -1,4 +1,4 @@
-mod At
+pub mod At
 mod Allowed
 mod Apart
 mod Step
@@ -9,13 +9,13 @@ mod Txns
 mod Grows
 mod Predicates
 mod Inside
-mod Lists
+pub mod Lists
 mod Said
 mod Below
 mod Cross
 mod Moving
 mod Folds
-mod GroundLaws
+pub mod GroundLaws
 mod Heard
 mod Fine
 mod Counts
@@ -44,4 +44,4 @@ mod ReadingHeard
 mod ReadingClasses
 mod BitRows
 mod LateRun
-mod ReadingHeaders
+pub mod ReadingHeaders

@@ -1,0 +1,188 @@
+-- What the events of a run bring keeps its ranges, where its commands do.
+use Rattle.std.proofs.Common.{inl, inr, ◌≡◌, ◌<◌, ℕ, zero, suc, Bool, true, false, cond, nat_lt, List, [], ◌∷◌, ◌++◌, sym, ap, subst, ◌∙◌, arith, map, if◌then◌else◌}
+use Rattle.std.specs.Prelude.{All, filter}
+use Rattle.std.specs.List.{cons_option, AllByRecursion, slice_index}
+use Rattle.std.proofs.lemmas.List.Elements.{All-from_recursion}
+use Rattle.partition_lists.specs.Lists.{put_in_order, in_order}
+use Rattle.script_lang.specs.declared.script.Command.{Command}
+use Rattle.script_lang.specs.declared.script.Command.TheVariants as command
+use Rattle.script_lang.specs.declared.script.HeaderLine.{HeaderLine}
+use Rattle.script_lang.specs.declared.script.HeaderLine.TheVariants as header
+use Rattle.script_lang.specs.declared.script.Script.{Script}
+use Rattle.script_lang.specs.Proper as script
+use Rattle.script_lang.specs.Proper.{IsNode, IsAnyValue, IsProperHeaderLine, IsProperCommand}
+use Rattle.wire_messages.specs.Nodes.{IsId}
+use Rattle.wire_messages.specs.Versions.{AreBytes, IsDigest, IsValue}
+use Rattle.cluster_rules.specs.declared.event.Event.{Event}
+use Rattle.cluster_rules.specs.declared.event.Event.TheVariants as event
+use Rattle.cluster_rules.specs.Begun.{MayPlay, AllBegun}
+use Rattle.cluster_rules.specs.Opening.{Header, declared_nodes, node_in}
+use Rattle.cluster_rules.specs.Runs.{Plays, PlaysAll}
+use Rattle.cluster_rules.specs.Steps.{Step, Played, all_marks, play, play_all, flow, flows, round, rounds}
+use Rattle.cluster_rules.specs.World.{World, opened, is_up, up_nodes}
+use Rattle.cluster_rules.proofs.AllowedLaws.{nodes_stay}
+use Rattle.cluster_rules.proofs.MarkLaws.{Follows, round_follows}
+use Rattle.cluster_rules.proofs.RunLaws.{command_follows}
+use Rattle.run_laws.specs.Taken.{IsProperEvent}
+
+-- ---- nodes with ids
+
+abbrev AreIds : List ℕ → Type 0
+AreIds [] = Unit {0}
+AreIds (n ∷ ns) = IsId n × AreIds ns
+
+ids_filtered : (test : ℕ → Bool) (ns : List ℕ) → AreIds ns → AreIds (filter test ns)
+ids_filtered test [] h = tt
+ids_filtered test (n ∷ ns) h = go (test n) (ids_filtered test ns h.1)
+  where
+    go : (b : Bool) → AreIds (filter test ns) → AreIds (cond b (n ∷ filter test ns) (filter test ns))
+    go true rest = (h.0, rest)
+    go false rest = rest
+
+ids_put : (x : ℕ) (ns : List ℕ) → IsId x → AreIds ns → AreIds (put_in_order nat_lt x ns)
+ids_put x [] i h = (i, tt)
+ids_put x (n ∷ ns) i h = go (nat_lt n x) (ids_put x ns i h.1)
+  where
+    go : (b : Bool) → AreIds (put_in_order nat_lt x ns) → AreIds (if b then n ∷ put_in_order nat_lt x ns else (x ∷ n ∷ ns))
+    go true rest = (h.0, rest)
+    go false rest = (i, h)
+
+ids_in_order : (ns : List ℕ) → AreIds ns → AreIds (in_order nat_lt ns)
+ids_in_order [] h = tt
+ids_in_order (n ∷ ns) h = ids_put n (in_order nat_lt ns) h.0 (ids_in_order ns h.1)
+
+up_ids : (w : World) → AreIds w.nodes → AreIds (up_nodes w)
+up_ids w h = ids_in_order (filter (is_up w) w.nodes) (ids_filtered (is_up w) w.nodes h)
+
+of_first : {A : Type 0} (P : A → Type 0) (x : A) (xs : List A) → All P (x ∷ xs) → P x
+of_first P x xs h = h 0 x (omega arith)
+
+of_others : {A : Type 0} (P : A → Type 0) (x : A) (xs : List A) → All P (x ∷ xs) → All P xs
+of_others P x xs h k d within = h (suc k) d (omega (arith, within))
+
+node_id : (n : ℕ) → IsNode n → IsId n
+node_id n h = record { positive = h.positive; fits = h.fits }
+
+declared_ids : (h : Header) → All IsProperHeaderLine h → AreIds (declared_nodes h)
+declared_ids [] p = tt
+declared_ids (l ∷ h) p = go l (of_first IsProperHeaderLine l h p) (declared_ids h (of_others IsProperHeaderLine l h p))
+  where
+    go : (l : HeaderLine) → IsProperHeaderLine l → AreIds (declared_nodes h) → AreIds (cons_option (node_in l) (declared_nodes h))
+    go (header.Node n rack) q rest = (node_id n q.0, rest)
+    go (header.Script version) q rest = rest
+    go (header.Factor factor) q rest = rest
+    go (header.Policy policy) q rest = rest
+
+follows_nodes : (n : ℕ) (w : World) (x : Played) → Follows n w x → x.world.nodes ≡ w.nodes
+follows_nodes n w x h = ap (λ (v : World). v.nodes) (sym h.leads) ∙ nodes_stay (all_marks x.steps) w
+
+-- ---- digests and values of a script
+
+each_byte : (d : List ℕ) → ((i : ℕ) → slice_index d i < 256) → AllByRecursion (λ b. b < 256) d
+each_byte [] f = tt
+each_byte (b ∷ d) f = (f 0, each_byte d (λ i. f (suc i)))
+
+bytes_of : (d : List ℕ) → ((i : ℕ) → slice_index d i < 256) → AreBytes d
+bytes_of d f = All-from_recursion (λ b. b < 256) d (each_byte d f)
+
+a_digest : (d : List ℕ) → script.IsDigest d → IsDigest d
+a_digest d p = record { size = p.size; each = bytes_of d p.bytes }
+
+a_value : (v : List ℕ) → IsAnyValue v → IsValue v
+a_value v p = record { limit = p.limit; each = bytes_of v p.bytes }
+
+-- ---- who ticks has an id
+
+abbrev AllProper : List Step → Type 0
+AllProper ss = AllByRecursion (λ (s : Step). IsProperEvent s.event) ss
+
+proper_append : (ss ts : List Step) → AllProper ss → AllProper ts → AllProper (ss ++ ts)
+proper_append [] ts h i = i
+proper_append (s ∷ ss) ts h i = (h.0, proper_append ss ts h.1 i)
+
+abbrev AreProper : List Event → Type 0
+AreProper [] = Unit {0}
+AreProper (e ∷ es) = IsProperEvent e × AreProper es
+
+proper_all : (n : ℕ) (es : List Event) (w : World) → AreProper es → AllProper (play_all n es w).steps
+proper_all n [] w h = tt
+proper_all n (e ∷ es) w h = (h.0, proper_all n es (play n e w).world h.1)
+
+proper_deliveries : (is : List ℕ) → AreProper (map event.Deliver is)
+proper_deliveries [] = tt
+proper_deliveries (i ∷ is) = (tt, proper_deliveries is)
+
+proper_ticks : (ns : List ℕ) → AreIds ns → AreProper (map event.Tick ns)
+proper_ticks [] h = tt
+proper_ticks (n ∷ ns) h = (h.0, proper_ticks ns h.1)
+
+proper_flow : (n : ℕ) (w : World) → AllProper (flow n w).steps
+proper_flow n w = proper_all n _ w (proper_deliveries w.network.flying)
+
+proper_flows : (n k : ℕ) (w : World) → AllProper (flows n k w).steps
+proper_flows n zero w = tt
+proper_flows n (suc k) w = proper_append (flow n w).steps (flows n k (flow n w).world).steps (proper_flow n w) (proper_flows n k (flow n w).world)
+
+proper_round : (n : ℕ) (w : World) → AreIds w.nodes → AllProper (round n w).steps
+proper_round n w h =
+    let ticks : Played = play_all n (map event.Tick (up_nodes w)) w in
+    proper_append ticks.steps (flows n 4 ticks.world).steps (proper_all n _ w (proper_ticks (up_nodes w) (up_ids w h))) (proper_flows n 4 ticks.world)
+
+proper_rounds : (n k : ℕ) (w : World) → AreIds w.nodes → AllProper (rounds n k w).steps
+unfolding rounds
+proper_rounds n zero w h = tt
+proper_rounds n (suc k) w h =
+    proper_append (round n w).steps (rounds n k (round n w).world).steps (proper_round n w h)
+    (proper_rounds n k (round n w).world (subst (λ ns. AreIds ns) (sym (follows_nodes n w (round n w) (round_follows n w))) h))
+
+by_event : (n : ℕ) (w : World) (e : Event) (x : Played) → x ≡ play n e w → IsProperEvent e → AllProper x.steps
+by_event n w e x h b = subst (λ (y : Played). AllProper y.steps) (sym h) (b, tt)
+
+proper_command : (n : ℕ) (w : World) (c : Command) (x : Played) → AreIds w.nodes → IsProperCommand c → Plays n w c x → AllProper x.steps
+proper_command n w command.Flow x ids p h = subst (λ (y : Played). AllProper y.steps) (sym h) (proper_flow n w)
+proper_command n w command.Round x ids p h = subst (λ (y : Played). AllProper y.steps) (sym h) (proper_round n w ids)
+proper_command n w command.Calm x ids p h =
+    subst (λ (y : Played). AllProper y.steps) (sym h.played) (proper_append (rounds n h.number w).steps (play n (event.Calmed h.number) (rounds n h.number w).world).steps (proper_rounds n h.number w ids) (tt, tt))
+proper_command n w (command.Tick node) x ids p h = by_event n w (event.Tick node) x h (node_id node p)
+proper_command n w (command.Clock node time) x ids p h = by_event n w (event.Clock node time) x h p.1
+proper_command n w (command.Put node d v) x ids p h = by_event n w (event.Put node d v) x h (a_digest d p.1, a_value v p.2)
+proper_command n w (command.Get node d) x ids p h = by_event n w (event.Get node d) x h (a_digest d p.1)
+proper_command n w (command.Del node d) x ids p h = by_event n w (event.Del node d) x h (a_digest d p.1)
+proper_command n w (command.ClientPut d v) x ids p h = by_event n w (event.ClientPut d v) x h (a_digest d p.0, a_value v p.1)
+proper_command n w (command.ClientGet d) x ids p h = by_event n w (event.ClientGet d) x h (a_digest d p)
+proper_command n w (command.ClientDel d) x ids p h = by_event n w (event.ClientDel d) x h (a_digest d p)
+proper_command n w c x ids p h = by_event n w _ x h tt
+
+proper_commands : (n : ℕ) (cs : List Command) (w : World) (x : Played) → AreIds w.nodes → All IsProperCommand cs → PlaysAll n w cs x → AllProper x.steps
+proper_commands n [] w x ids p h = subst (λ (y : Played). AllProper y.steps) (sym h) tt
+proper_commands n (c ∷ cs) w x ids p h =
+    subst (λ (y : Played). AllProper y.steps) (sym h.whole)
+    (proper_append h.first.steps h.others.steps
+    (proper_command n w c h.first ids (of_first IsProperCommand c cs p) h.plays)
+    (proper_commands n cs h.first.world h.others (subst (λ ns. AreIds ns) (sym (follows_nodes n w h.first (command_follows n w c h.first h.plays))) ids) (of_others IsProperCommand c cs p) h.follows))
+
+pub events_of_run : (n : ℕ) (s : Script) (x : Played) → All IsProperHeaderLine s.header → All IsProperCommand s.commands → PlaysAll n (opened s.header) s.commands x → All (λ (y : Step). IsProperEvent y.event) x.steps
+events_of_run n s x header commands h = All-from_recursion (λ (y : Step). IsProperEvent y.event) x.steps (proper_commands n s.commands (opened s.header) x (declared_ids s.header header) commands h)
+
+-- ---- a run that was begun
+
+proper_front : (ss ts : List Step) → AllProper (ss ++ ts) → AllProper ss
+proper_front [] ts h = tt
+proper_front (s ∷ ss) ts h = (h.0, proper_front ss ts h.1)
+
+may_be_proper : (n : ℕ) (w : World) (c : Command) (x : Played) → AreIds w.nodes → IsProperCommand c → MayPlay n w c x → AllProper x.steps
+may_be_proper n w command.Calm x ids p (inl h) = proper_command n w command.Calm x ids p h
+may_be_proper n w command.Calm x ids p (inr h) = subst (λ (y : Played). AllProper y.steps) (sym h.played) (proper_rounds n h.number w ids)
+may_be_proper n w c x ids p h = proper_command n w c x ids p h
+
+proper_begun : (n : ℕ) (cs : List Command) (w : World) (taken : List Step) (next : Step) → AreIds w.nodes → All IsProperCommand cs → AllBegun n w cs taken next → AllProper taken
+proper_begun n [] w taken next ids p h = absurd h
+proper_begun n (c ∷ cs) w taken next ids p (inl h) =
+    proper_front taken (next ∷ h.front.others) (subst (λ (ss : List Step). AllProper ss) h.front.in_order (may_be_proper n w c h.whole ids (of_first IsProperCommand c cs p) h.plays))
+proper_begun n (c ∷ cs) w taken next ids p (inr h) = subst (λ (ss : List Step). AllProper ss) (sym h.whole)
+    (proper_append h.first.steps h.others
+    (proper_command n w c h.first ids (of_first IsProperCommand c cs p) h.plays)
+    (proper_begun n cs h.first.world h.others next (subst (λ ns. AreIds ns) (sym (follows_nodes n w h.first (command_follows n w c h.first h.plays))) ids) (of_others IsProperCommand c cs p) h.begun))
+
+pub events_of_begun : (n : ℕ) (s : Script) (taken : List Step) (next : Step) → All IsProperHeaderLine s.header → All IsProperCommand s.commands → AllBegun n (opened s.header) s.commands taken next → All (λ (y : Step). IsProperEvent y.event) taken
+events_of_begun n s taken next header commands h = All-from_recursion (λ (y : Step). IsProperEvent y.event) taken (proper_begun n s.commands (opened s.header) taken next (declared_ids s.header header) commands h)

@@ -1,0 +1,88 @@
+-- The messages of steps that are taken are read as they were sent, so that the steps' lines are a journal.
+use Rattle.std.proofs.Common.{◌≡◌, ℕ, ◌+◌, ◌<◌, ◌^◌, List, [], ◌∷◌, length, sym, ap, ◌∙◌, subst, arith, lit<}
+use Rattle.std.specs.Prelude.{map}
+use Rattle.std.specs.List.{AllByRecursion}
+use Rattle.std.specs.FinMap.{get-empty}
+use Rattle.std.specs.Ordering.{nat_cmp}
+use Rattle.std.specs.Cmp.Lexicographic.{slice_cmp}
+use Rattle.std.proofs.lemmas.List.Elements.{recursion_from_All}
+use Rattle.conflict_order.specs.declared.policy.Policy.{Policy}
+use Rattle.cluster_types.specs.Partitions.{partition_count}
+use Rattle.journal_lines.specs.declared.line.Line.{Line}
+use Rattle.cluster_rules.specs.Allowed.{IsAllowed, AreAllowed}
+use Rattle.cluster_rules.specs.DueEvents.{due_of}
+use Rattle.cluster_rules.specs.Marks.{Mark, Begins, Writes, lines_among}
+use Rattle.cluster_rules.specs.Opening.{Header, declared_factor, declared_policy}
+use Rattle.cluster_rules.specs.Steps.{Step, marks_of, all_marks, all_lines}
+use Rattle.cluster_rules.specs.World.{World}
+use Rattle.cluster_rules.proofs.MarkLaws.{lines_of_steps}
+use Rattle.cluster_laws.specs.Journals.{IsJournal}
+use Rattle.cluster_laws.proofs.At.{no_some}
+use Rattle.key_laws.specs.Licences.{Licensed}
+use Rattle.run_laws.specs.Fronts.{Front, world_of, after, after_all}
+use Rattle.run_laws.specs.LineDue.{DueMarks, Lawful}
+use Rattle.run_laws.specs.Premises.{StepPremises, Premises}
+use Rattle.run_laws.specs.Ranges.{Ranged}
+use Rattle.run_laws.specs.Steps.{Ended, StepGoes}
+use Rattle.run_laws.specs.Taken.{IsProperEvent, Taken, first, ground_of}
+use Rattle.run_laws.proofs.AllSteps.{step_of}
+use Rattle.run_laws.proofs.Grounded.{onward_all}
+use Rattle.run_laws.proofs.Journal.{after_append, world_all, more_lines, lt_after, step_key, first_lawful, first_ended, run_is_a_journal}
+use Rattle.run_laws.proofs.Lawful.{Onward, lawful_line, lawful_begun, strengthened}
+use Rattle.run_laws.proofs.RangedLines.{ranged_line, ranged_begun}
+use Rattle.run_laws.proofs.ReadSteps.{HasLine, sends_read}
+
+-- ---- ranges over marks
+
+ranged_all : (by : Policy) (factor : ℕ) (z : Front) (ms : List Mark) → Licensed z.chronicle.traced ms → DueMarks z ms → (after_all z ms).lines < 2 ^ 32 → Lawful by factor z → Ranged z → Ranged (after_all z ms)
+ranged_all by factor z [] key due lt h r = r
+ranged_all by factor z (Begins e ∷ ms) key due lt h r = ranged_all by factor (after z (Begins e)) ms key.1 due lt (lawful_begun by factor z e h).lawful (ranged_begun z e r)
+ranged_all by factor z (Writes l ∷ ms) key due lt h r =
+    ranged_all by factor (after z (Writes l)) ms key.1 due.1 lt (lawful_line by factor z l key.0 (strengthened by factor z l h key.0 due.0) h).lawful
+    (ranged_line z l h.sound (strengthened by factor z l h key.0 due.0) (lt_after (after z (Writes l)) ms lt) r)
+
+-- ---- steps
+
+-- a step that writes a line leaves room for one more
+few_lines : (z : Front) (s : Step) → IsAllowed partition_count (world_of z) s → (after_all z (marks_of s)).lines < 2 ^ 32 → HasLine (due_of partition_count (world_of z) s.event) → z.lines + 1 < 2 ^ 32
+few_lines z s a lt some = go s.lines (subst HasLine (sym a.due) some) lt
+  where
+    go : (ls : List Line) → HasLine ls → (after_all z (Begins s.event ∷ map Writes ls)).lines < 2 ^ 32 → z.lines + 1 < 2 ^ 32
+    go [] h lt = absurd h
+    go (l ∷ ls) h lt = lt_after (after (after z (Begins s.event)) (Writes l)) (map Writes ls) lt
+
+premises_hold : (by : Policy) (factor : ℕ) (z : Front) (ss : List Step) → Lawful by factor z → Ended z → Ranged z → AllByRecursion (λ (s : Step). IsProperEvent s.event) ss → AreAllowed partition_count (world_of z) ss → (after_all z (all_marks ss)).lines < 2 ^ 32 → Premises z ss
+premises_hold by factor z [] h e r p a short = tt
+premises_hold by factor z (s ∷ ss) h e r p a short =
+    let rest : (after_all (after_all z (marks_of s)) (all_marks ss)).lines < 2 ^ 32 = subst (λ (y : Front). y.lines < 2 ^ 32) (after_append z (marks_of s) (all_marks ss)) short in
+    let lt : (after_all z (marks_of s)).lines < 2 ^ 32 = lt_after (after_all z (marks_of s)) (all_marks ss) rest in
+    let one : StepPremises z s = record { reads = sends_read by factor z s.event h e r p.0 (few_lines z s a.0 lt) } in
+    let goes : StepGoes z s = step_of by factor z s h e p.0 a.0 lt one in
+    let key : Licensed z.chronicle.traced (marks_of s) = step_key z s by factor h p.0 a.0 in
+    let on : Onward by factor z (after_all z (marks_of s)) = onward_all by factor z (marks_of s) key goes.due h in
+    (one, premises_hold by factor (after_all z (marks_of s)) ss on.lawful goes.ends (ranged_all by factor z (marks_of s) key goes.due lt h r) p.1 (subst (λ (w : World). AreAllowed partition_count w ss) (sym (world_all z (marks_of s))) a.1) rest)
+
+-- ---- from the beginning
+
+first_ranged : (h : Header) → Ranged (first h)
+first_ranged h = record {
+  nodes = λ n. record {
+    each_row = tt;
+    content = record { each = λ d v e. no_some (sym (get-empty (slice_cmp nat_cmp) d) ∙ e) };
+    stamps = record { each = λ p s e. no_some (sym (get-empty nat_cmp p) ∙ e) };
+    writes = record { applies = λ p. omega arith; numbers = λ p. omega arith };
+    transactions = record { opened = omega arith; running = λ y a. absurd a };
+    each_target = λ t a. absurd a;
+  };
+  clocks = λ n. lit< tt;
+}
+
+pub premises_of : (h : Header) (ss : List Step) → Taken h ss → Premises (first h) ss
+premises_of h ss t = premises_hold (declared_policy h) (declared_factor h) (first h) ss (first_lawful h) (first_ended h) (first_ranged h) (recursion_from_All (λ (s : Step). IsProperEvent s.event) ss t.ranges) t.allowed
+    (subst (λ (n : ℕ). n < 2 ^ 32) (sym (more_lines (first h) (all_marks ss) ∙ none_first (length (lines_among (all_marks ss))) ∙ ap length (lines_of_steps ss))) t.short)
+  where
+    none_first : (n : ℕ) → 0 + n ≡ n
+    none_first n = omega arith
+
+pub taken_is_a_journal : (h : Header) (ss : List Step) → Taken h ss → IsJournal h (ground_of h ss) (all_lines ss)
+taken_is_a_journal h ss t = run_is_a_journal h ss t (premises_of h ss t)
