@@ -22,26 +22,26 @@ mod Counts
 mod Copies
 mod Stamps
 mod Kept
-mod All
-mod Settled
+pub mod All
+pub mod Settled
 mod Answering
 mod Resolved
 mod TooWeak
 mod LoneRun
 mod PairRun
 mod SidesRun
-mod ReadingFrames
-mod ReadingLines
-mod ReadingSteps
-mod ReadingViews
-mod ReadingTies
-mod ReadingClaims
+pub mod ReadingFrames
+pub mod ReadingLines
+pub mod ReadingSteps
+pub mod ReadingViews
+pub mod ReadingTies
+pub mod ReadingClaims
 mod ReadingStamps
-mod ReadingMaps
+pub mod ReadingMaps
 mod PartRun
 mod ReadingNumbers
 mod ReadingHeard
-mod ReadingClasses
+pub mod ReadingClasses
 mod BitRows
 mod LateRun
-pub mod ReadingHeaders
+mod ReadingHeaders

@@ -153,7 +153,7 @@ no_open_write G ns j w t k p ms e u a is dp =
     some_but (is_write k m u a.digest) (is_open_write k p m j) j (t.writes m k u a is) (subst (λ (z : ℕ). list_any (is_open_write k p z j) j ≡ false) (master_is G k p j ms) e) in
     t.done m k u (not_open j k p m u a.digest dp x.0 x.1 x.2)
 
-settled_at : (G : Ground) (ns : List ℕ) (j : List Line) (w : Picture) → Tied G ns j w → (k : ClusterKey) (r : ℕ) (d : List ℕ) → is_settled k (partition_of d) j ≡ true → has_open_write k (partition_of d) j ≡ false
+pub settled_at : (G : Ground) (ns : List ℕ) (j : List Line) (w : Picture) → Tied G ns j w → (k : ClusterKey) (r : ℕ) (d : List ℕ) → is_settled k (partition_of d) j ≡ true → has_open_write k (partition_of d) j ≡ false
     → is_replica G.factor k (partition_of d) r j ≡ true → view r j ≡ Some k → content G.by r d j ≡ fold_of G.by k d j
 settled_at G ns j w t k r d st none rep vw =
     let here : (w.node r).view ≡ Some k = sym (t.views r) ∙ vw in

@@ -210,14 +210,14 @@ steps_ok n t (x ∷ ss) s b d =
 
 -- ---- the header
 
-header_ok : (t : Traced) (h : Header) → Licensed t (writes (header_lines h))
+pub header_ok : (t : Traced) (h : Header) → Licensed t (writes (header_lines h))
 header_ok t [] = tt
 header_ok t (header.Script version ∷ h) = (tt, header_ok t h)
 header_ok t (header.Factor factor ∷ h) = (tt, header_ok t h)
 header_ok t (header.Node node rack ∷ h) = (tt, header_ok t h)
 header_ok t (header.Policy policy ∷ h) = (tt, header_ok t h)
 
-header_same : (t : Traced) (h : Header) → after_all t (writes (header_lines h)) ≡ t
+pub header_same : (t : Traced) (h : Header) → after_all t (writes (header_lines h)) ≡ t
 header_same t [] = refl
 header_same t (header.Script version ∷ h) = header_same t h
 header_same t (header.Factor factor ∷ h) = header_same t h

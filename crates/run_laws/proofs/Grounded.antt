@@ -74,6 +74,7 @@ sane_of G by factor z sb sf h g = record { nodes = one; client = outside z h.sou
       quiet = law.quiet;
       places = record { handed = law.handed_places; settled = law.settled_places };
       counted = law.counted;
+      aims = law.aims;
     }
 
 -- ---- lines
@@ -132,6 +133,8 @@ line_ok G by factor z (line.Deliver i a b) h g next ok = ok
 line_ok G by factor z (line.Repeat i a b) h g next ok = ok
 line_ok G by factor z (line.Cut i a b size) h g next ok = ok
 line_ok G by factor z (line.Map n k p ms a) h g next ok = ok
+line_ok G by factor z (line.Groups groups) h g next ok = ok
+line_ok G by factor z (line.Calm rounds) h g next ok = ok
 line_ok G by factor z _ h g next ok = (ok.0, tt)
 
 -- ---- the ground back from the end

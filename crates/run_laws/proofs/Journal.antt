@@ -1,7 +1,7 @@
 -- Steps one after another: where the lines of each step are due as they stand, the run is a journal of its ground.
-use Rattle.std.proofs.Common.{◌≡◌, ℕ, zero, suc, ◌+◌, ◌<◌, ◌^◌, ◌-◌, Bool, true, false, ◌||◌, List, [], ◌∷◌, ◌++◌, length, Option, Some, None, refl, sym, ap, ◌∙◌, subst, arith, lit<}
+use Rattle.std.proofs.Common.{◌≡◌, ℕ, zero, suc, ◌+◌, ◌<◌, ◌^◌, ◌-◌, Bool, true, false, not, All, List, [], ◌∷◌, ◌++◌, length, Option, Some, None, refl, sym, ap, ◌∙◌, subst, arith, lit<}
 use Rattle.std.specs.Prelude.{take, fold, map, nat_lt, slice_get, option_map, unwrap_or}
-use Rattle.std.specs.List.{list_any, AllByRecursion}
+use Rattle.std.specs.List.{AllByRecursion}
 use Rattle.std.specs.FinMap.{get-empty}
 use Rattle.std.specs.Ordering.{nat_cmp}
 use Rattle.std.specs.Cmp.Lexicographic.{slice_cmp}
@@ -25,11 +25,12 @@ use Rattle.cluster_rules.specs.Steps.{Step, marks_of, all_marks, all_lines}
 use Rattle.cluster_rules.specs.World.{World}
 use Rattle.cluster_rules.proofs.MarkLaws.{lines_of_steps}
 use Rattle.cluster_laws.specs.Ground.{Ground}
-use Rattle.cluster_laws.specs.Journals.{IsJournal, Fits, is_header}
+use Rattle.cluster_rules.specs.Shape.{is_header, AreBehind}
+use Rattle.cluster_rules.proofs.WorldReadings.{policy_agrees, factor_agrees, nodes_agree}
+use Rattle.cluster_laws.specs.Journals.{IsJournal, Fits}
 use Rattle.cluster_laws.specs.Licences as licences
 use Rattle.cluster_laws.specs.Picture.{Picture, start}
-use Rattle.cluster_laws.proofs.At.{some_same, no_some, differ}
-use Rattle.cluster_laws.proofs.ReadingHeaders.{header_policy, header_factor, header_nodes}
+use Rattle.cluster_laws.proofs.At.{and_both, some_same, no_some, differ}
 use Rattle.key_laws.specs.Licences.{Licensed}
 use Rattle.key_laws.specs.Traced as traced
 use Rattle.key_laws.specs.Traced.{Traced}
@@ -122,7 +123,7 @@ no_posting ns i = go (nat_lt 0 i)
     go true = none (i - 1)
     go false = refl
 
-first_tied : (h : Header) → Tied (first h) start
+pub first_tied : (h : Header) → Tied (first h) start
 first_tied h = record {
   nodes = λ n. record {
     seen = record { view = refl; last = refl; content = λ d. sym (get-empty (slice_cmp nat_cmp) d); stamp = λ p lt. sym (get-empty nat_cmp p) };
@@ -169,20 +170,17 @@ first_ended h = record {
 
 -- ---- the header
 
-no_header : (z : Front) (l : Line) → LineMay z l → is_header l ≡ false
-no_header z (line.Script version) ok = absurd ok.1
-no_header z (line.Factor factor) ok = absurd ok.1
-no_header z (line.Node n rack) ok = absurd ok.1
-no_header z (line.Policy by) ok = absurd ok.1
-no_header z _ ok = refl
+not_header : (z : Front) (l : Line) → LineMay z l → not (is_header l) ≡ true
+not_header z (line.Script version) ok = absurd ok.1
+not_header z (line.Factor factor) ok = absurd ok.1
+not_header z (line.Node n rack) ok = absurd ok.1
+not_header z (line.Policy by) ok = absurd ok.1
+not_header z _ ok = refl
 
-no_headers : (z : Front) (ms : List Mark) → DueMarks z ms → list_any is_header (lines_among ms) ≡ false
-no_headers z [] d = refl
-no_headers z (Begins e ∷ ms) d = no_headers (after z (Begins e)) ms d
-no_headers z (Writes l ∷ ms) d = neither (is_header l) (list_any is_header (lines_among ms)) (no_header z l d.0) (no_headers (after z (Writes l)) ms d.1)
-  where
-    neither : (a b : Bool) → a ≡ false → b ≡ false → (a || b) ≡ false
-    neither a b x y = grind arith
+none_headers : (z : Front) (ms : List Mark) → DueMarks z ms → AreBehind (lines_among ms)
+none_headers z [] d = refl
+none_headers z (Begins e ∷ ms) d = none_headers (after z (Begins e)) ms d
+none_headers z (Writes l ∷ ms) d = and_both (not (is_header l)) _ (not_header z l d.0) (none_headers (after z (Writes l)) ms d.1)
 
 some_factor : (n : ℕ) (h : Header) → 0 < n → AllByRecursion IsProperHeaderLine h → 0 < fold factor_step n h
 some_factor n [] lt a = lt
@@ -203,14 +201,18 @@ each_fits G ns w (x ∷ ls) f (suc i) l e = each_fits G ns (licences.after G w x
 grounds : (h : Header) (ss : List Step) → Grounds (ground_of h ss) (after_all (first h) (all_marks ss)).chronicle
 grounds h ss = record { members = λ k ms e. ap (λ (o : Option (List Member)). unwrap_or o []) e; row = λ n k e p. refl }
 
-pub run_is_a_journal : (h : Header) (ss : List Step) → Taken h ss → Premises (first h) ss → IsJournal h (ground_of h ss) (all_lines ss)
-run_is_a_journal h ss t prem = subst (λ (ls : List Line). IsJournal h (ground_of h ss) ls) (lines_of_steps ss) (record {
-  ground = record { some = some_factor 1 h (lit< tt) (recursion_from_All IsProperHeaderLine h t.header) };
-  by = sym (header_policy h (lines_among (all_marks ss)) none);
-  factor = sym (header_factor h (lines_among (all_marks ss)) none);
-  licensed = all_licensed (ground_of h ss) (first h) start (all_marks ss) goes (first_tied h);
-  fits = each_fits (ground_of h ss) _ start (lines_among (all_marks ss)) (all_fit (ground_of h ss) (first h) start _ (all_marks ss) (sym (header_nodes h (lines_among (all_marks ss)) none)) goes (first_tied h));
-})
+-- the marks of taken steps, by the ground that they make
+pub record Walks (h : Header) (ss : List Step) : Type 0 where
+  pub key : Licensed (first h).chronicle.traced (all_marks ss)
+  pub goes : Goes (ground_of h ss) (first h) (all_marks ss)
+  pub behind : AreBehind (lines_among (all_marks ss))
+
+pub walks : (h : Header) (ss : List Step) → Taken h ss → Premises (first h) ss → Walks h ss
+walks h ss t prem = record {
+  key = w.key;
+  goes = goes_of (ground_of h ss) (declared_policy h) (declared_factor h) (first h) (all_marks ss) refl refl w.key w.due (first_lawful h) (grounds h ss);
+  behind = none_headers (first h) (all_marks ss) w.due;
+}
   where
     none_first : (n : ℕ) → 0 + n ≡ n
     none_first n = omega arith
@@ -219,8 +221,12 @@ run_is_a_journal h ss t prem = subst (λ (ls : List Line). IsJournal h (ground_o
     w = walked (declared_policy h) (declared_factor h) (first h) ss (first_lawful h) (first_ended h) (recursion_from_All (λ (s : Step). IsProperEvent s.event) ss t.ranges) t.allowed
         (subst (λ (n : ℕ). n < 2 ^ 32) (sym (more_lines (first h) (all_marks ss) ∙ none_first (length (lines_among (all_marks ss))) ∙ ap length (lines_of_steps ss))) t.short) prem
 
-    goes : Goes (ground_of h ss) (first h) (all_marks ss)
-    goes = goes_of (ground_of h ss) (declared_policy h) (declared_factor h) (first h) (all_marks ss) refl refl w.key w.due (first_lawful h) (grounds h ss)
-
-    none : list_any is_header (lines_among (all_marks ss)) ≡ false
-    none = no_headers (first h) (all_marks ss) w.due
+-- the lines among the marks are a journal of that ground
+pub marks_are_a_journal : (h : Header) (ss : List Step) → All IsProperHeaderLine h → Walks h ss → IsJournal h (ground_of h ss) (lines_among (all_marks ss))
+marks_are_a_journal h ss proper w = record {
+  ground = record { some = some_factor 1 h (lit< tt) (recursion_from_All IsProperHeaderLine h proper) };
+  by = sym (policy_agrees h (lines_among (all_marks ss)) w.behind);
+  factor = sym (factor_agrees h (lines_among (all_marks ss)) w.behind);
+  licensed = all_licensed (ground_of h ss) (first h) start (all_marks ss) w.goes (first_tied h);
+  fits = each_fits (ground_of h ss) _ start (lines_among (all_marks ss)) (all_fit (ground_of h ss) (first h) start _ (all_marks ss) (sym (nodes_agree h (lines_among (all_marks ss)) w.behind)) w.goes (first_tied h));
+}

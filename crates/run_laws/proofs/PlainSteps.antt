@@ -13,12 +13,13 @@ use Rattle.node_rules.specs.Requests.{stop_if, start_if}
 use Rattle.node_rules.specs.Transactions.{Transaction, Write}
 use Rattle.cluster_rules.specs.declared.event.Event.{Event}
 use Rattle.cluster_rules.specs.declared.event.Event.TheVariants as event
+use Rattle.cluster_rules.specs.Allowed.{groups_all, names_known, ends_calm, may_come}
 use Rattle.cluster_rules.specs.DueEvents.{due_of, losing, written}
 use Rattle.cluster_rules.specs.Marks.{Begins, Writes}
 use Rattle.cluster_rules.specs.Messages.{Posting}
 use Rattle.cluster_rules.specs.Network.{Network, flying_at}
 use Rattle.cluster_rules.specs.World.{World, at, new_if}
-use Rattle.cluster_laws.proofs.At.{differ, no_some}
+use Rattle.cluster_laws.proofs.At.{and_left, and_right, differ, no_some}
 use Rattle.run_laws.specs.Taken.{IsProperEvent}
 use Rattle.run_laws.specs.Fronts.{Front, world_of, facts_at, after}
 use Rattle.run_laws.specs.LineDue.{LineMay, AllDue, Lawful}
@@ -172,21 +173,23 @@ IsPlain (event.Unquiesce node) = true
 IsPlain (event.Calmed rounds) = true
 IsPlain _ = false
 
-plain_lines : (by : Policy) (factor : ℕ) (z : Front) (e : Event) → IsPlain e ≡ true → IsProperEvent e → Lawful by factor z → Ended z → LinesGo (after z (Begins e)) (due_of partition_count (world_of z) e)
-plain_lines by factor z (event.Clock node time) p r l h = one_line _ _ (begins_ended z _ h) (h.owes, r) (record { owes = h.owes; stays = h.stays; rests = h.rests })
-plain_lines by factor z (event.Groups groups) p r l h = one_line _ _ (begins_ended z _ h) (h.owes, tt) (record { owes = h.owes; stays = h.stays; rests = h.rests })
-plain_lines by factor z (event.Stop node) p r l h = stop_goes (after z (Begins (event.Stop node))) (world_of z).network node (facts_at z node).up (l.sound.nodes node).me (begins_ended z _ h)
-plain_lines by factor z (event.Start node) p r l h = start_goes (after z (Begins (event.Start node))) (world_of z).network node (facts_at z node).up (l.sound.nodes node).me (begins_ended z _ h)
-plain_lines by factor z (event.Lose i) p r l h = lose_goes (after z (Begins (event.Lose i))) i (flying_at (world_of z).network i) (begins_ended z _ h)
-plain_lines by factor z (event.Place p) q r l h = one_line _ _ (begins_ended z _ h) (h.owes, tt) (record { owes = h.owes; stays = h.stays; rests = h.rests })
-plain_lines by factor z (event.Hash d) p r l h = one_line _ _ (begins_ended z _ h) (h.owes, tt) (record { owes = h.owes; stays = h.stays; rests = h.rests })
-plain_lines by factor z (event.Show node d) p r l h = one_line _ _ (begins_ended z _ h) (h.owes, tt) (record { owes = h.owes; stays = h.stays; rests = h.rests })
-plain_lines by factor z (event.Quiesce node) p r l h = one_line _ _ (begins_ended z _ h) (h.owes, tt)
+plain_lines : (by : Policy) (factor : ℕ) (z : Front) (e : Event) → IsPlain e ≡ true → IsProperEvent e → may_come partition_count (world_of z) e ≡ true → Lawful by factor z → Ended z → LinesGo (after z (Begins e)) (due_of partition_count (world_of z) e)
+plain_lines by factor z (event.Clock node time) p r a l h = one_line _ _ (begins_ended z _ h) (h.owes, r) (record { owes = h.owes; stays = h.stays; rests = h.rests })
+plain_lines by factor z (event.Groups groups) p r a l h = one_line _ _ (begins_ended z _ h)
+    (h.owes, and_right _ (groups_all (world_of z).nodes (event.Groups groups)) (and_left _ (ends_calm partition_count (world_of z) (event.Groups groups)) a)) (record { owes = h.owes; stays = h.stays; rests = h.rests })
+plain_lines by factor z (event.Stop node) p r a l h = stop_goes (after z (Begins (event.Stop node))) (world_of z).network node (facts_at z node).up (l.sound.nodes node).me (begins_ended z _ h)
+plain_lines by factor z (event.Start node) p r a l h = start_goes (after z (Begins (event.Start node))) (world_of z).network node (facts_at z node).up (l.sound.nodes node).me (begins_ended z _ h)
+plain_lines by factor z (event.Lose i) p r a l h = lose_goes (after z (Begins (event.Lose i))) i (flying_at (world_of z).network i) (begins_ended z _ h)
+plain_lines by factor z (event.Place p) q r a l h = one_line _ _ (begins_ended z _ h) (h.owes, tt) (record { owes = h.owes; stays = h.stays; rests = h.rests })
+plain_lines by factor z (event.Hash d) p r a l h = one_line _ _ (begins_ended z _ h) (h.owes, tt) (record { owes = h.owes; stays = h.stays; rests = h.rests })
+plain_lines by factor z (event.Show node d) p r a l h = one_line _ _ (begins_ended z _ h) (h.owes, tt) (record { owes = h.owes; stays = h.stays; rests = h.rests })
+plain_lines by factor z (event.Quiesce node) p r a l h = one_line _ _ (begins_ended z _ h) (h.owes, tt)
     (beside_ended (after z (Begins (event.Quiesce node))) _ node (notes.marked (facts_at z node) true) (begins_ended z _ h) refl refl (λ m. refl) refl refl)
-plain_lines by factor z (event.Unquiesce node) p r l h = one_line _ _ (begins_ended z _ h) (h.owes, tt)
+plain_lines by factor z (event.Unquiesce node) p r a l h = one_line _ _ (begins_ended z _ h) (h.owes, tt)
     (beside_ended (after z (Begins (event.Unquiesce node))) _ node (notes.marked (facts_at z node) false) (begins_ended z _ h) refl refl (λ m. refl) refl refl)
-plain_lines by factor z (event.Calmed rounds) p r l h = one_line _ _ (begins_ended z _ h) (h.owes, tt) (record { owes = h.owes; stays = h.stays; rests = h.rests })
-plain_lines by factor z _ p r l h = differ p refl
+plain_lines by factor z (event.Calmed rounds) p r a l h = one_line _ _ (begins_ended z _ h)
+    (h.owes, record { calm = and_right (names_known (world_of z).nodes (event.Calmed rounds)) _ a; stays = h.stays }) (record { owes = h.owes; stays = h.stays; rests = h.rests })
+plain_lines by factor z _ p r a l h = differ p refl
 
 pub plain_steps : (by : Policy) (factor : ℕ) (e : Event) → IsPlain e ≡ true → Steps by factor e
-plain_steps by factor e p z s same l h q a short = step_goes z s e same a (plain_lines by factor z e p q l h)
+plain_steps by factor e p z s same l h q a short = step_goes z s e same a (plain_lines by factor z e p q (subst (λ (x : Event). may_come partition_count (world_of z) x ≡ true) same a.comes) l h)

@@ -27,7 +27,7 @@ use Rattle.run_laws.specs.Steps.{Ended, StepGoes}
 use Rattle.run_laws.specs.Taken.{IsProperEvent, Taken, first, ground_of}
 use Rattle.run_laws.proofs.AllSteps.{step_of}
 use Rattle.run_laws.proofs.Grounded.{onward_all}
-use Rattle.run_laws.proofs.Journal.{after_append, world_all, more_lines, lt_after, step_key, first_lawful, first_ended, run_is_a_journal}
+use Rattle.run_laws.proofs.Journal.{after_append, world_all, more_lines, lt_after, step_key, first_lawful, first_ended, Walks, walks, marks_are_a_journal}
 use Rattle.run_laws.proofs.Lawful.{Onward, lawful_line, lawful_begun, strengthened}
 use Rattle.run_laws.proofs.RangedLines.{ranged_line, ranged_begun}
 use Rattle.run_laws.proofs.ReadSteps.{HasLine, sends_read}
@@ -84,5 +84,8 @@ premises_of h ss t = premises_hold (declared_policy h) (declared_factor h) (firs
     none_first : (n : ℕ) → 0 + n ≡ n
     none_first n = omega arith
 
+pub taken_walks : (h : Header) (ss : List Step) → Taken h ss → Walks h ss
+taken_walks h ss t = walks h ss t (premises_of h ss t)
+
 pub taken_is_a_journal : (h : Header) (ss : List Step) → Taken h ss → IsJournal h (ground_of h ss) (all_lines ss)
-taken_is_a_journal h ss t = run_is_a_journal h ss t (premises_of h ss t)
+taken_is_a_journal h ss t = subst (λ (ls : List Line). IsJournal h (ground_of h ss) ls) (lines_of_steps ss) (marks_are_a_journal h ss t.header (taken_walks h ss t))

@@ -9,6 +9,7 @@ use Rattle.wire_messages.specs.declared.message.Message.TheVariants as message
 use Rattle.wire_messages.specs.Decoding.{message_of}
 use Rattle.journal_lines.specs.declared.line.Line.{Line}
 use Rattle.journal_lines.specs.declared.line.Line.TheVariants as line
+use Rattle.node_rules.specs.Batches.{Target, target}
 use Rattle.node_rules.specs.Exchange.{View}
 use Rattle.node_rules.specs.Facts.{Facts}
 use Rattle.node_rules.specs.Notes.{in_view}
@@ -23,7 +24,7 @@ use Rattle.cluster_laws.specs.Picture.{Seen, Packet, Owed, Picture}
 use Rattle.cluster_laws.specs.Stay.{Stay}
 use Rattle.run_laws.specs.Chronicle as chronicle
 use Rattle.run_laws.specs.Chronicle.{Chronicle}
-use Rattle.run_laws.specs.Tied.{Seens, Stays, Views, RowsAgree, Places}
+use Rattle.run_laws.specs.Tied.{Seens, Stays, Views, RowsAgree, Places, Among}
 
 pub record Front : Type 0 where
   pub chronicle : Chronicle
@@ -115,6 +116,8 @@ pub record SaneNode (G : Ground) (n : ℕ) (f : Facts) : Type 0 where
   pub places : Places f
   -- no transaction has a number above the last one
   pub counted : (t : ℕ) → f.transactions.opened < t → transaction f.transactions t ≡ None
+  -- what is handed on is found by its receiver
+  pub aims : (t : Target) → Among f.batches t → target f.batches t.node ≡ Some t
 
 pub record Sane (G : Ground) (w : World) : Type 0 where
   pub nodes : (n : ℕ) → SaneNode G n (w.facts n)

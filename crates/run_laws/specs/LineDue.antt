@@ -35,7 +35,7 @@ use Rattle.key_laws.specs.Order.{AtMost}
 use Rattle.key_laws.specs.Sound.{Sound}
 use Rattle.run_laws.specs.Chronicle.{IsRowOf, MayEnterFirst, Rowed}
 use Rattle.run_laws.specs.Fronts.{Front, world_of, facts_at, after}
-use Rattle.run_laws.specs.LineOk.{Stands, IsDeclared, OpenOk, AnswerOk, ApplyOk, FinishOk, GiveUpOk, MergeOk, SettlingOk, BatchOk, BatchAckOk, ProgressOk, ReplOk, ReplAckOk, AskOk, ReplyOk, ArrivesOk, MapOk}
+use Rattle.run_laws.specs.LineOk.{Stands, IsDeclared, OpenOk, AnswerOk, ApplyOk, FinishOk, GiveUpOk, MergeOk, SettlingOk, BatchOk, BatchAckOk, ProgressOk, ReplOk, ReplAckOk, AskOk, ReplyOk, ArrivesOk, MapOk, AreGrouped, CalmOk}
 
 pub record EnterDue (z : Front) (n : ℕ) (k : ClusterKey) (ms : List Member) : Type 0 where
   pub first : MayEnterFirst z.chronicle n k ms
@@ -100,6 +100,8 @@ FactDue z (line.Deliver i a b) = ArrivesOk z i b
 FactDue z (line.Repeat i a b) = ArrivesOk z i b
 FactDue z (line.Cut i a b size) = ArrivesOk z i b
 FactDue z (line.Map n k p ms a) = MapOk z n k p ms a
+FactDue z (line.Groups groups) = AreGrouped (world_of z) groups
+FactDue z (line.Calm rounds) = CalmOk z
 -- a key of the node's own is a declared node's
 FactDue z (line.Promise n k) = k.principal ≡ n → IsDeclared z n
 -- a clock keeps its range

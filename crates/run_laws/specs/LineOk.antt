@@ -1,5 +1,6 @@
 -- What the facts say of a line that is due, at its very place: the licence in terms of the world.
 use Rattle.std.specs.Prelude.{◌≡◌, ◌+◌, ℕ, Bool, true, false, List, [], ◌∷◌, Option, Some, None, ◌⊎◌, length, IsTrue}
+use Rattle.std.specs.List.{list_all, concat}
 use Rattle.std.specs.FinMap as finite
 use Rattle.conflict_order.specs.declared.version.Version.{Version}
 use Rattle.conflict_order.specs.Join.{AtMost}
@@ -8,7 +9,7 @@ use Rattle.cluster_types.specs.declared.cluster_key.ClusterKey.{ClusterKey}
 use Rattle.cluster_types.specs.declared.copy_state.CopyState.{CopyState}
 use Rattle.cluster_types.specs.declared.member.Member.{Member}
 use Rattle.cluster_types.specs.ClusterKeys.{key_lt}
-use Rattle.cluster_types.specs.Partitions.{partition_of}
+use Rattle.cluster_types.specs.Partitions.{partition_count, partition_of}
 use Rattle.cluster_types.specs.Rows.{bit}
 use Rattle.cluster_types.specs.StateRows.{state_of}
 use Rattle.partition_lists.specs.Lists.{replicas}
@@ -27,10 +28,13 @@ use Rattle.node_rules.specs.Stamps.{numbers_at}
 use Rattle.node_rules.specs.Standing.{acts, is_to_learn, is_to_drop, is_done, acting_at}
 use Rattle.node_rules.specs.Tables.{contains}
 use Rattle.node_rules.specs.Transactions.{Transaction, Write, transaction, transaction_on}
+use Rattle.cluster_rules.specs.Calm.{is_calm_of}
+use Rattle.cluster_rules.specs.Lines.{has_node}
 use Rattle.cluster_rules.specs.Maps.{with_roles}
 use Rattle.cluster_rules.specs.Marks.{Mark, Begins, Writes}
 use Rattle.cluster_rules.specs.Messages.{Posting}
 use Rattle.cluster_rules.specs.Network.{posting_at}
+use Rattle.cluster_rules.specs.World.{World}
 use Rattle.cluster_laws.specs.Ground.{Ground, is_member}
 use Rattle.cluster_laws.specs.Licences.{IsAmong}
 use Rattle.cluster_laws.specs.Picture.{Owed, Picture}
@@ -224,6 +228,17 @@ pub record MapOk (z : Front) (n : ℕ) (k : ClusterKey) (p : ℕ) (ms : List Mem
   pub shown : ms ≡ with_roles (members (facts_at z n)) (list_at (facts_at z n) p)
   pub acting : a ≡ acting_at (facts_at z n) (list_at (facts_at z n) p) p
 
+-- ---- groups and calm
+
+-- each declared node stands in the groups
+abbrev pub AreGrouped : World → List (List ℕ) → Type 0
+AreGrouped w groups = list_all (has_node (concat groups)) w.nodes ≡ true
+
+-- the world is calm, and nobody is about to leave its view
+pub record CalmOk (z : Front) : Type 0 where
+  pub calm : is_calm_of partition_count (world_of z) ≡ true
+  pub stays : (n : ℕ) → z.closing n ≡ false
+
 -- ---- all lines
 
 abbrev pub FactOk : Ground → Front → Line → Type 0
@@ -244,6 +259,8 @@ FactOk G z (line.Deliver i a b) = ArrivesOk z i b
 FactOk G z (line.Repeat i a b) = ArrivesOk z i b
 FactOk G z (line.Cut i a b size) = ArrivesOk z i b
 FactOk G z (line.Map n k p ms a) = MapOk z n k p ms a
+FactOk G z (line.Groups groups) = AreGrouped (world_of z) groups
+FactOk G z (line.Calm rounds) = CalmOk z
 FactOk G z _ = Unit {0}
 
 -- no line but the merge that is owed stands where one is

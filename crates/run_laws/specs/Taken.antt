@@ -1,23 +1,23 @@
--- Steps that are taken: allowed, with what keeps its ranges, and not too many; and the theorem about them.
-use Rattle.std.specs.Prelude.{◌≡◌, ◌<◌, ◌^◌, true, false, List, [], length, None, All, unwrap_or}
+-- Steps that are taken: allowed, of a header and events that keep their ranges, and not too many.
+use Rattle.std.specs.Prelude.{◌≡◌, ◌<◌, ◌^◌, ℕ, true, false, List, [], length, None, All, unwrap_or}
+use Rattle.cluster_types.specs.Distinct.{AreDistinct}
 use Rattle.cluster_types.specs.Partitions.{partition_count}
 use Rattle.cluster_types.specs.StateRows.{state_of}
-use Rattle.std.specs.List.{list_all}
-use Rattle.script_lang.specs.declared.script.Script.{Script}
-use Rattle.script_lang.specs.Proper.{IsProperHeaderLine, IsProperCommand}
+use Rattle.script_lang.specs.Proper.{IsProperHeaderLine}
 use Rattle.wire_messages.specs.Nodes.{IsId}
 use Rattle.wire_messages.specs.Versions.{IsDigest, IsValue}
 use Rattle.cluster_rules.specs.declared.event.Event.{Event}
 use Rattle.cluster_rules.specs.declared.event.Event.TheVariants as event
-use Rattle.cluster_rules.specs.Allowed.{AreAllowed, is_playable}
-use Rattle.cluster_rules.specs.Opening.{Header, declared_factor, declared_policy}
+use Rattle.cluster_rules.specs.Allowed.{AreAllowed}
+use Rattle.cluster_rules.specs.Opening.{Header, declared_factor, declared_nodes, declared_policy}
 use Rattle.cluster_rules.specs.Steps.{Step, all_marks, all_lines}
 use Rattle.cluster_rules.specs.World.{opened}
 use Rattle.cluster_laws.specs.Ground.{Ground}
 use Rattle.key_laws.specs.Traced.{untouched}
 use Rattle.run_laws.specs.Fronts.{Front, after_all}
 
--- what the event brings keeps its ranges
+-- what the event brings keeps its ranges: a clock's time is below 2^64, the id of a node that ticks is one, and digests and
+-- values are such as a message can carry
 abbrev pub IsProperEvent : Event → Type 0
 IsProperEvent (event.Clock n time) = time < 2 ^ 64
 IsProperEvent (event.Tick n) = IsId n
@@ -29,24 +29,24 @@ IsProperEvent (event.ClientGet d) = IsDigest d
 IsProperEvent (event.ClientDel d) = IsDigest d
 IsProperEvent _ = Unit {0}
 
+-- fewer lines than a number in a message can count
+abbrev pub line_bound : ℕ
+line_bound = 2 ^ 32
+
 pub record Taken (h : Header) (ss : List Step) : Type 0 where
+  -- the header's lines keep their ranges, and no node is declared twice
   pub header : All IsProperHeaderLine h
+  pub declared : AreDistinct (declared_nodes h)
+  -- each event may come where it comes, and has just the lines that are due of it
   pub allowed : AreAllowed partition_count (opened h) ss
   pub ranges : All (λ (s : Step). IsProperEvent s.event) ss
-  pub short : length (all_lines ss) < 2 ^ 32
-
--- a script whose lines keep their ranges and whose commands name declared nodes, and steps of it that are not too many
-pub record IsTakenRun (s : Script) (ss : List Step) : Type 0 where
-  pub header : All IsProperHeaderLine s.header
-  pub commands : All IsProperCommand s.commands
-  pub named : list_all (is_playable (opened s.header).nodes) s.commands ≡ true
-  pub short : length (all_lines ss) < 2 ^ 32
+  pub short : length (all_lines ss) < line_bound
 
 -- before the first step
 abbrev pub first : Header → Front
 first h = record { chronicle = record { traced = untouched (opened h); rows = λ n k. [] }; owed = None; closing = λ n. false; lines = 0 }
 
--- the ground of a run: what its history says at its end
+-- the ground of steps: what their history says at its end
 abbrev pub ground_of : Header → List Step → Ground
 ground_of h ss = record {
   by = declared_policy h;

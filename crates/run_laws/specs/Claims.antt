@@ -1,0 +1,35 @@
+-- Of which journals a claim holds.
+use Rattle.std.specs.Prelude.{◌<◌, List, [], length}
+use Rattle.script_lang.specs.declared.script.Script.{Script}
+use Rattle.script_lang.specs.Proper.{IsProper}
+use Rattle.journal_lines.specs.declared.line.Line.{Line}
+use Rattle.cluster_rules.specs.Begun.{BegunRun}
+use Rattle.cluster_rules.specs.Opening.{Header}
+use Rattle.cluster_rules.specs.Runs.{Run}
+use Rattle.cluster_rules.specs.Steps.{Step, all_lines}
+use Rattle.cluster_laws.specs.Journals.{IsJournal, journal}
+use Rattle.run_laws.specs.Taken.{Taken, ground_of, line_bound}
+
+-- each line of taken steps has its licence and fits, by the ground that the steps' history makes
+abbrev pub AreLicensed : Type 0
+AreLicensed = (h : Header) (ss : List Step) → Taken h ss → IsJournal h (ground_of h ss) (all_lines ss)
+
+-- the claim holds of the journal of steps that are taken: so of a world after every call
+abbrev pub OfTakenSteps : (List Line → Type 0) → Type 0
+OfTakenSteps P = (h : Header) (ss : List Step) → Taken h ss → P (journal h (all_lines ss))
+
+-- of the journal of a proper script's run
+abbrev pub OfRuns : (List Line → Type 0) → Type 0
+OfRuns P = (s : Script) (lines : List Line) → Run s lines → IsProper s → length lines < line_bound → P lines
+
+-- and of that of its run that was begun
+abbrev pub OfBegunRuns : (List Line → Type 0) → Type 0
+OfBegunRuns P = (s : Script) (lines next : List Line) → BegunRun s lines next → IsProper s → length lines < line_bound → P lines
+
+-- the claim holds of every journal that a program of these rules writes
+pub record OfEveryJournal (P : List Line → Type 0) : Type 0 where
+  pub steps : OfTakenSteps P
+  pub runs : OfRuns P
+  pub begun : OfBegunRuns P
+  -- no line at all: nothing was begun
+  pub nothing : P []
