@@ -179,26 +179,3 @@ pub taken_among : {X : Type 0} (n : ℕ) (xs : List X) (x : X) → Among (take n
 taken_among {X} zero xs x a = absurd a
 taken_among {X} (suc n) [] x a = a
 taken_among {X} (suc n) (y ∷ ys) x a = ⊎_elim (λ z. inl z) (λ z. inr (taken_among n ys x z)) a
-
-records_same : (c e : Content) (ds : List (List ℕ)) → ((d : List ℕ) → Among ds d → finite.get c d ≡ finite.get e d) → records_of c ds ≡ records_of e ds
-records_same c e [] h = refl
-records_same c e (d ∷ ds) h = ap₂ (λ (o : Option Version) (rs : List (List ℕ × Version)). cons_option (option_map (λ v. (d, v)) o) rs) (h d (inl refl)) (records_same c e ds (λ x a. h x (inr a)))
-
--- the batch that was made before settling is the one that would be made after it
-pub batches_stay : (f : Facts) (v : View) → f.exchange.view ≡ Some v → (k : ClusterKey) (t : Target) → Among f.batches t
-    → next_batch k (noted None f (settling partition_count f)).store.content t ≡ next_batch k f.store.content t
-batches_stay f v e k t a = go t.out
-  where
-    g : Facts
-    g = noted None f (settling partition_count f)
-
-    same : records_of g.store.content (take batch_limit t.pending) ≡ records_of f.store.content (take batch_limit t.pending)
-    same = records_same g.store.content f.store.content (take batch_limit t.pending) (λ d i. pending_stays f v e t a d (taken_among batch_limit t.pending d i))
-
-    fresh : (ds : List (List ℕ)) → fresh_batch k g.store.content t ds ≡ fresh_batch k f.store.content t ds
-    fresh [] = refl
-    fresh (d ∷ ds) = ap (λ (rs : List (List ℕ × Version)). Some (record { key = k; number = t.batches + 1; records = rs })) same
-
-    go : (o : Option Batch) → batch_after k g.store.content t o ≡ batch_after k f.store.content t o
-    go None = fresh t.pending
-    go (Some b) = refl

@@ -65,10 +65,6 @@ unacked number (Some t) h = ap Some (go t.out refl)
     go None e = refl
     go (Some b) e = ap (λ (x : Bool). if x then batches.without_batch t b else t) (h b e)
 
-stays_same : (c : Bool) (o q : Option Target) → q ≡ o → cond c q o ≡ o
-stays_same true o q e = e
-stays_same false o q e = refl
-
 -- an acknowledgement that doesn't count
 pub unacked_tied : (f : Facts) (s : Stay) (from number : ℕ) → ((b : Batch) → out_to f.batches from ≡ Some b → (b.number == number) ≡ false) → Stays f s → Stays (notes.batch_acked f from number true) s
 unacked_tied f s from number none h = record {

@@ -62,9 +62,6 @@ pub record Viewed (f : Facts) (k : ClusterKey) : Type 0 where
 pub view_of : (f : Facts) (k : ClusterKey) → in_view f k ≡ true → Viewed f k
 view_of f k e = let v : ViewAt f.exchange.view k = view_at f.exchange.view k (viewed f k e) in record { view = v.view; is = v.is; key = v.key; named = ap key_of v.is ∙ v.key }
 
-now_at : {by : Policy} {factor : ℕ} {z0 z : Front} {f : Facts} {clock from : ℕ} {m : Message} → Arrived by factor z0 z f clock from m → (g : Facts) → reached f from m ≡ g → g.me ≡ f.me → z.owed ≡ None → Now z g
-now_at {by} {factor} {z0} {z} {f} {clock} {from} {m} a g e me o = record { is = ap (facts_at z) me ∙ a.is ∙ e; stays = ap z.closing me ∙ a.stays; owes = o }
-
 -- ---- an acknowledgement of a batch
 
 pub batch_ack_go : {by : Policy} {factor : ℕ} {z0 z : Front} {f : Facts} {clock from : ℕ} {k : ClusterKey} {number : ℕ} → Arrived by factor z0 z f clock from (message.BatchAck k number) → NodeGo z f.me (due.due_batch_ack f from k number)
