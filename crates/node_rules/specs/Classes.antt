@@ -2,11 +2,16 @@
 -- asked.
 pub use Rattle.partition_lists.specs.Classes.{is_whole_with, is_that}
 use Rattle.std.specs.Prelude.{ℕ, ◌==◌, ◌&&◌, Bool, not, List, Option}
+use Rattle.cluster_types.specs.declared.copy_state.CopyState.{CopyState}
 use Rattle.node_rules.specs.declared.member_row.MemberRow.{MemberRow}
 use Rattle.node_rules.specs.Tables.{contains}
 use Rattle.node_rules.specs.Map.{state_at}
-use Rattle.partition_lists.specs.Classes.{same_class_by, class_first_by, is_first_by, sends_by, asked_among}
+use Rattle.partition_lists.specs.Classes.{is_in_class_by, same_class_by, class_first_by, is_first_by, sends_by, asked_among}
 use Rattle.partition_lists.specs.Lists.{replicas}
+
+-- whether the second node is in the class of the first, which has this state
+abbrev pub is_in_class : List MemberRow → ℕ → ℕ → ℕ → CopyState → Bool
+is_in_class rows p a b state = is_in_class_by (state_at rows p) a b state
 
 -- whether the second node is in the class of the first
 abbrev pub same_class : List MemberRow → ℕ → ℕ → ℕ → Bool

@@ -5,7 +5,7 @@ use Rattle.std.specs.List.{list_all}
 use Rattle.cluster_types.specs.declared.copy_state.CopyState.{CopyState}
 use Rattle.cluster_types.specs.declared.map_view.MapEntry.{MapEntry}
 use Rattle.cluster_types.specs.StateRows.{state_of}
-use Rattle.partition_lists.specs.Acting.{acting_by}
+use Rattle.partition_lists.specs.Acting.{acting_by, is_wholest_by}
 use Rattle.node_rules.specs.declared.member_row.MemberRow.{MemberRow}
 use Rattle.node_rules.specs.Copies.{Row}
 
@@ -24,6 +24,10 @@ state_at rows p n = state_of (unwrap_or (row_of rows n) []) p
 -- whether no copy had a record as its node entered the view
 abbrev pub all_empty : List MemberRow → ℕ → Bool
 all_empty rows p = list_all (λ r. is_empty (state_of r.row p)) rows
+
+-- whether the member's copy is whole, and none in the list is whole under a greater key
+abbrev pub is_wholest : List ℕ → List MemberRow → ℕ → ℕ → Bool
+is_wholest l rows p n = is_wholest_by l (state_at rows p) n
 
 -- the acting master: the first of the list whose copy is whole under the greatest key, and the list
 -- master where no copy is whole. Counts of writes play no part

@@ -21,7 +21,7 @@ use Rattle.node_rules.specs.Requests.{due_request, request_if, refusal_of}
 use Rattle.node_rules.specs.Tick.{tick_if}
 use Rattle.cluster_rules.specs.declared.event.Event.{Event}
 use Rattle.cluster_rules.specs.declared.event.Event.TheVariants as event
-use Rattle.cluster_rules.specs.Client.{node_for}
+use Rattle.node_rules.specs.Client.{node_for}
 use Rattle.cluster_rules.specs.DueEvents.{written, due_at_named, arriving, arriving_cut, is_blocked, unless_blocked, delivery, due_of}
 use Rattle.cluster_rules.specs.Messages.{Posting}
 use Rattle.cluster_rules.specs.Network.{Network, landed, flying_at}
