@@ -54,7 +54,7 @@ AllReads G w = (n : ℕ) (k : ClusterKey) (t : ℕ) (y : Running) → (w.stay n 
 -- who acts on a settled partition is its list master
 settled_actor : (G : Ground) (w : Picture) → Sound G w → (n : ℕ) (k : ClusterKey) (p : ℕ) → Acts G n k (w.stay n k) p → w.settled k p ≡ true → n ≡ master G k p
 settled_actor G w s n k p (inr q) st = q.0
-settled_actor G w s n k p (inl q) st = ⊎_elim (λ i. q.0 ∙ i) (λ i. differ (subst (λ (m : ℕ). (w.stay m k).handed p ≡ true) (sym q.0) (s.whole.handed k p i).known) q.1) (s.whole.settled k p st).after
+settled_actor G w s n k p (inl q) st = ⊎_elim (λ i. q.0 ∙ i) (λ i. differ (subst (λ (m : ℕ). (w.stay m k).own_handed p ≡ true) (sym q.0) (s.whole.handed k p i).known) q.1) (s.whole.settled k p st).after
 
 -- and knows that it is settled
 settled_known : (G : Ground) (w : Picture) → Sound G w → (n : ℕ) (k : ClusterKey) (p : ℕ) → Acts G n k (w.stay n k) p → (w.stay n k).settled p ≡ false → w.settled k p ≡ false
@@ -118,7 +118,7 @@ opened_asking G w s n k t d ok un y yd yb ya yw = record {
     entry m mem false e = by_first m mem (first_of G k p m mem e)
 
     actor : n ≡ acting G k p
-    actor = ⊎_elim (λ z. z.0) (λ z. differ z.2 un) ok.acts
+    actor = ⊎_elim (λ z. z.0) (λ z. differ ((s.whole.known.cross n k).own_settled p z.2) unsettled) ok.acts
 
     write : (m u : ℕ) (e : Applied) → (w.stay m k).writes u ≡ Some e → e.digest ≡ d → AtMost G.by (Some e.version) ((w.node n).content d)
     write m u e z i = ⊎_elim

@@ -35,6 +35,7 @@ cross_grows G w v g n k s h = record {
   done = λ r t e dn a rep apart. has_grows G w v g n r k e.digest e.version e.nth (h.done r t e dn a rep apart);
   handed = λ p e. g.handed k p (h.handed p e);
   settled = λ p e. g.settled k p (h.settled p e);
+  own_settled = λ p e. g.settled k p (h.own_settled p e);
   told = λ m p e. done_grows G w v g m k p (h.told m p e);
   rows = λ m e. ((g.stay m k).entered (h.rows m e)).0;
   all_in = λ ex m mem. ((g.stay m k).entered (h.all_in ex m mem)).0;
@@ -71,6 +72,7 @@ cross_within G w v n k _ _ (exchange ok) view a g h = record {
   done = h.done;
   handed = h.handed;
   settled = h.settled;
+  own_settled = h.own_settled;
   told = h.told;
   rows = h.rows;
   all_in = λ ex m mem. h.rows m (ok.rows m mem);
@@ -79,8 +81,8 @@ cross_within G w v n k _ _ (begin t d ok opens_it) view a g h =
     let f : (r i : ℕ) (y : Running) (u : Write) → at_number (w.stay n k).running t (Some (Rattle.cluster_laws.specs.Changes.opening G k n (w.node n).content (w.stay n k) d)) i ≡ Some y → y.applied ≡ Some u → is_replica G k (partition_of y.digest) r ≡ true → (r ≡ n → ⊥) → contains y.awaiting r ≡ false → HasWrite G v n r k y.digest u.version u.nth =
     acked_change G v n k (w.stay n k) t _ (λ r y u e b. no_some (ap (λ (z : Running). z.applied) (some_same e) ∙ b)) h in
     assumption h
-cross_within G w v n k _ _ (answer t d o ok) view a g h = record { arrived = h.arrived; acked = acked_change G v n k (w.stay n k) t None (λ r y u e. no_some e) h; done = h.done; handed = h.handed; settled = h.settled; told = h.told; rows = h.rows; all_in = h.all_in }
-cross_within G w v n k _ _ (give_up t ok) view a g h = record { arrived = h.arrived; acked = acked_change G v n k (w.stay n k) t None (λ r y u e. no_some e) h; done = h.done; handed = h.handed; settled = h.settled; told = h.told; rows = h.rows; all_in = h.all_in }
+cross_within G w v n k _ _ (answer t d o ok) view a g h = record { arrived = h.arrived; acked = acked_change G v n k (w.stay n k) t None (λ r y u e. no_some e) h; done = h.done; handed = h.handed; settled = h.settled; own_settled = h.own_settled; told = h.told; rows = h.rows; all_in = h.all_in }
+cross_within G w v n k _ _ (give_up t ok) view a g h = record { arrived = h.arrived; acked = acked_change G v n k (w.stay n k) t None (λ r y u e. no_some e) h; done = h.done; handed = h.handed; settled = h.settled; own_settled = h.own_settled; told = h.told; rows = h.rows; all_in = h.all_in }
 cross_within G w v n k _ _ (apply t d u early ok e z) view a g h = record {
   arrived = λ r c ex to q. h.arrived r c ex to q;
   acked = acked_change G v n k (w.stay n k) t _ (λ r y x q b rep apart c. acks r y ((w.stay n k).running t) refl q rep apart c) h;
@@ -88,6 +90,7 @@ cross_within G w v n k _ _ (apply t d u early ok e z) view a g h = record {
       (λ j _. let old = (a.txns n k).done i dn in no_some (sym ((a.txns n k).unapplied t ok.transaction ok.resolved.running ok.resolved.unapplied) ∙ (ap (w.stay n k).writes j ∙ old.1))) (λ _ q. q) b) rep apart;
   handed = h.handed;
   settled = h.settled;
+  own_settled = h.own_settled;
   told = h.told;
   rows = h.rows;
   all_in = h.all_in;
@@ -106,6 +109,7 @@ cross_within G w v n k _ _ (finish t ok) view a g h = record {
       (λ j _ b rep apart. this r f (subst (λ (z : ℕ). (w.stay n k).writes z ≡ Some f) (sym j) b) rep apart) (λ _ dn. h.done r i f dn);
   handed = h.handed;
   settled = h.settled;
+  own_settled = h.own_settled;
   told = h.told;
   rows = h.rows;
   all_in = h.all_in;
@@ -122,6 +126,7 @@ cross_within G w v n k _ _ (hand p ok e) view a g h = record {
   acked = h.acked;
   done = h.done;
   settled = h.settled;
+  own_settled = h.own_settled;
   told = h.told;
   rows = h.rows;
   all_in = h.all_in;
@@ -138,6 +143,8 @@ cross_within G w v n k _ _ (settle p ok e) view a g h = record {
   all_in = h.all_in;
   settled = λ q. changed_either numbers (λ (b : Bool). b ≡ true → v.settled k q ≡ true) (w.stay n k).settled p true q
       (λ i _. subst (λ (z : ℕ). v.settled k z ≡ true) i (subst (λ (f : Picture). f.settled k p ≡ true) (sym e) (part_here w.settled k p))) (λ _. h.settled q);
+  own_settled = λ q. changed_either numbers (λ (b : Bool). b ≡ true → v.settled k q ≡ true) (w.stay n k).own_settled p true q
+      (λ i _. subst (λ (z : ℕ). v.settled k z ≡ true) i (subst (λ (f : Picture). f.settled k p ≡ true) (sym e) (part_here w.settled k p))) (λ _. h.own_settled q);
 }
 cross_within G w v n k _ _ (row r ok) view a g h = record {
   arrived = h.arrived;
@@ -145,6 +152,7 @@ cross_within G w v n k _ _ (row r ok) view a g h = record {
   done = h.done;
   handed = h.handed;
   settled = h.settled;
+  own_settled = h.own_settled;
   told = h.told;
   all_in = h.all_in;
   rows = λ m. changed_either numbers (λ (b : Bool). b ≡ true → (v.stay m k).entered ≡ true) (w.stay n k).rows r true m
@@ -155,6 +163,7 @@ cross_within G w v n k _ _ (batch_acked r b ok) view a g h = record {
   done = h.done;
   handed = h.handed;
   settled = h.settled;
+  own_settled = h.own_settled;
   told = h.told;
   rows = h.rows;
   all_in = h.all_in;
@@ -184,6 +193,7 @@ cross_within G w v n k _ _ (told r done_bits handed_bits settled_bits ok) view a
       (λ i e. subst (λ (z : ℕ). IsDone (v.stay z k) p) i (done_grows G w v g r k p (said.done p e))) (λ _. h.told m p);
   handed = λ p e. ⊎_elim (h.handed p) (λ z. g.handed k p (said.handed p z)) (or_cases ((w.stay n k).handed p) (bit handed_bits p) e);
   settled = λ p e. ⊎_elim (h.settled p) (λ z. g.settled k p (said.settled p z)) (or_cases ((w.stay n k).settled p) (bit settled_bits p) e);
+  own_settled = h.own_settled;
 }
   where
     said : ToldBits w r k done_bits handed_bits settled_bits
@@ -193,6 +203,7 @@ cross_within G w v n k _ _ (write_acked r t y ok) view a g h = record {
   done = h.done;
   handed = h.handed;
   settled = h.settled;
+  own_settled = h.own_settled;
   told = h.told;
   rows = h.rows;
   all_in = h.all_in;
@@ -215,6 +226,7 @@ cross_within G w v n k _ _ (answered r t o y ok) view a g h = record {
   done = h.done;
   handed = h.handed;
   settled = h.settled;
+  own_settled = h.own_settled;
   told = h.told;
   rows = h.rows;
   all_in = h.all_in;
@@ -229,6 +241,7 @@ cross_step G w v n k _ _ (enter ok e) a g = record {
   done = λ r t z dn. differ dn refl;
   handed = λ p z. differ z refl;
   settled = λ p z. differ z refl;
+  own_settled = λ p z. differ z refl;
   told = λ m p z. differ z refl;
   rows = λ m. changed_either numbers (λ (b : Bool). b ≡ true → (v.stay m k).entered ≡ true) (λ _. false) n true m
       (λ i _. subst (λ (z : ℕ). (v.stay z k).entered ≡ true) i (subst (λ (f : Picture). (f.stay n k).entered ≡ true) (sym e) in_now)) (λ _ z. differ z refl);
@@ -251,6 +264,7 @@ cross_start G n k = record {
   done = λ r t z dn. differ dn refl;
   handed = λ p z. differ z refl;
   settled = λ p z. differ z refl;
+  own_settled = λ p z. differ z refl;
   told = λ m p z. differ z refl;
   rows = λ m z. differ z refl;
   all_in = λ ex. differ ex refl;

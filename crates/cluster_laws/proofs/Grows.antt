@@ -65,6 +65,7 @@ pub record StayGrows (by : Policy) (s t : Stay) : Type 0 where
   pub pending : s.exchanged ≡ true → (r : ℕ) (d : List ℕ) → s.pending r d ≡ false → t.pending r d ≡ false
   pub handed : (p : ℕ) → s.handed p ≡ true → t.handed p ≡ true
   pub settled : (p : ℕ) → s.settled p ≡ true → t.settled p ≡ true
+  pub own_handed : (p : ℕ) → s.own_handed p ≡ true → t.own_handed p ≡ true
 
 -- a stay as it is grows, as does one with other transactions that are open
 pub stay_same : (by : Policy) (s : Stay) → StayGrows by s s
@@ -80,6 +81,7 @@ stay_same by s = record {
   pending = λ x r d e. e;
   handed = λ p e. e;
   settled = λ p e. e;
+  own_handed = λ p e. e;
 }
 
 pub or_left : (a b : Bool) → a ≡ true → (a || b) ≡ true
@@ -127,6 +129,7 @@ stay_within G w v n k _ _ (merge d u ok is) o h =
     assumption (stay_same G.by (w.stay n k))
 stay_within G w v n k _ _ (hand p ok e) o h =
     let f : (q : ℕ) → (w.stay n k).handed q ≡ true → at_number (w.stay n k).handed p true q ≡ true = λ q z. changed_either numbers (λ (b : Bool). b ≡ true) (w.stay n k).handed p true q (λ _. refl) (λ _. z) in
+    let g : (q : ℕ) → (w.stay n k).own_handed q ≡ true → at_number (w.stay n k).own_handed p true q ≡ true = λ q z. changed_either numbers (λ (b : Bool). b ≡ true) (w.stay n k).own_handed p true q (λ _. refl) (λ _. z) in
     assumption (stay_same G.by (w.stay n k))
 stay_within G w v n k _ _ (settle p ok e) o h =
     let f : (q : ℕ) → (w.stay n k).settled q ≡ true → at_number (w.stay n k).settled p true q ≡ true = λ q z. changed_either numbers (λ (b : Bool). b ≡ true) (w.stay n k).settled p true q (λ _. refl) (λ _. z) in
@@ -170,6 +173,7 @@ stay_enter G n k x s h above content = subst (λ (z : Stay). StayGrows G.by z (e
   pending = λ e. differ e refl;
   handed = λ p e. e;
   settled = λ p e. e;
+  own_handed = λ p e. e;
 })
   where
     unentered : (b : Bool) → s.entered ≡ b → b ≡ false

@@ -91,7 +91,7 @@ writes_done s p h stays free t e a q = ⊎_elim (λ z. z) (⊎_elim (λ z. diffe
 handed_old : (G : Ground) (w : Picture) (e : Effect) → Allowed G w e → Grows G.by w (act G e w) → AllHanded G w → (k : ClusterKey) (p : ℕ) → w.handed k p ≡ true → HandedOver G (act G e w) k p
 handed_old G w e ok g h k p z = let o : HandedOver G w k p = h k p z in record {
   other = o.other;
-  known = (g.stay (acting G k p) k).handed p o.known;
+  known = (g.stay (acting G k p) k).own_handed p o.known;
   shut = shut_step G w (act G e w) (acting G k p) k p _ _ (steps G w e ok (acting G k p) k) (⊎_elim (λ q. differ o.known q.1) (λ q. o.other q.0)) o.shut;
   moved = moved_grows G w (act G e w) g k p o.moved;
 }
@@ -108,7 +108,7 @@ handed_kept G w (Hands n k p) ok g a h j q z = ⊎_elim (λ i. subst₂ (HandedO
     new : HandedOver G v k p
     new = record {
       other = λ i. ok.other (ok.acting ∙ i);
-      known = subst (λ (z : ℕ). (v.stay z k).handed p ≡ true) ok.acting (subst (λ (s : Stay). s.handed p ≡ true) (sym now) (changed_here numbers (w.stay n k).handed p true));
+      known = subst (λ (z : ℕ). (v.stay z k).own_handed p ≡ true) ok.acting (subst (λ (s : Stay). s.own_handed p ≡ true) (sym now) (changed_here numbers (w.stay n k).own_handed p true));
       shut = subst (λ (z : ℕ). IsShut p (v.stay z k)) ok.acting (subst (IsShut p) (sym now) (record { free = ok.free.none; done = writes_done (w.stay n k) p (a.txns n k) ok.is_in.stays ok.free }));
       moved = moved_grows G w v g k p (all_moved G w n k p a ok.all_done);
     }
@@ -167,7 +167,7 @@ running_change G v n k s t o new h u y = changed_either numbers (λ z. z ≡ Som
 
 writers_within : (G : Ground) (w v : Picture) (n : ℕ) (k : ClusterKey) (x : Seen) (s : Stay) → Within G w v n k x s → Known G w → AllHanded G w → AllSettled G w → Writers G w n k (w.stay n k) → Grows G.by w v → Writers G v n k (w.stay n k) → Writers G v n k s
 writers_within G w v n k _ _ (begin t d ok opens_it) a hs st old g h = record {
-  running = running_change G v n k (w.stay n k) t _ (λ y e. subst (λ (z : Running). Who G v n k (partition_of z.digest)) (some_same e) (⊎_elim (λ z. inl z.0) (λ z. inr (z.0, g.settled k (partition_of d) ((a.cross n k).settled (partition_of d) z.2))) ok.acts)) h;
+  running = running_change G v n k (w.stay n k) t _ (λ y e. subst (λ (z : Running). Who G v n k (partition_of z.digest)) (some_same e) (⊎_elim (λ z. inl z.0) (λ z. inr (z.0, g.settled k (partition_of d) ((a.cross n k).own_settled (partition_of d) z.2))) ok.acts)) h;
   write = h.write;
   late = h.late;
 }

@@ -99,6 +99,7 @@ pub record Cross (G : Ground) (w : Picture) (n : ℕ) (k : ClusterKey) (s : Stay
   pub done : (r t : ℕ) (e : Applied) → s.done t ≡ true → s.writes t ≡ Some e → is_replica G k (partition_of e.digest) r ≡ true → (r ≡ n → ⊥) → HasWrite G w n r k e.digest e.version e.nth
   pub handed : (p : ℕ) → s.handed p ≡ true → w.handed k p ≡ true
   pub settled : (p : ℕ) → s.settled p ≡ true → w.settled k p ≡ true
+  pub own_settled : (p : ℕ) → s.own_settled p ≡ true → w.settled k p ≡ true
   pub told : (m p : ℕ) → s.told m p ≡ true → IsDone (w.stay m k) p
   pub rows : (m : ℕ) → s.rows m ≡ true → (w.stay m k).entered ≡ true
   pub all_in : s.exchanged ≡ true → (m : ℕ) → is_member G k m ≡ true → (w.stay m k).entered ≡ true
@@ -121,7 +122,7 @@ pub record EarlyDone (p : ℕ) (s : Stay) : Type 0 where
 -- what stands where the acting master has handed over
 pub record HandedOver (G : Ground) (w : Picture) (k : ClusterKey) (p : ℕ) : Type 0 where
   pub other : acting G k p ≡ master G k p → ⊥
-  pub known : (w.stay (acting G k p) k).handed p ≡ true
+  pub known : (w.stay (acting G k p) k).own_handed p ≡ true
   pub shut : IsShut p (w.stay (acting G k p) k)
   pub moved : Moved G w k p
 

@@ -182,13 +182,13 @@ merges G n k d v w = record w {
 }
 
 abbrev pub handing : ℕ → Stay → Stay
-handing p s = record s { handed = at_number s.handed p true }
+handing p s = record s { handed = at_number s.handed p true; own_handed = at_number s.own_handed p true }
 
 abbrev pub hands : ℕ → ClusterKey → ℕ → Picture → Picture
 hands n k p w = record w { stay = at_stay w.stay n k (handing p (w.stay n k)); handed = at_part w.handed k p true }
 
 abbrev pub settling : ℕ → Stay → Stay
-settling p s = record s { settled = at_number s.settled p true }
+settling p s = record s { settled = at_number s.settled p true; own_settled = at_number s.own_settled p true }
 
 abbrev pub settles : ℕ → ClusterKey → ℕ → Picture → Picture
 settles n k p w = record w { stay = at_stay w.stay n k (settling p (w.stay n k)); settled = at_part w.settled k p true }

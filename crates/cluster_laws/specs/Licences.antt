@@ -75,9 +75,10 @@ pub record IsFree (s : Stay) (p : ℕ) : Type 0 where
   pub none : (t : ℕ) (y : Running) → s.running t ≡ Some y → partition_of y.digest ≡ p → ⊥
 
 -- the acting master by the rows takes requests until it hands the partition over, and the list master, where that is
--- another, from its settling on
+-- another, from its settling on. Both go by its own lines
 abbrev pub Acts : Ground → ℕ → ClusterKey → Stay → ℕ → Type 0
-Acts G n k s p = ((n ≡ acting G k p) × (s.handed p ≡ false)) ⊎ ((n ≡ master G k p) × (n ≡ acting G k p → ⊥) × (s.settled p ≡ true))
+Acts G n k s p =
+    ((n ≡ acting G k p) × (s.own_handed p ≡ false)) ⊎ ((n ≡ master G k p) × (n ≡ acting G k p → ⊥) × (s.own_settled p ≡ true))
 
 -- ---- lines
 

@@ -62,6 +62,9 @@ pub record Stay : Type 0 where
   -- the partitions of which the node knows that they were handed over, and that their settling was written
   pub handed : ℕ → Bool
   pub settled : ℕ → Bool
+  -- those that the node itself handed over, and whose settling it wrote itself
+  pub own_handed : ℕ → Bool
+  pub own_settled : ℕ → Bool
   -- the done bits of a member's last Progress
   pub told : ℕ → ℕ → Bool
 
@@ -87,5 +90,7 @@ blank = record {
   numbers = λ _. [];
   handed = λ _. false;
   settled = λ _. false;
+  own_handed = λ _. false;
+  own_settled = λ _. false;
   told = λ _ _. false;
 }

@@ -1,5 +1,5 @@
 -- What is due at a partition goes by the facts before any partition is settled.
-use Rattle.std.proofs.Common.{flat_map, ◌≡◌, ◌≢◌, ℕ, zero, suc, ◌+◌, ◌<◌, ◌≤◌, Bool, true, false, not, ◌&&◌, ◌||◌, cond, List, [], ◌∷◌, ◌++◌, length, set, None, refl, sym, ap, subst, ◌∙◌, arith}
+use Rattle.std.proofs.Common.{flat_map, ◌≡◌, ◌≢◌, ℕ, zero, suc, ◌+◌, ◌<◌, ◌≤◌, Bool, true, false, not, ◌&&◌, ◌||◌, cond, List, [], ◌∷◌, ◌++◌, length, set, None, refl, sym, ap, ap₂, subst, ◌∙◌, arith}
 use Rattle.std.proofs.Math.Bool.{or-true}
 use Rattle.std.proofs.lemmas.Bool.Decides.{nat_tests}
 use Rattle.std.proofs.lemmas.List.{get_or-set_same, get_or-set_other, length-set}
@@ -130,7 +130,7 @@ keeps_handed : (f : Facts) (n : ℕ) (k : ClusterKey) (p : ℕ) (b : Bool) → H
 keeps_handed f n k p false h = kept p f h
 keeps_handed f n k p true h = record {
   rows = record { handed = length-set f.bits.handed p true ∙ h.handed; settled = h.settled };
-  lines = λ q other. ap (λ b. lines_here f.me (view_key f) q (record (here f (list_at f q) q) { handed = b; own_handed = b })) (bit_other f.bits.handed p q other);
+  lines = λ q other. ap₂ (λ b c. lines_here f.me (view_key f) q (record (here f (list_at f q) q) { handed = b; own_handed = c })) (bit_other f.bits.handed p q other) (bit_other f.bits.own_handed p q other);
 }
 
 keeps_settled : (f : Facts) (n : ℕ) (k : ClusterKey) (p : ℕ) (b : Bool) → HasRows f → Keeps p f (noted None f (line_if (line.Settled n k p) b))

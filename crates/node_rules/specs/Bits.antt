@@ -13,6 +13,9 @@ pub record Bits : Type 0 where
   pub handed : List Bool
   -- the partitions whose settling was written, as far as the node knows
   pub settled : List Bool
+  -- those that the node itself handed over, and whose settling it wrote itself
+  pub own_handed : List Bool
+  pub own_settled : List Bool
   -- the partitions that the node learnt
   pub learnt : List Bool
 
@@ -22,7 +25,7 @@ clear_row = replicate partition_count false
 
 -- no bit is set and no Progress came
 abbrev pub no_bits : Bits
-no_bits = record { done = []; handed = clear_row; settled = clear_row; learnt = clear_row }
+no_bits = record { done = []; handed = clear_row; settled = clear_row; own_handed = clear_row; own_settled = clear_row; learnt = clear_row }
 
 -- the row with each bit that either has
 abbrev pub or_rows : List Bool → List Bool → List Bool
@@ -39,7 +42,8 @@ with_bit row p = slice_set row p true
 abbrev pub knows_done : Bits → ℕ → ℕ → Bool
 knows_done b p m = bit (unwrap_or (at b.done m) []) p
 
--- a Progress came: its done row takes the place of the sender's last one, and the other two are joined
+-- a Progress came: its done row takes the place of the sender's last one, and the other two are joined. What the node
+-- wrote itself stays
 abbrev pub progressing : Bits → ℕ → List Bool → List Bool → List Bool → Bits
 progressing b from done handed settled = record b { done = with_entry b.done from done; handed = or_rows b.handed handed; settled = or_rows b.settled settled }
 
@@ -47,13 +51,13 @@ progressing b from done handed settled = record b { done = with_entry b.done fro
 abbrev pub knows_each_done : Bits → List ℕ → ℕ → Bool
 knows_each_done b ms p = list_all (knows_done b p) ms
 
--- the partition was handed over
+-- the node handed the partition over
 abbrev pub handing : Bits → ℕ → Bits
-handing b p = record b { handed = with_bit b.handed p }
+handing b p = record b { handed = with_bit b.handed p; own_handed = with_bit b.own_handed p }
 
--- the partition's settling was written
+-- the node wrote the partition's settling
 abbrev pub settling : Bits → ℕ → Bits
-settling b p = record b { settled = with_bit b.settled p }
+settling b p = record b { settled = with_bit b.settled p; own_settled = with_bit b.own_settled p }
 
 -- the node learnt the partition
 abbrev pub learning : Bits → ℕ → Bits
@@ -63,7 +67,7 @@ learning b p = record b { learnt = with_bit b.learnt p }
 -- master or isn't, where all members are known done or aren't, and a transaction is open on it or isn't
 abbrev pub may_hand : Bits → ℕ → Bool → Bool → Bool → Bool → Bool
 may_hand b p is_acting is_master all_done is_busy =
-    is_acting && (not is_master && (not (bit b.handed p) && (all_done && not is_busy)))
+    is_acting && (not is_master && (not (bit b.own_handed p) && (all_done && not is_busy)))
 
 -- whether the partition is settled by such a node, where all copies were empty or weren't
 abbrev pub may_settle : Bits → ℕ → Bool → Bool → Bool → Bool → Bool → Bool

@@ -126,12 +126,17 @@ abbrev pub eight : Bool → List Bool
 eight b = replicate 8 b
 
 -- a member of view 2.2 of nodes 2 and 1 that has finished the exchange of these rows, has nothing
--- pending, and knows the other done or not, and the partitions handed over or not
+-- pending, knows the other done or not, and handed the partitions over or didn't
 abbrev pub migrating : ℕ → ℕ → List MemberRow → Bool → Bool → Facts
 migrating me other rows done handed = record (fresh me plain_role (other ∷ []) 2 Time) {
   exchange = record { view = Some (record { key = key 2 2; members = two }); rows = rows; exchanged = true };
-  bits = record { done = (other, eight done) ∷ []; handed = eight handed; settled = eight false; learnt = eight false };
+  bits = record { done = (other, eight done) ∷ []; handed = eight handed; settled = eight false; own_handed = eight handed; own_settled = eight false; learnt = eight false };
 }
+
+-- such a node, which then hears of the other that all is handed over, or settled
+abbrev pub hearing_of_all : Bool → Bool → ℕ → ℕ → List MemberRow → Facts
+hearing_of_all handed settled me other rows =
+    after_message (migrating me other rows true false) 0 other (message.Progress (key 2 2) false (eight true) (eight handed) (eight settled))
 
 -- rows of partition 7 of which one node's is whole and the other's a part
 abbrev pub whole_and_part : ℕ → ℕ → List MemberRow

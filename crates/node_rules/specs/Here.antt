@@ -8,7 +8,7 @@ use Rattle.journal_lines.specs.declared.line.Line.TheVariants as line
 use Rattle.node_rules.specs.Copies.{holds_of}
 use Rattle.node_rules.specs.Facts.{Facts, view_key, list_at}
 use Rattle.node_rules.specs.Settling.{line_if}
-use Rattle.node_rules.specs.Standing.{is_acting, is_master, is_replica, is_all_empty, are_all_done, is_done, has_settled_bit, knows_handed}
+use Rattle.node_rules.specs.Standing.{is_acting, is_master, is_replica, is_all_empty, are_all_done, is_done, has_settled_bit, knows_handed, has_handed}
 use Rattle.node_rules.specs.Transactions.{is_busy}
 
 -- how a node stands to a partition of its view
@@ -20,7 +20,7 @@ pub record Here : Type 0 where
   pub replica : Bool
   -- it knows the partition handed over
   pub handed : Bool
-  -- it handed the partition over itself, as far as its facts tell that apart from `handed`
+  -- it handed the partition over itself
   pub own_handed : Bool
   -- it has the settled bit
   pub settled : Bool
@@ -44,7 +44,7 @@ here f l p = record {
   master = is_master f l;
   replica = is_replica f l;
   handed = knows_handed f p;
-  own_handed = knows_handed f p;
+  own_handed = has_handed f p;
   settled = has_settled_bit f p;
   learnt = bit f.bits.learnt p;
   done = is_done f p;

@@ -170,11 +170,11 @@ merged f key digest v = record f { store = store_merged f.store key digest v }
 
 -- ---- hand-over and settling
 
--- the node knows that the partition was handed over
+-- the node handed the partition over
 abbrev pub handed : Facts → ℕ → Facts
 handed f p = record f { bits = bits.handing f.bits p }
 
--- the node knows that the partition's settling was written
+-- the node wrote the partition's settling
 abbrev pub settled : Facts → ℕ → Facts
 settled f p = record f { bits = bits.settling f.bits p }
 

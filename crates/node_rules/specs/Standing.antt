@@ -58,6 +58,14 @@ knows_handed f p = bit f.bits.handed p
 abbrev pub has_settled_bit : Facts → ℕ → Bool
 has_settled_bit f p = bit f.bits.settled p
 
+-- whether the node itself handed the partition over
+abbrev pub has_handed : Facts → ℕ → Bool
+has_handed f p = bit f.bits.own_handed p
+
+-- whether the node itself wrote the partition's settling
+abbrev pub has_settled : Facts → ℕ → Bool
+has_settled f p = bit f.bits.own_settled p
+
 -- whether a node knows a partition settled: it has the settled bit, or it has finished the exchange and all copies
 -- were empty
 abbrev pub knows_settled_by : Bool → Bool → Bool → Bool
@@ -82,9 +90,9 @@ abbrev pub acts_by : Bool → Bool → Bool → Bool → Bool → Bool
 acts_by exchanged acting handed master settled = exchanged && ((acting && not handed) || (master && (not acting && settled)))
 
 -- whether the node takes requests: the acting master by the rows until it hands the partition over,
--- and the list master, where that is another, from its settling on
+-- and the list master, where that is another, from its settling on. Both go by its own lines, not by what it hears
 abbrev pub acts : Facts → List ℕ → ℕ → Bool
-acts f l p = acts_by f.exchange.exchanged (is_acting f l p) (knows_handed f p) (is_master f l) (has_settled_bit f p)
+acts f l p = acts_by f.exchange.exchanged (is_acting f l p) (has_handed f p) (is_master f l) (has_settled f p)
 
 -- the node that is to be asked of a list with that acting master, where the partition has come to its list master
 -- or hasn't

@@ -23,7 +23,7 @@ ghost use Rattle.cluster_types.specs.Partitions.{partition_count};
 ghost use Rattle.cluster_types.specs.Rows.{bit};
 ghost use Rattle.cluster_types.specs.StateRows.{IsStateRow, state_of};
 ghost use Rattle.node_rules.specs.Effects.{nothing, lines_only, sends_only, to_one, to_each};
-ghost use Rattle.node_rules.specs.Examples.{key, lone, itself, ticked_twice, in_its_view, zeros, hi, first_hi, having_hi, seven, writing_hi, hi_written, promised_two, two, five_rows, five, hearing_one, proposing_two, migrating, whole_and_part, batch_of_hi, sent_hi, restarted, waiting_for, second_hi, lacking_two, racked};
+ghost use Rattle.node_rules.specs.Examples.{key, lone, itself, ticked_twice, in_its_view, zeros, hi, first_hi, having_hi, seven, writing_hi, hi_written, promised_two, two, five_rows, five, hearing_one, proposing_two, migrating, whole_and_part, batch_of_hi, sent_hi, restarted, hearing_of_all, waiting_for, second_hi, lacking_two, racked};
 ghost use Rattle.node_rules.specs.Here.{Here, HasRows, IsAsleep, IsOver, part_lines, lines_here, lines_from, live_from};
 ghost use Rattle.node_rules.specs.Map.{acting, all_empty};
 ghost use Rattle.node_rules.specs.Merging.{Record, newer_records, joined_all, store_merged_all};
@@ -132,6 +132,14 @@ pub fn partition_comes_to_its_list_master()
     ensures names_itself { refusal_of (migrating 2 1 (whole_and_part 1 2) true true) (2 ∷ 1 ∷ []) seven ≡ Some (refusal.NotMaster 2) }
     ensures accepts { refusal_of (migrating 1 2 (whole_and_part 1 2) true false) (2 ∷ 1 ∷ []) seven ≡ None }
     ensures handed { refusal_of (migrating 1 2 (whole_and_part 1 2) true true) (2 ∷ 1 ∷ []) seven ≡ Some (refusal.NotMaster 2) }
+{}
+
+/// Who acts, and who hands over, goes by a node's own lines: to hear that a partition was handed over or settled
+/// changes neither.
+pub fn hearing_of_a_hand_over_changes_nothing()
+    ensures hands { settling_at (2 ∷ 1 ∷ []) 7 (hearing_of_all true false 1 2 (whole_and_part 1 2)) ≡ line.Handed 1 (key 2 2) 7 ∷ [] }
+    ensures accepts { refusal_of (hearing_of_all true false 1 2 (whole_and_part 1 2)) (2 ∷ 1 ∷ []) seven ≡ None }
+    ensures list_master { refusal_of (hearing_of_all true true 2 1 (whole_and_part 1 2)) (2 ∷ 1 ∷ []) seven ≡ Some (refusal.NotMaster 2) }
 {}
 
 /// A node is at rest where it has finished the exchange, knows all settled, and has nothing open. Here

@@ -66,6 +66,8 @@ with_other f h a up role e = record {
     applies = t.applies;
     numbers = t.numbers;
     handed = t.handed;
+    own_handed = t.own_handed;
+    own_settled = t.own_settled;
     settled = t.settled;
     told = t.told;
   };

@@ -315,13 +315,16 @@ only_group (g ∷ []) group one (inr has) = absurd has
 only_group (g ∷ o ∷ gs) group one has = absurd (omega (arith, one))
 
 pub at_rest : {ns : List ℕ} (G : Ground) (z : Front) (w : Picture) (j : List Line) → AtCalm ns G z w j → IsAtRest G.by G.factor j
-at_rest {ns} G z w j x group n among inside up = (r.key, record {
-  viewed = λ m i u. (each_up m (has_up m i u)).read;
-  among = filled.members ∙ here ∙ same_members G z w j group x;
-  settled = throughout G z w j r.key x filled;
-  spread = spread G z w j r.key x filled;
-  newest = λ u. has_newest G z w j r.key x filled (λ o e. (each_up o (has_filter (is_up (world_of z)) group o (in_group u o e) (sym (x.ups o) ∙ is_up_of u o e))).member);
-})
+at_rest {ns} G z w j x group n among inside up = (
+  r.key,
+  record {
+    viewed = λ m i u. (each_up m (has_up m i u)).read;
+    among = filled.members ∙ here ∙ same_members G z w j group x;
+    settled = throughout G z w j r.key x filled;
+    spread = spread G z w j r.key x filled;
+    newest = λ u. has_newest G z w j r.key x filled (λ o e. (each_up o (has_filter (is_up (world_of z)) group o (in_group u o e) (sym (x.ups o) ∙ is_up_of u o e))).member);
+  },
+)
   where
     group_there : Contains (world_of z).network.groups group
     group_there = subst (λ (gs : List (List ℕ)). Contains gs group) x.groups among

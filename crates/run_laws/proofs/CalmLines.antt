@@ -64,19 +64,22 @@ up_is h ms n = ap (settings.is_up n) (sym (lines_are h ms)) ∙ up_agrees h (map
 
 calm_place : (h : Header) (ss : List Step) → Taken h ss → (i rounds : ℕ) → slice_get (journal h (lines_among (all_marks ss))) i ≡ Some (line.Calm rounds)
     → (z : Front) × AtCalm (nodes (journal h (lines_among (all_marks ss)))) (ground_of h ss) z (picture (ground_of h ss) (journal h (lines_among (all_marks ss))) i) (take i (journal h (lines_among (all_marks ss))))
-calm_place h ss t i rounds e = (z, record {
-  ground = o.ground;
-  sane = p.sane;
-  tied = subst (Tied z) (sym (ap (licences.after_all G start) b.before ∙ header_passes G start h (take b.place ls))) p.tied;
-  told = journal_told h G ls o i;
-  calm = p.ok.1;
-  grouped = p.grouped;
-  known = ap (λ (x : World). x.nodes) world ∙ nodes_stay (take p.count (all_marks ss)) (opened h) ∙ sym (nodes_agree h ls w.behind);
-  declared = ap nodes lines_here ∙ nodes_agree h (lines_among (take p.count (all_marks ss))) behind_here ∙ sym (nodes_agree h ls w.behind);
-  groups = ap groups_of lines_here ∙ groups_agree h (take p.count (all_marks ss)) behind_here ∙ sym (ap (λ (x : World). x.network.groups) world);
-  ups = λ n. ap (settings.is_up n) lines_here ∙ up_is h (take p.count (all_marks ss)) n ∙ sym (ap (λ (x : World). (x.facts n).up) world);
-  roles = λ n. ap (present_role n) lines_here ∙ role_agrees h (take p.count (all_marks ss)) n t.declared behind_here ∙ sym (ap (λ (x : World). (x.facts n).role) world);
-})
+calm_place h ss t i rounds e = (
+  z,
+  record {
+    ground = o.ground;
+    sane = p.sane;
+    tied = subst (Tied z) (sym (ap (licences.after_all G start) b.before ∙ header_passes G start h (take b.place ls))) p.tied;
+    told = journal_told h G ls o i;
+    calm = p.ok.1;
+    grouped = p.grouped;
+    known = ap (λ (x : World). x.nodes) world ∙ nodes_stay (take p.count (all_marks ss)) (opened h) ∙ sym (nodes_agree h ls w.behind);
+    declared = ap nodes lines_here ∙ nodes_agree h (lines_among (take p.count (all_marks ss))) behind_here ∙ sym (nodes_agree h ls w.behind);
+    groups = ap groups_of lines_here ∙ groups_agree h (take p.count (all_marks ss)) behind_here ∙ sym (ap (λ (x : World). x.network.groups) world);
+    ups = λ n. ap (settings.is_up n) lines_here ∙ up_is h (take p.count (all_marks ss)) n ∙ sym (ap (λ (x : World). (x.facts n).up) world);
+    roles = λ n. ap (present_role n) lines_here ∙ role_agrees h (take p.count (all_marks ss)) n t.declared behind_here ∙ sym (ap (λ (x : World). (x.facts n).role) world);
+  },
+)
   where
     w : Walks h ss
     w = taken_walks h ss t

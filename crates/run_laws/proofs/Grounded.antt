@@ -72,7 +72,7 @@ sane_of G by factor z sb sf h g = record { nodes = one; client = outside z h.sou
       member = λ v e. ap (λ (ms : List Member). contains (ids_of ms) n) (members_are n v e) ∙ sym (member_at v.members n) ∙ (entered_view z n v h.sound e).among;
       rows = λ v e x. rows_agree G z.chronicle n v g h.rowed e (members_are n v e) (law.full v e x);
       quiet = law.quiet;
-      places = record { handed = law.handed_places; settled = law.settled_places };
+      places = record { handed = law.handed_places; settled = law.settled_places; own_handed = law.own_handed_places; own_settled = law.own_settled_places };
       counted = law.counted;
       aims = law.aims;
     }

@@ -47,11 +47,11 @@ exchange_ok G z w n k t ok = record {
 
 acts_cases : (G : Ground) (z : Front) (w : Picture) (n : ℕ) (k : ClusterKey) (p : ℕ) → Sane G (world_of z) → Tied z w → Stands z n k → acts (facts_at z n) (list_at (facts_at z n) p) p ≡ true → Acts G n k (w.stay n k) p
 acts_cases G z w n k p s t st e = ⊎_elim
-    (λ a. inl (me ∙ own a, (stay_at z w n k t st.view).handed p ∙ not_true _ (and_right (is_acting f (list_at f p) p) _ a)))
+    (λ a. inl (me ∙ own a, (stay_at z w n k t st.view).own_handed p ∙ not_true _ (and_right (is_acting f (list_at f p) p) _ a)))
     (λ b. inr (
       me ∙ list_master b,
       (λ same. differ (ap (λ (m : ℕ). m == f.me) (acting_tied G k f p v r ∙ sym same ∙ me) ∙ number_here f.me) (not_true _ (and_left _ _ (and_right (is_master f (list_at f p)) _ b)))),
-      (stay_at z w n k t st.view).settled p ∙ and_right (not (is_acting f (list_at f p) p)) _ (and_right (is_master f (list_at f p)) _ b),
+      (stay_at z w n k t st.view).own_settled p ∙ and_right (not (is_acting f (list_at f p) p)) _ (and_right (is_master f (list_at f p)) _ b),
     ))
     (or_cases _ _ (and_right f.exchange.exchanged _ e))
   where
@@ -67,10 +67,10 @@ acts_cases G z w n k p s t st e = ⊎_elim
     r : RowsAgree G k f.exchange.rows
     r = rows_at G n f k (s.nodes n) st.view (and_left f.exchange.exchanged _ e)
 
-    own : (is_acting f (list_at f p) p && not (bit f.bits.handed p)) ≡ true → f.me ≡ acting G k p
+    own : (is_acting f (list_at f p) p && not (bit f.bits.own_handed p)) ≡ true → f.me ≡ acting G k p
     own a = sym (number_same _ _ (and_left (is_acting f (list_at f p) p) _ a)) ∙ acting_tied G k f p v r
 
-    list_master : (is_master f (list_at f p) && (not (is_acting f (list_at f p) p) && bit f.bits.settled p)) ≡ true → f.me ≡ master G k p
+    list_master : (is_master f (list_at f p) && (not (is_acting f (list_at f p) p) && bit f.bits.own_settled p)) ≡ true → f.me ≡ master G k p
     list_master b = sym (number_same _ _ (and_left (is_master f (list_at f p)) _ b)) ∙ sym (master_tied G k f p v)
 
 none_on : (ys : List Transaction) (d : List ℕ) (u : ℕ) (y : Running) → find (λ (z : Transaction). bytes_eq z.digest d) ys ≡ None → option_map shown (find (λ (z : Transaction). z.number == u) ys) ≡ Some y → y.digest ≡ d → ⊥

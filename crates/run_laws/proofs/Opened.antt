@@ -69,7 +69,9 @@ opened_tied G k f x s t d w v a mem e none sn h = record {
   applies = h.applies;
   numbers = h.numbers;
   handed = h.handed;
+  own_handed = h.own_handed;
   settled = h.settled;
+  own_settled = h.own_settled;
   told = h.told;
 }
   where
@@ -121,7 +123,9 @@ batch_tied f s to b has h = record {
   applies = h.applies;
   numbers = h.numbers;
   handed = h.handed;
+  own_handed = h.own_handed;
   settled = h.settled;
+  own_settled = h.own_settled;
   told = h.told;
 }
   where

@@ -79,7 +79,9 @@ unacked_tied f s from number none h = record {
   applies = h.applies;
   numbers = h.numbers;
   handed = h.handed;
+  own_handed = h.own_handed;
   settled = h.settled;
+  own_settled = h.own_settled;
   told = h.told;
 }
   where
@@ -104,7 +106,9 @@ acked_tied f s from number b is num h = record {
   applies = h.applies;
   numbers = h.numbers;
   handed = h.handed;
+  own_handed = h.own_handed;
   settled = h.settled;
+  own_settled = h.own_settled;
   told = h.told;
 }
   where

@@ -141,7 +141,7 @@ Acks me l factor y = (w : Write) → y.applied ≡ Some w → (r : ℕ) → cont
 
 -- the parts of a node's facts: its number, how its versions compare and how many replicas there are, its exchange, its rows of bits, its
 -- transactions and what it hands on
-pub record NodeLaw (by : Policy) (factor : ℕ) (me : ℕ) (own_by : Policy) (own_factor : ℕ) (e : Exchange) (handed settled : List Bool) (ts : Transactions) (targets : Targets) : Type 0 where
+pub record NodeLaw (by : Policy) (factor : ℕ) (me : ℕ) (own_by : Policy) (own_factor : ℕ) (e : Exchange) (handed settled own_handed own_settled : List Bool) (ts : Transactions) (targets : Targets) : Type 0 where
   pub same_by : own_by ≡ by
   pub same_factor : own_factor ≡ factor
   pub full : (v : View) → e.view ≡ Some v → e.exchanged ≡ true → first_missing e.rows v.members ≡ None
@@ -151,6 +151,8 @@ pub record NodeLaw (by : Policy) (factor : ℕ) (me : ℕ) (own_by : Policy) (ow
   pub quiet : e.exchanged ≡ false → targets ≡ []
   pub handed_places : length handed ≡ partition_count
   pub settled_places : length settled ≡ partition_count
+  pub own_handed_places : length own_handed ≡ partition_count
+  pub own_settled_places : length own_settled ≡ partition_count
   pub counted : (t : ℕ) → ts.opened < t → transaction ts t ≡ None
   -- what runs is found by its number, and after its write it awaits other replicas alone
   pub runs : (y : Transaction) → Among ts.running y → transaction ts y.number ≡ Some y
@@ -160,7 +162,7 @@ pub record NodeLaw (by : Policy) (factor : ℕ) (me : ℕ) (own_by : Policy) (ow
   pub outs : (t : Target) → Among targets t → (b : Batch) → t.out ≡ Some b → key_in e.view ≡ Some b.key
 
 abbrev pub LawOf : Policy → ℕ → Facts → Type 0
-LawOf by factor f = NodeLaw by factor f.me f.store.by f.factor f.exchange f.bits.handed f.bits.settled f.transactions f.batches
+LawOf by factor f = NodeLaw by factor f.me f.store.by f.factor f.exchange f.bits.handed f.bits.settled f.bits.own_handed f.bits.own_settled f.transactions f.batches
 
 -- who is heard, who stands in a list and who sends a heartbeat is declared
 pub record DeclaredLaw (z : Front) : Type 0 where
