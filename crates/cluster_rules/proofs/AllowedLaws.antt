@@ -54,7 +54,7 @@ nodes_stay [] w = refl
 nodes_stay (Begins e ∷ ms) w = nodes_stay ms (begun w e)
 nodes_stay (Writes l ∷ ms) w = nodes_stay ms (after_line w l) ∙ line_nodes w l
 
-stay : (n : ℕ) (w : World) (x : Played) → Follows n w x → x.world.nodes ≡ w.nodes
+pub stay : (n : ℕ) (w : World) (x : Played) → Follows n w x → x.world.nodes ≡ w.nodes
 stay n w x h = ap (λ (v : World). v.nodes) (sym h.leads) ∙ nodes_stay (all_marks x.steps) w
 
 -- ---- up nodes are declared
@@ -104,7 +104,7 @@ ups_among w = ordered w.nodes (filter (is_up w) w.nodes) (filtered w.nodes (is_u
 
 -- ---- what is played
 
-allowed_append : (n : ℕ) (ss ts : List Step) (w : World) → AreAllowed n w ss → AreAllowed n (after_all w (all_marks ss)) ts → AreAllowed n w (ss ++ ts)
+pub allowed_append : (n : ℕ) (ss ts : List Step) (w : World) → AreAllowed n w ss → AreAllowed n (after_all w (all_marks ss)) ts → AreAllowed n w (ss ++ ts)
 allowed_append n [] ts w h i = i
 allowed_append n (s ∷ ss) ts w h i =
     (h.0, allowed_append n ss ts (after_all w (marks_of s)) h.1 (subst (λ (v : World). AreAllowed n v ts) (after_all-append w (marks_of s) (all_marks ss)) i))
@@ -150,7 +150,7 @@ round_allowed n w =
     (all_allowed n w.nodes (map event.Tick (up_nodes w)) w refl (ticks n w.nodes (up_nodes w) (ups_among w)))
     (flows_allowed n 4 (play_all n (map event.Tick (up_nodes w)) w).world)
 
-rounds_allowed : (n k : ℕ) (w : World) → AreAllowed n w (rounds n k w).steps
+pub rounds_allowed : (n k : ℕ) (w : World) → AreAllowed n w (rounds n k w).steps
 unfolding rounds
 rounds_allowed n zero w = tt
 rounds_allowed n (suc k) w = in_turn n w (round n w) (rounds n k) (round_follows n w) (round_allowed n w) (rounds_allowed n k (round n w).world)
@@ -165,13 +165,13 @@ and_true : (b : Bool) → b ≡ true → (b && true) ≡ true
 and_true true e = refl
 and_true false e = e
 
-by_same : (n : ℕ) (w : World) (x y : Played) → x ≡ y → AreAllowed n w y.steps → AreAllowed n w x.steps
+pub by_same : (n : ℕ) (w : World) (x y : Played) → x ≡ y → AreAllowed n w y.steps → AreAllowed n w x.steps
 by_same n w x y e h = subst (λ (p : Played). AreAllowed n w p.steps) (sym e) h
 
 by_event : (n : ℕ) (w : World) (e : Event) (x : Played) → may_come n w e ≡ true → x ≡ play n e w → AreAllowed n w x.steps
 by_event n w e x may h = by_same n w x (play n e w) h (event_allowed n w e may)
 
-command_allowed : (n : ℕ) (w : World) (c : Command) (x : Played) → is_playable w.nodes c ≡ true → Plays n w c x → AreAllowed n w x.steps
+pub command_allowed : (n : ℕ) (w : World) (c : Command) (x : Played) → is_playable w.nodes c ≡ true → Plays n w c x → AreAllowed n w x.steps
 command_allowed n w command.Flow x e h = by_same n w x (flow n w) h (flow_allowed n w)
 command_allowed n w command.Round x e h = by_same n w x (round n w) h (round_allowed n w)
 command_allowed n w command.Calm x e h = by_same n w x (calming n h.number w) h.played (calming_allowed n h.number w h.reached)

@@ -20,6 +20,8 @@ pub mod OneNode
 pub mod Walk
 pub mod OneCalm
 pub mod BegunExamples
+pub mod FrontRuns
+pub mod CalmBounds
 pub mod KeptFacts
 pub mod WorldReadings
 pub mod StepCodes

@@ -4,7 +4,9 @@ use Rattle.std.specs.List.{list_any, sum_by}
 use Rattle.std.specs.FinMap as finite
 use Rattle.journal_lines.specs.declared.line.Line.{Line}
 use Rattle.journal_lines.specs.declared.line.Line.TheVariants as line
-use Rattle.cluster_rules.specs.Steps.{round, rounds, all_lines}
+use Rattle.cluster_rules.specs.Begun.{AreBegun}
+use Rattle.cluster_rules.specs.Calm.{is_calm_of}
+use Rattle.cluster_rules.specs.Steps.{Played, round, rounds, all_lines}
 use Rattle.cluster_rules.specs.World.{World}
 
 abbrev pub is_full_line : Line → Bool
@@ -41,3 +43,13 @@ pub record IsWithinCalm (n : ℕ) (w : World) (number : ℕ) : Type 0 where
   pub begins : (from ≡ 0) ⊎ IsBehindFull n w number from
   pub placed : (i : ℕ) → from ≤ i → i < number → is_full_round n w i ≡ false
   pub few : number ≤ from + calm_limit w
+
+-- calm is reached in time: whatever rounds are begun, each where the world isn't calm, are no more than calm may take
+pub record CalmIsReached (n : ℕ) (w : World) : Type 0 where
+  pub bounded : (x : Played) (b : AreBegun n w x) → IsWithinCalm n w b.number
+
+-- the world is calm after no more rounds than calm may take
+pub record ComesInTime (n : ℕ) (w : World) : Type 0 where
+  pub number : ℕ
+  pub within : number ≤ calm_limit w
+  pub calm : is_calm_of n (rounds n number w).world ≡ true

@@ -26,6 +26,7 @@ pub mod NodeSteps
 pub mod Runs
 pub mod Allowed
 pub mod Begun
+pub mod FrontRuns
 pub mod CalmBound
 pub mod Codes
 pub mod Examples

@@ -14,6 +14,7 @@ ghost use Rattle.journal_lines.specs.declared.line.Line.TheVariants as line;
 ghost use Rattle.journal_lines.specs.declared.refusal.Refusal.{Refusal};
 ghost use Rattle.journal_lines.specs.declared.refusal.Refusal.TheVariants as refusal;
 ghost use Rattle.script_lang.specs.declared.script.Command.{Command};
+ghost use Rattle.script_lang.specs.declared.script.Command.TheVariants as command;
 ghost use Rattle.script_lang.specs.declared.script.Script.{Script};
 ghost use Rattle.cluster_rules.specs.Marks.{Mark, Begins, Writes, adds, after, after_all, came_to_client, lines_among};
 ghost use Rattle.cluster_rules.specs.Opening.{Header, header_lines};
@@ -28,7 +29,8 @@ ghost use Rattle.node_rules.specs.Tick.{tick_of};
 ghost use Rattle.cluster_rules.specs.declared.event.Event.TheVariants as event;
 ghost use Rattle.cluster_rules.specs.Calm.{is_calm_of};
 ghost use Rattle.cluster_types.specs.Partitions.{partition_count};
-ghost use Rattle.cluster_rules.specs.CalmBound.{calm_limit, IsWithinCalm};
+ghost use Rattle.cluster_rules.specs.CalmBound.{calm_limit, is_full_round, IsWithinCalm, CalmIsReached, ComesInTime};
+ghost use Rattle.cluster_rules.specs.FrontRuns.{AreFrontOf, FrontRunOf};
 ghost use Rattle.node_rules.specs.Client.{node_for};
 ghost use Rattle.cluster_rules.specs.DueEvents.{due_of, due_at_client, sent_lines};
 ghost use Rattle.std.specs.List.{list_all};
@@ -224,4 +226,19 @@ pub fn steps_of_commands_are_allowed()
     ensures tick { (may_come 0 beaten (event.Tick 2) ≡ true) × (may_come 0 beaten (event.Tick 3) ≡ false) }
     ensures groups { (may_come 0 beaten (event.Groups ((2 ∷ []) ∷ (1 ∷ []) ∷ [])) ≡ true) × (may_come 0 beaten (event.Groups ((2 ∷ []) ∷ [])) ≡ false) × (may_come 0 beaten (event.Groups ((1 ∷ 2 ∷ []) ∷ (3 ∷ []) ∷ [])) ≡ false) }
     ensures calmed { (may_come 0 beaten (event.Calmed 1) ≡ false) × (may_come 0 alone (event.Calmed 3) ≡ true) }
+{}
+
+/// A front of a run needs no step that comes next: whole runs and those that were begun are fronts, and so is a flow
+/// of nothing of which nothing was begun. The steps of a front are allowed.
+pub fn what_stands_is_a_front()
+    ensures whole { (n : ℕ) → (s : Script) → (j : List Line) → RunOf n s j → FrontRunOf n s j }
+    ensures begun { (n : ℕ) → (s : Script) → (j : List Line) → (next : List Line) → BegunRunOf n s j next → FrontRunOf n s j }
+    ensures allowed { (n : ℕ) → (w : World) → (cs : List Command) → (taken : List Step) → list_all (is_playable w.nodes) cs ≡ true → AreFrontOf n w cs taken → AreAllowed n w taken }
+    ensures idle { FrontRunOf 0 (record { header = []; commands = command.Flow ∷ [] }) [] }
+    ensures not_begun { (j : List Line) → (next : List Line) → BegunRunOf 0 (record { header = []; commands = command.Flow ∷ [] }) j next → ⊥ }
+{}
+
+/// Where calm is reached in time and no message is lost for want of a place, the world is calm after so many rounds.
+pub fn calm_comes_in_time()
+    ensures { (n : ℕ) → (w : World) → CalmIsReached n w → ((i : ℕ) → is_full_round n w i ≡ false) → ComesInTime n w }
 {}
