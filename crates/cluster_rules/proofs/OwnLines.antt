@@ -18,7 +18,7 @@ use Rattle.node_rules.specs.Effects.{Effects}
 use Rattle.node_rules.specs.Entering.{ending, exchanging, closing, entering}
 use Rattle.node_rules.specs.Facts.{Facts, view_key, list_at}
 use Rattle.node_rules.specs.Messages as due
-use Rattle.node_rules.specs.Messages.{due_message}
+use Rattle.node_rules.specs.Messages.{due_message_of}
 use Rattle.node_rules.specs.Notes.{note, noted, neighbours, new_transaction, reached, in_view}
 use Rattle.node_rules.specs.Requests.{due_request, due_stop, due_start, asking, refusal_of, request_if, stop_if, start_if}
 use Rattle.node_rules.specs.Resolving.{resolving_want, writing, done_if}
@@ -173,13 +173,13 @@ merging_own : (f : Facts) (rs : List (List ℕ × Version)) → AreOf f.me (due.
 merging_own f [] = tt
 merging_own f (r ∷ rs) = then_own f (due.merging f r.0 r.1) (λ g. due.merging_all g rs) (one_if f.me _ _ refl) (λ g. merging_own g rs)
 
-progressed_own : (f now : Facts) (from : ℕ) (wants b : Bool) → AreOf f.me (due.progress_came f now from wants b).lines
-progressed_own f now from wants true = go _
+progressed_own : (n : ℕ) (f now : Facts) (from : ℕ) (wants b : Bool) → AreOf f.me (due.progress_came n f now from wants b).lines
+progressed_own n f now from wants true = go _
   where
-    go : (c : Bool) → AreOf f.me (due.answer_progress now from c).lines
+    go : (c : Bool) → AreOf f.me (due.answer_progress n now from c).lines
     go true = tt
     go false = tt
-progressed_own f now from wants false = (tt, tt)
+progressed_own n f now from wants false = (tt, tt)
 
 acked_own : (f : Facts) (from number : ℕ) (b : Bool) → AreOf f.me (due.repl_ack_came f from number b).lines
 acked_own f from number true = go _
@@ -218,42 +218,42 @@ answered_own f clock from number v true = go _
     go (Some t) = deep t _
 answered_own f clock from number v false = (tt, tt)
 
-pub message_own : (f : Facts) (clock from : ℕ) (m : Message) → AreOf f.me (due_message f clock from m).lines
-message_own f clock from (message.Heartbeat view promised hears role) = tt
-message_own f clock from (message.Propose key ms) = voting_own f from key _
-message_own f clock from (message.Accept key) = counting_own f from key f.agreement.proposal _
-message_own f clock from (message.Refuse key promised) = stale_own f _
-message_own f clock from (message.Commit key ms) = commit_own f key ms _
-message_own f clock from (message.State key wants row) = state_own f (reached f from (message.State key wants row)) from wants (in_view f key)
-message_own f clock from (message.Batch b) = go _
+pub message_own : (n : ℕ) (f : Facts) (clock from : ℕ) (m : Message) → AreOf f.me (due_message_of n f clock from m).lines
+message_own n f clock from (message.Heartbeat view promised hears role) = tt
+message_own n f clock from (message.Propose key ms) = voting_own f from key _
+message_own n f clock from (message.Accept key) = counting_own f from key f.agreement.proposal _
+message_own n f clock from (message.Refuse key promised) = stale_own f _
+message_own n f clock from (message.Commit key ms) = commit_own f key ms _
+message_own n f clock from (message.State key wants row) = state_own f (reached f from (message.State key wants row)) from wants (in_view f key)
+message_own n f clock from (message.Batch b) = go _
   where
     go : (c : Bool) → AreOf f.me (due.batch_came f from b c).lines
     go true = merging_own f b.records
     go false = (tt, tt)
-message_own f clock from (message.BatchAck key number) = go _
+message_own n f clock from (message.BatchAck key number) = go _
   where
     go : (c : Bool) → AreOf f.me (due.batch_ack_came f from number c).lines
     go true = spent_own f _
     go false = (tt, tt)
-message_own f clock from (message.Progress key wants done handed settled) = progressed_own f (reached f from (message.Progress key wants done handed settled)) from wants (in_view f key)
-message_own f clock from (message.Repl key t nth d v) = go _
+message_own n f clock from (message.Progress key wants done handed settled) = progressed_own n f (reached f from (message.Progress key wants done handed settled)) from wants (in_view f key)
+message_own n f clock from (message.Repl key t nth d v) = go _
   where
     go : (c : Bool) → AreOf f.me (due.repl_came f from key t d v c).lines
     go true = one_if f.me _ _ refl
     go false = (tt, tt)
-message_own f clock from (message.ReplAck key t) = acked_own f from t _
-message_own f clock from (message.Ask key t d) = go _
+message_own n f clock from (message.ReplAck key t) = acked_own f from t _
+message_own n f clock from (message.Ask key t d) = go _
   where
     go : (c : Bool) → AreOf f.me (due.ask_came f from key t d c).lines
     go true = tt
     go false = (tt, tt)
-message_own f clock from (message.Answer key t v) = answered_own f clock from t v _
-message_own f clock from message.MapAsk = go _
+message_own n f clock from (message.Answer key t v) = answered_own f clock from t v _
+message_own n f clock from message.MapAsk = go _
   where
     go : (c : Bool) → AreOf f.me (due.table_if f c).lines
     go true = tt
     go false = tt
-message_own f clock from _ = (tt, tt)
+message_own n f clock from _ = (tt, tt)
 
 -- ---- requests, stops and starts
 

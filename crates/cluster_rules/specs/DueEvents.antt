@@ -1,4 +1,4 @@
--- The lines that are due of an event. The number of partitions is an argument of what a tick walks over.
+-- The lines that are due of an event. The number of partitions is an argument of what a tick and a Progress walk over.
 use Rattle.std.specs.Prelude.{ℕ, ◌+◌, ◌==◌, ◌&&◌, ◌||◌, nat_lt, Bool, true, false, not, List, [], ◌∷◌, ◌++◌, length, Option, Some, None}
 use Rattle.conflict_order.specs.declared.want.Want.{Want}
 use Rattle.conflict_order.specs.declared.want.Want.TheVariants as want
@@ -11,7 +11,7 @@ use Rattle.wire_messages.specs.Spelling.{spelling}
 use Rattle.journal_lines.specs.declared.line.Line.{Line}
 use Rattle.journal_lines.specs.declared.line.Line.TheVariants as line
 use Rattle.node_rules.specs.Effects.{Effects, sends_only, to_one}
-use Rattle.node_rules.specs.Messages.{due_message}
+use Rattle.node_rules.specs.Messages.{due_message_of}
 use Rattle.node_rules.specs.Requests.{due_request, due_stop, due_start}
 use Rattle.node_rules.specs.Shows.{with_roles, due_map, due_show}
 use Rattle.node_rules.specs.Tick.{tick_of}
@@ -67,23 +67,23 @@ due_at_client (message.MapTable t) = line.Table t.key ∷ []
 due_at_client _ = line.Stale client ∷ []
 
 -- a message arrives, where the test says whether at the client
-abbrev pub due_at_end : World → Network → Posting → Message → Bool → List Line
-due_at_end w net p m true = due_at_client m
-due_at_end w net p m false = written net p.to (due_message (w.facts p.to) (w.clocks p.to) p.from m)
+abbrev pub due_at_end : ℕ → World → Network → Posting → Message → Bool → List Line
+due_at_end n w net p m true = due_at_client m
+due_at_end n w net p m false = written net p.to (due_message_of n (w.facts p.to) (w.clocks p.to) p.from m)
 
 -- what arrives, if it is a message
-abbrev pub due_arrival : World → Network → Posting → Option Message → List Line
-due_arrival w net p None = []
-due_arrival w net p (Some m) = due_at_end w net p m (p.to == client)
+abbrev pub due_arrival : ℕ → World → Network → Posting → Option Message → List Line
+due_arrival n w net p None = []
+due_arrival n w net p (Some m) = due_at_end n w net p m (p.to == client)
 
 -- a message arrives whole, where this network is left behind it
-abbrev pub arriving : World → Network → Posting → List Line
-arriving w net p = due_arrival w net p (message_of p.bytes)
+abbrev pub arriving : ℕ → World → Network → Posting → List Line
+arriving n w net p = due_arrival n w net p (message_of p.bytes)
 
 -- it arrives cut, where the test says whether it is short
-abbrev pub arriving_cut : World → Network → Posting → Bool → List Line
-arriving_cut w net p true = line.Short p.to ∷ []
-arriving_cut w net p false = arriving w net p
+abbrev pub arriving_cut : ℕ → World → Network → Posting → Bool → List Line
+arriving_cut n w net p true = line.Short p.to ∷ []
+arriving_cut n w net p false = arriving n w net p
 
 -- whether a delivery is blocked: the ends are nodes of different groups, or the receiver is a stopped node
 abbrev pub is_blocked : World → Posting → Bool
@@ -100,17 +100,17 @@ delivery w i lines None = line.NoMessage i ∷ []
 delivery w i lines (Some p) = unless_blocked i lines p (is_blocked w p)
 
 -- a delivery takes the message out of flight
-abbrev pub due_deliver : World → ℕ → List Line
-due_deliver w i = delivery w i (λ p. line.Deliver i p.from p.to ∷ arriving w (landed w.network i) p) (flying_at w.network i)
+abbrev pub due_deliver : ℕ → World → ℕ → List Line
+due_deliver n w i = delivery w i (λ p. line.Deliver i p.from p.to ∷ arriving n w (landed w.network i) p) (flying_at w.network i)
 
 -- a repeated one stays in flight
-abbrev pub due_repeat : World → ℕ → List Line
-due_repeat w i = delivery w i (λ p. line.Repeat i p.from p.to ∷ arriving w w.network p) (flying_at w.network i)
+abbrev pub due_repeat : ℕ → World → ℕ → List Line
+due_repeat n w i = delivery w i (λ p. line.Repeat i p.from p.to ∷ arriving n w w.network p) (flying_at w.network i)
 
 -- a cut takes it out of flight, also where it arrives short
-abbrev pub due_cut : World → ℕ → ℕ → List Line
-due_cut w i size =
-    delivery w i (λ p. line.Cut i p.from p.to size ∷ arriving_cut w (landed w.network i) p (nat_lt size (length p.bytes))) (flying_at w.network i)
+abbrev pub due_cut : ℕ → World → ℕ → ℕ → List Line
+due_cut n w i size =
+    delivery w i (λ p. line.Cut i p.from p.to size ∷ arriving_cut n w (landed w.network i) p (nat_lt size (length p.bytes))) (flying_at w.network i)
 
 -- the message, if there is one in flight, is lost
 abbrev pub losing : ℕ → Option Posting → List Line
@@ -143,10 +143,10 @@ due_of n w (event.ClientPut d v) = due_of_client w d (want.Put v)
 due_of n w (event.ClientGet d) = due_of_client w d want.Get
 due_of n w (event.ClientDel d) = due_of_client w d want.Del
 due_of n w (event.Ask node) = written w.network client (sends_only (to_one node message.MapAsk))
-due_of n w (event.Deliver i) = due_deliver w i
-due_of n w (event.Repeat i) = due_repeat w i
+due_of n w (event.Deliver i) = due_deliver n w i
+due_of n w (event.Repeat i) = due_repeat n w i
 due_of n w (event.Lose i) = due_lose w i
-due_of n w (event.Cut i size) = due_cut w i size
+due_of n w (event.Cut i size) = due_cut n w i size
 due_of n w (event.Map node from to) = written w.network node (due_map (w.facts node) from to)
 due_of n w (event.Place p) = due_place w p
 due_of n w (event.Hash d) = line.Hash d (partition_of d) ∷ []

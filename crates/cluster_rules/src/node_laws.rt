@@ -4,7 +4,7 @@ ghost use Rattle.conflict_order.specs.declared.want.Want.{Want};
 ghost use Rattle.wire_messages.specs.declared.message.Message.{Message};
 ghost use Rattle.node_rules.specs.Effects.{Effects};
 ghost use Rattle.node_rules.specs.Facts.{Facts};
-ghost use Rattle.node_rules.specs.Messages.{due_message};
+ghost use Rattle.node_rules.specs.Messages.{due_message_of};
 ghost use Rattle.node_rules.specs.Notes.{noted, all_sent};
 ghost use Rattle.node_rules.specs.Requests.{due_request, due_stop, due_start};
 ghost use Rattle.node_rules.specs.Steps.{after_tick};
@@ -25,7 +25,7 @@ pub fn marks_of_a_node_are_its_own_step()
 /// Each line of what a node does is one of that node, or adds nothing.
 pub fn lines_of_a_node_are_its_own()
     ensures tick { (n : ℕ) → (f : Facts) → AreOf f.me (tick_of n f).lines }
-    ensures message { (f : Facts) → (clock : ℕ) → (from : ℕ) → (m : Message) → AreOf f.me (due_message f clock from m).lines }
+    ensures message { (n : ℕ) → (f : Facts) → (clock : ℕ) → (from : ℕ) → (m : Message) → AreOf f.me (due_message_of n f clock from m).lines }
     ensures request { (f : Facts) → (clock : ℕ) → (digest : List ℕ) → (want : Want) → AreOf f.me (due_request f clock digest want).lines }
     ensures stop { (f : Facts) → AreOf f.me (due_stop f).lines }
     ensures start { (f : Facts) → AreOf f.me (due_start f).lines }

@@ -19,7 +19,7 @@ use Rattle.node_rules.specs.Effects.{sends_only, to_one}
 use Rattle.node_rules.specs.Exchange.{View, is_member, members_of}
 use Rattle.node_rules.specs.Facts.{Facts, list_at}
 use Rattle.node_rules.specs.Map.{entry_of}
-use Rattle.node_rules.specs.Messages.{due_message}
+use Rattle.node_rules.specs.Messages.{due_message_of}
 use Rattle.node_rules.specs.Notes.{in_view}
 use Rattle.node_rules.specs.Requests.{due_request, due_stop, due_start, map_refusal}
 use Rattle.node_rules.specs.Shows.{due_map, due_show, map_if, map_line}
@@ -98,25 +98,25 @@ client_go : (t : Traced) (m : Message) → AllGo t (due_at_client m)
 client_go t (message.MapTable table) = (tt, tt)
 client_go t _ = (tt, tt)
 
-arriving_go : (t : Traced) (w : World) (net : Network) (p : Posting) → w.facts ≡ t.world.facts → Sound t → Directed t → WasPosted t p → AllGo t (arriving w net p)
-arriving_go t w net p same s h posted = go (message_of p.bytes) refl
+arriving_go : (n : ℕ) (t : Traced) (w : World) (net : Network) (p : Posting) → w.facts ≡ t.world.facts → Sound t → Directed t → WasPosted t p → AllGo t (arriving n w net p)
+arriving_go n t w net p same s h posted = go (message_of p.bytes) refl
   where
-    node : (m : Message) → message_of p.bytes ≡ Some m → AllGo t (written net p.to (due_message (facts_of t p.to) (w.clocks p.to) p.from m))
+    node : (m : Message) → message_of p.bytes ≡ Some m → AllGo t (written net p.to (due_message_of n (facts_of t p.to) (w.clocks p.to) p.from m))
     node m r =
-        written_go t p.to net (due_message (facts_of t p.to) (w.clocks p.to) p.from m) (own_node t p.to s _ (message_own (facts_of t p.to) (w.clocks p.to) p.from m))
-        (at_node t p.to s _ (message_go t (facts_of t p.to) (w.clocks p.to) p.from m (record {
+        written_go t p.to net (due_message_of n (facts_of t p.to) (w.clocks p.to) p.from m) (own_node t p.to s _ (message_own n (facts_of t p.to) (w.clocks p.to) p.from m))
+        (at_node t p.to s _ (message_go n t (facts_of t p.to) (w.clocks p.to) p.from m (record {
           sound = s;
           keys = own_keys t p.to s;
           goes = h.nodes p.to;
           says = s.sent posted.place p m posted.stands r;
-          between = subst (λ (n : ℕ). GoesBetween t p.from n m) (sym (s.nodes p.to).me) (h.sent posted.place p m posted.stands r);
+          between = subst (λ (a : ℕ). GoesBetween t p.from a m) (sym (s.nodes p.to).me) (h.sent posted.place p m posted.stands r);
         })))
 
-    at_end : (m : Message) → message_of p.bytes ≡ Some m → (b : Bool) → AllGo t (due_at_end w net p m b)
+    at_end : (m : Message) → message_of p.bytes ≡ Some m → (b : Bool) → AllGo t (due_at_end n w net p m b)
     at_end m r true = client_go t m
-    at_end m r false = subst (λ (fs : ℕ → Facts). AllGo t (written net p.to (due_message (fs p.to) (w.clocks p.to) p.from m))) (sym same) (node m r)
+    at_end m r false = subst (λ (fs : ℕ → Facts). AllGo t (written net p.to (due_message_of n (fs p.to) (w.clocks p.to) p.from m))) (sym same) (node m r)
 
-    go : (o : Option Message) → message_of p.bytes ≡ o → AllGo t (due_arrival w net p o)
+    go : (o : Option Message) → message_of p.bytes ≡ o → AllGo t (due_arrival n w net p o)
     go None r = tt
     go (Some m) r = at_end m r (p.to == client)
 
@@ -183,10 +183,10 @@ event_go n t (event.Ask node) s h =
     written_go u client t.world.network (sends_only (to_one node message.MapAsk)) tt asks
 event_go n t (event.Deliver i) s h =
     let u : Traced = after t (Begins (event.Deliver i)) in
-    delivery_go u t.world i _ (λ p e. (tt, arriving_go u t.world (landed t.world.network i) p refl s h (posted_in t u i p refl e)))
+    delivery_go u t.world i _ (λ p e. (tt, arriving_go n u t.world (landed t.world.network i) p refl s h (posted_in t u i p refl e)))
 event_go n t (event.Repeat i) s h =
     let u : Traced = after t (Begins (event.Repeat i)) in
-    delivery_go u t.world i _ (λ p e. (tt, arriving_go u t.world t.world.network p refl s h (posted_in t u i p refl e)))
+    delivery_go u t.world i _ (λ p e. (tt, arriving_go n u t.world t.world.network p refl s h (posted_in t u i p refl e)))
 event_go n t (event.Lose i) s h = go (flying_at t.world.network i)
   where
     go : (o : Option Posting) → AllGo (after t (Begins (event.Lose i))) (losing i o)
@@ -197,9 +197,9 @@ event_go n t (event.Cut i size) s h = delivery_go u t.world i _ (λ p e. (tt, go
     u : Traced
     u = after t (Begins (event.Cut i size))
 
-    go : (p : Posting) → flying_at t.world.network i ≡ Some p → (b : Bool) → AllGo u (arriving_cut t.world (landed t.world.network i) p b)
+    go : (p : Posting) → flying_at t.world.network i ≡ Some p → (b : Bool) → AllGo u (arriving_cut n t.world (landed t.world.network i) p b)
     go p e true = (tt, tt)
-    go p e false = arriving_go u t.world (landed t.world.network i) p refl s h (posted_in t u i p refl e)
+    go p e false = arriving_go n u t.world (landed t.world.network i) p refl s h (posted_in t u i p refl e)
 event_go n t (event.Map node from to) s h =
     let u : Traced = after t (Begins (event.Map node from to)) in
     written_go u node t.world.network (due_map (facts_of u node) from to) (map_own node (facts_of u node) from to) tt

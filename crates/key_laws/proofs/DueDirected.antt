@@ -30,7 +30,7 @@ use Rattle.node_rules.specs.Facts.{Facts, view_key, members, list_at}
 use Rattle.node_rules.specs.Hearing.{heard_ids}
 use Rattle.node_rules.specs.Map.{lacks}
 use Rattle.node_rules.specs.Messages as due
-use Rattle.node_rules.specs.Messages.{due_message}
+use Rattle.node_rules.specs.Messages.{due_message_of}
 use Rattle.node_rules.specs.Notes as notes
 use Rattle.node_rules.specs.Notes.{noted, neighbours, after_ages, reached, in_view, new_transaction}
 use Rattle.node_rules.specs.Requests.{due_request, due_stop, due_start, asking, request_if, refusal_of, stop_if, start_if}
@@ -350,9 +350,9 @@ pub record Comes (t : Traced) (f : Facts) (from : ℕ) (m : Message) : Type 0 wh
 knows : (t : Traced) (f : Facts) (from : ℕ) (m : Message) → Comes t f from m → Knows t f
 knows t f from m c = knows_of t f c.keys c.goes
 
-pub message_go : (t : Traced) (f : Facts) (clock from : ℕ) (m : Message) → Comes t f from m → SendsGo t f.me (due_message f clock from m).sends
-message_go t f clock from (message.Heartbeat view promised hears role) c = tt
-message_go t f clock from (message.Propose k ms) c = go (keys.key_lt k f.agreement.promised)
+pub message_go : (n : ℕ) (t : Traced) (f : Facts) (clock from : ℕ) (m : Message) → Comes t f from m → SendsGo t f.me (due_message_of n f clock from m).sends
+message_go n t f clock from (message.Heartbeat view promised hears role) c = tt
+message_go n t f clock from (message.Propose k ms) c = go (keys.key_lt k f.agreement.promised)
   where
     known : Known t k
     known = (c.sound.lists k ms c.says.1).known
@@ -360,7 +360,7 @@ message_go t f clock from (message.Propose k ms) c = go (keys.key_lt k f.agreeme
     go : (b : Bool) → SendsGo t f.me (due.voting f from k b).sends
     go true = (refuse_goes t f.me from k f.agreement.promised known c.keys.agrees.promised, tt)
     go false = (accept_goes t f.me from k known, tt)
-message_go t f clock from (message.Accept k) c = go f.agreement.proposal (agreement.proposes f.agreement.proposal k)
+message_go n t f clock from (message.Accept k) c = go f.agreement.proposal (agreement.proposes f.agreement.proposal k)
   where
     deep : (p : Proposal) (b : Bool) → SendsGo t f.me (due.committing f p b).sends
     deep p true = commits_go t f.me p.key p.members (agreement.others f.me p.members)
@@ -370,17 +370,17 @@ message_go t f clock from (message.Accept k) c = go f.agreement.proposal (agreem
     go (Some p) true = deep p (is_nil (agreement.without_missing p from).missing)
     go (Some p) false = tt
     go None b = tt
-message_go t f clock from (message.Refuse k promised) c = go (agreement.proposes f.agreement.proposal k)
+message_go n t f clock from (message.Refuse k promised) c = go (agreement.proposes f.agreement.proposal k)
   where
     go : (b : Bool) → SendsGo t f.me (due.unless_stale f b).sends
     go true = tt
     go false = tt
-message_go t f clock from (message.Commit k ms) c = go (due.may_enter f k ms)
+message_go n t f clock from (message.Commit k ms) c = go (due.may_enter f k ms)
   where
     go : (b : Bool) → SendsGo t f.me (due.entering_if f k ms b).sends
     go true = tt
     go false = tt
-message_go t f clock from (message.State k wants row) c = go (in_view f k) refl
+message_go n t f clock from (message.State k wants row) c = go (in_view f k) refl
   where
     answer : (b : Bool) → in_view f k ≡ true → SendsGo t f.me (due.answer_state f from b)
     answer true e = (state_goes t f from false (knows t f from (message.State k wants row) c) (subst (λ q. Addressed t f.me from q) (sym (view_is f k e)) (back t from f.me k c.between)), tt)
@@ -389,12 +389,12 @@ message_go t f clock from (message.State k wants row) c = go (in_view f k) refl
     go : (b : Bool) → in_view f k ≡ b → SendsGo t f.me (due.state_came f (reached f from (message.State k wants row)) from wants b).sends
     go true e = answer wants e
     go false e = tt
-message_go t f clock from (message.Batch b) c = go (in_view f b.key)
+message_go n t f clock from (message.Batch b) c = go (in_view f b.key)
   where
     go : (x : Bool) → SendsGo t f.me (due.batch_came f from b x).sends
     go true = (read_batch_ack (λ x. GoesBetween t f.me from x) b.key b.number c.says.field (λ i. back t from f.me b.key c.between), tt)
     go false = tt
-message_go t f clock from (message.BatchAck k number) c = go (in_view f k)
+message_go n t f clock from (message.BatchAck k number) c = go (in_view f k)
   where
     deep : (b : Bool) → SendsGo t f.me (due.unless_spent f b).sends
     deep true = tt
@@ -403,7 +403,7 @@ message_go t f clock from (message.BatchAck k number) c = go (in_view f k)
     go : (b : Bool) → SendsGo t f.me (due.batch_ack_came f from number b).sends
     go true = deep _
     go false = tt
-message_go t f clock from (message.Progress k wants done handed settled) c = go (in_view f k) refl
+message_go n t f clock from (message.Progress k wants done handed settled) c = go (in_view f k) refl
   where
     now : Facts
     now = reached f from (message.Progress k wants done handed settled)
@@ -412,19 +412,19 @@ message_go t f clock from (message.Progress k wants done handed settled) c = go 
     same true = refl
     same false = refl
 
-    answer : (b : Bool) → view_key f ≡ k → SendsGo t f.me (due.answer_progress now from b).sends
-    answer true e = (progress_goes t partition_count now f.me from false (subst (λ q. Known t q) (sym (same (in_view f k) ∙ e)) c.says) (subst (λ q. Addressed t f.me from q) (sym (same (in_view f k) ∙ e)) (back t from f.me k c.between)), tt)
+    answer : (b : Bool) → view_key f ≡ k → SendsGo t f.me (due.answer_progress n now from b).sends
+    answer true e = (progress_goes t n now f.me from false (subst (λ q. Known t q) (sym (same (in_view f k) ∙ e)) c.says) (subst (λ q. Addressed t f.me from q) (sym (same (in_view f k) ∙ e)) (back t from f.me k c.between)), tt)
     answer false e = tt
 
-    go : (b : Bool) → in_view f k ≡ b → SendsGo t f.me (due.progress_came f now from wants b).sends
+    go : (b : Bool) → in_view f k ≡ b → SendsGo t f.me (due.progress_came n f now from wants b).sends
     go true e = answer _ (view_is f k e)
     go false e = tt
-message_go t f clock from (message.Repl k number nth d v) c = go (in_view f k)
+message_go n t f clock from (message.Repl k number nth d v) c = go (in_view f k)
   where
     go : (b : Bool) → SendsGo t f.me (due.repl_came f from k number d v b).sends
     go true = (read_repl_ack (λ x. GoesBetween t f.me from x) k number c.says.field (λ i. back t from f.me k c.between), tt)
     go false = tt
-message_go t f clock from (message.ReplAck k number) c = go (in_view f k)
+message_go n t f clock from (message.ReplAck k number) c = go (in_view f k)
   where
     deep : (x : Transaction) (b : Bool) → SendsGo t f.me (due.done_by f x from b).sends
     deep x true = tt
@@ -437,12 +437,12 @@ message_go t f clock from (message.ReplAck k number) c = go (in_view f k)
     go : (b : Bool) → SendsGo t f.me (due.repl_ack_came f from number b).sends
     go true = ack (transaction f.transactions number)
     go false = tt
-message_go t f clock from (message.Ask k number d) c = go (in_view f k)
+message_go n t f clock from (message.Ask k number d) c = go (in_view f k)
   where
     go : (b : Bool) → SendsGo t f.me (due.ask_came f from k number d b).sends
     go true = (read_answer (λ x. GoesBetween t f.me from x) k number _ c.says.field (λ i w. back t from f.me k c.between), tt)
     go false = tt
-message_go t f clock from (message.Answer k number v) c = go (in_view f k)
+message_go n t f clock from (message.Answer k number v) c = go (in_view f k)
   where
     last : (x : Transaction) (b : Bool) → SendsGo t f.me (due.resolving_if f clock x b).sends
     last x true = resolving_go t f clock x x.want (knows t f from (message.Answer k number v) c)
@@ -459,12 +459,12 @@ message_go t f clock from (message.Answer k number v) c = go (in_view f k)
     go : (b : Bool) → SendsGo t f.me (due.answer_came f clock from number v b).sends
     go true = answer (transaction f.transactions number)
     go false = tt
-message_go t f clock from message.MapAsk c = go f.exchange.exchanged
+message_go n t f clock from message.MapAsk c = go f.exchange.exchanged
   where
     go : (b : Bool) → SendsGo t f.me (due.table_if f b).sends
     go true = (read_table (λ x. GoesBetween t f.me due.client x) (due.map_table f) (view_known t f.me f c.keys).field (λ y e. tt), tt)
     go false = tt
-message_go t f clock from _ c = tt
+message_go n t f clock from _ c = tt
 
 -- ---- requests
 

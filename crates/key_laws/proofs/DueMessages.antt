@@ -24,7 +24,7 @@ use Rattle.node_rules.specs.Entering.{entering}
 use Rattle.node_rules.specs.Exchange.{is_member, key_of}
 use Rattle.node_rules.specs.Facts.{Facts, view_key}
 use Rattle.node_rules.specs.Keys.{same_key}
-use Rattle.node_rules.specs.Messages.{stale, spent, voting, due_propose, committing, counting, due_accept, unless_stale, entering_if, due_commit, finishes, answer_state, state_came, merging, merging_all, batch_came, unless_spent, batch_ack_came, answer_progress, progress_came, repl_came, done_by, ack_of, repl_ack_came, ask_came, resolving_if, answered_by, answer_of, answer_came, map_table, table_if, due_message, due_state}
+use Rattle.node_rules.specs.Messages.{stale, spent, voting, due_propose, committing, counting, due_accept, unless_stale, entering_if, due_commit, finishes, answer_state, state_came, merging, merging_all, batch_came, unless_spent, batch_ack_came, answer_progress, progress_came, repl_came, done_by, ack_of, repl_ack_came, ask_came, resolving_if, answered_by, answer_of, answer_came, map_table, table_if, due_message_of, due_state}
 use Rattle.node_rules.specs.Notes.{noted, reached, in_view}
 use Rattle.node_rules.specs.Resolving.{done_if, writing, resolving, resolving_want}
 use Rattle.node_rules.specs.Settling.{line_if}
@@ -110,13 +110,13 @@ batch_ack_quiet : (t : Traced) (n : ℕ) (f : Facts) (from number : ℕ) (b : Bo
 batch_ack_quiet t n f from number true = unless_spent_quiet t n f (has_number (out_to f.batches from) number)
 batch_ack_quiet t n f from number false = stale_quiet t n f
 
-answer_progress_quiet : (t : Traced) (n : ℕ) (now : Facts) (from : ℕ) (b : Bool) → Known t (view_key now) → Quiet t n (answer_progress now from b)
-answer_progress_quiet t n now from true h = record { lines = tt; posts = (progress_posts t n _ now false h, tt) }
-answer_progress_quiet t n now from false h = nothing_quiet t n
+answer_progress_quiet : (t : Traced) (n count : ℕ) (now : Facts) (from : ℕ) (b : Bool) → Known t (view_key now) → Quiet t n (answer_progress count now from b)
+answer_progress_quiet t n count now from true h = record { lines = tt; posts = (progress_posts t n _ now false h, tt) }
+answer_progress_quiet t n count now from false h = nothing_quiet t n
 
-progress_quiet : (t : Traced) (n : ℕ) (f now : Facts) (from : ℕ) (wants b : Bool) → Known t (view_key now) → Quiet t n (progress_came f now from wants b)
-progress_quiet t n f now from wants true h = answer_progress_quiet t n now from _ h
-progress_quiet t n f now from wants false h = stale_quiet t n f
+progress_quiet : (t : Traced) (n count : ℕ) (f now : Facts) (from : ℕ) (wants b : Bool) → Known t (view_key now) → Quiet t n (progress_came count f now from wants b)
+progress_quiet t n count f now from wants true h = answer_progress_quiet t n count now from _ h
+progress_quiet t n count f now from wants false h = stale_quiet t n f
 
 repl_quiet : (t : Traced) (n : ℕ) (f : Facts) (from : ℕ) (k : ClusterKey) (number : ℕ) (d : List ℕ) (v : Version) (b : Bool) → (b ≡ true → Visited t f.me (view_key f)) → Known t k → Quiet t n (repl_came f from k number d v b)
 repl_quiet t n f from k number d v true h i = record {
@@ -276,19 +276,19 @@ commit_ok t net f from k ms c = go (same_key k f.agreement.promised) (keys.key_l
 now_known : (t : Traced) (f : Facts) (from : ℕ) (m : Message) → Came t f from m → Known t (view_key (reached f from m))
 now_known t f from m c = view_known t f.me (reached f from m) (subst (λ g. NodeKeys t f.me g) c.here (c.sound.nodes f.me))
 
-pub message_ok : (t : Traced) (net : Network) (f : Facts) (clock from : ℕ) (m : Message) → Came t f from m → Licensed t (writes (written net f.me (due_message f clock from m)))
-message_ok t net f clock from (message.Heartbeat v promised hears role) c = quiet_ok t f.me net _ c.sound (nothing_quiet t f.me)
-message_ok t net f clock from (message.Propose k ms) c = propose_ok t net f from k ms c
-message_ok t net f clock from (message.Accept k) c = accept_ok t net f from k c
-message_ok t net f clock from (message.Refuse k promised) c = quiet_ok t f.me net _ c.sound (unless_stale_quiet t f.me f (proposes f.agreement.proposal k))
-message_ok t net f clock from (message.Commit k ms) c = commit_ok t net f from k ms c
-message_ok t net f clock from (message.State k wants row) c = state_ok t net f from k wants row c
-message_ok t net f clock from (message.Batch b) c = quiet_ok t f.me net _ c.sound (batch_quiet t f.me f from b (in_view f b.key) (viewed t f.me f b.key c.keys) c.says)
-message_ok t net f clock from (message.BatchAck k number) c = quiet_ok t f.me net _ c.sound (batch_ack_quiet t f.me f from number (in_view f k))
-message_ok t net f clock from (message.Progress k wants done handed settled) c = quiet_ok t f.me net _ c.sound (progress_quiet t f.me f (reached f from (message.Progress k wants done handed settled)) from wants (in_view f k) (now_known t f from (message.Progress k wants done handed settled) c))
-message_ok t net f clock from (message.Repl k number nth d v) c = quiet_ok t f.me net _ c.sound (repl_quiet t f.me f from k number d v (in_view f k) (viewed t f.me f k c.keys) c.says)
-message_ok t net f clock from (message.ReplAck k number) c = quiet_ok t f.me net _ c.sound (repl_ack_quiet t f.me f from number (in_view f k) (viewed t f.me f k c.keys))
-message_ok t net f clock from (message.Ask k number d) c = quiet_ok t f.me net _ c.sound (ask_quiet t f.me f from k number d (in_view f k) c.says)
-message_ok t net f clock from (message.Answer k number v) c = quiet_ok t f.me net _ c.sound (answer_quiet t f.me f clock from number v (in_view f k) (viewed t f.me f k c.keys))
-message_ok t net f clock from message.MapAsk c = quiet_ok t f.me net _ c.sound (table_quiet t f.me f f.exchange.exchanged (view_known t f.me f c.keys))
-message_ok t net f clock from _ c = quiet_ok t f.me net _ c.sound (stale_quiet t f.me f)
+pub message_ok : (n : ℕ) (t : Traced) (net : Network) (f : Facts) (clock from : ℕ) (m : Message) → Came t f from m → Licensed t (writes (written net f.me (due_message_of n f clock from m)))
+message_ok n t net f clock from (message.Heartbeat v promised hears role) c = quiet_ok t f.me net _ c.sound (nothing_quiet t f.me)
+message_ok n t net f clock from (message.Propose k ms) c = propose_ok t net f from k ms c
+message_ok n t net f clock from (message.Accept k) c = accept_ok t net f from k c
+message_ok n t net f clock from (message.Refuse k promised) c = quiet_ok t f.me net _ c.sound (unless_stale_quiet t f.me f (proposes f.agreement.proposal k))
+message_ok n t net f clock from (message.Commit k ms) c = commit_ok t net f from k ms c
+message_ok n t net f clock from (message.State k wants row) c = state_ok t net f from k wants row c
+message_ok n t net f clock from (message.Batch b) c = quiet_ok t f.me net _ c.sound (batch_quiet t f.me f from b (in_view f b.key) (viewed t f.me f b.key c.keys) c.says)
+message_ok n t net f clock from (message.BatchAck k number) c = quiet_ok t f.me net _ c.sound (batch_ack_quiet t f.me f from number (in_view f k))
+message_ok n t net f clock from (message.Progress k wants done handed settled) c = quiet_ok t f.me net _ c.sound (progress_quiet t f.me n f (reached f from (message.Progress k wants done handed settled)) from wants (in_view f k) (now_known t f from (message.Progress k wants done handed settled) c))
+message_ok n t net f clock from (message.Repl k number nth d v) c = quiet_ok t f.me net _ c.sound (repl_quiet t f.me f from k number d v (in_view f k) (viewed t f.me f k c.keys) c.says)
+message_ok n t net f clock from (message.ReplAck k number) c = quiet_ok t f.me net _ c.sound (repl_ack_quiet t f.me f from number (in_view f k) (viewed t f.me f k c.keys))
+message_ok n t net f clock from (message.Ask k number d) c = quiet_ok t f.me net _ c.sound (ask_quiet t f.me f from k number d (in_view f k) c.says)
+message_ok n t net f clock from (message.Answer k number v) c = quiet_ok t f.me net _ c.sound (answer_quiet t f.me f clock from number v (in_view f k) (viewed t f.me f k c.keys))
+message_ok n t net f clock from message.MapAsk c = quiet_ok t f.me net _ c.sound (table_quiet t f.me f f.exchange.exchanged (view_known t f.me f c.keys))
+message_ok n t net f clock from _ c = quiet_ok t f.me net _ c.sound (stale_quiet t f.me f)

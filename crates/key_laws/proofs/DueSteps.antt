@@ -15,7 +15,7 @@ use Rattle.node_rules.specs.Effects.{sends_only, to_one}
 use Rattle.node_rules.specs.Entering.{closing}
 use Rattle.node_rules.specs.Facts.{Facts, view_key, list_at}
 use Rattle.node_rules.specs.Map.{entry_of}
-use Rattle.node_rules.specs.Messages.{due_message}
+use Rattle.node_rules.specs.Messages.{due_message_of}
 use Rattle.node_rules.specs.Notes.{reached, new_transaction}
 use Rattle.node_rules.specs.Requests.{map_refusal, refusal_of, asking, opening, request_if, due_request, stop_if, start_if, view_refusal, up_refusal, refusal_after}
 use Rattle.node_rules.specs.Shows.{map_line, map_if, due_map, due_show}
@@ -115,17 +115,17 @@ client_ok t x says s = go x.from x.message says
     go from (message.MapTable table) says = (record { bound = says.bound; field = says.field }, tt)
     go from _ says = (tt, tt)
 
-node_ok : (t : Traced) (net : Network) (clock : ℕ) (p : Posting) (m : Message) → Sound t → WasPosted t p → message_of p.bytes ≡ Some m
-    → Licensed (record { world = came_to t.world (record { from = p.from; to = p.to; message = m }) false; lists = t.lists; entered = t.entered }) (writes (written net p.to (due_message (facts_of t p.to) clock p.from m)))
-node_ok t net clock p m s posted e =
+node_ok : (n : ℕ) (t : Traced) (net : Network) (clock : ℕ) (p : Posting) (m : Message) → Sound t → WasPosted t p → message_of p.bytes ≡ Some m
+    → Licensed (record { world = came_to t.world (record { from = p.from; to = p.to; message = m }) false; lists = t.lists; entered = t.entered }) (writes (written net p.to (due_message_of n (facts_of t p.to) clock p.from m)))
+node_ok n t net clock p m s posted e =
     let f : Facts = facts_of t p.to in
     let x : Arrival = record { from = p.from; to = p.to; message = m } in
     let u : Traced = record { world = came_to t.world x false; lists = t.lists; entered = t.entered } in
     let says : Says t p.from m = s.sent posted.place p m posted.stands e in
     let k : Keeps t u = kept_node t x says s in
     let me : f.me ≡ p.to = (s.nodes p.to).me in
-    subst (λ (n : ℕ). Licensed u (writes (written net n (due_message f clock p.from m)))) me
-    (message_ok u net f clock p.from m (record {
+    subst (λ (a : ℕ). Licensed u (writes (written net a (due_message_of n f clock p.from m)))) me
+    (message_ok n u net f clock p.from m (record {
       sound = k.sound;
       keys = subst (λ (n : ℕ). NodeKeys u n f) (sym me) (node_grows t u k.grows p.to f (s.nodes p.to));
       says = says_grows t u k.grows p.from m says;
@@ -133,19 +133,19 @@ node_ok t net clock p m s posted e =
       here = at_here t.world.facts p.to f.me (reached f p.from m) (sym me) (λ (g : Facts). g ≡ reached f p.from m) refl;
     }))
 
-arrival_ok : (t : Traced) (e : Event) (net : Network) (p : Posting) → Sound (after t (Begins e)) → WasPosted (after t (Begins e)) p
-    → Licensed (arrived_in (after t (Begins e)) (arrived p.to p)) (writes (arriving t.world net p))
-arrival_ok t e net p s posted = go (message_of p.bytes) refl
+arrival_ok : (n : ℕ) (t : Traced) (e : Event) (net : Network) (p : Posting) → Sound (after t (Begins e)) → WasPosted (after t (Begins e)) p
+    → Licensed (arrived_in (after t (Begins e)) (arrived p.to p)) (writes (arriving n t.world net p))
+arrival_ok n t e net p s posted = go (message_of p.bytes) refl
   where
     u : Traced
     u = after t (Begins e)
 
     at_end : (m : Message) → message_of p.bytes ≡ Some m → (b : Bool)
-        → Licensed (record { world = came_to u.world (record { from = p.from; to = p.to; message = m }) b; lists = u.lists; entered = u.entered }) (writes (due_at_end t.world net p m b))
+        → Licensed (record { world = came_to u.world (record { from = p.from; to = p.to; message = m }) b; lists = u.lists; entered = u.entered }) (writes (due_at_end n t.world net p m b))
     at_end m r true = client_ok u (record { from = p.from; to = p.to; message = m }) (s.sent posted.place p m posted.stands r) s
-    at_end m r false = node_ok u net (t.world.clocks p.to) p m s posted r
+    at_end m r false = node_ok n u net (t.world.clocks p.to) p m s posted r
 
-    go : (o : Option Message) → message_of p.bytes ≡ o → Licensed (arrived_in u (option_map (λ m. record { from = p.from; to = p.to; message = m }) o)) (writes (due_arrival t.world net p o))
+    go : (o : Option Message) → message_of p.bytes ≡ o → Licensed (arrived_in u (option_map (λ m. record { from = p.from; to = p.to; message = m }) o)) (writes (due_arrival n t.world net p o))
     go None r = tt
     go (Some m) r = at_end m r (p.to == client)
 
@@ -179,14 +179,14 @@ delivery_ok t u i lines h = go (flying_at t.world.network i) refl
     go None e = (tt, tt)
     go (Some p) e = blocked p (flying_posted t.world.network i p e) (is_blocked t.world p)
 
-deliver_ok : (t : Traced) (i : ℕ) → Sound (after t (Begins (event.Deliver i))) → Licensed (after t (Begins (event.Deliver i))) (writes (due_of 0 t.world (event.Deliver i)))
-deliver_ok t i s = delivery_ok t u i _ (λ p e. (tt, came_at u (option_and_then (arrived p.to)) i p _ (landed_posted t.world.network i p e) (arrival_ok t (event.Deliver i) (landed t.world.network i) p s (was_posted u i p (landed_posted t.world.network i p e)))))
+deliver_ok : (n : ℕ) (t : Traced) (i : ℕ) → Sound (after t (Begins (event.Deliver i))) → Licensed (after t (Begins (event.Deliver i))) (writes (due_of n t.world (event.Deliver i)))
+deliver_ok n t i s = delivery_ok t u i _ (λ p e. (tt, came_at u (option_and_then (arrived p.to)) i p _ (landed_posted t.world.network i p e) (arrival_ok n t (event.Deliver i) (landed t.world.network i) p s (was_posted u i p (landed_posted t.world.network i p e)))))
   where
     u : Traced
     u = after t (Begins (event.Deliver i))
 
-repeat_ok : (t : Traced) (i : ℕ) → Sound (after t (Begins (event.Repeat i))) → Licensed (after t (Begins (event.Repeat i))) (writes (due_of 0 t.world (event.Repeat i)))
-repeat_ok t i s = delivery_ok t u i _ (λ p e. (tt, came_at u (option_and_then (arrived p.to)) i p _ e (arrival_ok t (event.Repeat i) t.world.network p s (was_posted u i p e))))
+repeat_ok : (n : ℕ) (t : Traced) (i : ℕ) → Sound (after t (Begins (event.Repeat i))) → Licensed (after t (Begins (event.Repeat i))) (writes (due_of n t.world (event.Repeat i)))
+repeat_ok n t i s = delivery_ok t u i _ (λ p e. (tt, came_at u (option_and_then (arrived p.to)) i p _ e (arrival_ok n t (event.Repeat i) t.world.network p s (was_posted u i p e))))
   where
     u : Traced
     u = after t (Begins (event.Repeat i))
@@ -194,18 +194,18 @@ repeat_ok t i s = delivery_ok t u i _ (λ p e. (tt, came_at u (option_and_then (
 long_enough : (a b : ℕ) → nat_lt a b ≡ false → nat_le b a ≡ true
 long_enough a b e = grind (arith, nat_tests)
 
-cut_ok : (t : Traced) (i size : ℕ) → Sound (after t (Begins (event.Cut i size))) → Licensed (after t (Begins (event.Cut i size))) (writes (due_of 0 t.world (event.Cut i size)))
-cut_ok t i size s = delivery_ok t u i _ (λ p e. (tt, came_at u (option_and_then (arrived_cut p.to size)) i p _ (landed_posted t.world.network i p e) (whole p e (nat_lt size (length p.bytes)) refl)))
+cut_ok : (n : ℕ) (t : Traced) (i size : ℕ) → Sound (after t (Begins (event.Cut i size))) → Licensed (after t (Begins (event.Cut i size))) (writes (due_of n t.world (event.Cut i size)))
+cut_ok n t i size s = delivery_ok t u i _ (λ p e. (tt, came_at u (option_and_then (arrived_cut p.to size)) i p _ (landed_posted t.world.network i p e) (whole p e (nat_lt size (length p.bytes)) refl)))
   where
     u : Traced
     u = after t (Begins (event.Cut i size))
 
     whole : (p : Posting) → posting_at t.world.network i ≡ Some p → (b : Bool) → nat_lt size (length p.bytes) ≡ b
-        → Licensed (arrived_in u (arrived_cut p.to size p)) (writes (arriving_cut t.world (landed t.world.network i) p b))
+        → Licensed (arrived_in u (arrived_cut p.to size p)) (writes (arriving_cut n t.world (landed t.world.network i) p b))
     whole p e true short = (tt, tt)
     whole p e false long =
-        subst (λ c. Licensed (arrived_in u (if c then arrived p.to p else None)) (writes (arriving t.world (landed t.world.network i) p))) (sym (long_enough size (length p.bytes) long))
-        (arrival_ok t (event.Cut i size) (landed t.world.network i) p s (was_posted u i p (landed_posted t.world.network i p e)))
+        subst (λ c. Licensed (arrived_in u (if c then arrived p.to p else None)) (writes (arriving n t.world (landed t.world.network i) p))) (sym (long_enough size (length p.bytes) long))
+        (arrival_ok n t (event.Cut i size) (landed t.world.network i) p s (was_posted u i p (landed_posted t.world.network i p e)))
 
 lose_ok : (t : Traced) (i : ℕ) (o : Option Posting) → Licensed t (writes (losing i o))
 lose_ok t i None = (tt, tt)
@@ -253,10 +253,10 @@ lines_ok n t (event.ClientDel d) b s = named_ok t (event.ClientDel d) d want.Del
 lines_ok n t (event.Ask node) b s =
     quiet_ok (after t (Begins (event.Ask node))) client t.world.network (sends_only (to_one node message.MapAsk)) s
     (record { lines = tt; posts = (posts_of (after t (Begins (event.Ask node))) client message.MapAsk (read_map_ask (λ x. Says (after t (Begins (event.Ask node))) client x × MaySend (after t (Begins (event.Ask node))) client x) (tt, tt)), tt) })
-lines_ok n t (event.Deliver i) b s = deliver_ok t i s
-lines_ok n t (event.Repeat i) b s = repeat_ok t i s
+lines_ok n t (event.Deliver i) b s = deliver_ok n t i s
+lines_ok n t (event.Repeat i) b s = repeat_ok n t i s
 lines_ok n t (event.Lose i) b s = lose_ok _ i (flying_at t.world.network i)
-lines_ok n t (event.Cut i size) b s = cut_ok t i size s
+lines_ok n t (event.Cut i size) b s = cut_ok n t i size s
 lines_ok n t (event.Map node from to) b s =
     quiet_ok (after t (Begins (event.Map node from to))) node t.world.network (due_map (facts_of t node) from to) s
     (record { lines = map_quiet (after t (Begins (event.Map node from to))) (facts_of t node) from to (map_refusal (facts_of t node)) (mapped (after t (Begins (event.Map node from to))) (facts_of t node) (own_keys (after t (Begins (event.Map node from to))) node s)); posts = tt })

@@ -202,11 +202,11 @@ pub progress_is : (f : Facts) (clock from : ℕ) (key : ClusterKey) (wants : Boo
     → after_message f clock from (message.Progress key wants done handed settled) ≡ progress_came f from done handed settled (in_view f key)
 progress_is f clock from key wants done handed settled = go (in_view f key)
   where
-    deep : (g : Facts) (b : Bool) → after None g (due.answer_progress g from b) ≡ g
+    deep : (g : Facts) (b : Bool) → after None g (due.answer_progress partition_count g from b) ≡ g
     deep g true = refl
     deep g false = refl
 
-    go : (b : Bool) → after None (progress_came f from done handed settled b) (due.progress_came f (progress_came f from done handed settled b) from wants b) ≡ progress_came f from done handed settled b
+    go : (b : Bool) → after None (progress_came f from done handed settled b) (due.progress_came partition_count f (progress_came f from done handed settled b) from wants b) ≡ progress_came f from done handed settled b
     go true = deep (progress_came f from done handed settled true) (wants && knows_all_settled (progress_came f from done handed settled true) partition_count 0)
     go false = refl
 

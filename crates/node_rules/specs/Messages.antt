@@ -1,4 +1,5 @@
--- What is due of a node that a message reaches: a function for each kind, of the facts before it.
+-- What is due of a node that a message reaches: a function for each kind, of the facts before it. The number of
+-- partitions is an argument where a node tells of all that it knows them settled.
 use Rattle.std.specs.Prelude.{ℕ, zero, suc, ◌+◌, ◌&&◌, Bool, true, false, not, List, [], ◌∷◌, ◌++◌, Option, Some, None, is_none}
 use Rattle.std.specs.FinMap as finite
 use Rattle.conflict_order.specs.declared.version.Version.{Version}
@@ -148,18 +149,18 @@ due_batch_ack f from key number = batch_ack_came f from number (in_view f key)
 -- ---- progress
 
 -- how far the partitions have come, where the test holds
-abbrev pub answer_progress : Facts → ℕ → Bool → Effects
-answer_progress now from true = sends_only (to_one from (progress_message partition_count now false))
-answer_progress now from false = nothing
+abbrev pub answer_progress : ℕ → Facts → ℕ → Bool → Effects
+answer_progress n now from true = sends_only (to_one from (progress_message n now false))
+answer_progress n now from false = nothing
 
 -- a Progress, where the test says whether it is of the view
-abbrev pub progress_came : Facts → Facts → ℕ → Bool → Bool → Effects
-progress_came f now from wants true = answer_progress now from (wants && knows_all_settled now partition_count 0)
-progress_came f now from wants false = stale f
+abbrev pub progress_came : ℕ → Facts → Facts → ℕ → Bool → Bool → Effects
+progress_came n f now from wants true = answer_progress n now from (wants && knows_all_settled now n 0)
+progress_came n f now from wants false = stale f
 
 -- Progress: one that is wanted is answered by a node that, with this message, knows every partition settled
-abbrev pub due_progress : Facts → Facts → ℕ → ClusterKey → Bool → Effects
-due_progress f now from key wants = progress_came f now from wants (in_view f key)
+abbrev pub due_progress : ℕ → Facts → Facts → ℕ → ClusterKey → Bool → Effects
+due_progress n f now from key wants = progress_came n f now from wants (in_view f key)
 
 -- ---- transactions
 
@@ -255,21 +256,25 @@ due_map_ask f = table_if f f.exchange.exchanged
 
 -- ---- all kinds
 
--- what is due of a message from that endpoint, at this time of the node's clock. A kind that has no
--- rule at a node is stale
+-- what is due of a message from that endpoint with so many partitions, at this time of the node's clock. A kind that
+-- has no rule at a node is stale
+abbrev pub due_message_of : ℕ → Facts → ℕ → ℕ → Message → Effects
+due_message_of n f clock from (message.Heartbeat view promised hears role) = nothing
+due_message_of n f clock from (message.Propose key ms) = due_propose f from key
+due_message_of n f clock from (message.Accept key) = due_accept f from key
+due_message_of n f clock from (message.Refuse key promised) = due_refuse f key
+due_message_of n f clock from (message.Commit key ms) = due_commit f key ms
+due_message_of n f clock from (message.State key wants row) = due_state f (reached f from (message.State key wants row)) from key wants
+due_message_of n f clock from (message.Batch b) = due_batch f from b
+due_message_of n f clock from (message.BatchAck key number) = due_batch_ack f from key number
+due_message_of n f clock from (message.Progress key wants done handed settled) = due_progress n f (reached f from (message.Progress key wants done handed settled)) from key wants
+due_message_of n f clock from (message.Repl key t nth digest v) = due_repl f from key t digest v
+due_message_of n f clock from (message.ReplAck key t) = due_repl_ack f from key t
+due_message_of n f clock from (message.Ask key t digest) = due_ask f from key t digest
+due_message_of n f clock from (message.Answer key t v) = due_answer f clock from key t v
+due_message_of n f clock from message.MapAsk = due_map_ask f
+due_message_of n f clock from _ = stale f
+
+-- what is due of a message
 abbrev pub due_message : Facts → ℕ → ℕ → Message → Effects
-due_message f clock from (message.Heartbeat view promised hears role) = nothing
-due_message f clock from (message.Propose key ms) = due_propose f from key
-due_message f clock from (message.Accept key) = due_accept f from key
-due_message f clock from (message.Refuse key promised) = due_refuse f key
-due_message f clock from (message.Commit key ms) = due_commit f key ms
-due_message f clock from (message.State key wants row) = due_state f (reached f from (message.State key wants row)) from key wants
-due_message f clock from (message.Batch b) = due_batch f from b
-due_message f clock from (message.BatchAck key number) = due_batch_ack f from key number
-due_message f clock from (message.Progress key wants done handed settled) = due_progress f (reached f from (message.Progress key wants done handed settled)) from key wants
-due_message f clock from (message.Repl key t nth digest v) = due_repl f from key t digest v
-due_message f clock from (message.ReplAck key t) = due_repl_ack f from key t
-due_message f clock from (message.Ask key t digest) = due_ask f from key t digest
-due_message f clock from (message.Answer key t v) = due_answer f clock from key t v
-due_message f clock from message.MapAsk = due_map_ask f
-due_message f clock from _ = stale f
+due_message f clock from m = due_message_of partition_count f clock from m

@@ -1,10 +1,11 @@
 -- The facts of a node after a step.
 use Rattle.std.specs.Prelude.{ℕ, List, Option, Some, None}
 use Rattle.conflict_order.specs.declared.want.Want.{Want}
+use Rattle.cluster_types.specs.Partitions.{partition_count}
 use Rattle.wire_messages.specs.declared.message.Message.{Message}
 use Rattle.node_rules.specs.Effects.{Effects}
 use Rattle.node_rules.specs.Facts.{Facts}
-use Rattle.node_rules.specs.Messages.{due_message}
+use Rattle.node_rules.specs.Messages.{due_message_of}
 use Rattle.node_rules.specs.Notes.{noted, all_sent, reached}
 use Rattle.node_rules.specs.Requests.{due_request, due_stop, due_start}
 use Rattle.node_rules.specs.Tick.{due_tick}
@@ -17,9 +18,13 @@ after q f e = all_sent (noted q f e.lines) e.sends
 abbrev pub after_tick : Facts → Facts
 after_tick f = after None f (due_tick f)
 
--- the facts after a message, which itself comes first
+-- the facts after a message with so many partitions, which itself comes first
+abbrev pub after_message_of : ℕ → Facts → ℕ → ℕ → Message → Facts
+after_message_of n f clock from m = after None (reached f from m) (due_message_of n f clock from m)
+
+-- the facts after a message
 abbrev pub after_message : Facts → ℕ → ℕ → Message → Facts
-after_message f clock from m = after None (reached f from m) (due_message f clock from m)
+after_message f clock from m = after_message_of partition_count f clock from m
 
 -- the facts after a request
 abbrev pub after_request : Facts → ℕ → List ℕ → Want → Facts

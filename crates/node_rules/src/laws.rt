@@ -27,15 +27,15 @@ ghost use Rattle.node_rules.specs.Examples.{key, lone, itself, ticked_twice, in_
 ghost use Rattle.node_rules.specs.Here.{Here, HasRows, IsAsleep, IsOver, part_lines, lines_here, lines_from, live_from};
 ghost use Rattle.node_rules.specs.Map.{acting, all_empty};
 ghost use Rattle.node_rules.specs.Merging.{Record, newer_records, joined_all, store_merged_all};
-ghost use Rattle.node_rules.specs.Messages.{due_message, merging_all, merge_line, moved_from};
-ghost use Rattle.node_rules.specs.Notes.{note, noted, neighbours, after_ages, stopped, marked, with_role, count_in, stamped_from};
+ghost use Rattle.node_rules.specs.Messages.{due_message, due_message_of, merging_all, merge_line, moved_from};
+ghost use Rattle.node_rules.specs.Notes.{note, noted, reached, neighbours, after_ages, stopped, marked, with_role, count_in, stamped_from};
 ghost use Rattle.node_rules.specs.Requests.{due_request, due_stop, refusal_of, request_at};
 ghost use Rattle.node_rules.specs.Settling.{settling_at, settling_from};
 ghost use Rattle.node_rules.specs.Stamps.{count_of, with_number, no_class, stamped_by};
 ghost use Rattle.node_rules.specs.Tables.{all_from, bits_from};
 ghost use Rattle.node_rules.specs.Shows.{due_map, due_show, with_roles};
 ghost use Rattle.node_rules.specs.Steps.{after_tick, after_message, after_stop, after_start};
-ghost use Rattle.node_rules.specs.Tick.{due_tick, done_from, is_candidate, propose, proposal_sends};
+ghost use Rattle.node_rules.specs.Tick.{due_tick, progress_message, done_from, is_candidate, propose, proposal_sends};
 
 /// A node that is alone enters a view of its own at its third tick.
 pub fn lone_node_enters_at_its_third_tick()
@@ -149,6 +149,13 @@ pub fn node_is_at_rest_once_all_is_settled()
     ensures unsettled { is_at_rest_of 8 (migrating 2 1 (whole_and_part 2 1) false false) ≡ false }
     ensures open { is_at_rest_of 7 (waiting_for want.Get) ≡ false }
     ensures exchanging { is_at_rest_of 7 lacking_two ≡ false }
+{}
+
+/// A Progress that is wanted is answered by a node that knows each of so many partitions settled, and by no other.
+/// Here partition 7 alone isn't.
+pub fn progress_is_answered_once_all_is_settled()
+    ensures settled { due_message_of 7 (migrating 2 1 (whole_and_part 2 1) true false) 0 1 (message.Progress (key 2 2) true [] [] []) ≡ sends_only (to_one 1 (progress_message 7 (reached (migrating 2 1 (whole_and_part 2 1) true false) 1 (message.Progress (key 2 2) true [] [] [])) false)) }
+    ensures unsettled { due_message_of 8 (migrating 2 1 (whole_and_part 2 1) true false) 0 1 (message.Progress (key 2 2) true [] [] []) ≡ nothing }
 {}
 
 /// A batch is sent again under its number until just that number is acknowledged.

@@ -2,6 +2,7 @@
 use Rattle.std.proofs.Common.{◌≡◌, ℕ, ◌==◌, Bool, true, false, List, ◌∷◌, length, Option, Some, None, refl, sym, ap, ◌∙◌, subst}
 use Rattle.std.specs.Prelude.{option_map}
 use Rattle.conflict_order.specs.declared.policy.Policy.{Policy}
+use Rattle.cluster_types.specs.Partitions.{partition_count}
 use Rattle.journal_lines.specs.declared.line.Line.{Line}
 use Rattle.wire_messages.specs.declared.message.Message.{Message}
 use Rattle.wire_messages.specs.declared.message.Message.TheVariants as message
@@ -132,7 +133,7 @@ at_client by factor z l p m law h node g = facts_ended z (after z (Writes l)) h
 -- ---- the lines behind it
 
 pub behind_line : (by : Policy) (factor : ℕ) (z : Front) (w : World) (net : Network) (l : Line) (p : Posting) → w.facts ≡ (world_of z).facts → w.clocks ≡ (world_of z).clocks → length net.sent ≡ length (world_of z).network.sent → Lawful by factor z → Ended z → ViewsDeclared (world_of z)
-    → (o : Option Message) → message_of p.bytes ≡ o → Landing z l p o → AreRead (arrived_sends w p o) → LinesGo (after z (Writes l)) (due_arrival w net p o)
+    → (o : Option Message) → message_of p.bytes ≡ o → Landing z l p o → AreRead (arrived_sends w p o) → LinesGo (after z (Writes l)) (due_arrival partition_count w net p o)
 behind_line by factor z w net l p fs cs num law h dec None read g r = record { due = tt; ends = facts_ended z (after z (Writes l)) h (g.owed ∙ h.owes) g.closing (λ n. ap (λ (x : World). x.facts n) g.world) }
 behind_line by factor z w net l p fs cs num law h dec (Some m) read g r = by_end (p.to == client) refl
   where
@@ -159,7 +160,7 @@ behind_line by factor z w net l p fs cs num law h dec (Some m) read g r = by_end
         sent_same true = table m
         sent_same false = refl
 
-    by_end : (q : Bool) → (p.to == client) ≡ q → LinesGo (after z (Writes l)) (due_at_end w net p m q)
+    by_end : (q : Bool) → (p.to == client) ≡ q → LinesGo (after z (Writes l)) (due_at_end partition_count w net p m q)
     by_end true e = client_goes (after z (Writes l)) m (at_client by factor z l p m law h e g)
     by_end false e = subst (λ (n : ℕ). LinesGo (after z (Writes l)) (written net n (due_message (w.facts p.to) (w.clocks p.to) p.from m))) me
         (effects_go (after z (Writes l)) net (w.facts p.to).me (due_message (w.facts p.to) (w.clocks p.to) p.from m) (net_same false e)

@@ -132,15 +132,15 @@ deliver_goes {by} {factor} {z} i s read = go (flying_at (world_of z).network i) 
     t = begin s (event.Deliver i)
 
     comes : (p : Posting) → posting_at (world_of z).network i ≡ Some p → AreRead (arrived_sends (world_of z) p (message_of p.bytes)) → (b : Bool)
-        → LinesGo (after z (Begins (event.Deliver i))) (unless_blocked i (λ p. line.Deliver i p.from p.to ∷ arriving (world_of z) (landed (world_of z).network i) p) p b)
+        → LinesGo (after z (Begins (event.Deliver i))) (unless_blocked i (λ p. line.Deliver i p.from p.to ∷ arriving partition_count (world_of z) (landed (world_of z).network i) p) p b)
     comes p posted r true = blocked_goes (after z (Begins (event.Deliver i))) i t.ended
     comes p posted r false =
         let g : Landing (after z (Begins (event.Deliver i))) (line.Deliver i p.from p.to) p (message_of p.bytes) = deliver_landing (after z (Begins (event.Deliver i))) i p t.ended (posting_same (landed (world_of z).network i) (world_of z).network refl i ∙ posted) in
-        with_line (after z (Begins (event.Deliver i))) (line.Deliver i p.from p.to) (arriving (world_of z) (landed (world_of z).network i) p) g.may
+        with_line (after z (Begins (event.Deliver i))) (line.Deliver i p.from p.to) (arriving partition_count (world_of z) (landed (world_of z).network i) p) g.may
         (behind_line by factor (after z (Begins (event.Deliver i))) (world_of z) (landed (world_of z).network i) (line.Deliver i p.from p.to) p refl refl refl t.lawful t.ended t.declared (message_of p.bytes) refl g r)
 
     go : (o : Option Posting) → flying_at (world_of z).network i ≡ o → AreRead (flying_sends (world_of z) o)
-        → LinesGo (after z (Begins (event.Deliver i))) (delivery (world_of z) i (λ p. line.Deliver i p.from p.to ∷ arriving (world_of z) (landed (world_of z).network i) p) o)
+        → LinesGo (after z (Begins (event.Deliver i))) (delivery (world_of z) i (λ p. line.Deliver i p.from p.to ∷ arriving partition_count (world_of z) (landed (world_of z).network i) p) o)
     go None e r = none_goes (after z (Begins (event.Deliver i))) i t.ended
     go (Some p) e r = comes p (flying_posted (world_of z).network i p e) r (is_blocked (world_of z) p)
 
@@ -151,15 +151,15 @@ repeat_goes {by} {factor} {z} i s read = go (flying_at (world_of z).network i) r
     t = begin s (event.Repeat i)
 
     comes : (p : Posting) → posting_at (world_of z).network i ≡ Some p → AreRead (arrived_sends (world_of z) p (message_of p.bytes)) → (b : Bool)
-        → LinesGo (after z (Begins (event.Repeat i))) (unless_blocked i (λ p. line.Repeat i p.from p.to ∷ arriving (world_of z) (world_of z).network p) p b)
+        → LinesGo (after z (Begins (event.Repeat i))) (unless_blocked i (λ p. line.Repeat i p.from p.to ∷ arriving partition_count (world_of z) (world_of z).network p) p b)
     comes p posted r true = blocked_goes (after z (Begins (event.Repeat i))) i t.ended
     comes p posted r false =
         let g : Landing (after z (Begins (event.Repeat i))) (line.Repeat i p.from p.to) p (message_of p.bytes) = repeat_landing (after z (Begins (event.Repeat i))) i p t.ended posted in
-        with_line (after z (Begins (event.Repeat i))) (line.Repeat i p.from p.to) (arriving (world_of z) (world_of z).network p) g.may
+        with_line (after z (Begins (event.Repeat i))) (line.Repeat i p.from p.to) (arriving partition_count (world_of z) (world_of z).network p) g.may
         (behind_line by factor (after z (Begins (event.Repeat i))) (world_of z) (world_of z).network (line.Repeat i p.from p.to) p refl refl refl t.lawful t.ended t.declared (message_of p.bytes) refl g r)
 
     go : (o : Option Posting) → flying_at (world_of z).network i ≡ o → AreRead (flying_sends (world_of z) o)
-        → LinesGo (after z (Begins (event.Repeat i))) (delivery (world_of z) i (λ p. line.Repeat i p.from p.to ∷ arriving (world_of z) (world_of z).network p) o)
+        → LinesGo (after z (Begins (event.Repeat i))) (delivery (world_of z) i (λ p. line.Repeat i p.from p.to ∷ arriving partition_count (world_of z) (world_of z).network p) o)
     go None e r = none_goes (after z (Begins (event.Repeat i))) i t.ended
     go (Some p) e r = comes p (flying_posted (world_of z).network i p e) r (is_blocked (world_of z) p)
 
@@ -170,7 +170,7 @@ cut_goes {by} {factor} {z} i size s read = go (flying_at (world_of z).network i)
     t = begin s (event.Cut i size)
 
     long : (p : Posting) → posting_at (world_of z).network i ≡ Some p → AreRead (arrived_sends (world_of z) p (message_of p.bytes)) → (b : Bool) → nat_lt size (length p.bytes) ≡ b
-        → LinesGo (after z (Begins (event.Cut i size))) (line.Cut i p.from p.to size ∷ arriving_cut (world_of z) (landed (world_of z).network i) p b)
+        → LinesGo (after z (Begins (event.Cut i size))) (line.Cut i p.from p.to size ∷ arriving_cut partition_count (world_of z) (landed (world_of z).network i) p b)
     long p posted r true e =
         let g : Landing (after z (Begins (event.Cut i size))) (line.Cut i p.from p.to size) p None = cut_landing (after z (Begins (event.Cut i size))) i size p false (short_not size (length p.bytes) e) t.ended (posting_same (landed (world_of z).network i) (world_of z).network refl i ∙ posted) in
         let h : Ended (after (after z (Begins (event.Cut i size))) (Writes (line.Cut i p.from p.to size))) = facts_ended (after z (Begins (event.Cut i size))) _ t.ended (g.owed ∙ t.ended.owes) g.closing (λ n. ap (λ (x : World). x.facts n) g.world) in
@@ -178,16 +178,16 @@ cut_goes {by} {factor} {z} i size s read = go (flying_at (world_of z).network i)
         (one_ended _ (line.Short p.to) h (h.owes, tt) (record { owes = h.owes; stays = h.stays; rests = h.rests }))
     long p posted r false e =
         let g : Landing (after z (Begins (event.Cut i size))) (line.Cut i p.from p.to size) p (message_of p.bytes) = cut_landing (after z (Begins (event.Cut i size))) i size p true (long_is size (length p.bytes) e) t.ended (posting_same (landed (world_of z).network i) (world_of z).network refl i ∙ posted) in
-        with_line (after z (Begins (event.Cut i size))) (line.Cut i p.from p.to size) (arriving (world_of z) (landed (world_of z).network i) p) g.may
+        with_line (after z (Begins (event.Cut i size))) (line.Cut i p.from p.to size) (arriving partition_count (world_of z) (landed (world_of z).network i) p) g.may
         (behind_line by factor (after z (Begins (event.Cut i size))) (world_of z) (landed (world_of z).network i) (line.Cut i p.from p.to size) p refl refl refl t.lawful t.ended t.declared (message_of p.bytes) refl g r)
 
     comes : (p : Posting) → posting_at (world_of z).network i ≡ Some p → AreRead (arrived_sends (world_of z) p (message_of p.bytes)) → (b : Bool)
-        → LinesGo (after z (Begins (event.Cut i size))) (unless_blocked i (λ p. line.Cut i p.from p.to size ∷ arriving_cut (world_of z) (landed (world_of z).network i) p (nat_lt size (length p.bytes))) p b)
+        → LinesGo (after z (Begins (event.Cut i size))) (unless_blocked i (λ p. line.Cut i p.from p.to size ∷ arriving_cut partition_count (world_of z) (landed (world_of z).network i) p (nat_lt size (length p.bytes))) p b)
     comes p posted r true = blocked_goes (after z (Begins (event.Cut i size))) i t.ended
     comes p posted r false = long p posted r (nat_lt size (length p.bytes)) refl
 
     go : (o : Option Posting) → flying_at (world_of z).network i ≡ o → AreRead (flying_sends (world_of z) o)
-        → LinesGo (after z (Begins (event.Cut i size))) (delivery (world_of z) i (λ p. line.Cut i p.from p.to size ∷ arriving_cut (world_of z) (landed (world_of z).network i) p (nat_lt size (length p.bytes))) o)
+        → LinesGo (after z (Begins (event.Cut i size))) (delivery (world_of z) i (λ p. line.Cut i p.from p.to size ∷ arriving_cut partition_count (world_of z) (landed (world_of z).network i) p (nat_lt size (length p.bytes))) o)
     go None e r = none_goes (after z (Begins (event.Cut i size))) i t.ended
     go (Some p) e r = comes p (flying_posted (world_of z).network i p e) r (is_blocked (world_of z) p)
 

@@ -208,11 +208,11 @@ message_read lines f clock from (message.Progress k wants done handed settled) l
     now : Facts
     now = reached f from (message.Progress k wants done handed settled)
 
-    answers : (g : Facts) (b : Bool) → AreRead (answer_progress g from b).sends
+    answers : (g : Facts) (b : Bool) → AreRead (answer_progress partition_count g from b).sends
     answers g true = free_read (from ∷ []) _ refl
     answers g false = tt
 
-    go : (b : Bool) → AreRead (progress_came f (reached f from (message.Progress k wants done handed settled)) from wants b).sends
+    go : (b : Bool) → AreRead (progress_came partition_count f (reached f from (message.Progress k wants done handed settled)) from wants b).sends
     go true = answers now (wants && knows_all_settled now partition_count 0)
     go false = tt
 message_read lines f clock from (message.Repl k t nth d v) lt time p h = go (in_view f k)

@@ -105,7 +105,7 @@ progress_plain : (z : Front) (g : Facts) (v : View) (wants : Bool) (ns : List �
 progress_plain z g v wants ns w i key x y read = each_plain z g.me (progress_message partition_count g wants) ns refl (λ r. progress_due z g v wants r w i) (λ q. progress_reads g wants key x y) read
 
 pub progress_go : {by : Policy} {factor : ℕ} {z0 z : Front} {f : Facts} {clock from : ℕ} {k : ClusterKey} {wants : Bool} {done handed settled : List Bool} → Arrived by factor z0 z f clock from (message.Progress k wants done handed settled)
-    → AreRead (due.due_progress f (reached f from (message.Progress k wants done handed settled)) from k wants).sends → NodeGo z f.me (due.due_progress f (reached f from (message.Progress k wants done handed settled)) from k wants)
+    → AreRead (due.due_progress partition_count f (reached f from (message.Progress k wants done handed settled)) from k wants).sends → NodeGo z f.me (due.due_progress partition_count f (reached f from (message.Progress k wants done handed settled)) from k wants)
 progress_go {by} {factor} {z0} {z} {f} {clock} {from} {k} {wants} {done} {handed} {settled} a read = go (in_view f k) refl a.is read
   where
     rests : (b : Bool) → Rests (notes.progress_came f from done handed settled b)
@@ -123,12 +123,12 @@ progress_go {by} {factor} {z0} {z} {f} {clock} {from} {k} {wants} {done} {handed
     law_now e = subst (λ (b : Bool). LawOf by factor (notes.progress_came f from done handed settled b)) e
         (reached_law by factor f from (message.Progress k wants done handed settled) (what_is_read a.came.posting.bytes (message.Progress k wants done handed settled) a.came.message).0 a.law)
 
-    answers : (g : Facts) (v : View) (b : Bool) → Now z g → g.exchange.view ≡ Some v → IsKeyField (view_key g) → LawOf by factor g → g.me ≡ f.me → AreRead (answer_progress g from b).sends → NodeGo z f.me (answer_progress g from b)
+    answers : (g : Facts) (v : View) (b : Bool) → Now z g → g.exchange.view ≡ Some v → IsKeyField (view_key g) → LawOf by factor g → g.me ≡ f.me → AreRead (answer_progress partition_count g from b).sends → NodeGo z f.me (answer_progress partition_count g from b)
     answers g v false w i key law me r = nothing_go z f.me ends
     answers g v true w i key law me r = record { due = tt; sent = refl; sends = subst (λ (n : ℕ). EachPlainly z n (to_each (from ∷ []) (progress_message partition_count g false))) me (progress_plain z g v false (from ∷ []) w i key law.handed_places law.settled_places r); ends = ends }
 
-    go : (b : Bool) → in_view f k ≡ b → facts_at z f.me ≡ notes.progress_came f from done handed settled b → AreRead (progress_came f (notes.progress_came f from done handed settled b) from wants b).sends
-        → NodeGo z f.me (progress_came f (notes.progress_came f from done handed settled b) from wants b)
+    go : (b : Bool) → in_view f k ≡ b → facts_at z f.me ≡ notes.progress_came f from done handed settled b → AreRead (progress_came partition_count f (notes.progress_came f from done handed settled b) from wants b).sends
+        → NodeGo z f.me (progress_came partition_count f (notes.progress_came f from done handed settled b) from wants b)
     go true e is r = let v : Viewed f k = view_of f k e in
         answers (notes.progress_came f from done handed settled true) v.view (wants && knows_all_settled (notes.progress_came f from done handed settled true) partition_count 0) (record { is = is; stays = a.stays; owes = a.owes }) v.is (key_of_view v) (law_now e) refl r
     go false e is r = stale_go z f ends
