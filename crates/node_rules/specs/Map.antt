@@ -1,11 +1,10 @@
 -- Who serves a partition, as the rows of a view's members tell. The list of the partition is an argument.
 pub use Rattle.partition_lists.specs.Acting.{is_empty, is_whole, whole_key, master}
 use Rattle.std.specs.Prelude.{ℕ, ◌==◌, Bool, List, [], Option, find, option_map, unwrap_or, is_none}
-use Rattle.std.specs.List.{list_all}
 use Rattle.cluster_types.specs.declared.copy_state.CopyState.{CopyState}
 use Rattle.cluster_types.specs.declared.map_view.MapEntry.{MapEntry}
 use Rattle.cluster_types.specs.StateRows.{state_of}
-use Rattle.partition_lists.specs.Acting.{acting_by, is_wholest_by}
+use Rattle.partition_lists.specs.Acting.{acting_by, all_empty_by, is_wholest_by}
 use Rattle.node_rules.specs.declared.member_row.MemberRow.{MemberRow}
 use Rattle.node_rules.specs.Copies.{Row}
 
@@ -21,9 +20,9 @@ lacks rows n = is_none (row_of rows n)
 abbrev pub state_at : List MemberRow → ℕ → ℕ → CopyState
 state_at rows p n = state_of (unwrap_or (row_of rows n) []) p
 
--- whether no copy had a record as its node entered the view
-abbrev pub all_empty : List MemberRow → ℕ → Bool
-all_empty rows p = list_all (λ r. is_empty (state_of r.row p)) rows
+-- whether none of these members' copies had a record as its node entered the view
+abbrev pub all_empty : List ℕ → List MemberRow → ℕ → Bool
+all_empty ids rows p = all_empty_by ids (state_at rows p)
 
 -- whether the member's copy is whole, and none in the list is whole under a greater key
 abbrev pub is_wholest : List ℕ → List MemberRow → ℕ → ℕ → Bool
@@ -36,4 +35,4 @@ acting l rows p = acting_by l (state_at rows p)
 
 -- who serves the partition
 abbrev pub entry_of : List ℕ → List MemberRow → ℕ → MapEntry
-entry_of l rows p = record { list = l; acting = acting l rows p; all_empty = all_empty rows p }
+entry_of l rows p = record { list = l; acting = acting l rows p; all_empty = all_empty l rows p }

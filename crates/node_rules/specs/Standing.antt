@@ -1,6 +1,7 @@
 -- How a node stands to a partition of its view, whose list is an argument.
 use Rattle.std.specs.Prelude.{ℕ, zero, suc, ◌+◌, ◌==◌, ◌&&◌, ◌||◌, Bool, true, not, if◌then◌else◌, List, []}
 use Rattle.cluster_types.specs.Distinct.{without}
+use Rattle.cluster_types.specs.Members.{ids_of}
 use Rattle.cluster_types.specs.Partitions.{partition_count}
 use Rattle.cluster_types.specs.Rows.{bit}
 use Rattle.partition_lists.specs.Lists.{replicas}
@@ -38,9 +39,9 @@ acting_at f l p = acting l f.exchange.rows p
 abbrev pub is_acting : Facts → List ℕ → ℕ → Bool
 is_acting f l p = acting_at f l p == f.me
 
--- whether no member's copy had a record, as far as rows are there
+-- whether no member's copy had a record, as far as rows are there. A row of another node plays no part
 abbrev pub is_all_empty : Facts → ℕ → Bool
-is_all_empty f p = all_empty f.exchange.rows p
+is_all_empty f p = all_empty (ids_of (members f)) f.exchange.rows p
 
 -- whether the node is done at the partition: nothing of it is pending to any member
 abbrev pub is_done : Facts → ℕ → Bool

@@ -23,7 +23,7 @@ ghost use Rattle.cluster_types.specs.Partitions.{partition_count};
 ghost use Rattle.cluster_types.specs.Rows.{bit};
 ghost use Rattle.cluster_types.specs.StateRows.{IsStateRow, state_of};
 ghost use Rattle.node_rules.specs.Effects.{nothing, lines_only, sends_only, to_one, to_each};
-ghost use Rattle.node_rules.specs.Examples.{key, lone, itself, ticked_twice, in_its_view, zeros, hi, first_hi, having_hi, seven, writing_hi, hi_written, promised_two, two, five_rows, five, hearing_one, proposing_two, migrating, whole_and_part, batch_of_hi, sent_hi, restarted, hearing_of_all, waiting_for, second_hi, lacking_two, racked};
+ghost use Rattle.node_rules.specs.Examples.{key, lone, itself, ticked_twice, in_its_view, zeros, hi, first_hi, having_hi, seven, writing_hi, hi_written, promised_two, two, five_rows, five, hearing_one, proposing_two, row_of, migrating, whole_and_part, batch_of_hi, sent_hi, restarted, hearing_of_all, waiting_for, second_hi, lacking_two, racked};
 ghost use Rattle.node_rules.specs.Here.{Here, HasRows, IsAsleep, IsOver, part_lines, lines_here, lines_from, live_from};
 ghost use Rattle.node_rules.specs.Map.{acting, all_empty};
 ghost use Rattle.node_rules.specs.Merging.{Record, newer_records, joined_all, store_merged_all};
@@ -106,8 +106,9 @@ pub fn classes_of_five_members()
     ensures others_are_served { sends five five_rows 7 3 2 ≡ true }
     ensures asked { asked_by five five_rows 7 1 ≡ 4 ∷ 2 ∷ [] }
     ensures asked_by_empty { asked_by five five_rows 7 5 ≡ 4 ∷ 3 ∷ 2 ∷ [] }
-    ensures not_empty { all_empty five_rows 7 ≡ false }
-    ensures empty_elsewhere { all_empty five_rows 6 ≡ true }
+    ensures not_empty { all_empty five five_rows 7 ≡ false }
+    ensures empty_elsewhere { all_empty five five_rows 6 ≡ true }
+    ensures empty_among_two { all_empty (5 ∷ 6 ∷ []) five_rows 7 ≡ true }
     ensures master_of_empty { acting five five_rows 6 ≡ 5 }
 {}
 
@@ -122,6 +123,7 @@ pub fn counts_have_no_gap()
 /// The acting master hands a partition over once all are done, and then names the list master. The
 /// list master settles it and learns it, and acts from then on.
 pub fn partition_comes_to_its_list_master()
+    ensures of_no_member { is_all_empty (migrating 1 2 (row_of 3 7 Part ∷ []) true false) 7 ≡ true }
     ensures waits { settling_at (2 ∷ 1 ∷ []) 7 (migrating 1 2 (whole_and_part 1 2) false false) ≡ [] }
     ensures hands { settling_at (2 ∷ 1 ∷ []) 7 (migrating 1 2 (whole_and_part 1 2) true false) ≡ line.Handed 1 (key 2 2) 7 ∷ [] }
     ensures isnt_handed { settling_at (2 ∷ 1 ∷ []) 7 (migrating 2 1 (whole_and_part 1 2) true false) ≡ [] }

@@ -141,7 +141,7 @@ settled_here {ns} G z w j k p x f below = subst (λ (m : ℕ). is_settled_by k p
     go (inl bit) = or_left_true (list_any (is_settled_line k (master G k p) p) j) _ (x.told.settled k p ((x.told.tied.sound.whole.known.cross (master G k p) k).settled p (l.stays.settled p ∙ bit)))
     go (inr none) = or_right_true (list_any (is_settled_line k (master G k p) p) j) _ (and_both (list_any (is_exchanged k (master G k p)) j) _
         (x.told.tied.exchanged (master G k p) k ∙ l.stays.exchanged ∙ l.resident.exchanged)
-        (read_empty G z w j k p x f (sym (empty_tied G k (facts_at z (master G k p)).exchange.rows p l.rows) ∙ and_right (facts_at z (master G k p)).exchange.exchanged _ none)))
+        (read_empty G z w j k p x f (sym (empty_tied G k (facts_at z (master G k p)) p l.views l.rows) ∙ and_right (facts_at z (master G k p)).exchange.exchanged _ none)))
 
 -- a line that passes the test, if one does
 some_line : (test : Line → Bool) (j : List Line) → list_any test j ≡ true → (l : Line) × (test l ≡ true) × ((other : Line → Bool) → other l ≡ true → list_any other j ≡ true)
@@ -274,7 +274,7 @@ other_holds {ns} G z w j k n d x f mem out = x.told.tied.contents n d ∙ go (or
 
     go : (has_settled_bit (facts_at z n) p ≡ true) ⊎ (((facts_at z n).exchange.exchanged && is_all_empty (facts_at z n) p) ≡ true) → (w.node n).content d ≡ None
     go (inl bit) = by_bit bit
-    go (inr none) = by_rows (sym (empty_tied G k (facts_at z n).exchange.rows p l.rows) ∙ and_right (facts_at z n).exchange.exchanged _ none)
+    go (inr none) = by_rows (sym (empty_tied G k (facts_at z n) p l.views l.rows) ∙ and_right (facts_at z n).exchange.exchanged _ none)
 
 spread : {ns : List ℕ} (G : Ground) (z : Front) (w : Picture) (j : List Line) (k : ClusterKey) → AtCalm ns G z w j → Filled G z w j k → IsSpread G.by G.factor k j
 spread G z w j k x f = record {

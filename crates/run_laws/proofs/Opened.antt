@@ -33,7 +33,7 @@ none_if p q r a b i j k e = ap₂ (λ (x : Bool) (l : List ℕ). if x || e then 
 
 asked_tied : (G : Ground) (k : ClusterKey) (f : Facts) (s : Stay) (p : ℕ) → Views G k f → RowsAgree G k f.exchange.rows → is_member G k f.me ≡ true → f.exchange.exchanged ≡ true → Stays f s → asks_now G k f.me s p ≡ asked f (list_at f p) p
 asked_tied G k f s p v a mem x h =
-    ap (λ (e : Bool). if s.settled p || e then [] else asks G k p f.me) (sym (empty_tied G k f.exchange.rows p a))
+    ap (λ (e : Bool). if s.settled p || e then [] else asks G k p f.me) (sym (empty_tied G k f p v a))
     ∙ none_if (s.settled p) (bit f.bits.settled p) f.exchange.exchanged (asks G k p f.me) _ (h.settled p) (sym (asks_tied G k f p f.me v a mem)) x (is_all_empty f p)
 
 pub found_last : (xs : List Transaction) (y : Transaction) (u : ℕ) → find (λ (z : Transaction). z.number == y.number) xs ≡ None
