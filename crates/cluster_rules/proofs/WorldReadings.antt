@@ -102,9 +102,9 @@ up_goes n k (line.Stop m) = changes (λ x. x.up) (m == n) _ k false refl
 up_goes n k (line.Start m) = changes (λ x. x.up) (m == n) _ k true refl
 up_goes n k l = leaves (λ x. x.up) (is_own n l) (own_step k l) k refl
 
-pub up_agrees : (h : Header) (ms : List Mark) (n : ℕ) → is_up n (lines_among ms) ≡ ((after_all (opened h) ms).facts n).up
+pub up_agrees : (h : Header) (ms : List Mark) (n : ℕ) → has_node (declared_nodes h) n ≡ true → is_up n (lines_among ms) ≡ ((after_all (opened h) ms).facts n).up
 unfolding is_up
-up_agrees h ms n = read (λ x. x.up) (up_step n) n (up_goes n) h ms
+up_agrees h ms n e = ap (λ b. fold (up_step n) b (lines_among ms)) (sym e) ∙ read (λ x. x.up) (up_step n) n (up_goes n) h ms
 
 -- ---- what a node holds
 

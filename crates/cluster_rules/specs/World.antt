@@ -6,6 +6,7 @@ use Rattle.partition_lists.specs.Lists.{in_order}
 use Rattle.node_rules.specs.Facts.{Facts, fresh}
 use Rattle.cluster_rules.specs.declared.event.Event.{Event}
 use Rattle.node_rules.specs.Client.{Tables}
+use Rattle.cluster_rules.specs.Lines.{has_node}
 use Rattle.cluster_rules.specs.Network.{Network, silent}
 use Rattle.cluster_rules.specs.Opening.{Header, declared_factor, declared_policy, declared_nodes, declared_role, declared_peers}
 
@@ -36,9 +37,10 @@ pub record World : Type 0 where
   -- what the request wants that is in hand: that of the event
   pub want : Option Want
 
--- a node as the header declares it
+-- a node as the header declares it; a number that it doesn't declare is down
 abbrev pub declared : Header → ℕ → Facts
-declared h n = fresh n (declared_role h n) (declared_peers h n) (declared_factor h) (declared_policy h)
+declared h n =
+    record (fresh n (declared_role h n) (declared_peers h n) (declared_factor h) (declared_policy h)) { up = has_node (declared_nodes h) n }
 
 -- the world that a header declares: all nodes run with empty stores, all clocks stand at 0, and nothing was sent
 abbrev pub opened : Header → World

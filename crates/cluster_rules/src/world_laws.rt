@@ -38,7 +38,7 @@ ghost use Rattle.cluster_rules.specs.Allowed.{AreAllowed, may_come, is_playable}
 ghost use Rattle.cluster_rules.specs.Begun.{ComesNext, AllBegun, BegunRunOf, BegunRun};
 ghost use Rattle.cluster_rules.specs.Runs.{PlaysAll, RunOf, Run, run_marks};
 ghost use Rattle.cluster_rules.specs.Steps.{Step, Played, AreDue, all_marks, all_lines, play, play_all, round, rounds};
-ghost use Rattle.cluster_rules.specs.World.{World, opened, up_nodes};
+ghost use Rattle.cluster_rules.specs.World.{World, opened, is_up, up_nodes};
 ghost use Rattle.cluster_rules.specs.WalkExamples.{older, newer, side, batch_of, ack, handing_on, being_done, resting, acking, one_sent, two_sent, merge, one_has, two_has, one_done, two_done, two_knows, settle, two_rests, one_knows, learn, one_rests, one_again, one_third, one_acked};
 ghost use Rattle.cluster_rules.specs.WorldExamples.{one_node, one_node_journal, entering_lines, put_lines, two_nodes, beat, beats, agreeing, beaten, split, halved, calm_twice, calm_twice_journal, table, told, racked, leaving, parted, hearing, proposing, proposed, committing, committed, parted_and_quiet, alone, next, accepting, wants};
 
@@ -157,6 +157,7 @@ pub fn the_client_goes_by_its_latest_table()
 pub fn a_header_is_taken_as_a_whole()
     ensures nodes { (opened racked).nodes ≡ 2 ∷ 1 ∷ [] }
     ensures rising { up_nodes (opened racked) ≡ 1 ∷ 2 ∷ [] }
+    ensures undeclared { (is_up (opened racked) 1 ≡ true) × (is_up (opened racked) 3 ≡ false) }
     ensures racks { (((opened racked).facts 2).role ≡ record { rack = 7; quiesced = false }) × (((opened racked).facts 1).role ≡ plain_role) }
     ensures each { (((opened racked).facts 2).factor ≡ 3) × (((opened racked).facts 2).store.by ≡ Generation) × (((opened racked).facts 2).peers ≡ 1 ∷ []) }
     ensures lines { header_lines racked ≡ line.Node 2 (Some 7) ∷ line.Policy Generation ∷ line.Node 1 None ∷ line.Factor 3 ∷ [] }

@@ -71,7 +71,7 @@ pub record AtCalm (ns : List ℕ) (G : Ground) (z : Front) (w : Picture) (j : Li
   pub known : (world_of z).nodes ≡ ns
   pub declared : nodes j ≡ ns
   pub groups : groups_of j ≡ (world_of z).network.groups
-  pub ups : (n : ℕ) → settings.is_up n j ≡ is_up (world_of z) n
+  pub ups : (n : ℕ) → has_node ns n ≡ true → settings.is_up n j ≡ is_up (world_of z) n
   pub roles : (n : ℕ) → present_role n j ≡ ((world_of z).facts n).role
 
 -- ---- a member of the view
@@ -301,11 +301,32 @@ has_newest {ns} G z w j k x f all = record { replicas = one }
             let holder : (o : ℕ) × ((w.node o).content d ≡ Some v) = laws.no_loss G w x.told.tied.sound d v e in
             replica_holds G z w j k n d x f rep ∙ folded holder.0 v holder.1 (is_replica G k (partition_of d) holder.0) refl ∙ sym e ∙ sym (x.told.tied.applied d)
 
+-- who stands in a group is declared
+among_all : (groups : List (List ℕ)) (group : List ℕ) (n : ℕ) → Has groups group → Has group n → Has (concat groups) n
+among_all [] group n there has = absurd there
+among_all (g ∷ gs) group n (inl here) has = first g (subst (λ (ns : List ℕ). Has ns n) (sym here) has)
+  where
+    first : (ns : List ℕ) → Has ns n → Has (ns ++ concat gs) n
+    first [] h = absurd h
+    first (m ∷ ns) (inl e) = inl e
+    first (m ∷ ns) (inr h) = inr (first ns h)
+among_all (g ∷ gs) group n (inr later) has = behind g (among_all gs group n later has)
+  where
+    behind : (ns : List ℕ) → Has (concat gs) n → Has (ns ++ concat gs) n
+    behind [] h = h
+    behind (m ∷ ns) h = inr (behind ns h)
+
+in_a_group : {ns : List ℕ} (G : Ground) (z : Front) (w : Picture) (j : List Line) (group : List ℕ) (n : ℕ) → AtCalm ns G z w j → Has (world_of z).network.groups group → Has group n → has_node ns n ≡ true
+in_a_group {ns} G z w j group n x there has =
+    subst (λ (ms : List ℕ). has_node ms n ≡ true) x.known
+    (all_has (has_node (world_of z).nodes) (concat (world_of z).network.groups) n (and_left (list_all (has_node (world_of z).nodes) (concat (world_of z).network.groups)) _ x.grouped)
+    (among_all (world_of z).network.groups group n there has))
+
 -- the reader's up members of a group are the world's
-same_members : {ns : List ℕ} (G : Ground) (z : Front) (w : Picture) (j : List Line) (group : List ℕ) → AtCalm ns G z w j → as_members (world_of z) (up_in (world_of z) group) ≡ up_members group j
-same_members G z w j group x = ap (λ (ms : List Member). in_order (λ a b. nat_lt b.id a.id) ms)
+same_members : {ns : List ℕ} (G : Ground) (z : Front) (w : Picture) (j : List Line) (group : List ℕ) → AtCalm ns G z w j → Has (world_of z).network.groups group → as_members (world_of z) (up_in (world_of z) group) ≡ up_members group j
+same_members G z w j group x there = ap (λ (ms : List Member). in_order (λ a b. nat_lt b.id a.id) ms)
     (map_same (member_now (world_of z)) (λ n. record { id = n; role = present_role n j }) (up_in (world_of z) group) (λ n h. ap (λ (r : Role). record { id = n; role = r }) (sym (x.roles n)))
-    ∙ ap (λ (ns : List ℕ). with_present_roles ns j) (filter_same (is_up (world_of z)) (λ n. settings.is_up n j) group (record { at = λ n e. sym (x.ups n) })))
+    ∙ ap (λ (ns : List ℕ). with_present_roles ns j) (filter_same (is_up (world_of z)) (λ n. settings.is_up n j) group (record { at = λ n e. sym (x.ups n (in_a_group G z w j group n x there (contained group n e))) })))
 
 -- the one group has each declared node
 only_group : (groups : List (List ℕ)) (group : List ℕ) → length groups ≡ 1 → Has groups group → groups ≡ group ∷ []
@@ -319,21 +340,24 @@ at_rest {ns} G z w j x group n among inside up = (
   r.key,
   record {
     viewed = λ m i u. (each_up m (has_up m i u)).read;
-    among = filled.members ∙ here ∙ same_members G z w j group x;
+    among = filled.members ∙ here ∙ same_members G z w j group x (has_of (world_of z).network.groups group group_there);
     settled = throughout G z w j r.key x filled;
     spread = spread G z w j r.key x filled;
-    newest = λ u. has_newest G z w j r.key x filled (λ o e. (each_up o (has_filter (is_up (world_of z)) group o (in_group u o e) (sym (x.ups o) ∙ is_up_of u o e))).member);
+    newest = λ u. has_newest G z w j r.key x filled (λ o e. (each_up o (has_filter (is_up (world_of z)) group o (in_group u o e) (sym (x.ups o e) ∙ is_up_of u o e))).member);
   },
 )
   where
     group_there : Contains (world_of z).network.groups group
     group_there = subst (λ (gs : List (List ℕ)). Contains gs group) x.groups among
 
+    known : (m : ℕ) → Contains group m → has_node ns m ≡ true
+    known m i = in_a_group G z w j group m x (has_of (world_of z).network.groups group group_there) (has_of group m i)
+
     r : GroupRests (world_of z) group
-    r = group_rests (world_of z) group n group_there inside (sym (x.ups n) ∙ up) x.calm.calm
+    r = group_rests (world_of z) group n group_there inside (sym (x.ups n (known n inside)) ∙ up) x.calm.calm
 
     has_up : (m : ℕ) → Contains group m → settings.is_up m j ≡ true → Has (up_in (world_of z) group) m
-    has_up m i u = has_filter (is_up (world_of z)) group m (has_of group m i) (sym (x.ups m) ∙ u)
+    has_up m i u = has_filter (is_up (world_of z)) group m (has_of group m i) (sym (x.ups m (known m i)) ∙ u)
 
     each_up : (m : ℕ) → Has (up_in (world_of z) group) m → Lives G z w j r.key m
     each_up m has = lives G z w j r.key (as_members (world_of z) (up_in (world_of z) group)) m x (r.each m has)
@@ -355,7 +379,7 @@ at_rest {ns} G z w j x group n among inside up = (
     -- where all declared nodes are up and in one group
     in_group : IsUndivided j → (o : ℕ) → contains ns o ≡ true → Has group o
     in_group u o e = contained group o (subst (λ (ms : List ℕ). has_node ms o ≡ true) (ap concat (only_group (world_of z).network.groups group (ap length (sym x.groups) ∙ u.one_group) (has_of (world_of z).network.groups group group_there)) ∙ append-nil group)
-        (all_has (has_node (concat (world_of z).network.groups)) (world_of z).nodes o x.grouped (contained (world_of z).nodes o (subst (λ (ms : List ℕ). contains ms o ≡ true) (sym x.known) e))))
+        (all_has (has_node (concat (world_of z).network.groups)) (world_of z).nodes o (and_right (list_all (has_node (world_of z).nodes) (concat (world_of z).network.groups)) _ x.grouped) (contained (world_of z).nodes o (subst (λ (ms : List ℕ). contains ms o ≡ true) (sym x.known) e))))
 
     is_up_of : IsUndivided j → (o : ℕ) → contains ns o ≡ true → settings.is_up o j ≡ true
     is_up_of u o e = all_has (λ m. settings.is_up m j) (nodes j) o u.up (contained (nodes j) o (subst (λ (ms : List ℕ). contains ms o ≡ true) (sym x.declared) e))

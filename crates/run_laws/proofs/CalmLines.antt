@@ -1,7 +1,7 @@
 -- Each line that says that the rounds have come to calm stands where the world is calm.
-use Rattle.std.proofs.Common.{◌≡◌, ℕ, zero, suc, Bool, true, false, not, ◌&&◌, List, [], ◌∷◌, ◌++◌, take, map, Some, refl, sym, ap, ◌∙◌, subst, subst₂}
+use Rattle.std.proofs.Common.{◌≡◌, ℕ, zero, suc, Bool, true, false, not, ◌&&◌, List, [], ◌∷◌, ◌++◌, take, map, Some, refl, sym, ap, ◌∙◌, subst, subst₂, append-nil}
 use Rattle.std.specs.Prelude.{slice_get, nat_eq}
-use Rattle.std.specs.List.{list_all}
+use Rattle.std.specs.List.{list_all, concat}
 use Rattle.std.proofs.lemmas.List.Elements.{All-contains_itself}
 use Rattle.conflict_order.specs.declared.policy.Policy.{Policy}
 use Rattle.journal_lines.specs.declared.line.Line.{Line}
@@ -15,6 +15,7 @@ use Rattle.cluster_rules.specs.Settings.{nodes, groups_of, present_role}
 use Rattle.cluster_rules.specs.Shape.{is_header, AreBehind}
 use Rattle.cluster_rules.specs.Steps.{Step, all_marks, all_lines}
 use Rattle.cluster_rules.specs.World.{World, opened}
+use Rattle.cluster_rules.specs.Lines.{has_node}
 use Rattle.cluster_rules.proofs.AllowedLaws.{nodes_stay}
 use Rattle.cluster_rules.proofs.MarkLaws.{lines_of_written, lines_of_steps, header_adds_nothing, after_all-append}
 use Rattle.cluster_rules.proofs.WorldReadings.{up_agrees, role_agrees, nodes_agree, groups_agree}
@@ -43,9 +44,11 @@ all_taken test [] (suc i) e = refl
 all_taken test (l ∷ ls) zero e = refl
 all_taken test (l ∷ ls) (suc i) e = and_both (test l) _ (and_left (test l) _ e) (all_taken test ls i (and_right (test l) _ e))
 
--- before the first step the one group has each declared node
+-- before the first step the one group has each declared node, and no others
 first_grouped : (h : Header) → Grouped (world_of (first h))
-first_grouped h = all_of _ (declared_nodes h) (λ n e. subst (λ (ns : List ℕ). Rattle.cluster_rules.specs.Lines.has_node ns n ≡ true) (sym (Rattle.std.proofs.Common.append-nil (declared_nodes h))) e)
+first_grouped h = and_both (list_all (has_node (declared_nodes h)) (concat (declared_nodes h ∷ []))) _
+    (all_of _ (concat (declared_nodes h ∷ [])) (λ n e. subst (λ (ns : List ℕ). has_node ns n ≡ true) (append-nil (declared_nodes h)) e))
+    (all_of _ (declared_nodes h) (λ n e. subst (λ (ns : List ℕ). has_node ns n ≡ true) (sym (append-nil (declared_nodes h))) e))
 
 -- ---- the readings
 
@@ -56,8 +59,8 @@ lines_are h ms = go (header_lines h)
     go [] = refl
     go (l ∷ ls) = ap (λ (xs : List Line). l ∷ xs) (go ls)
 
-up_is : (h : Header) (ms : List Mark) (n : ℕ) → settings.is_up n (header_lines h ++ lines_among ms) ≡ ((marks.after_all (opened h) ms).facts n).up
-up_is h ms n = ap (settings.is_up n) (sym (lines_are h ms)) ∙ up_agrees h (map Writes (header_lines h) ++ ms) n
+up_is : (h : Header) (ms : List Mark) (n : ℕ) → has_node (declared_nodes h) n ≡ true → settings.is_up n (header_lines h ++ lines_among ms) ≡ ((marks.after_all (opened h) ms).facts n).up
+up_is h ms n e = ap (settings.is_up n) (sym (lines_are h ms)) ∙ up_agrees h (map Writes (header_lines h) ++ ms) n e
     ∙ ap (λ (w : World). (w.facts n).up) (after_all-append (opened h) (map Writes (header_lines h)) ms ∙ ap (λ (w : World). marks.after_all w ms) (header_adds_nothing (opened h) h))
 
 -- ---- the line of calm
@@ -76,7 +79,7 @@ calm_place h ss t i rounds e = (
     known = ap (λ (x : World). x.nodes) world ∙ nodes_stay (take p.count (all_marks ss)) (opened h) ∙ sym (nodes_agree h ls w.behind);
     declared = ap nodes lines_here ∙ nodes_agree h (lines_among (take p.count (all_marks ss))) behind_here ∙ sym (nodes_agree h ls w.behind);
     groups = ap groups_of lines_here ∙ groups_agree h (take p.count (all_marks ss)) behind_here ∙ sym (ap (λ (x : World). x.network.groups) world);
-    ups = λ n. ap (settings.is_up n) lines_here ∙ up_is h (take p.count (all_marks ss)) n ∙ sym (ap (λ (x : World). (x.facts n).up) world);
+    ups = λ n e. ap (settings.is_up n) lines_here ∙ up_is h (take p.count (all_marks ss)) n (subst (λ (ns : List ℕ). has_node ns n ≡ true) (nodes_agree h ls w.behind) e) ∙ sym (ap (λ (x : World). (x.facts n).up) world);
     roles = λ n. ap (present_role n) lines_here ∙ role_agrees h (take p.count (all_marks ss)) n t.declared behind_here ∙ sym (ap (λ (x : World). (x.facts n).role) world);
   },
 )

@@ -10,6 +10,7 @@ use Rattle.wire_messages.specs.declared.message.Message.{Message}
 use Rattle.wire_messages.specs.declared.message.Message.TheVariants as message
 use Rattle.wire_messages.specs.Decoding.{message_of}
 use Rattle.cluster_rules.specs.declared.event.Event.{Event}
+use Rattle.cluster_rules.specs.Allowed.{names_known}
 use Rattle.cluster_rules.specs.declared.event.Event.TheVariants as event
 use Rattle.cluster_rules.specs.Lines.{has_node}
 use Rattle.cluster_rules.specs.Marks as marks
@@ -28,7 +29,7 @@ use Rattle.run_laws.specs.Fronts.{Front, world_of, after, after_all, Tied, Sane}
 use Rattle.run_laws.specs.LineOk.{AreGrouped, LineOk, Goes}
 use Rattle.run_laws.proofs.Carried.{line_tied, begun_tied}
 
--- ---- the groups have all declared nodes
+-- ---- the groups have all declared nodes, and no others
 
 abbrev pub Grouped : World → Type 0
 Grouped w = AreGrouped w w.network.groups
@@ -69,10 +70,10 @@ line_groups w _ e = refl
 
 grouped_line : (G : Ground) (z : Front) (l : Line) → LineOk G z l → Grouped (world_of z) → Grouped (world_of (after z (Writes l)))
 grouped_line G z (line.Groups groups) ok h = ok.1
-grouped_line G z l ok h = subst₂ (λ (ns : List ℕ) (groups : List (List ℕ)). list_all (has_node (concat groups)) ns ≡ true) (sym (nodes_stay (Writes l ∷ []) (world_of z))) (sym (line_groups (world_of z) l refl)) h
+grouped_line G z l ok h = subst₂ (λ (ns : List ℕ) (groups : List (List ℕ)). names_known ns (event.Groups groups) ≡ true) (sym (nodes_stay (Writes l ∷ []) (world_of z))) (sym (line_groups (world_of z) l refl)) h
 
 grouped_begun : (z : Front) (e : Event) → Grouped (world_of z) → Grouped (world_of (after z (Begins e)))
-grouped_begun z e h = subst₂ (λ (ns : List ℕ) (groups : List (List ℕ)). list_all (has_node (concat groups)) ns ≡ true) refl (sym (taken_groups (world_of z).network e)) h
+grouped_begun z e h = subst₂ (λ (ns : List ℕ) (groups : List (List ℕ)). names_known ns (event.Groups groups) ≡ true) refl (sym (taken_groups (world_of z).network e)) h
 
 -- ---- the front behind the lines before
 

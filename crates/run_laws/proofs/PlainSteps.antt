@@ -176,7 +176,7 @@ IsPlain _ = false
 plain_lines : (by : Policy) (factor : ℕ) (z : Front) (e : Event) → IsPlain e ≡ true → IsProperEvent e → may_come partition_count (world_of z) e ≡ true → Lawful by factor z → Ended z → LinesGo (after z (Begins e)) (due_of partition_count (world_of z) e)
 plain_lines by factor z (event.Clock node time) p r a l h = one_line _ _ (begins_ended z _ h) (h.owes, r) (record { owes = h.owes; stays = h.stays; rests = h.rests })
 plain_lines by factor z (event.Groups groups) p r a l h = one_line _ _ (begins_ended z _ h)
-    (h.owes, and_right _ (groups_all (world_of z).nodes (event.Groups groups)) (and_left _ (ends_calm partition_count (world_of z) (event.Groups groups)) a)) (record { owes = h.owes; stays = h.stays; rests = h.rests })
+    (h.owes, and_left _ (ends_calm partition_count (world_of z) (event.Groups groups)) a) (record { owes = h.owes; stays = h.stays; rests = h.rests })
 plain_lines by factor z (event.Stop node) p r a l h = stop_goes (after z (Begins (event.Stop node))) (world_of z).network node (facts_at z node).up (l.sound.nodes node).me (begins_ended z _ h)
 plain_lines by factor z (event.Start node) p r a l h = start_goes (after z (Begins (event.Start node))) (world_of z).network node (facts_at z node).up (l.sound.nodes node).me (begins_ended z _ h)
 plain_lines by factor z (event.Lose i) p r a l h = lose_goes (after z (Begins (event.Lose i))) i (flying_at (world_of z).network i) (begins_ended z _ h)

@@ -28,6 +28,8 @@ use Rattle.node_rules.specs.Stamps.{numbers_at}
 use Rattle.node_rules.specs.Standing.{acts, is_to_learn, is_to_drop, is_done, acting_at}
 use Rattle.node_rules.specs.Tables.{contains}
 use Rattle.node_rules.specs.Transactions.{Transaction, Write, transaction, transaction_on}
+use Rattle.cluster_rules.specs.declared.event.Event.TheVariants as event
+use Rattle.cluster_rules.specs.Allowed.{names_known}
 use Rattle.cluster_rules.specs.Calm.{is_calm_of}
 use Rattle.cluster_rules.specs.Lines.{has_node}
 use Rattle.cluster_rules.specs.Maps.{with_roles}
@@ -230,9 +232,9 @@ pub record MapOk (z : Front) (n : ℕ) (k : ClusterKey) (p : ℕ) (ms : List Mem
 
 -- ---- groups and calm
 
--- each declared node stands in the groups
+-- the groups name declared nodes alone, and each of them
 abbrev pub AreGrouped : World → List (List ℕ) → Type 0
-AreGrouped w groups = list_all (has_node (concat groups)) w.nodes ≡ true
+AreGrouped w groups = names_known w.nodes (event.Groups groups) ≡ true
 
 -- the world is calm, and nobody is about to leave its view
 pub record CalmOk (z : Front) : Type 0 where

@@ -11,7 +11,7 @@ pub returns-clause-view : goal.returns-clause-view
 returns-clause-view c = λ h ms n. view_agrees h ms n
 
 pub returns-clause-up : goal.returns-clause-up
-returns-clause-up c = λ h ms n. up_agrees h ms n
+returns-clause-up c = λ h ms n e. up_agrees h ms n e
 
 pub returns-clause-clock : goal.returns-clause-clock
 returns-clause-clock c = λ h ms n. clock_agrees h ms n
