@@ -174,7 +174,7 @@ alike_full G k p a b e z = ⊎_elim (λ i. ap (λ (m : ℕ). is_empty (G.row k m
 not_true : (b : Bool) → b ≡ false → not b ≡ true
 not_true b e = grind arith
 
-apart : (a b : ℕ) → (a ≡ b → ⊥) → (a == b) ≡ false
+pub apart : (a b : ℕ) → (a ≡ b → ⊥) → (a == b) ≡ false
 apart a b h = go (a == b) refl
   where
     go : (q : Bool) → (a == b) ≡ q → q ≡ false

@@ -149,7 +149,7 @@ arrival_ok n t e net p s posted = go (message_of p.bytes) refl
     go None r = tt
     go (Some m) r = at_end m r (p.to == client)
 
-flying_posted : (net : Network) (i : ℕ) (p : Posting) → flying_at net i ≡ Some p → posting_at net i ≡ Some p
+pub flying_posted : (net : Network) (i : ℕ) (p : Posting) → flying_at net i ≡ Some p → posting_at net i ≡ Some p
 flying_posted net i p e = go (is_flying net i) e
   where
     go : (b : Bool) → flying_if net i b ≡ Some p → posting_at net i ≡ Some p

@@ -77,7 +77,7 @@ again_ok t f p s here e =
 nothing_ok : (t : Traced) (f : Facts) → Sound t → facts_of t f.me ≡ f → Proposing t f nothing
 nothing_ok t f s here = record { ok = tt; posts = tt; known = view_known t f.me f (keys_here t f s here); outs = (keys_here t f s here).outs; rows = (keys_here t f s here).rows; finished = (keys_here t f s here).finished }
 
-next_is_key : (n : ℕ) (a : Agreement) → IsId n → has_round a ≡ true → IsKeyField (next_key n a)
+pub next_is_key : (n : ℕ) (a : Agreement) → IsId n → has_round a ≡ true → IsKeyField (next_key n a)
 next_is_key n a id e = record { view = record { above_none = omega arith; below_limit = below (seen_round a + 1) e; led = id.positive }; fits = id.fits }
   where
     below : (x : ℕ) → nat_lt x (2 ^ 48) ≡ true → x < 2 ^ 48

@@ -130,7 +130,7 @@ told_cut t b size i h = go (posting_at t.world.network i) refl
 
 -- ---- a message is sent
 
-more : {A : Type 0} (xs : List A) (x y : A) (i : ℕ) → slice_get (xs ++ x ∷ []) i ≡ Some y → (slice_get xs i ≡ Some y) ⊎ (y ≡ x)
+pub more : {A : Type 0} (xs : List A) (x y : A) (i : ℕ) → slice_get (xs ++ x ∷ []) i ≡ Some y → (slice_get xs i ≡ Some y) ⊎ (y ≡ x)
 more [] x y zero e = inr (grind arith)
 more [] x y (suc i) e = absurd (grind arith)
 more (z ∷ xs) x y zero e = inl e

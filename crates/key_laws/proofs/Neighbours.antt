@@ -23,7 +23,7 @@ by_test P false x y h i = i
 -- ---- tables
 
 -- an entry is put in: before the first, at its place, or behind it
-put_cases : {X : Type 0} (P : List (ℕ × X) → Type 0) (k : ℕ) (v : X) (e : ℕ × X) (es : List (ℕ × X))
+pub put_cases : {X : Type 0} (P : List (ℕ × X) → Type 0) (k : ℕ) (v : X) (e : ℕ × X) (es : List (ℕ × X))
     → (k < e.0 → P ((k, v) ∷ e ∷ es)) → (k ≡ e.0 → P ((e.0, v) ∷ es)) → (e.0 < k → P (e ∷ put nat_cmp k v es)) → P (put nat_cmp k v (e ∷ es))
 put_cases {X} P k v e es before at behind = go (nat_lt k e.0) (k == e.0) refl refl
   where

@@ -69,16 +69,16 @@ ids_in_order : (ns : List ℕ) → AreIds ns → AreIds (in_order nat_lt ns)
 ids_in_order [] h = tt
 ids_in_order (n ∷ ns) h = ids_put n (in_order nat_lt ns) h.0 (ids_in_order ns h.1)
 
-up_ids : (w : World) → AreIds w.nodes → AreIds (up_nodes w)
+pub up_ids : (w : World) → AreIds w.nodes → AreIds (up_nodes w)
 up_ids w h = ids_in_order (filter (is_up w) w.nodes) (ids_filtered (is_up w) w.nodes h)
 
-of_first : {A : Type 0} (P : A → Type 0) (x : A) (xs : List A) → All P (x ∷ xs) → P x
+pub of_first : {A : Type 0} (P : A → Type 0) (x : A) (xs : List A) → All P (x ∷ xs) → P x
 of_first P x xs h = h 0 x (omega arith)
 
-of_others : {A : Type 0} (P : A → Type 0) (x : A) (xs : List A) → All P (x ∷ xs) → All P xs
+pub of_others : {A : Type 0} (P : A → Type 0) (x : A) (xs : List A) → All P (x ∷ xs) → All P xs
 of_others P x xs h k d within = h (suc k) d (omega (arith, within))
 
-node_id : (n : ℕ) → IsNode n → IsId n
+pub node_id : (n : ℕ) → IsNode n → IsId n
 node_id n h = record { positive = h.positive; fits = h.fits }
 
 pub declared_ids : (h : Header) → All IsProperHeaderLine h → AreIds (declared_nodes h)
@@ -121,7 +121,7 @@ marks_nodes w [] = refl
 marks_nodes w (Begins e ∷ ms) = marks_nodes (marks.begun w e) ms
 marks_nodes w (Writes l ∷ ms) = marks_nodes (marks.after_line w l) ms ∙ line_nodes w l
 
-follows_nodes : (n : ℕ) (w : World) (x : Played) → Follows n w x → x.world.nodes ≡ w.nodes
+pub follows_nodes : (n : ℕ) (w : World) (x : Played) → Follows n w x → x.world.nodes ≡ w.nodes
 follows_nodes n w x h = ap (λ (v : World). v.nodes) (sym h.leads) ∙ marks_nodes w (all_marks x.steps)
 
 -- ---- who ticks has an id

@@ -32,6 +32,7 @@ use Rattle.key_laws.specs.Traced.{Traced, promised_by, listed_if}
 use Rattle.key_laws.specs.Traced as traced
 use Rattle.key_laws.proofs.Frames.{at_each}
 use Rattle.key_laws.proofs.Kept.{WasPosted, was_posted}
+use Rattle.key_laws.proofs.Neighbours.{by_test, put_cases}
 use Rattle.run_laws.specs.Fronts.{Front, world_of, facts_at, after}
 use Rattle.run_laws.specs.LineOk.{IsDeclared}
 use Rattle.run_laws.specs.LineDue.{SendDueIf, LineDue, DeclaredLaw}
@@ -42,22 +43,9 @@ use Rattle.run_laws.specs.Tied.{Each}
 abbrev Ids : {X : Type 0} → (ℕ → Type 0) → Table X → Type 0
 Ids {X} P es = Each (λ (e : ℕ × X). P e.0) es
 
-put_cases : {X : Type 0} (P : List (ℕ × X) → Type 0) (k : ℕ) (v : X) (e : ℕ × X) (es : List (ℕ × X))
-    → (k < e.0 → P ((k, v) ∷ e ∷ es)) → (k ≡ e.0 → P ((e.0, v) ∷ es)) → (e.0 < k → P (e ∷ put nat_cmp k v es)) → P (put nat_cmp k v (e ∷ es))
-put_cases {X} P k v e es before there behind = go (nat_lt k e.0) (k == e.0) refl refl
-  where
-    go : (a b : Bool) → nat_lt k e.0 ≡ a → (k == e.0) ≡ b → P (put nat_cmp k v (e ∷ es))
-    go true b p q = rw p (before (grind (arith, nat_tests)))
-    go false true p q = rw (p, q) (there (grind (arith, nat_tests)))
-    go false false p q = rw (p, q) (behind (grind (arith, nat_tests)))
-
 ids_put : {X : Type 0} (P : ℕ → Type 0) (k : ℕ) (v : X) (es : Table X) → P k → Ids P es → Ids P (put nat_cmp k v es)
 ids_put {X} P k v [] h i = (h, tt)
 ids_put {X} P k v (e ∷ es) h i = put_cases (λ (xs : Table X). Ids P xs) k v e es (λ _. (h, i)) (λ _. i) (λ _. (i.0, ids_put P k v es h i.1))
-
-by_test : {A : Type 0} (P : A → Type 0) (b : Bool) (x y : A) → P x → P y → P (cond b x y)
-by_test {A} P true x y h i = h
-by_test {A} P false x y h i = i
 
 ids_aged : (P : ℕ → Type 0) (es : Table Heard) → Ids P es → Ids P (aged es)
 ids_aged P [] h = tt

@@ -23,58 +23,8 @@ use Rattle.cluster_rules.specs.World.{World, opened, is_up, up_nodes}
 use Rattle.cluster_rules.proofs.AllowedLaws.{nodes_stay}
 use Rattle.cluster_rules.proofs.MarkLaws.{Follows, round_follows}
 use Rattle.cluster_rules.proofs.RunLaws.{command_follows}
+use Rattle.key_laws.proofs.Runs.{AreIds, up_ids, of_first, of_others, node_id, declared_ids, follows_nodes}
 use Rattle.run_laws.specs.Taken.{IsProperEvent}
-
--- ---- nodes with ids
-
-abbrev AreIds : List ℕ → Type 0
-AreIds [] = Unit {0}
-AreIds (n ∷ ns) = IsId n × AreIds ns
-
-ids_filtered : (test : ℕ → Bool) (ns : List ℕ) → AreIds ns → AreIds (filter test ns)
-ids_filtered test [] h = tt
-ids_filtered test (n ∷ ns) h = go (test n) (ids_filtered test ns h.1)
-  where
-    go : (b : Bool) → AreIds (filter test ns) → AreIds (cond b (n ∷ filter test ns) (filter test ns))
-    go true rest = (h.0, rest)
-    go false rest = rest
-
-ids_put : (x : ℕ) (ns : List ℕ) → IsId x → AreIds ns → AreIds (put_in_order nat_lt x ns)
-ids_put x [] i h = (i, tt)
-ids_put x (n ∷ ns) i h = go (nat_lt n x) (ids_put x ns i h.1)
-  where
-    go : (b : Bool) → AreIds (put_in_order nat_lt x ns) → AreIds (if b then n ∷ put_in_order nat_lt x ns else (x ∷ n ∷ ns))
-    go true rest = (h.0, rest)
-    go false rest = (i, h)
-
-ids_in_order : (ns : List ℕ) → AreIds ns → AreIds (in_order nat_lt ns)
-ids_in_order [] h = tt
-ids_in_order (n ∷ ns) h = ids_put n (in_order nat_lt ns) h.0 (ids_in_order ns h.1)
-
-up_ids : (w : World) → AreIds w.nodes → AreIds (up_nodes w)
-up_ids w h = ids_in_order (filter (is_up w) w.nodes) (ids_filtered (is_up w) w.nodes h)
-
-of_first : {A : Type 0} (P : A → Type 0) (x : A) (xs : List A) → All P (x ∷ xs) → P x
-of_first P x xs h = h 0 x (omega arith)
-
-of_others : {A : Type 0} (P : A → Type 0) (x : A) (xs : List A) → All P (x ∷ xs) → All P xs
-of_others P x xs h k d within = h (suc k) d (omega (arith, within))
-
-node_id : (n : ℕ) → IsNode n → IsId n
-node_id n h = record { positive = h.positive; fits = h.fits }
-
-declared_ids : (h : Header) → All IsProperHeaderLine h → AreIds (declared_nodes h)
-declared_ids [] p = tt
-declared_ids (l ∷ h) p = go l (of_first IsProperHeaderLine l h p) (declared_ids h (of_others IsProperHeaderLine l h p))
-  where
-    go : (l : HeaderLine) → IsProperHeaderLine l → AreIds (declared_nodes h) → AreIds (cons_option (node_in l) (declared_nodes h))
-    go (header.Node n rack) q rest = (node_id n q.0, rest)
-    go (header.Script version) q rest = rest
-    go (header.Factor factor) q rest = rest
-    go (header.Policy policy) q rest = rest
-
-follows_nodes : (n : ℕ) (w : World) (x : Played) → Follows n w x → x.world.nodes ≡ w.nodes
-follows_nodes n w x h = ap (λ (v : World). v.nodes) (sym h.leads) ∙ nodes_stay (all_marks x.steps) w
 
 -- ---- digests and values of a script
 

@@ -28,6 +28,7 @@ use Rattle.cluster_rules.specs.Messages.{Posting, arrived, arrived_cut}
 use Rattle.cluster_rules.specs.Network.{Network, client, posting_at, flying_at, flying_if, is_flying, landed}
 use Rattle.cluster_rules.specs.World.{World}
 use Rattle.cluster_laws.proofs.At.{some_same, no_some}
+use Rattle.key_laws.proofs.DueSteps.{flying_posted}
 use Rattle.run_laws.proofs.Reading.{reads_itself}
 use Rattle.run_laws.specs.Fronts.{Front, world_of, facts_at, after, owed_at}
 use Rattle.run_laws.specs.LineDue.{LineMay, LawOf, Lawful}
@@ -43,13 +44,6 @@ use Rattle.run_laws.proofs.RequestSteps.{request_go}
 use Rattle.run_laws.proofs.Turns.{LinesGo}
 
 -- ---- a message is delivered
-
-flying_posted : (net : Network) (i : ℕ) (p : Posting) → flying_at net i ≡ Some p → posting_at net i ≡ Some p
-flying_posted net i p e = go (is_flying net i) e
-  where
-    go : (b : Bool) → flying_if net i b ≡ Some p → posting_at net i ≡ Some p
-    go true q = q
-    go false q = no_some q
 
 one_ended : (z : Front) (l : Line) → Ended z → LineMay z l → Ended (after z (Writes l)) → LinesGo z (l ∷ [])
 one_ended z l h ok e = record { due = (ok, tt); ends = e }

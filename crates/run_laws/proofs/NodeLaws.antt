@@ -29,6 +29,7 @@ use Rattle.node_rules.specs.Transactions as transactions
 use Rattle.node_rules.specs.Transactions.{Transaction, Transactions, Write, transaction, awaits_answer, awaits_ack}
 use Rattle.cluster_laws.proofs.At.{number_same, number_here, and_left, differ, some_same, no_some}
 use Rattle.cluster_laws.proofs.Lists.{in_without}
+use Rattle.cluster_laws.proofs.GroundLaws.{apart}
 use Rattle.run_laws.specs.LineDue.{Acks, LawOf}
 use Rattle.run_laws.specs.Tied.{Among, key_in}
 use Rattle.run_laws.proofs.Among.{Of, among_map, Kept, among_filter, among_last, find_more, among_contains}
@@ -37,7 +38,7 @@ use Rattle.run_laws.proofs.Targets.{target_changed, acked_node}
 use Rattle.run_laws.proofs.Words.{not_itself}
 use Rattle.run_laws.proofs.Closing.{closed_at}
 use Rattle.run_laws.proofs.Reached.{lacks_with}
-use Rattle.run_laws.proofs.Tables.{apart, changing_at, target_new}
+use Rattle.run_laws.proofs.Tables.{changing_at, target_new}
 
 -- ---- rows of bits
 

@@ -22,8 +22,8 @@ use Rattle.cluster_laws.specs.Ground.{Ground, is_member, asks}
 use Rattle.cluster_laws.specs.Picture.{Seen}
 use Rattle.cluster_laws.specs.Stay.{Stay, Running}
 use Rattle.cluster_laws.proofs.At.{number_same, number_here, number_cases, differ}
+use Rattle.cluster_laws.proofs.GroundLaws.{apart}
 use Rattle.run_laws.specs.Tied.{Seens, Stays, Views, RowsAgree, has_pending, batches_of, shown}
-use Rattle.run_laws.proofs.Tables.{apart}
 use Rattle.run_laws.proofs.Classes.{asks_tied, empty_tied}
 
 -- ---- `opened`

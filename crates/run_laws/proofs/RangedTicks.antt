@@ -29,6 +29,7 @@ use Rattle.node_rules.specs.Standing.{others, knows_all_settled}
 use Rattle.node_rules.specs.Tick.{beat, is_candidate, propose, propose_with, propose_new, proposing_to, state, rows, sends_again, transactions, batch_to, batches, progress, progress_if, progress_message, tick_if}
 use Rattle.node_rules.specs.Transactions.{Transaction, Write}
 use Rattle.cluster_laws.proofs.At.{no_some, and_right}
+use Rattle.key_laws.proofs.DueTick.{next_is_key}
 use Rattle.run_laws.specs.Ranges.{FitsApplied, FitsTransaction, FitsFacts}
 use Rattle.run_laws.specs.Spelled.{AreRead}
 use Rattle.run_laws.specs.Tied.{Among}
@@ -36,7 +37,6 @@ use Rattle.run_laws.proofs.RangedBatches.{next_batch_fits}
 use Rattle.run_laws.proofs.RangedNodes.{entered_fits, exchanged_fits, closed_fits}
 use Rattle.run_laws.proofs.RangedSends.{StoodFacts, each_read, free_read, append_read, is_number, state_proper, ask_proper}
 use Rattle.run_laws.proofs.RangedTransactions.{transaction_more}
-use Rattle.run_laws.proofs.TickSteps.{next_is_key}
 
 -- ---- rows
 

@@ -23,7 +23,8 @@ use Rattle.cluster_laws.specs.Changed.{at_stay, at_key}
 use Rattle.cluster_laws.proofs.At.{key_same, differ, no_some, some_same, changed_each, changed_here, numbers, number_here, keys, and_both}
 use Rattle.key_laws.specs.Traced.{facts_of}
 use Rattle.key_laws.proofs.Frames.{at_each}
-use Rattle.key_laws.proofs.Kept.{WasPosted, was_posted}
+use Rattle.key_laws.proofs.Kept.{WasPosted, was_posted, more}
+use Rattle.key_laws.proofs.KeptNodes.{or_later}
 use Rattle.run_laws.specs.Tied.{Each}
 use Rattle.run_laws.specs.Chronicle.{Chronicle, Longer, after, IsRowOf, Rowed, MayEnterFirst, RowOk}
 
@@ -158,12 +159,6 @@ cut_rowed c i b size h = go (posting_at c.traced.world.network i) refl
 
 -- ---- a message is sent
 
-more : {A : Type 0} (xs : List A) (x y : A) (i : ℕ) → slice_get (xs ++ x ∷ []) i ≡ Some y → (slice_get xs i ≡ Some y) ⊎ (y ≡ x)
-more [] x y zero e = inr (grind arith)
-more [] x y (suc i) e = absurd (grind arith)
-more (z ∷ xs) x y zero e = inl e
-more (z ∷ xs) x y (suc i) e = more xs x y i e
-
 abbrev posted_in : Chronicle → ℕ → Posting → Chronicle
 posted_in c i p = record { traced = record { world = record c.traced.world { network = posting c.traced.world.network i p }; lists = c.traced.lists; entered = c.traced.entered }; rows = c.rows }
 
@@ -192,9 +187,6 @@ each_place : (P : ℕ → ClusterKey → Row → Type 0) (f : ℕ → ClusterKey
     → P n k new → ((m : ℕ) (j : ClusterKey) → P m j (f m j)) → (m : ℕ) (j : ClusterKey) → P m j (at_stay f n k new m j)
 each_place P f n k new here old m = changed_each numbers (λ (m : ℕ) (g : ClusterKey → Row). (j : ClusterKey) → P m j (g j)) f n (at_key (f n) k new)
     (changed_each keys (P n) (f n) k new here (λ j _. old n j)) (λ m _. old m) m
-
-or_later : (a b : Bool) → b ≡ true → (a || b) ≡ true
-or_later a b e = grind arith
 
 pub enter_long : (c : Chronicle) (n : ℕ) (k : ClusterKey) (ms : List Member) → MayEnterFirst c n k ms → Longer c (after c (Writes (line.Enter n k ms)))
 enter_long c n k ms ok = record {

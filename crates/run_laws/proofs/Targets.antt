@@ -11,8 +11,9 @@ use Rattle.node_rules.specs.Tables.{changed_if}
 use Rattle.cluster_laws.specs.Changes as changes
 use Rattle.cluster_laws.specs.Stay.{Stay}
 use Rattle.cluster_laws.proofs.At.{number_same, differ, no_some}
+use Rattle.cluster_laws.proofs.GroundLaws.{apart}
 use Rattle.run_laws.specs.Tied.{Stays, has_pending, batches_of}
-use Rattle.run_laws.proofs.Tables.{apart, any_filter}
+use Rattle.run_laws.proofs.Tables.{any_filter}
 
 -- a change of one member's target
 pub target_changed : (ts : Targets) (to : ℕ) (c : Target → Target) (r : ℕ) → ((t : Target) → (c t).node ≡ t.node) → target (batches.changing ts to c) r ≡ cond (to == r) (option_map c (target ts r)) (target ts r)

@@ -10,6 +10,7 @@ use Rattle.wire_messages.specs.declared.message.Message.TheVariants as message
 use Rattle.wire_messages.specs.Nodes.{IsId}
 use Rattle.node_rules.specs.Batches.{Target}
 use Rattle.node_rules.specs.declared.member_row.MemberRow.{MemberRow}
+use Rattle.key_laws.proofs.DueTick.{next_is_key}
 use Rattle.run_laws.specs.Chronicle.{IsRowOf}
 use Rattle.node_rules.specs.Effects.{Effects}
 use Rattle.node_rules.specs.Exchange.{View, Exchange}
@@ -99,13 +100,6 @@ nodes_all z (l ∷ ls) = nodes_all (after z (Writes l)) ls ∙ nodes_stay (Write
 -- the heartbeat of these facts
 abbrev beat_of : Facts → Message
 beat_of f = message.Heartbeat (view_key f) f.agreement.promised (heard_ids f.hearing.heard) f.role
-
--- a key that is proposed has a spelling
-pub next_is_key : (n : ℕ) (a : Agreement) → IsId n → has_round a ≡ true → IsKeyField (next_key n a)
-next_is_key n a id e = record { view = record { above_none = omega arith; below_limit = below (seen_round a + 1) e; led = id.positive }; fits = id.fits }
-  where
-    below : (x : ℕ) → nat_lt x (2 ^ 48) ≡ true → x < 2 ^ 48
-    below x e = ltb-true x (2 ^ 48) e
 
 -- ---- the messages
 
