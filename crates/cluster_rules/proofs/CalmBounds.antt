@@ -1,7 +1,6 @@
 -- Where calm is reached in time, it is reached.
 use Rattle.std.proofs.Common.{◌≡◌, ℕ, zero, suc, ◌+◌, ◌<◌, ◌≤◌, ◌⊎◌, inl, inr, ⊎_elim, Bool, true, false, refl, ap, ◌∙◌, arith}
 use Rattle.std.proofs.lemmas.Bool.{cases_lt}
-use Rattle.cluster_rules.specs.Begun.{AreBegun}
 use Rattle.cluster_rules.specs.Calm.{is_calm_of}
 use Rattle.cluster_rules.specs.CalmBound.{CalmIsReached, IsWithinCalm, IsBehindFull, ComesInTime, is_full_round, calm_limit}
 use Rattle.cluster_rules.specs.Steps.{rounds}

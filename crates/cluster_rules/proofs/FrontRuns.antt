@@ -1,18 +1,16 @@
 -- Fronts of runs: whole runs and those that were begun are some, and their steps are allowed.
-use Rattle.std.proofs.Common.{◌≡◌, ℕ, Bool, true, false, ◌&&◌, List, [], ◌∷◌, ◌++◌, ◌⊎◌, inl, inr, refl, sym, ap, subst, ◌∙◌}
+use Rattle.std.proofs.Common.{◌≡◌, ℕ, Bool, true, false, ◌&&◌, List, [], ◌∷◌, ◌++◌, inl, inr, refl, sym, ap, subst, ◌∙◌}
 use Rattle.std.specs.List.{list_all}
 use Rattle.script_lang.specs.declared.script.Command.{Command}
 use Rattle.script_lang.specs.declared.script.Command.TheVariants as command
 use Rattle.script_lang.specs.declared.script.Script.{Script}
 use Rattle.journal_lines.specs.declared.line.Line.{Line}
-use Rattle.journal_lines.specs.declared.line.Line.TheVariants as line
 use Rattle.cluster_rules.specs.Allowed.{AreAllowed, is_playable}
-use Rattle.cluster_rules.specs.Begun.{MayPlay, IsBegun, AllBegun, BegunRunOf}
-use Rattle.cluster_rules.specs.FrontRuns.{IsFrontOf, AreFrontOf, FrontRunOf}
+use Rattle.cluster_rules.specs.Begun.{MayPlay, AllBegun, BegunRunOf}
+use Rattle.cluster_rules.specs.FrontRuns.{AreFrontOf, FrontRunOf}
 use Rattle.cluster_rules.specs.Marks.{after_all}
-use Rattle.cluster_rules.specs.Opening.{header_lines}
-use Rattle.cluster_rules.specs.Runs.{Plays, PlaysAll, RunOf}
-use Rattle.cluster_rules.specs.Steps.{Step, Played, marks_of, all_marks, flow, rounds}
+use Rattle.cluster_rules.specs.Runs.{PlaysAll, RunOf}
+use Rattle.cluster_rules.specs.Steps.{Step, Played, marks_of, flow, rounds}
 use Rattle.cluster_rules.specs.World.{World, opened}
 use Rattle.cluster_rules.proofs.AllowedLaws.{command_allowed, rounds_allowed, allowed_append, by_same, stay}
 use Rattle.cluster_rules.proofs.MarkLaws.{Follows}

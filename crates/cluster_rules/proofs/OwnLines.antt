@@ -1,7 +1,6 @@
 -- The lines of what a node does are its own.
-use Rattle.std.proofs.Common.{◌≡◌, ℕ, zero, suc, ◌+◌, Bool, true, false, ◌&&◌, List, [], ◌∷◌, ◌++◌, Option, Some, None, map, refl, sym, subst, ◌∙◌}
+use Rattle.std.proofs.Common.{◌≡◌, ℕ, zero, suc, ◌+◌, Bool, true, false, List, [], ◌∷◌, ◌++◌, Option, Some, None, map, refl, subst, ◌∙◌}
 use Rattle.conflict_order.specs.declared.version.Version.{Version}
-use Rattle.conflict_order.specs.declared.version.Body.{Body}
 use Rattle.conflict_order.specs.declared.want.Want.{Want}
 use Rattle.conflict_order.specs.declared.want.Want.TheVariants as want
 use Rattle.cluster_types.specs.declared.cluster_key.ClusterKey.{ClusterKey}
@@ -14,14 +13,13 @@ use Rattle.wire_messages.specs.declared.message.Message.{Message}
 use Rattle.wire_messages.specs.declared.message.Message.TheVariants as message
 use Rattle.node_rules.specs.Agreement as agreement
 use Rattle.node_rules.specs.Agreement.{Proposal}
-use Rattle.node_rules.specs.Effects.{Effects}
 use Rattle.node_rules.specs.Entering.{ending, exchanging, closing, entering}
 use Rattle.node_rules.specs.Facts.{Facts, view_key, list_at}
 use Rattle.node_rules.specs.Messages as due
 use Rattle.node_rules.specs.Messages.{due_message_of}
 use Rattle.node_rules.specs.Notes.{note, noted, neighbours, new_transaction, reached, in_view}
 use Rattle.node_rules.specs.Requests.{due_request, due_stop, due_start, asking, refusal_of, request_if, stop_if, start_if}
-use Rattle.node_rules.specs.Resolving.{resolving_want, writing, done_if}
+use Rattle.node_rules.specs.Resolving.{resolving_want, done_if}
 use Rattle.node_rules.specs.Settling.{line_if, hand, settle, learn, drop, and_then, settling_at, settling_from, settling_if}
 use Rattle.node_rules.specs.Tick as tick
 use Rattle.node_rules.specs.Tick.{Part, in_order, tick_of}

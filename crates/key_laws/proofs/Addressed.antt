@@ -1,21 +1,16 @@
 -- What of a node's facts says whom it sends to, and that each line and each message keeps it.
 use Rattle.std.proofs.Common.{◌≡◌, ℕ, zero, suc, ◌==◌, ◌⊎◌, inl, inr, ⊎_elim, Bool, true, false, cond, not, ◌&&◌, ◌||◌, List, [], ◌∷◌, ◌++◌, take, Option, Some, None, map, refl, sym, ap, subst, ◌∙◌, arith, if◌then◌else◌}
-use Rattle.std.proofs.lemmas.Bool.{eqb-true}
-use Rattle.std.proofs.lemmas.Bool.Decides.{nat_tests}
-use Rattle.std.specs.Prelude.{slice_get, find, filter, IsTrue}
-use Rattle.std.specs.List.{list_any}
-use Rattle.conflict_order.specs.declared.version.Version.{Version}
+use Rattle.std.specs.Prelude.{find, filter}
 use Rattle.conflict_order.specs.declared.want.Want.{Want}
 use Rattle.cluster_types.specs.declared.cluster_key.ClusterKey.{ClusterKey}
 use Rattle.cluster_types.specs.declared.copy_state.CopyState.{CopyState}
-use Rattle.cluster_types.specs.declared.copy_state.CopyState.TheVariants.{Empty, Part, Whole}
 use Rattle.cluster_types.specs.declared.member.Member.{Member}
 use Rattle.cluster_types.specs.Distinct.{without}
 use Rattle.cluster_types.specs.Members.{ids_of}
 use Rattle.cluster_types.specs.Partitions.{partition_of}
 use Rattle.partition_lists.specs.Lists.{list, replicas}
 use Rattle.partition_lists.proofs.ListLaws.{list_contains, any_is_contained}
-use Rattle.partition_lists.specs.Classes.{same_class_by, class_first_by, is_first_by, is_that}
+use Rattle.partition_lists.specs.Classes.{same_class_by, is_first_by, is_that}
 use Rattle.wire_messages.specs.declared.message.Batch.{Batch}
 use Rattle.wire_messages.specs.declared.message.Message.{Message}
 use Rattle.wire_messages.specs.declared.message.Message.TheVariants as message

@@ -1,7 +1,7 @@
 -- Steps that are allowed: their marks are licensed, and their messages of a view go between two members of it.
-use Rattle.std.proofs.Common.{◌≡◌, ℕ, ◌+◌, ◌-◌, ◌==◌, Bool, true, false, ◌&&◌, ◌||◌, List, [], ◌∷◌, ◌++◌, Option, Some, None, map, refl, sym, ap, subst, ◌∙◌, arith, ⊎_elim, if◌then◌else◌}
-use Rattle.std.specs.Prelude.{All, slice_get, length, nat_lt, IsTrue, option_map}
-use Rattle.std.specs.List.{list_any, list_all, range_with_len}
+use Rattle.std.proofs.Common.{◌≡◌, ℕ, ◌+◌, ◌-◌, ◌==◌, Bool, true, false, ◌&&◌, List, [], ◌∷◌, ◌++◌, Option, Some, None, map, refl, sym, ap, subst, ◌∙◌, arith, ⊎_elim}
+use Rattle.std.specs.Prelude.{All, slice_get, length, nat_lt, IsTrue}
+use Rattle.std.specs.List.{range_with_len}
 use Rattle.conflict_order.specs.declared.want.Want.{Want}
 use Rattle.conflict_order.specs.declared.want.Want.TheVariants as want
 use Rattle.cluster_types.specs.declared.cluster_key.ClusterKey.{ClusterKey}
@@ -26,7 +26,7 @@ use Rattle.node_rules.specs.Shows.{due_map, due_show, map_if, map_line}
 use Rattle.node_rules.specs.Tick.{tick_of}
 use Rattle.cluster_rules.specs.declared.event.Event.{Event}
 use Rattle.cluster_rules.specs.declared.event.Event.TheVariants as event
-use Rattle.cluster_rules.specs.Allowed.{AreAllowed, IsAllowed, names_known, event_nodes, groups_all, ends_calm}
+use Rattle.cluster_rules.specs.Allowed.{AreAllowed, names_known, ends_calm}
 use Rattle.cluster_rules.specs.DueEvents.{due_of, due_at_named, due_at_client, due_at_end, due_arrival, arriving, arriving_cut, delivery, unless_blocked, is_blocked, losing, written}
 use Rattle.cluster_rules.specs.Lines.{has_node}
 use Rattle.cluster_rules.specs.Marks as marks
@@ -34,24 +34,24 @@ use Rattle.cluster_rules.specs.Marks.{Mark, Begins, Writes}
 use Rattle.cluster_rules.specs.Messages.{Posting}
 use Rattle.cluster_rules.specs.Network.{Network, client, landed, posting_at, flying_at, flying_if, is_flying}
 use Rattle.cluster_rules.specs.NodeSteps.{AreOf}
-use Rattle.cluster_rules.specs.Opening.{Header, declared_nodes}
+use Rattle.cluster_rules.specs.Opening.{Header}
 use Rattle.cluster_rules.specs.Steps.{Step, marks_of, all_marks, AreDue}
 use Rattle.cluster_rules.specs.World.{World, opened}
 use Rattle.cluster_rules.proofs.OwnLines.{tick_own, message_own, request_own, stop_own, start_own}
 use Rattle.key_laws.specs.Addressed.{Addressed, GoesBetween, IsOther, ComesFromOther}
-use Rattle.key_laws.specs.Licences.{Licensed, Says}
+use Rattle.key_laws.specs.Licences.{Licensed}
 use Rattle.key_laws.specs.Sound.{Sound, NodeKeys, Views}
 use Rattle.key_laws.specs.Traced.{Traced, facts_of, after, after_all, untouched}
-use Rattle.key_laws.proofs.Addressed.{or_left, or_cases, differ, and_left, and_right, NodeGoes}
-use Rattle.key_laws.proofs.Directed.{Directed, AllGo, LineGoes, all_go_grow, line_goes, begun_goes}
-use Rattle.key_laws.proofs.DueDirected.{SendsGo, written_go, tick_go, message_go, request_go, stop_go, start_go, Comes}
+use Rattle.key_laws.proofs.Addressed.{or_cases, differ, and_left, NodeGoes}
+use Rattle.key_laws.proofs.Directed.{Directed, AllGo, all_go_grow, line_goes, begun_goes}
+use Rattle.key_laws.proofs.DueDirected.{SendsGo, written_go, tick_go, message_go, request_go, stop_go, start_go}
 use Rattle.key_laws.proofs.DueSteps.{Begun, step_ok}
 use Rattle.key_laws.proofs.Frames.{num_same}
 use Rattle.key_laws.proofs.Kept.{Keeps, kept_line, kept_begun, kept_all, WasPosted, was_posted}
 use Rattle.key_laws.proofs.Order.{same_is}
 use Rattle.key_laws.proofs.Quiet.{writes}
 use Rattle.key_laws.proofs.Runs.{AreIds, declared_ids, marks_nodes, AllBegun, world_of, steps_ok, start}
-use Rattle.key_laws.proofs.Wire.{If, read_map_ask}
+use Rattle.key_laws.proofs.Wire.{read_map_ask}
 
 -- ---- a node that ticks has an id
 

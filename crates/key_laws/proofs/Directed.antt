@@ -1,54 +1,26 @@
 -- Each message of a view that is sent goes between two members of it: at every mark, and what is due of every event.
-use Rattle.std.proofs.Common.{◌≡◌, ℕ, zero, suc, ◌+◌, ◌==◌, ◌⊎◌, inl, inr, ⊎_elim, Bool, true, false, ◌&&◌, not, List, [], ◌∷◌, ◌++◌, Option, Some, None, map, refl, sym, ap, subst, ◌∙◌, arith, if◌then◌else◌}
-use Rattle.std.specs.Prelude.{slice_get, find, filter, filter_map, flat_map, IsTrue, option_map, option_and_then, length, nat_lt, is_none}
-use Rattle.std.specs.List.{cons_option}
-use Rattle.std.specs.FinMap as finite
-use Rattle.conflict_order.specs.declared.version.Version.{Version}
-use Rattle.conflict_order.specs.declared.want.Want.{Want}
-use Rattle.conflict_order.specs.declared.want.Want.TheVariants as want
-use Rattle.cluster_types.specs.declared.cluster_key.ClusterKey.{ClusterKey}
-use Rattle.cluster_types.specs.declared.member.Member.{Member}
-use Rattle.cluster_types.specs.Partitions.{partition_count, partition_of}
-use Rattle.wire_messages.specs.declared.message.Batch.{Batch}
-use Rattle.wire_messages.specs.declared.message.MapTable.{MapTable}
+use Rattle.std.proofs.Common.{◌≡◌, ℕ, zero, suc, ◌==◌, ◌⊎◌, inl, inr, ⊎_elim, Bool, true, false, List, [], ◌∷◌, ◌++◌, Option, Some, None, refl, sym, ap, subst, ◌∙◌, arith}
+use Rattle.std.specs.Prelude.{slice_get, option_and_then}
 use Rattle.wire_messages.specs.declared.message.Message.{Message}
 use Rattle.wire_messages.specs.declared.message.Message.TheVariants as message
 use Rattle.wire_messages.specs.Decoding.{message_of}
-use Rattle.wire_messages.specs.Keys.{IsKeyOrNone}
-use Rattle.wire_messages.specs.Spelling.{spelling}
 use Rattle.journal_lines.specs.declared.line.Line.{Line}
 use Rattle.journal_lines.specs.declared.line.Line.TheVariants as line
-use Rattle.journal_lines.specs.declared.refusal.Refusal.{Refusal}
-use Rattle.node_rules.specs.Agreement as agreement
-use Rattle.node_rules.specs.Agreement.{Proposal}
-use Rattle.node_rules.specs.Batches as batches
-use Rattle.node_rules.specs.Batches.{Target, Targets, next_batch, batch_after, fresh_batch}
-use Rattle.node_rules.specs.Copies.{Content, is_nil}
-use Rattle.node_rules.specs.Effects.{Effects, to_each, to_one}
-use Rattle.node_rules.specs.Facts.{Facts, view_key, members, list_at}
-use Rattle.node_rules.specs.Notes as notes
-use Rattle.node_rules.specs.Notes.{note, reached, sent, in_view}
-use Rattle.node_rules.specs.Standing.{others, other_replicas}
-use Rattle.node_rules.specs.Tables.{contains}
-use Rattle.node_rules.specs.Transactions.{Transaction, Write}
+use Rattle.node_rules.specs.Facts.{Facts}
+use Rattle.node_rules.specs.Notes.{note, reached, sent}
 use Rattle.cluster_rules.specs.declared.event.Event.{Event}
 use Rattle.cluster_rules.specs.declared.event.Event.TheVariants as event
-use Rattle.cluster_rules.specs.DueEvents.{sent_lines, full_unless, one_more_if, written}
 use Rattle.cluster_rules.specs.Marks as marks
 use Rattle.cluster_rules.specs.Marks.{Mark, Begins, Writes}
 use Rattle.cluster_rules.specs.Messages.{Posting, Arrival, arrived, arrived_cut}
-use Rattle.cluster_rules.specs.Network.{Network, client, posting, posting_at, has_place}
-use Rattle.cluster_rules.specs.NodeSteps.{IsOf, AreOf}
-use Rattle.cluster_rules.specs.World.{World, at, with_facts}
-use Rattle.key_laws.specs.Addressed.{Addressed, GoesBetween}
-use Rattle.key_laws.specs.Licences.{Known, OkLine}
-use Rattle.key_laws.specs.Sound.{NodeKeys, Sound, Grows, Outs, OutKnown}
-use Rattle.key_laws.specs.Traced.{Traced, facts_of, after, after_all}
-use Rattle.key_laws.proofs.Addressed.{member_id, NodeGoes, TargetsGo, TargetGoes, OutGoes, AllAwait, Among, node_goes_grows, goes_grows, addressed_grows, note_goes, reached_goes, sent_goes, to_other, back, asked_among_others, replicas_among_others}
-use Rattle.key_laws.proofs.Frames.{at_each, num_same, never}
-use Rattle.key_laws.proofs.Growth.{same_grows, grows_on}
-use Rattle.key_laws.proofs.Kept.{Keeps, kept_line, kept_begun, WasPosted, was_posted}
-use Rattle.key_laws.proofs.Wire.{If, Read, read_accept, read_refuse, read_batch, read_batch_ack, read_progress, read_repl, read_repl_ack, read_ask, read_answer, read_map_ask, read_table, read_state, read_heartbeat, read_propose, read_commit}
+use Rattle.cluster_rules.specs.Network.{client, posting, posting_at}
+use Rattle.cluster_rules.specs.World.{at}
+use Rattle.key_laws.specs.Addressed.{GoesBetween}
+use Rattle.key_laws.specs.Sound.{Sound, Grows}
+use Rattle.key_laws.specs.Traced.{Traced, facts_of, after}
+use Rattle.key_laws.proofs.Addressed.{NodeGoes, node_goes_grows, goes_grows, note_goes, reached_goes, sent_goes}
+use Rattle.key_laws.proofs.Frames.{at_each}
+use Rattle.key_laws.proofs.Wire.{If}
 
 -- ---- the invariant
 

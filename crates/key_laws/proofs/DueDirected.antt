@@ -1,16 +1,13 @@
 -- What is due of every event sends each message of a view to another member of it.
-use Rattle.std.proofs.Common.{◌≡◌, ℕ, zero, suc, ◌+◌, ◌==◌, ⊎_elim, Bool, true, false, ◌&&◌, ◌||◌, not, List, [], ◌∷◌, ◌++◌, Option, Some, None, map, refl, sym, ap, subst, ◌∙◌, arith, if◌then◌else◌}
-use Rattle.std.specs.Prelude.{filter, filter_map, flat_map, length, option_map, option_and_then, nat_lt}
+use Rattle.std.proofs.Common.{◌≡◌, ℕ, zero, suc, ◌+◌, ◌==◌, Bool, true, false, ◌&&◌, List, [], ◌∷◌, ◌++◌, Option, Some, None, map, refl, sym, ap, subst, ◌∙◌}
+use Rattle.std.specs.Prelude.{filter, filter_map, flat_map}
 use Rattle.std.specs.List.{cons_option}
-use Rattle.std.specs.FinMap as finite
-use Rattle.conflict_order.specs.declared.version.Version.{Version}
-use Rattle.conflict_order.specs.declared.version.Body.TheVariants as body
 use Rattle.conflict_order.specs.declared.want.Want.{Want}
 use Rattle.conflict_order.specs.declared.want.Want.TheVariants as want
 use Rattle.cluster_types.specs.declared.cluster_key.ClusterKey.{ClusterKey}
 use Rattle.cluster_types.specs.declared.member.Member.{Member}
 use Rattle.cluster_types.specs.ClusterKeys as keys
-use Rattle.cluster_types.specs.Partitions.{partition_count, partition_of}
+use Rattle.cluster_types.specs.Partitions.{partition_of}
 use Rattle.wire_messages.specs.declared.message.Batch.{Batch}
 use Rattle.wire_messages.specs.declared.message.Message.{Message}
 use Rattle.wire_messages.specs.declared.message.Message.TheVariants as message
@@ -23,7 +20,7 @@ use Rattle.node_rules.specs.Agreement as agreement
 use Rattle.node_rules.specs.Agreement.{Proposal, enters_alone}
 use Rattle.node_rules.specs.Batches.{Target, Targets, next_batch, batch_after, fresh_batch}
 use Rattle.node_rules.specs.ByParts.{entered_alone, exchanged_if}
-use Rattle.node_rules.specs.Copies.{Content, is_nil}
+use Rattle.node_rules.specs.Copies.{is_nil}
 use Rattle.node_rules.specs.Effects.{Effects, to_each}
 use Rattle.node_rules.specs.Exchange.{Exchange, View, key_of, members_of, is_view}
 use Rattle.node_rules.specs.Facts.{Facts, view_key, members, list_at}
@@ -34,7 +31,7 @@ use Rattle.node_rules.specs.Messages.{due_message_of}
 use Rattle.node_rules.specs.Notes as notes
 use Rattle.node_rules.specs.Notes.{noted, neighbours, after_ages, reached, in_view, new_transaction}
 use Rattle.node_rules.specs.Requests.{due_request, due_stop, due_start, asking, request_if, refusal_of, stop_if, start_if}
-use Rattle.node_rules.specs.Resolving.{repl, resolving_want, writing}
+use Rattle.node_rules.specs.Resolving.{repl, resolving_want}
 use Rattle.node_rules.specs.Settling.{settling, line_if, hand, settle, learn, drop, settling_at, settling_from, settling_if}
 use Rattle.node_rules.specs.Standing.{others, other_replicas, asked}
 use Rattle.node_rules.specs.Tables.{contains}
@@ -56,7 +53,7 @@ use Rattle.key_laws.proofs.Directed.{GoesIf, LineGoes, AllGo}
 use Rattle.key_laws.proofs.DueViews.{view_known, found_row}
 use Rattle.key_laws.proofs.Frames.{num_eq}
 use Rattle.key_laws.proofs.Order.{same_is}
-use Rattle.key_laws.proofs.Wire.{If, Read, any_propose, any_commit, read_accept, read_refuse, read_batch, read_batch_ack, read_progress, read_repl, read_repl_ack, read_ask, read_answer, read_table, read_state, read_heartbeat}
+use Rattle.key_laws.proofs.Wire.{any_propose, any_commit, read_accept, read_refuse, read_batch, read_batch_ack, read_progress, read_repl, read_repl_ack, read_ask, read_answer, read_table, read_state, read_heartbeat}
 
 -- ---- lines
 

@@ -1,5 +1,5 @@
 -- Between whom messages of a view go: other members of it.
-use Rattle.std.specs.Prelude.{◌≡◌, ℕ, List, [], ◌∷◌, Option, Some, None, IsTrue, true}
+use Rattle.std.specs.Prelude.{◌≡◌, ℕ, List, Some, IsTrue, true}
 use Rattle.cluster_types.specs.declared.cluster_key.ClusterKey.{ClusterKey}
 use Rattle.cluster_types.specs.declared.member.Member.{Member}
 use Rattle.wire_messages.specs.declared.message.Message.{Message}

@@ -1,9 +1,8 @@
 -- Where the rounds have come to calm, the lines show the world at rest.
-use Rattle.std.proofs.Common.{◌≡◌, ℕ, ◌<◌, ◌==◌, Bool, true, false, not, ◌&&◌, ◌||◌, is_some, List, [], ◌∷◌, ◌++◌, length, map, filter, Option, Some, None, inl, inr, refl, sym, ap, ap₂, ◌∙◌, subst, subst₂, arith, ⊎_elim, ◌⊎◌, append-nil}
+use Rattle.std.proofs.Common.{◌≡◌, ℕ, ◌<◌, ◌==◌, Bool, true, false, not, ◌&&◌, ◌||◌, is_some, List, [], ◌∷◌, ◌++◌, length, Option, Some, None, inl, inr, refl, sym, ap, ◌∙◌, subst, arith, ⊎_elim, ◌⊎◌, append-nil}
 use Rattle.std.specs.Prelude.{Contains, IsTrue, nat_lt, option_map}
 use Rattle.std.specs.List.{list_any, list_all, concat}
 use Rattle.std.specs.FinMap as finite
-use Rattle.conflict_order.specs.declared.policy.Policy.{Policy}
 use Rattle.conflict_order.specs.declared.version.Version.{Version}
 use Rattle.conflict_order.specs.Join.{AtMost}
 use Rattle.conflict_order.proofs.OrderLaws.{AtMost_refl, AtMost_none, AtMost_antisymm}
@@ -19,14 +18,14 @@ use Rattle.journal_lines.specs.declared.line.Line.{Line}
 use Rattle.journal_lines.specs.declared.line.Line.TheVariants as line
 use Rattle.node_rules.specs.Batches.{Targets, Target, target, is_pending}
 use Rattle.node_rules.specs.Copies.{is_of, holds_of}
-use Rattle.node_rules.specs.Facts.{Facts, list_at, members}
+use Rattle.node_rules.specs.Facts.{list_at, members}
 use Rattle.node_rules.specs.Map.{is_empty}
 use Rattle.node_rules.specs.Standing as standing
 use Rattle.node_rules.specs.Standing.{is_done, is_all_empty, is_to_drop, has_settled_bit}
 use Rattle.node_rules.specs.Tables.{contains}
 use Rattle.node_rules.specs.Transactions.{Transaction, transaction}
 use Rattle.cluster_rules.specs.Calm.{up_in, as_members}
-use Rattle.cluster_rules.specs.CalmEnd.{IsSpread, HasNewest, IsSettledThroughout, IsUndivided, RestsIn, IsAtRest}
+use Rattle.cluster_rules.specs.CalmEnd.{IsSpread, HasNewest, IsSettledThroughout, IsUndivided, IsAtRest}
 use Rattle.cluster_rules.specs.Contents.{content, applied}
 use Rattle.cluster_rules.specs.Entries.{fold_of}
 use Rattle.cluster_rules.specs.Lines.{has_node, same_key, is_exchanged, is_settled_line}
@@ -36,17 +35,16 @@ use Rattle.cluster_rules.specs.Settings.{nodes, groups_of, present_role, with_pr
 use Rattle.cluster_rules.specs.Settled.{is_settled, is_settled_by, is_open_write, has_open_write}
 use Rattle.cluster_rules.specs.Stamps.{is_empty_at_entry, is_empty_everywhere}
 use Rattle.cluster_rules.specs.Views as views
-use Rattle.cluster_rules.specs.World.{World, is_up, member_now, members_now}
+use Rattle.cluster_rules.specs.World.{is_up, member_now}
 use Rattle.cluster_laws.specs.Ground.{Ground, IsGround, is_member, master, is_replica, acting, all_empty}
 use Rattle.cluster_laws.specs.Licences.{IsDone}
 use Rattle.cluster_laws.specs.Picture.{Picture}
-use Rattle.cluster_laws.specs.Stay.{Applied, Stay}
+use Rattle.cluster_laws.specs.Stay.{Applied}
 use Rattle.cluster_laws.proofs.At.{and_left, and_right, and_both, or_cases, number_same, number_here, differ, some_same, no_some}
 use Rattle.cluster_laws.proofs.GroundLaws.{empty_row, empty_acting, master_replica, replica_member}
-use Rattle.cluster_laws.proofs.ReadingClaims.{master_is, replica_is, settled_at, all_at}
+use Rattle.cluster_laws.proofs.ReadingClaims.{master_is, replica_is, settled_at}
 use Rattle.cluster_laws.proofs.ReadingLines.{or_left_true, or_right_true}
 use Rattle.cluster_laws.proofs.ReadingTies.{in_view_entered, members_of}
-use Rattle.cluster_laws.proofs.ReadingTies as reading
 use Rattle.cluster_laws.proofs.Settled as laws
 use Rattle.run_laws.specs.Fronts.{Front, world_of, facts_at, Tied, Sane}
 use Rattle.run_laws.specs.LineOk.{CalmOk}

@@ -1,8 +1,7 @@
 -- Each line that says that the rounds have come to calm stands where the world is calm.
-use Rattle.std.proofs.Common.{◌≡◌, ℕ, zero, suc, Bool, true, false, not, ◌&&◌, List, [], ◌∷◌, ◌++◌, take, map, Some, refl, sym, ap, ◌∙◌, subst, subst₂, append-nil}
-use Rattle.std.specs.Prelude.{slice_get, nat_eq}
+use Rattle.std.proofs.Common.{◌≡◌, ℕ, zero, suc, Bool, true, not, List, [], ◌∷◌, ◌++◌, take, map, Some, refl, sym, ap, ◌∙◌, subst, subst₂, append-nil}
+use Rattle.std.specs.Prelude.{slice_get}
 use Rattle.std.specs.List.{list_all, concat}
-use Rattle.std.proofs.lemmas.List.Elements.{All-contains_itself}
 use Rattle.conflict_order.specs.declared.policy.Policy.{Policy}
 use Rattle.journal_lines.specs.declared.line.Line.{Line}
 use Rattle.journal_lines.specs.declared.line.Line.TheVariants as line
@@ -13,18 +12,18 @@ use Rattle.cluster_rules.specs.Opening.{Header, header_lines, declared_nodes}
 use Rattle.cluster_rules.specs.Settings as settings
 use Rattle.cluster_rules.specs.Settings.{nodes, groups_of, present_role}
 use Rattle.cluster_rules.specs.Shape.{is_header, AreBehind}
-use Rattle.cluster_rules.specs.Steps.{Step, all_marks, all_lines}
+use Rattle.cluster_rules.specs.Steps.{Step, all_marks}
 use Rattle.cluster_rules.specs.World.{World, opened}
 use Rattle.cluster_rules.specs.Lines.{has_node}
 use Rattle.cluster_rules.proofs.AllowedLaws.{nodes_stay}
-use Rattle.cluster_rules.proofs.MarkLaws.{lines_of_written, lines_of_steps, header_adds_nothing, after_all-append}
+use Rattle.cluster_rules.proofs.MarkLaws.{lines_of_steps, header_adds_nothing, after_all-append}
 use Rattle.cluster_rules.proofs.WorldReadings.{up_agrees, role_agrees, nodes_agree, groups_agree}
 use Rattle.cluster_laws.specs.Ground.{Ground}
 use Rattle.cluster_laws.specs.Journals.{IsJournal, journal}
 use Rattle.cluster_laws.specs.Laws.{picture}
 use Rattle.cluster_laws.specs.Licences as licences
-use Rattle.cluster_laws.specs.Picture.{Picture, start}
-use Rattle.cluster_laws.proofs.At.{and_left, and_right, and_both, number_here}
+use Rattle.cluster_laws.specs.Picture.{start}
+use Rattle.cluster_laws.proofs.At.{and_left, and_right, and_both}
 use Rattle.run_laws.specs.Claims.{OfEveryJournal}
 use Rattle.run_laws.specs.Fronts.{Front, world_of, after_all, Tied}
 use Rattle.run_laws.specs.Taken.{Taken, first, ground_of}
@@ -34,7 +33,7 @@ use Rattle.run_laws.proofs.EveryJournal.{every_journal}
 use Rattle.run_laws.proofs.Journal.{Walks, first_tied, world_all, marks_are_a_journal}
 use Rattle.run_laws.proofs.Places.{Grouped, Placed, placed, Behind, behind, header_passes}
 use Rattle.run_laws.proofs.Premised.{taken_walks}
-use Rattle.run_laws.proofs.Words.{all_of, or_left, or_right}
+use Rattle.run_laws.proofs.Words.{all_of}
 
 -- ---- lists
 

@@ -21,7 +21,7 @@ use Rattle.cluster_rules.specs.Marks.{Mark, Begins, Writes, lines_among}
 use Rattle.cluster_rules.specs.Messages.{Posting}
 use Rattle.cluster_rules.specs.Network.{posting_at, posting_if, silent}
 use Rattle.cluster_rules.specs.Opening.{Header, declared_factor, declared_policy, declared_nodes, factor_step}
-use Rattle.cluster_rules.specs.Steps.{Step, marks_of, all_marks, all_lines}
+use Rattle.cluster_rules.specs.Steps.{Step, marks_of, all_marks}
 use Rattle.cluster_rules.specs.World.{World}
 use Rattle.cluster_rules.proofs.MarkLaws.{lines_of_steps}
 use Rattle.cluster_laws.specs.Ground.{Ground}

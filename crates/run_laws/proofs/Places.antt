@@ -1,7 +1,6 @@
 -- The front and the picture at the place of a line among those of steps.
 use Rattle.std.proofs.Common.{◌≡◌, ℕ, zero, suc, Bool, true, false, List, [], ◌∷◌, ◌++◌, Option, Some, None, take, slice_get, refl, sym, ap, ◌∙◌, subst, subst₂, ◌==◌}
 use Rattle.std.specs.Prelude.{option_and_then}
-use Rattle.std.specs.List.{list_all, concat}
 use Rattle.script_lang.specs.declared.script.HeaderLine.{HeaderLine}
 use Rattle.script_lang.specs.declared.script.HeaderLine.TheVariants as header
 use Rattle.journal_lines.specs.declared.line.Line.{Line}
@@ -12,7 +11,6 @@ use Rattle.wire_messages.specs.Decoding.{message_of}
 use Rattle.cluster_rules.specs.declared.event.Event.{Event}
 use Rattle.cluster_rules.specs.Allowed.{names_known}
 use Rattle.cluster_rules.specs.declared.event.Event.TheVariants as event
-use Rattle.cluster_rules.specs.Lines.{has_node}
 use Rattle.cluster_rules.specs.Marks as marks
 use Rattle.cluster_rules.specs.Marks.{Mark, Begins, Writes, lines_among}
 use Rattle.cluster_rules.specs.Messages.{Arrival, arrived, arrived_cut}

@@ -13,7 +13,7 @@ use Rattle.node_rules.specs.Requests.{stop_if, start_if}
 use Rattle.node_rules.specs.Transactions.{Transaction, Write}
 use Rattle.cluster_rules.specs.declared.event.Event.{Event}
 use Rattle.cluster_rules.specs.declared.event.Event.TheVariants as event
-use Rattle.cluster_rules.specs.Allowed.{groups_all, names_known, ends_calm, may_come}
+use Rattle.cluster_rules.specs.Allowed.{names_known, ends_calm, may_come}
 use Rattle.cluster_rules.specs.DueEvents.{due_of, losing, written}
 use Rattle.cluster_rules.specs.Marks.{Begins, Writes}
 use Rattle.cluster_rules.specs.Messages.{Posting}

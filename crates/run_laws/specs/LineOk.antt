@@ -1,6 +1,5 @@
 -- What the facts say of a line that is due, at its very place: the licence in terms of the world.
 use Rattle.std.specs.Prelude.{◌≡◌, ◌+◌, ℕ, Bool, true, false, List, [], ◌∷◌, Option, Some, None, ◌⊎◌, length, IsTrue}
-use Rattle.std.specs.List.{list_all, concat}
 use Rattle.std.specs.FinMap as finite
 use Rattle.conflict_order.specs.declared.version.Version.{Version}
 use Rattle.conflict_order.specs.Join.{AtMost}
@@ -31,7 +30,6 @@ use Rattle.node_rules.specs.Transactions.{Transaction, Write, transaction, trans
 use Rattle.cluster_rules.specs.declared.event.Event.TheVariants as event
 use Rattle.cluster_rules.specs.Allowed.{names_known}
 use Rattle.cluster_rules.specs.Calm.{is_calm_of}
-use Rattle.cluster_rules.specs.Lines.{has_node}
 use Rattle.cluster_rules.specs.Maps.{with_roles}
 use Rattle.cluster_rules.specs.Marks.{Mark, Begins, Writes}
 use Rattle.cluster_rules.specs.Messages.{Posting}
