@@ -1,5 +1,5 @@
 -- Steps that are allowed: their marks are licensed, and their messages of a view go between two members of it.
-use Rattle.std.proofs.Common.{◌≡◌, ℕ, ◌+◌, ◌-◌, ◌==◌, Bool, true, false, ◌&&◌, List, [], ◌∷◌, ◌++◌, Option, Some, None, map, refl, sym, ap, subst, ◌∙◌, arith, ⊎_elim}
+use Rattle.std.proofs.Common.{◌≡◌, ℕ, ◌+◌, ◌-◌, ◌==◌, Bool, true, false, ◌&&◌, List, [], ◌∷◌, Option, Some, None, map, refl, sym, ap, subst, ◌∙◌, arith, ⊎_elim}
 use Rattle.std.specs.Prelude.{All, slice_get, length, nat_lt, IsTrue}
 use Rattle.std.specs.List.{range_with_len}
 use Rattle.conflict_order.specs.declared.want.Want.{Want}
@@ -32,7 +32,7 @@ use Rattle.cluster_rules.specs.Lines.{has_node}
 use Rattle.cluster_rules.specs.Marks as marks
 use Rattle.cluster_rules.specs.Marks.{Mark, Begins, Writes}
 use Rattle.cluster_rules.specs.Messages.{Posting}
-use Rattle.cluster_rules.specs.Network.{Network, client, landed, posting_at, flying_at, flying_if, is_flying}
+use Rattle.cluster_rules.specs.Network.{Network, client, landed, flying_at}
 use Rattle.cluster_rules.specs.NodeSteps.{AreOf}
 use Rattle.cluster_rules.specs.Opening.{Header}
 use Rattle.cluster_rules.specs.Steps.{Step, marks_of, all_marks, AreDue}
@@ -45,9 +45,9 @@ use Rattle.key_laws.specs.Traced.{Traced, facts_of, after, after_all, untouched}
 use Rattle.key_laws.proofs.Addressed.{or_cases, differ, and_left, NodeGoes}
 use Rattle.key_laws.proofs.Directed.{Directed, AllGo, all_go_grow, line_goes, begun_goes}
 use Rattle.key_laws.proofs.DueDirected.{SendsGo, written_go, tick_go, message_go, request_go, stop_go, start_go}
-use Rattle.key_laws.proofs.DueSteps.{Begun, step_ok}
+use Rattle.key_laws.proofs.DueSteps.{Begun, step_ok, own_keys, flying_posted}
 use Rattle.key_laws.proofs.Frames.{num_same}
-use Rattle.key_laws.proofs.Kept.{Keeps, kept_line, kept_begun, kept_all, WasPosted, was_posted}
+use Rattle.key_laws.proofs.Kept.{Keeps, kept_line, kept_begun, kept_all, WasPosted, was_posted, after_all-append}
 use Rattle.key_laws.proofs.Order.{same_is}
 use Rattle.key_laws.proofs.Quiet.{writes}
 use Rattle.key_laws.proofs.Runs.{AreIds, declared_ids, marks_nodes, AllBegun, world_of, steps_ok, start}
@@ -78,9 +78,6 @@ allowed_due n w (s ∷ ss) ids h =
 
 own_node : (t : Traced) (n : ℕ) → Sound t → (ls : List Line) → AreOf (facts_of t n).me ls → AreOf n ls
 own_node t n s ls h = subst (λ (m : ℕ). AreOf m ls) (s.nodes n).me h
-
-own_keys : (t : Traced) (n : ℕ) → Sound t → NodeKeys t (facts_of t n).me (facts_of t n)
-own_keys t n s = subst (λ (m : ℕ). NodeKeys t m (facts_of t n)) (sym (s.nodes n).me) (s.nodes n)
 
 at_node : (t : Traced) (n : ℕ) → Sound t → (ms : List (ℕ × Message)) → SendsGo t (facts_of t n).me ms → SendsGo t n ms
 at_node t n s ms h = subst (λ (m : ℕ). SendsGo t m ms) (s.nodes n).me h
@@ -122,13 +119,6 @@ arriving_go n t w net p same s h posted = go (message_of p.bytes) refl
 
 no_some : {A B : Type 0} {a : A} → None ≡ Some a → B
 no_some e = absurd (grind arith)
-
-flying_posted : (net : Network) (i : ℕ) (p : Posting) → flying_at net i ≡ Some p → posting_at net i ≡ Some p
-flying_posted net i p e = go (is_flying net i) e
-  where
-    go : (b : Bool) → flying_if net i b ≡ Some p → posting_at net i ≡ Some p
-    go true e = e
-    go false e = no_some e
 
 delivery_go : (t : Traced) (w : World) (i : ℕ) (lines : Posting → List Line) → ((p : Posting) → flying_at w.network i ≡ Some p → AllGo t (lines p)) → AllGo t (delivery w i lines (flying_at w.network i))
 delivery_go t w i lines h = go (flying_at w.network i) refl
@@ -228,17 +218,13 @@ step_goes n t e b s h =
     let d : Directed u = begun_goes t e k.grows h in
     lines_go u (due_of n t.world e) k.sound (step_ok n t e b s).1 (event_go n t e k.sound d) d
 
-after_both : (t : Traced) (a b : List Mark) → after_all t (a ++ b) ≡ after_all (after_all t a) b
-after_both t [] b = refl
-after_both t (m ∷ a) b = after_both (after t m) a b
-
 pub steps_go : (n : ℕ) (t : Traced) (ss : List Step) → Sound t → Directed t → AllBegun ss → AreDue n t.world ss → Directed (after_all t (all_marks ss))
 steps_go n t [] s h b d = h
 steps_go n t (x ∷ ss) s h b d =
     let u : Traced = after_all t (marks_of x) in
     let ok : Licensed t (marks_of x) = subst (λ ls. Licensed t (Begins x.event ∷ writes ls)) (sym d.0) (step_ok n t x.event b.0 s) in
     let next : Directed u = subst (λ ls. Directed (after_all t (Begins x.event ∷ writes ls))) (sym d.0) (step_goes n t x.event b.0 s h) in
-    subst (λ (v : Traced). Directed v) (sym (after_both t (marks_of x) (all_marks ss)))
+    subst (λ (v : Traced). Directed v) (sym (after_all-append t (marks_of x) (all_marks ss)))
     (steps_go n u ss (kept_all t (marks_of x) ok s).sound next b.1 (subst (λ v. AreDue n v ss) (sym (world_of t (marks_of x))) d.1))
 
 -- ---- from the opened world

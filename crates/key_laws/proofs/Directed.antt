@@ -1,5 +1,5 @@
 -- Each message of a view that is sent goes between two members of it: at every mark, and what is due of every event.
-use Rattle.std.proofs.Common.{◌≡◌, ℕ, zero, suc, ◌==◌, ◌⊎◌, inl, inr, ⊎_elim, Bool, true, false, List, [], ◌∷◌, ◌++◌, Option, Some, None, refl, sym, ap, subst, ◌∙◌, arith}
+use Rattle.std.proofs.Common.{◌≡◌, ℕ, ◌==◌, ⊎_elim, Bool, true, false, List, [], ◌∷◌, ◌++◌, Option, Some, None, refl, sym, ap, subst, ◌∙◌}
 use Rattle.std.specs.Prelude.{slice_get, option_and_then}
 use Rattle.wire_messages.specs.declared.message.Message.{Message}
 use Rattle.wire_messages.specs.declared.message.Message.TheVariants as message
@@ -19,6 +19,7 @@ use Rattle.key_laws.specs.Addressed.{GoesBetween}
 use Rattle.key_laws.specs.Sound.{Sound, Grows}
 use Rattle.key_laws.specs.Traced.{Traced, facts_of, after}
 use Rattle.key_laws.proofs.Addressed.{NodeGoes, node_goes_grows, goes_grows, note_goes, reached_goes, sent_goes}
+use Rattle.key_laws.proofs.Kept.{more}
 use Rattle.key_laws.proofs.Frames.{at_each}
 use Rattle.key_laws.proofs.Wire.{If}
 
@@ -86,12 +87,6 @@ arrived_goes t (Some x) u same g h = go (x.to == client) same
     go false same =
         one_node t u x.to (reached (facts_of t x.to) x.from x.message) g (ap (λ (v : Traced). v.world.facts) same) (ap (λ (v : Traced). v.world.network.sent) same) h
         (reached_goes u (facts_of t x.to) x.from x.message (node_goes_grows t u g (facts_of t x.to) (h.nodes x.to)))
-
-more : {A : Type 0} (xs : List A) (x y : A) (i : ℕ) → slice_get (xs ++ x ∷ []) i ≡ Some y → (slice_get xs i ≡ Some y) ⊎ (y ≡ x)
-more [] x y zero e = inr (grind arith)
-more [] x y (suc i) e = absurd (grind arith)
-more (z ∷ xs) x y zero e = inl e
-more (z ∷ xs) x y (suc i) e = more xs x y i e
 
 -- a message more, and what it makes of its sender
 posted_goes : (t u : Traced) (i : ℕ) (p : Posting) → (facts_of t p.from).me ≡ p.from → u ≡ record { world = marks.posted_by t.world i p; lists = t.lists; entered = t.entered } → Grows t u

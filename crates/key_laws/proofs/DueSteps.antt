@@ -228,7 +228,7 @@ tick_at t net n node s id =
 known_at : (t : Traced) (node : ℕ) → Sound t → Known t (view_key (facts_of t node))
 known_at t node s = view_known t node (facts_of t node) (s.nodes node)
 
-own_keys : (t : Traced) (node : ℕ) → Sound t → NodeKeys t (facts_of t node).me (facts_of t node)
+pub own_keys : (t : Traced) (node : ℕ) → Sound t → NodeKeys t (facts_of t node).me (facts_of t node)
 own_keys t node s = subst (λ (m : ℕ). NodeKeys t m (facts_of t node)) (sym (s.nodes node).me) (s.nodes node)
 
 request_ok : (t : Traced) (w : World) (net : Network) (node : ℕ) (clock : ℕ) (d : List ℕ) (q : Want) → Sound t → Licensed t (writes (written net node (due_request (facts_of t node) clock d q)))
