@@ -21,7 +21,7 @@ use Rattle.wire_messages.specs.declared.message.Message.TheVariants as message
 use Rattle.node_rules.specs.Agreement as agreement
 use Rattle.node_rules.specs.Agreement.{Agreement, Proposal, proposes, is_accepted_with, without_missing}
 use Rattle.node_rules.specs.Batches.{out_to, has_number}
-use Rattle.node_rules.specs.ByParts.{view_entered, exchanged_if, closed_if, merged_if, written, resolved, resolved_by, resolved_with, asked_or_resolved, requested}
+use Rattle.node_rules.specs.ByParts.{view_entered, exchanged_if, closed_if, merged_if, with_applied_write, resolved, resolved_by, resolved_with, asked_or_resolved, requested}
 use Rattle.node_rules.specs.Copies.{Row, is_nil}
 use Rattle.node_rules.specs.Effects.{to_each}
 use Rattle.node_rules.specs.Entering.{ending, exchanging, closing, entering}
@@ -279,7 +279,7 @@ repls_go g (n ∷ ns) m e = ap (λ (h : Facts). all_sent h (to_each ns m)) (e g 
 -- the facts with the transaction resolved, of which its lines are told
 wrote_is : (q : Option Want) (f g : Facts) (l : List ℕ) (t : Transaction) (v : Version)
     → g.me ≡ f.me → view_key g ≡ view_key f → other_replicas g l ≡ other_replicas f l → l ≡ list_at g (partition_of t.digest)
-    → after q g (writing f l t v) ≡ written g l t v
+    → after q g (writing f l t v) ≡ with_applied_write g l t v
 wrote_is q f g l t v me key others here =
     repls_go (noted q g (writing f l t v).lines) (other_replicas f l) (repl f t (record { version = v; nth = next_nth f (partition_of t.digest) })) (λ h n. refl)
     ∙ go (is_nil (other_replicas f l))

@@ -46,14 +46,14 @@ abbrev pub merged_if : Facts → ClusterKey → List ℕ → Version → Bool �
 merged_if f key digest v newer = if newer then merged f key digest v else f
 
 -- the transaction wrote this version, and is closed where no other replica is to acknowledge it
-abbrev pub written : Facts → List ℕ → Transaction → Version → Facts
-written f l t v = closed_if (applied f (view_key f) l t.number t.digest v) t.number (is_nil (other_replicas f l))
+abbrev pub with_applied_write : Facts → List ℕ → Transaction → Version → Facts
+with_applied_write f l t v = closed_if (applied f (view_key f) l t.number t.digest v) t.number (is_nil (other_replicas f l))
 
 -- the transaction was resolved by that want, at this time of the node's clock
 abbrev pub resolved_by : Facts → ℕ → List ℕ → Transaction → Want → Facts
 resolved_by f clock l t want.Get = closed f t.number
-resolved_by f clock l t (want.Put bytes) = written f l t (next t.best clock (body.Value bytes))
-resolved_by f clock l t want.Del = written f l t (next t.best clock body.Tombstone)
+resolved_by f clock l t (want.Put bytes) = with_applied_write f l t (next t.best clock (body.Value bytes))
+resolved_by f clock l t want.Del = with_applied_write f l t (next t.best clock body.Tombstone)
 
 -- the transaction was resolved: a read is closed, and a write is applied. The list is that of its partition
 abbrev pub resolved : Facts → ℕ → List ℕ → Transaction → Facts
