@@ -1,11 +1,14 @@
 -- Of which journals a claim holds.
-use Rattle.std.specs.Prelude.{◌<◌, List, [], length}
+use Rattle.std.specs.Prelude.{◌≡◌, ◌<◌, ℕ, List, [], length, take, slice_get, Some, IsTrue}
+use Rattle.cluster_types.specs.Distinct.{AreDistinct}
 use Rattle.script_lang.specs.declared.script.Script.{Script}
 use Rattle.script_lang.specs.Proper.{IsProper}
 use Rattle.journal_lines.specs.declared.line.Line.{Line}
 use Rattle.cluster_rules.specs.Begun.{BegunRun}
 use Rattle.cluster_rules.specs.Opening.{Header}
 use Rattle.cluster_rules.specs.Runs.{Run}
+use Rattle.cluster_rules.specs.Settings.{nodes}
+use Rattle.cluster_rules.specs.Shape.{follows_header, follows_entries}
 use Rattle.cluster_rules.specs.Steps.{Step, all_lines}
 use Rattle.cluster_laws.specs.Journals.{IsJournal, journal}
 use Rattle.run_laws.specs.Taken.{Taken, ground_of, line_bound}
@@ -33,3 +36,10 @@ pub record OfEveryJournal (P : List Line → Type 0) : Type 0 where
   pub begun : OfBegunRuns P
   -- no line at all: nothing was begun
   pub nothing : P []
+
+-- what the shape of a journal says of its order: the header's lines stand before all others, and no node is declared twice;
+-- a node finishes exchange, and shows a map, where all members have entered
+pub record StandsInOrder (j : List Line) : Type 0 where
+  pub header : (i : ℕ) (l : Line) → slice_get j i ≡ Some l → IsTrue (follows_header (take i j) l)
+  pub declared_once : AreDistinct (nodes j)
+  pub exchanged : (i : ℕ) (l : Line) → slice_get j i ≡ Some l → IsTrue (follows_entries (take i j) l)
