@@ -1,27 +1,21 @@
 -- What the events of a run bring keeps its ranges, where its commands do.
-use Rattle.std.proofs.Common.{inl, inr, ◌≡◌, ◌<◌, ℕ, zero, suc, Bool, true, false, cond, nat_lt, List, [], ◌∷◌, ◌++◌, sym, ap, subst, ◌∙◌, arith, map, if◌then◌else◌}
-use Rattle.std.specs.Prelude.{All, filter}
-use Rattle.std.specs.List.{cons_option, AllByRecursion, slice_index}
+use Rattle.std.proofs.Common.{inl, inr, ◌≡◌, ◌<◌, ℕ, zero, suc, List, [], ◌∷◌, ◌++◌, sym, subst, map}
+use Rattle.std.specs.Prelude.{All}
+use Rattle.std.specs.List.{AllByRecursion, slice_index}
 use Rattle.std.proofs.lemmas.List.Elements.{All-from_recursion}
-use Rattle.partition_lists.specs.Lists.{put_in_order, in_order}
 use Rattle.script_lang.specs.declared.script.Command.{Command}
 use Rattle.script_lang.specs.declared.script.Command.TheVariants as command
-use Rattle.script_lang.specs.declared.script.HeaderLine.{HeaderLine}
-use Rattle.script_lang.specs.declared.script.HeaderLine.TheVariants as header
 use Rattle.script_lang.specs.declared.script.Script.{Script}
 use Rattle.script_lang.specs.Proper as script
 use Rattle.script_lang.specs.Proper.{IsNode, IsAnyValue, IsProperHeaderLine, IsProperCommand}
-use Rattle.wire_messages.specs.Nodes.{IsId}
 use Rattle.wire_messages.specs.Versions.{AreBytes, IsDigest, IsValue}
 use Rattle.cluster_rules.specs.declared.event.Event.{Event}
 use Rattle.cluster_rules.specs.declared.event.Event.TheVariants as event
 use Rattle.cluster_rules.specs.Begun.{MayPlay, AllBegun}
-use Rattle.cluster_rules.specs.Opening.{Header, declared_nodes, node_in}
 use Rattle.cluster_rules.specs.Runs.{Plays, PlaysAll}
-use Rattle.cluster_rules.specs.Steps.{Step, Played, all_marks, play, play_all, flow, flows, round, rounds}
-use Rattle.cluster_rules.specs.World.{World, opened, is_up, up_nodes}
-use Rattle.cluster_rules.proofs.AllowedLaws.{nodes_stay}
-use Rattle.cluster_rules.proofs.MarkLaws.{Follows, round_follows}
+use Rattle.cluster_rules.specs.Steps.{Step, Played, play, play_all, flow, flows, round, rounds}
+use Rattle.cluster_rules.specs.World.{World, opened, up_nodes}
+use Rattle.cluster_rules.proofs.MarkLaws.{round_follows}
 use Rattle.cluster_rules.proofs.RunLaws.{command_follows}
 use Rattle.key_laws.proofs.Runs.{AreIds, up_ids, of_first, of_others, node_id, declared_ids, follows_nodes}
 use Rattle.run_laws.specs.Taken.{IsProperEvent}

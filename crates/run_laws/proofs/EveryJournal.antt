@@ -11,8 +11,8 @@ use Rattle.cluster_rules.specs.Begun.{BegunRun}
 use Rattle.cluster_rules.specs.Claims.{KeysRise}
 use Rattle.cluster_rules.specs.Marks.{Mark, Writes}
 use Rattle.cluster_rules.specs.Opening.{Header, header_lines}
-use Rattle.cluster_rules.specs.Runs.{Run, run_marks}
-use Rattle.cluster_rules.specs.Steps.{Step, Played, all_marks, all_lines}
+use Rattle.cluster_rules.specs.Runs.{Run}
+use Rattle.cluster_rules.specs.Steps.{Step, all_marks, all_lines}
 use Rattle.cluster_rules.specs.World.{opened}
 use Rattle.cluster_rules.proofs.AllowedLaws.{commands_allowed}
 use Rattle.cluster_rules.proofs.MarkLaws.{lines_of_run}

@@ -1,15 +1,15 @@
 -- What a calm world says of each node of a group: which view it is in, and what it knows of each partition.
-use Rattle.std.proofs.Common.{◌≡◌, ◌≢◌, ℕ, zero, suc, ◌+◌, ◌<◌, ◌≤◌, ◌==◌, Bool, true, false, not, ◌&&◌, ◌||◌, List, [], ◌∷◌, length, map, filter, Option, Some, None, ◌⊎◌, inl, inr, refl, sym, ap, ◌∙◌, subst, arith, ⊎_elim}
-use Rattle.std.specs.Prelude.{Contains, nat_lt, get_or}
+use Rattle.std.proofs.Common.{◌≡◌, ◌≢◌, ℕ, zero, suc, ◌+◌, ◌<◌, ◌≤◌, ◌==◌, Bool, true, false, not, ◌||◌, List, [], ◌∷◌, map, Option, Some, None, inl, inr, refl, sym, ap, ◌∙◌, subst, arith, ⊎_elim}
+use Rattle.std.specs.Prelude.{Contains, nat_lt}
 use Rattle.std.specs.List.{list_all}
 use Rattle.std.specs.FinMap as finite
 use Rattle.cluster_types.specs.declared.cluster_key.ClusterKey.{ClusterKey}
 use Rattle.cluster_types.specs.declared.member.Member.{Member}
 use Rattle.cluster_types.specs.Members.{ids_of}
-use Rattle.cluster_types.specs.MembersEqual.{same_members, same_members_decides}
+use Rattle.cluster_types.specs.MembersEqual.{same_members_decides}
 use Rattle.cluster_types.specs.Partitions.{partition_count, partition_of}
 use Rattle.partition_lists.proofs.InOrderLaws.{Has, has_at, any_has, map_has, in_order_has, has_filter}
-use Rattle.node_rules.specs.Copies.{Content, Store, is_nil, digests_of, holds_of}
+use Rattle.node_rules.specs.Copies.{Store, is_nil, digests_of, holds_of}
 use Rattle.node_rules.specs.Exchange.{View, is_view}
 use Rattle.node_rules.specs.Facts.{Facts, list_at, members, view_key, has_exchanged_in}
 use Rattle.node_rules.specs.Standing.{knows_settled, knows_all_settled, is_to_learn, is_to_drop, has_nothing_to_learn_or_drop, is_at_rest_of}

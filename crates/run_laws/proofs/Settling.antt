@@ -1,17 +1,13 @@
 -- The lines of settling: each is due of the facts behind those before it, and what they leave.
-use Rattle.std.proofs.Common.{◌≡◌, ℕ, zero, suc, ◌+◌, ◌<◌, ◌≤◌, Bool, true, false, cond, not, List, [], ◌∷◌, ◌++◌, take, Option, Some, None, refl, sym, ap, ap₂, ◌∙◌, arith, subst, inl, inr, ⊎_elim}
-use Rattle.std.specs.Prelude.{option_map}
-use Rattle.std.specs.List.{list_any, cons_option}
+use Rattle.std.proofs.Common.{◌≡◌, ℕ, zero, suc, ◌+◌, ◌<◌, ◌≤◌, Bool, true, false, cond, not, List, [], ◌∷◌, ◌++◌, take, Option, Some, None, refl, sym, ap, ◌∙◌, arith, subst, inl, inr, ⊎_elim}
+use Rattle.std.specs.List.{list_any}
 use Rattle.std.specs.FinMap as finite
-use Rattle.conflict_order.specs.declared.version.Version.{Version}
-use Rattle.cluster_types.specs.declared.cluster_key.ClusterKey.{ClusterKey}
 use Rattle.cluster_types.specs.Partitions.{partition_count, partition_of}
 use Rattle.journal_lines.specs.declared.line.Line.{Line}
 use Rattle.journal_lines.specs.declared.line.Line.TheVariants as line
 use Rattle.partition_lists.specs.Lists as lists
-use Rattle.wire_messages.specs.declared.message.Batch.{Batch}
-use Rattle.node_rules.specs.Batches.{Target, Targets, is_pending, records_of, next_batch, batch_after, fresh_batch, batch_limit}
-use Rattle.node_rules.specs.Copies.{Content, is_of}
+use Rattle.node_rules.specs.Batches.{Target, Targets, is_pending}
+use Rattle.node_rules.specs.Copies.{is_of}
 use Rattle.node_rules.specs.Exchange.{View, key_of, members_of}
 use Rattle.node_rules.specs.Facts.{Facts, list_at, view_key}
 use Rattle.node_rules.specs.Notes.{note, noted, dropped}

@@ -1,7 +1,7 @@
 -- The header's lines stand first, and who finishes an exchange or shows a map comes after all members.
-use Rattle.std.proofs.Common.{◌≡◌, ℕ, zero, suc, Bool, true, false, not, ◌&&◌, ◌||◌, List, [], ◌∷◌, ◌++◌, Some, take, refl, sym, ap, ◌∙◌, subst, ⊎_elim}
+use Rattle.std.proofs.Common.{◌≡◌, ℕ, zero, suc, Bool, true, not, List, [], ◌∷◌, ◌++◌, Some, take, refl, sym, ap, ◌∙◌, subst, ⊎_elim}
 use Rattle.std.specs.Prelude.{slice_get}
-use Rattle.std.specs.List.{list_any, list_all}
+use Rattle.std.specs.List.{list_all}
 use Rattle.cluster_types.specs.Distinct.{AreDistinct}
 use Rattle.cluster_types.specs.Members.{ids_of}
 use Rattle.cluster_types.specs.declared.cluster_key.ClusterKey.{ClusterKey}
@@ -16,7 +16,7 @@ use Rattle.cluster_rules.specs.Marks.{lines_among}
 use Rattle.cluster_rules.proofs.MarkLaws.{lines_of_steps}
 use Rattle.cluster_rules.proofs.WorldReadings.{nodes_agree}
 use Rattle.cluster_laws.specs.Ground.{Ground, is_member}
-use Rattle.cluster_laws.specs.Journals.{IsJournal, ShowsGround, Fits, journal}
+use Rattle.cluster_laws.specs.Journals.{IsJournal, ShowsGround, journal}
 use Rattle.cluster_laws.specs.Laws.{picture}
 use Rattle.cluster_laws.specs.Licences.{Ok}
 use Rattle.cluster_laws.specs.Picture.{Picture}

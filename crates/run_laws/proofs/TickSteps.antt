@@ -1,5 +1,5 @@
 -- A tick: its lines, part by part, and then its messages.
-use Rattle.std.proofs.Common.{◌≡◌, ℕ, Bool, true, false, not, ◌&&◌, List, [], ◌∷◌, ◌++◌, length, map, Option, Some, None, refl, sym, ap, ◌∙◌, subst, inl, inr, arith, ◌<◌, ◌^◌, ◌+◌}
+use Rattle.std.proofs.Common.{◌≡◌, ℕ, Bool, true, false, not, ◌&&◌, List, [], ◌∷◌, ◌++◌, length, map, Option, Some, None, refl, sym, ap, ◌∙◌, subst, inl, inr}
 use Rattle.std.specs.FinMap as finite
 use Rattle.conflict_order.specs.declared.policy.Policy.{Policy}
 use Rattle.cluster_types.specs.Partitions.{partition_count}
@@ -47,10 +47,8 @@ use Rattle.run_laws.specs.LineOk.{IsDeclared}
 use Rattle.node_rules.specs.Tables.{contains}
 use Rattle.cluster_rules.proofs.AllowedLaws.{nodes_stay}
 use Rattle.run_laws.proofs.TickSends.{told_each, Behind, Told, read_left, read_right, rows_told, transactions_told, batches_go, progress_told}
-use Rattle.std.specs.Prelude.{nat_lt}
-use Rattle.std.proofs.lemmas.Bool.{ltb-true}
 use Rattle.wire_messages.specs.Keys.{IsKeyField}
-use Rattle.node_rules.specs.Agreement.{Agreement, Proposal, next_key, has_round, seen_round}
+use Rattle.node_rules.specs.Agreement.{Proposal, next_key, has_round}
 use Rattle.key_laws.proofs.DueViews.{view_known}
 use Rattle.key_laws.proofs.Wire.{read_propose, read_heartbeat}
 use Rattle.node_rules.specs.Exchange.{key_of}

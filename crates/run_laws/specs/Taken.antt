@@ -1,5 +1,5 @@
 -- Steps that are taken: allowed, of a header and events that keep their ranges, and not too many.
-use Rattle.std.specs.Prelude.{◌≡◌, ◌<◌, ◌^◌, ℕ, true, false, List, [], length, None, All, unwrap_or}
+use Rattle.std.specs.Prelude.{◌<◌, ◌^◌, ℕ, false, List, [], length, None, All, unwrap_or}
 use Rattle.cluster_types.specs.Distinct.{AreDistinct}
 use Rattle.cluster_types.specs.Partitions.{partition_count}
 use Rattle.cluster_types.specs.StateRows.{state_of}
