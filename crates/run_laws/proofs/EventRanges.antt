@@ -11,7 +11,8 @@ use Rattle.script_lang.specs.Proper.{IsNode, IsAnyValue, IsProperHeaderLine, IsP
 use Rattle.wire_messages.specs.Versions.{AreBytes, IsDigest, IsValue}
 use Rattle.cluster_rules.specs.declared.event.Event.{Event}
 use Rattle.cluster_rules.specs.declared.event.Event.TheVariants as event
-use Rattle.cluster_rules.specs.Begun.{MayPlay, AllBegun}
+use Rattle.cluster_rules.specs.Begun.{MayPlay}
+use Rattle.cluster_rules.specs.FrontRuns.{AreFrontOf}
 use Rattle.cluster_rules.specs.Runs.{Plays, PlaysAll}
 use Rattle.cluster_rules.specs.Steps.{Step, Played, play, play_all, flow, flows, round, rounds}
 use Rattle.cluster_rules.specs.World.{World, opened, up_nodes}
@@ -97,17 +98,6 @@ proper_command n w (command.ClientGet d) x ids p h = by_event n w (event.ClientG
 proper_command n w (command.ClientDel d) x ids p h = by_event n w (event.ClientDel d) x h (a_digest d p)
 proper_command n w c x ids p h = by_event n w _ x h tt
 
-proper_commands : (n : ℕ) (cs : List Command) (w : World) (x : Played) → AreIds w.nodes → All IsProperCommand cs → PlaysAll n w cs x → AllProper x.steps
-proper_commands n [] w x ids p h = subst (λ (y : Played). AllProper y.steps) (sym h) tt
-proper_commands n (c ∷ cs) w x ids p h =
-    subst (λ (y : Played). AllProper y.steps) (sym h.whole)
-    (proper_append h.first.steps h.others.steps
-    (proper_command n w c h.first ids (of_first IsProperCommand c cs p) h.plays)
-    (proper_commands n cs h.first.world h.others (subst (λ ns. AreIds ns) (sym (follows_nodes n w h.first (command_follows n w c h.first h.plays))) ids) (of_others IsProperCommand c cs p) h.follows))
-
-pub events_of_run : (n : ℕ) (s : Script) (x : Played) → All IsProperHeaderLine s.header → All IsProperCommand s.commands → PlaysAll n (opened s.header) s.commands x → All (λ (y : Step). IsProperEvent y.event) x.steps
-events_of_run n s x header commands h = All-from_recursion (λ (y : Step). IsProperEvent y.event) x.steps (proper_commands n s.commands (opened s.header) x (declared_ids s.header header) commands h)
-
 -- ---- a run that was begun
 
 proper_front : (ss ts : List Step) → AllProper (ss ++ ts) → AllProper ss
@@ -119,14 +109,13 @@ may_be_proper n w command.Calm x ids p (inl h) = proper_command n w command.Calm
 may_be_proper n w command.Calm x ids p (inr h) = subst (λ (y : Played). AllProper y.steps) (sym h.played) (proper_rounds n h.number w ids)
 may_be_proper n w c x ids p h = proper_command n w c x ids p h
 
-proper_begun : (n : ℕ) (cs : List Command) (w : World) (taken : List Step) (next : Step) → AreIds w.nodes → All IsProperCommand cs → AllBegun n w cs taken next → AllProper taken
-proper_begun n [] w taken next ids p h = absurd h
-proper_begun n (c ∷ cs) w taken next ids p (inl h) =
-    proper_front taken (next ∷ h.front.others) (subst (λ (ss : List Step). AllProper ss) h.front.in_order (may_be_proper n w c h.whole ids (of_first IsProperCommand c cs p) h.plays))
-proper_begun n (c ∷ cs) w taken next ids p (inr h) = subst (λ (ss : List Step). AllProper ss) (sym h.whole)
+proper_fronts : (n : ℕ) (cs : List Command) (w : World) (taken : List Step) → AreIds w.nodes → All IsProperCommand cs → AreFrontOf n w cs taken → AllProper taken
+proper_fronts n [] w taken ids p h = subst (λ (ss : List Step). AllProper ss) (sym h) tt
+proper_fronts n (c ∷ cs) w taken ids p (inl h) = proper_front taken h.others (subst (λ (ss : List Step). AllProper ss) h.front (may_be_proper n w c h.whole ids (of_first IsProperCommand c cs p) h.plays))
+proper_fronts n (c ∷ cs) w taken ids p (inr h) = subst (λ (ss : List Step). AllProper ss) (sym h.whole)
     (proper_append h.first.steps h.others
     (proper_command n w c h.first ids (of_first IsProperCommand c cs p) h.plays)
-    (proper_begun n cs h.first.world h.others next (subst (λ ns. AreIds ns) (sym (follows_nodes n w h.first (command_follows n w c h.first h.plays))) ids) (of_others IsProperCommand c cs p) h.begun))
+    (proper_fronts n cs h.first.world h.others (subst (λ ns. AreIds ns) (sym (follows_nodes n w h.first (command_follows n w c h.first h.plays))) ids) (of_others IsProperCommand c cs p) h.begun))
 
-pub events_of_begun : (n : ℕ) (s : Script) (taken : List Step) (next : Step) → All IsProperHeaderLine s.header → All IsProperCommand s.commands → AllBegun n (opened s.header) s.commands taken next → All (λ (y : Step). IsProperEvent y.event) taken
-events_of_begun n s taken next header commands h = All-from_recursion (λ (y : Step). IsProperEvent y.event) taken (proper_begun n s.commands (opened s.header) taken next (declared_ids s.header header) commands h)
+pub events_of_front : (n : ℕ) (s : Script) (taken : List Step) → All IsProperHeaderLine s.header → All IsProperCommand s.commands → AreFrontOf n (opened s.header) s.commands taken → All (λ (y : Step). IsProperEvent y.event) taken
+events_of_front n s taken header commands h = All-from_recursion (λ (y : Step). IsProperEvent y.event) taken (proper_fronts n s.commands (opened s.header) taken (declared_ids s.header header) commands h)

@@ -7,14 +7,13 @@ use Rattle.cluster_types.proofs.DistinctLaws.{none_distinct}
 use Rattle.script_lang.specs.declared.script.Script.{Script}
 use Rattle.script_lang.specs.Proper.{IsProper, IsProperHeaderLine}
 use Rattle.journal_lines.specs.declared.line.Line.{Line}
-use Rattle.cluster_rules.specs.Begun.{BegunRun}
+use Rattle.cluster_rules.specs.FrontRuns.{FrontRun}
 use Rattle.cluster_rules.specs.Claims.{KeysRise}
 use Rattle.cluster_rules.specs.Marks.{Mark, Writes}
 use Rattle.cluster_rules.specs.Opening.{Header, header_lines}
-use Rattle.cluster_rules.specs.Runs.{Run}
 use Rattle.cluster_rules.specs.Steps.{Step, all_marks, all_lines}
 use Rattle.cluster_rules.specs.World.{opened}
-use Rattle.cluster_rules.proofs.AllowedLaws.{commands_allowed}
+use Rattle.cluster_rules.proofs.FrontRuns.{fronts_allowed, run_is_front, begun_is_front}
 use Rattle.cluster_rules.proofs.MarkLaws.{lines_of_run}
 use Rattle.cluster_laws.specs.Journals.{OfJournals, journal}
 use Rattle.key_laws.specs.Licences.{Licensed}
@@ -22,10 +21,9 @@ use Rattle.key_laws.specs.Traced.{Traced, untouched}
 use Rattle.key_laws.proofs.Kept.{licensed_append}
 use Rattle.key_laws.proofs.Licensed.{licensed_keys_rise}
 use Rattle.key_laws.proofs.Runs.{start, header_ok, header_same}
-use Rattle.run_laws.specs.Claims.{OfTakenSteps, OfEveryJournal}
+use Rattle.run_laws.specs.Claims.{OfTakenSteps, OfFrontRuns, OfEveryJournal}
 use Rattle.run_laws.specs.Taken.{IsProperEvent, Taken, ground_of, line_bound}
-use Rattle.run_laws.proofs.BegunRuns.{begun_allowed}
-use Rattle.run_laws.proofs.EventRanges.{events_of_run, events_of_begun}
+use Rattle.run_laws.proofs.EventRanges.{events_of_front}
 use Rattle.run_laws.proofs.Named.{all_playable, same_nodes}
 use Rattle.run_laws.proofs.Premised.{taken_walks, taken_is_a_journal}
 
@@ -38,22 +36,12 @@ no_more h ss lines written short = omega (arith, short, ap length written ∙ le
     lengths : (a b : List Line) → length (a ++ b) ≡ length a + length b
     lengths a b = Rattle.std.proofs.Common.length-append a b
 
-taken_of_run : (s : Script) (lines : List Line) (r : Run s lines) → IsProper s → length lines < line_bound → Taken s.header r.played.steps
-taken_of_run s lines r p short = record {
+taken_of_front : (s : Script) (lines : List Line) (r : FrontRun s lines) → IsProper s → length lines < line_bound → Taken s.header r.taken
+taken_of_front s lines r p short = record {
   header = p.header;
   declared = subst AreDistinct (same_nodes s.header) p.nodes.distinct;
-  allowed = commands_allowed partition_count s.commands (opened s.header) r.played (all_playable s p) r.plays;
-  ranges = events_of_run partition_count s r.played p.header p.commands r.plays;
-  short = no_more s.header r.played.steps lines r.written short;
-}
-
--- the first steps of a run that was begun; what comes next isn't among them
-taken_of_begun : (s : Script) (lines next : List Line) (r : BegunRun s lines next) → IsProper s → length lines < line_bound → Taken s.header r.taken
-taken_of_begun s lines next r p short = record {
-  header = p.header;
-  declared = subst AreDistinct (same_nodes s.header) p.nodes.distinct;
-  allowed = begun_allowed partition_count (opened s.header).nodes s.commands (opened s.header) r.taken r.step refl (all_playable s p) r.begun;
-  ranges = events_of_begun partition_count s r.taken r.step p.header p.commands r.begun;
+  allowed = fronts_allowed partition_count (opened s.header) s.commands r.taken (all_playable s p) r.front;
+  ranges = events_of_front partition_count s r.taken p.header p.commands r.front;
   short = no_more s.header r.taken lines r.written short;
 }
 
@@ -66,13 +54,18 @@ none_taken = record {
   short = lit< tt;
 }
 
+-- whole runs and those that were begun are fronts
 pub every_journal : (P : List Line → Type 0) → OfTakenSteps P → OfEveryJournal P
 every_journal P of = record {
   steps = of;
-  runs = λ s lines r p short. subst P (sym r.written) (of s.header r.played.steps (taken_of_run s lines r p short));
-  begun = λ s lines next r p short. subst P (sym r.written) (of s.header r.taken (taken_of_begun s lines next r p short));
+  runs = λ s lines r p short. front s lines (run_is_front partition_count s lines r) p short;
+  begun = λ s lines next r p short. front s lines (begun_is_front partition_count s lines next r) p short;
+  fronts = front;
   nothing = of [] [] none_taken;
 }
+  where
+    front : OfFrontRuns P
+    front s lines r p short = subst P (sym r.written) (of s.header r.taken (taken_of_front s lines r p short))
 
 -- ---- what the laws of licensed lines and of keys say
 

@@ -5,6 +5,7 @@ use Rattle.script_lang.specs.declared.script.Script.{Script}
 use Rattle.script_lang.specs.Proper.{IsProper}
 use Rattle.journal_lines.specs.declared.line.Line.{Line}
 use Rattle.cluster_rules.specs.Begun.{BegunRun}
+use Rattle.cluster_rules.specs.FrontRuns.{FrontRun}
 use Rattle.cluster_rules.specs.Opening.{Header}
 use Rattle.cluster_rules.specs.Runs.{Run}
 use Rattle.cluster_rules.specs.Settings.{nodes}
@@ -25,15 +26,20 @@ OfTakenSteps P = (h : Header) (ss : List Step) → Taken h ss → P (journal h (
 abbrev pub OfRuns : (List Line → Type 0) → Type 0
 OfRuns P = (s : Script) (lines : List Line) → Run s lines → IsProper s → length lines < line_bound → P lines
 
--- and of that of its run that was begun
+-- of that of its run that was begun
 abbrev pub OfBegunRuns : (List Line → Type 0) → Type 0
 OfBegunRuns P = (s : Script) (lines next : List Line) → BegunRun s lines next → IsProper s → length lines < line_bound → P lines
+
+-- and of that of a front of its run's steps: so also where memory was refused
+abbrev pub OfFrontRuns : (List Line → Type 0) → Type 0
+OfFrontRuns P = (s : Script) (lines : List Line) → FrontRun s lines → IsProper s → length lines < line_bound → P lines
 
 -- the claim holds of every journal that a program of these rules writes
 pub record OfEveryJournal (P : List Line → Type 0) : Type 0 where
   pub steps : OfTakenSteps P
   pub runs : OfRuns P
   pub begun : OfBegunRuns P
+  pub fronts : OfFrontRuns P
   -- no line at all: nothing was begun
   pub nothing : P []
 
