@@ -1,4 +1,4 @@
-mod CopyLaws
+pub mod CopyLaws
 mod RowLaws
 mod StampLaws
 mod StoreLaws

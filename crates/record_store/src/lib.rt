@@ -10,6 +10,7 @@ pub mod store;
 
 pub use cluster_types::NoMemory;
 pub use joined::Joined;
+pub use stamp::Stamp;
 pub use store::RecordStore;
 
 #[cfg(test)]

@@ -80,6 +80,13 @@ impl RecordStore {
         copy_state(&self.copies[place], self.stamps[place])
     }
 
+    /// The stamp of the partition's copy, which also stays while the copy has no record.
+    pub fn stamp_at(&self, p: PartitionId) -> Option<Stamp>
+        ensures { shown result ≡ finite.get self.now.stamps p }
+    {
+        self.stamps[place_of(p)]
+    }
+
     /// The states of all copies.
     pub fn row(&self, alloc: Global) -> Result<StateRow, NoMemory>
         ensures { IfOk result (λ row. (p : ℕ) → p < partition_count → state_of row p ≡ state_at self.now p) }
@@ -103,6 +110,15 @@ impl RecordStore {
             [d] => reserve_one(&mut self.copies, d),
             ds => reserve_each(&mut self.copies, ds),
         }
+    }
+
+    /// Makes room for one digest.
+    pub fn reserve_one(&mut self, d: &Digest) -> Result<(), NoMemory>
+        ensures room { OnOk result (HasRoom (d.now ∷ []) self.new.spare) }
+        ensures kept { KeepsRoom self.old.spare self.new.spare }
+        ensures same { HoldsTheSame self.old self.new }
+    {
+        reserve_one(&mut self.copies, d)
     }
 
     /// Whether the version is newer than the one that is held.
