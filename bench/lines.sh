@@ -6,7 +6,7 @@
 set -eu
 here="$(cd "$(dirname "${BASH_SOURCE[0]}")" && pwd)"
 program="$here/../crates/cluster_main/out/cluster_main"
-[ -x "$program" ] || "$here/../replay" </dev/null
+[ -x "$program" ] || "$here/../replay" --build
 folder="$(mktemp -d)"
 trap 'rm -rf "$folder"' EXIT
 
