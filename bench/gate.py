@@ -11,7 +11,7 @@ import time
 TICKS = os.sysconf("SC_CLK_TCK")
 # What of a crate is at work.
 WORKS = ("proof", "tests", "edits")
-# The seconds without an rt after which the gate has ended.
+# So many samples without an rt, and the gate has ended.
 PAUSE = 10
 
 
@@ -77,6 +77,8 @@ class Measure:
         # by process, its work and the seconds it has taken; by crate, those in which it was at work
         self.taken, self.busy = {}, {}
         self.began = self.ended = None
+        # the samples since the last one with an rt
+        self.idle = 0
 
     def add(self, sample, now, gap):
         runs = sample.runs(self.folder)
@@ -86,11 +88,12 @@ class Measure:
             self.taken[process.key] = process.work(), sample.seconds(pid)
         for crate in {sample.processes[pid].work()[0] for pid in pids}:
             self.busy[crate] = self.busy.get(crate, 0) + gap
+        self.idle += 1
         if runs:
-            self.began, self.ended = self.began or now, now
+            self.began, self.ended, self.idle = self.began or now, now, 0
 
-    def has_ended(self, now):
-        return self.ended is not None and now - self.ended > PAUSE
+    def has_ended(self):
+        return self.ended is not None and self.idle == PAUSE
 
     def show(self):
         sums = {}
@@ -112,7 +115,7 @@ def main():
         signal.signal(it, lambda *_: sys.exit())
     last = now = time.monotonic()
     try:
-        while not measure.has_ended(now):
+        while not measure.has_ended():
             measure.add(Sample(), now, now - last)
             time.sleep(1)
             last, now = now, time.monotonic()
