@@ -3,9 +3,9 @@ ghost use Rattle.std.specs.Prelude.{◌≡◌, ◌<◌, ◌≤◌, length};
 ghost use Rattle.std.specs.List.{list_all};
 ghost use Rattle.cluster_types.specs.StateRows.{state_of};
 ghost use Rattle.partition_lists.specs.Acting.{is_empty};
-ghost use Rattle.node_rules.specs.Map.{acting, all_empty};
+ghost use Rattle.node_rules.specs.Map.{acting};
 ghost use Rattle.node_rules.specs.Classes.{class_first, same_class};
-ghost use Rattle.partition_state.specs.Copies.{row_limit};
+ghost use Rattle.partition_state.specs.Copies.{are_all_empty, row_limit};
 
 use crate::copies::is_empty;
 use crate::states::States;
@@ -23,9 +23,9 @@ pub fn acting(l: &NodeList, rows: &[MemberRow], p: PartitionId) -> NodeId
     States::of(rows, p).acting(l)
 }
 
-/// Whether no copy had a record.
+/// Whether none of the rows' copies had a record.
 pub fn all_empty(rows: &[MemberRow], p: PartitionId) -> bool
-    ensures { result ≡ all_empty rows.now p }
+    ensures { result ≡ are_all_empty rows.now p }
 {
     rows.iter().all(|r| is_empty_at(r, p))
 }
