@@ -44,19 +44,18 @@ fn takes_messages_in_any_order(rt: HostRuntime) -> Result<(), Fail> {
     let bytes = Bytes::from_slice(rt.alloc(), b"ab")?;
     assert_eq!(rt; net.send(7, 0, bytes)?, Posted::Kept(5));
 
-    let rows: [(u64, &[u64]); 7] = [
-        (3, &[1, 2, 4, 5]),
-        (3, &[1, 2, 4, 5]),
-        (0, &[1, 2, 4, 5]),
-        (6, &[1, 2, 4, 5]),
-        (1, &[2, 4, 5]),
-        (2, &[4, 5]),
-        (4, &[5]),
+    let rows: [(u64, Option<u16>, &[u64]); 7] = [
+        (3, Some(2), &[1, 2, 4, 5]),
+        (3, None, &[1, 2, 4, 5]),
+        (0, None, &[1, 2, 4, 5]),
+        (6, None, &[1, 2, 4, 5]),
+        (1, Some(0), &[2, 4, 5]),
+        (2, Some(1), &[4, 5]),
+        (4, Some(3), &[5]),
     ];
-    for (id, left) in rows {
-        let was = net.get(id).map(|flying| flying.to);
-        let taken = net.take(id).map(|flying| flying.to);
-        assert_eq!(rt; taken, was, "at {id}");
+    for (id, to, left) in rows {
+        assert_eq!(rt; net.get(id).map(|flying| flying.to), to, "at {id}");
+        assert_eq!(rt; net.take(id).map(|flying| flying.to), to, "at {id}");
         assert!(rt; net.get(id).is_none(), "at {id}");
         assert_eq!(rt; net.ids(rt.alloc())?.as_slice(), left, "after {id}");
     }
