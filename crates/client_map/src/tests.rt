@@ -3,7 +3,7 @@ use cluster_types::{ClusterKey, NoMemory, NodeId, PartitionId, Row4096};
 use std::alloc::Global;
 use std::process::Abort;
 use std::test::Fail;
-use wire_codec::{BoxedIds, BoxedRow, MapTable};
+use wire_messages::{BoxedIds, BoxedRow, MapTable};
 
 fn node(rt: &impl Abort, n: u16) -> NodeId {
     NodeId::new(n).expect(rt, "no node")

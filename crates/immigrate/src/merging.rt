@@ -8,7 +8,7 @@ use cluster_types::{Digest, DigestList, NoMemory};
 use conflict_order::Version;
 use record_store::{Joined, RecordStore};
 use std::alloc::Global;
-use wire_codec::{Batch, Records};
+use wire_messages::{Batch, Records};
 
 /// What a batch brought.
 #[derive(Debug, Drop)]

@@ -7,7 +7,7 @@ use conflict_order::{Body, ValueBytes, ValueFault, Version};
 use record_store::RecordStore;
 use std::alloc::Global;
 use std::test::Fail;
-use wire_codec::{Batch, Records};
+use wire_messages::{Batch, Records};
 
 fn version(alloc: Global, generation: u32, value: &[u8]) -> Result<Version, ValueFault> {
     Ok(Version {
