@@ -65,7 +65,6 @@ fn each_partition_has_its_copy_and_its_stamp(rt: HostRuntime) -> Result<(), Fail
     };
     store.stamp(p, key, 5);
     assert_eq!(rt; store.state(p), CopyState::Empty);
-    assert_eq!(rt; store.row(alloc)?.entries(), [].as_slice());
 
     let digests = [digest(1, 4), digest(7, 1), digest(1, 2), digest(1, 3)];
     let mut wanted = DigestList::new(alloc);
@@ -89,14 +88,32 @@ fn each_partition_has_its_copy_and_its_stamp(rt: HostRuntime) -> Result<(), Fail
     let rest = store.walk(alloc, p, Some(&digest(1, 2)), 9)?;
     assert_eq!(rt; rest.as_slice(), [digest(1, 3), digest(1, 4)].as_slice());
 
-    let other = CopyState::Whole { key, writes: 8 };
-    store.stamp(q, key, 8);
     store.clear_copy(p);
-    assert_eq!(rt; store.row(alloc)?.entries(), [(q, other)].as_slice());
-    assert!(rt; store.get(&digest(1, 3)).is_none());
     assert_eq!(rt; store.state(p), CopyState::Empty);
     store.join_in(digest(1, 9), version(alloc, 0, 1, b"a")?)?;
     assert_eq!(rt; store.state(p), CopyState::Part);
     assert!(rt; store.get(&digest(7, 1)).is_some());
+    Ok(())
+}
+
+#[test]
+fn a_cleared_copy_leaves_the_stamp_of_another(rt: HostRuntime) -> Result<(), Fail> {
+    let alloc = rt.alloc();
+    let mut store = RecordStore::new(alloc)?;
+    let p = PartitionId::new(1).ok_or("no partition")?;
+    let q = PartitionId::new(7).ok_or("no partition")?;
+    let key = ClusterKey {
+        round: 2,
+        principal: 3,
+    };
+    store.stamp(p, key, 5);
+    store.stamp(q, key, 8);
+    store.join_in(digest(1, 3), version(alloc, 0, 1, b"a")?)?;
+    store.join_in(digest(7, 1), version(alloc, 0, 1, b"a")?)?;
+
+    store.clear_copy(p);
+    assert!(rt; store.get(&digest(1, 3)).is_none());
+    assert_eq!(rt; store.state(p), CopyState::Empty);
+    assert_eq!(rt; store.state(q), CopyState::Whole { key, writes: 8 });
     Ok(())
 }
