@@ -5,3 +5,4 @@ pub mod LeavingLaws
 pub mod ListLaws
 pub mod RankLaws
 pub mod StandingLaws
+pub mod ViewListLaws

@@ -6,3 +6,4 @@ pub mod Leaving
 pub mod Lists
 pub mod NodeStates
 pub mod Ranks
+pub mod ViewLists

@@ -10,10 +10,12 @@ pub mod hashes;
 pub mod laws;
 pub mod lists;
 pub mod ranks;
+pub mod view_lists;
 
 pub use hashes::{fnv1a, one_at_a_time, place};
 pub use lists::{is_replica, list, replicas};
 pub use ranks::Ranks;
+pub use view_lists::Lists;
 
 #[cfg(test)]
 mod tests;

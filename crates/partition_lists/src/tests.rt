@@ -174,3 +174,22 @@ fn two_racks_stand_first_and_a_quiesced_node_last(rt: HostRuntime) -> Result<(),
     }
     Ok(())
 }
+
+#[test]
+fn the_lists_of_a_view_are_those_of_its_partitions(rt: HostRuntime) -> Result<(), Fail> {
+    let alloc = rt.alloc();
+    for numbers in [[3, 2, 1].as_slice(), [7].as_slice()] {
+        let m = plain_members(alloc, numbers)?;
+        let lists = Lists::of(alloc, &m)?.copy(alloc)?;
+        for number in [0, 1, 7, 4095] {
+            let p = partition(number)?;
+            let wanted = list(&m, p);
+            assert_eq!(rt; lists.list(p), wanted);
+            assert_eq!(rt; Some(&lists.master(p)), wanted.get(0));
+            for n in m.ids().as_slice() {
+                assert_eq!(rt; lists.is_replica(*n, p, 2), is_replica(*n, &m, p, 2));
+            }
+        }
+    }
+    Ok(())
+}
