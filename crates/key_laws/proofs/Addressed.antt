@@ -57,7 +57,7 @@ pub member_id : (ms : List Member) (n : ℕ) → contains (ids_of ms) n ≡ is_m
 member_id [] n = refl
 member_id (m ∷ ms) n = ap (λ b. (m.id == n) || b) (member_id ms n)
 
-in_without : (xs : List ℕ) (a b : ℕ) → contains (without xs a) b ≡ true → contains xs b ≡ true
+pub in_without : (xs : List ℕ) (a b : ℕ) → contains (without xs a) b ≡ true → contains xs b ≡ true
 in_without [] a b e = e
 in_without (x ∷ xs) a b e = go (x == a) (in_without xs a b) e
   where
@@ -66,7 +66,7 @@ in_without (x ∷ xs) a b e = go (x == a) (in_without xs a b) e
     go false rest z = ⊎_elim (λ q. or_left (x == b) (contains xs b) q) (λ q. or_right (x == b) (contains xs b) (rest q)) (or_cases (x == b) (contains (without xs a) b) z)
 
 -- what is in the list without one isn't that one
-not_gone : (xs : List ℕ) (a b : ℕ) → contains (without xs a) b ≡ true → b ≡ a → ⊥
+pub not_gone : (xs : List ℕ) (a b : ℕ) → contains (without xs a) b ≡ true → b ≡ a → ⊥
 not_gone [] a b e same = differ refl (sym e)
 not_gone (x ∷ xs) a b e same = go (x == a) refl (not_gone xs a b) e
   where
@@ -74,7 +74,7 @@ not_gone (x ∷ xs) a b e same = go (x == a) refl (not_gone xs a b) e
     go true i rest z = rest z same
     go false i rest z = ⊎_elim (λ q. num_differ x a i (num_same x b q ∙ same)) (λ q. rest q same) (or_cases (x == b) (contains (without xs a) b) z)
 
-to_without : (xs : List ℕ) (a b : ℕ) → contains xs b ≡ true → (b ≡ a → ⊥) → contains (without xs a) b ≡ true
+pub to_without : (xs : List ℕ) (a b : ℕ) → contains xs b ≡ true → (b ≡ a → ⊥) → contains (without xs a) b ≡ true
 to_without [] a b e apart = e
 to_without (x ∷ xs) a b e apart = go (x == a) refl (or_cases (x == b) (contains xs b) e) (λ z. to_without xs a b z apart)
   where
@@ -90,7 +90,7 @@ taken zero l n e = differ refl (sym e)
 taken (suc f) [] n e = e
 taken (suc f) (m ∷ l) n e = ⊎_elim (λ z. or_left (m == n) (contains l n) z) (λ z. or_right (m == n) (contains l n) (taken f l n z)) (or_cases (m == n) (contains (take f l) n) e)
 
-listed_member : (ms : List Member) (p n : ℕ) → contains (list ms p) n ≡ true → contains (ids_of ms) n ≡ true
+pub listed_member : (ms : List Member) (p n : ℕ) → contains (list ms p) n ≡ true → contains (ids_of ms) n ≡ true
 listed_member ms p n e = (any_is_contained n (ids_of ms)).1 ((list_contains ms p n).0 ((any_is_contained n (list ms p)).0 e))
 
 -- of a list over the members, the nodes but one are others

@@ -55,7 +55,7 @@ use Rattle.key_laws.proofs.Wire.{read_map_ask}
 
 -- ---- a node that ticks has an id
 
-declared_id : (ns : List ℕ) (n : ℕ) → AreIds ns → has_node ns n ≡ true → IsId n
+pub declared_id : (ns : List ℕ) (n : ℕ) → AreIds ns → has_node ns n ≡ true → IsId n
 declared_id [] n h e = differ refl (sym e)
 declared_id (m ∷ ns) n h e = ⊎_elim (λ q. subst (λ (x : ℕ). IsId x) (num_same m n q) h.0) (λ q. declared_id ns n h.1 q) (or_cases (m == n) (has_node ns n) e)
 
@@ -132,7 +132,7 @@ delivery_go t w i lines h = go (flying_at w.network i) refl
     go (Some p) e = unless p e (is_blocked w p)
 
 -- a message of that number was posted, also in a world that differs in what is in flight
-posted_in : (t u : Traced) (i : ℕ) (p : Posting) → u.world.network.sent ≡ t.world.network.sent → flying_at t.world.network i ≡ Some p → WasPosted u p
+pub posted_in : (t u : Traced) (i : ℕ) (p : Posting) → u.world.network.sent ≡ t.world.network.sent → flying_at t.world.network i ≡ Some p → WasPosted u p
 posted_in t u i p same e =
     let x : WasPosted t p = was_posted t i p (flying_posted t.world.network i p e) in
     record { place = x.place; stands = subst (λ (xs : List Posting). slice_get xs x.place ≡ Some p) (sym same) x.stands }
@@ -211,7 +211,7 @@ lines_go t (l ∷ ls) s ok go h =
     let k : Keeps t (after t (Writes l)) = kept_line t l ok.0 s in
     lines_go (after t (Writes l)) ls k.sound ok.1 (all_go_grow t (after t (Writes l)) k.grows ls go.1) (line_goes t l s k.grows go.0 h)
 
-step_goes : (n : ℕ) (t : Traced) (e : Event) → Begun e → Sound t → Directed t → Directed (after_all t (Begins e ∷ writes (due_of n t.world e)))
+pub step_goes : (n : ℕ) (t : Traced) (e : Event) → Begun e → Sound t → Directed t → Directed (after_all t (Begins e ∷ writes (due_of n t.world e)))
 step_goes n t e b s h =
     let u : Traced = after t (Begins e) in
     let k : Keeps t u = kept_begun t e s in
@@ -229,7 +229,7 @@ steps_go n t (x ∷ ss) s h b d =
 
 -- ---- from the opened world
 
-none_directed : (w : World) → ((n : ℕ) → NodeGoes (untouched w) (w.facts n)) → w.network.sent ≡ [] → Directed (untouched w)
+pub none_directed : (w : World) → ((n : ℕ) → NodeGoes (untouched w) (w.facts n)) → w.network.sent ≡ [] → Directed (untouched w)
 none_directed w nodes e = record { nodes = nodes; sent = λ i p m found r. absurd (nothing i p w.network.sent e found) }
   where
     nothing : (i : ℕ) (p : Posting) (xs : List Posting) → xs ≡ [] → slice_get xs i ≡ Some p → ⊥

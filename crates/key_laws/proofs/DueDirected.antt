@@ -204,31 +204,31 @@ refuse_goes t a b k promised h i = read_refuse (λ x. GoesBetween t a b x) k pro
 -- ---- a tick
 
 -- nobody to send to
-record Alone (f : Facts) : Type 0 where
-  others : others f ≡ []
-  running : f.transactions.running ≡ []
-  batches : f.batches ≡ []
+pub record Alone (f : Facts) : Type 0 where
+  pub others : others f ≡ []
+  pub running : f.transactions.running ≡ []
+  pub batches : f.batches ≡ []
 
 no_node : (ns : List ℕ) → is_nil ns ≡ true → ns ≡ []
 no_node [] e = refl
 no_node (n ∷ ns) e = differ refl (sym e)
 
-alone_in : (f : Facts) (key : ClusterKey) (set : List Member) (b : Bool) → agreement.others f.me set ≡ [] → Alone (exchanged_if (notes.entered f key set (notes.own_row f)) key b)
+pub alone_in : (f : Facts) (key : ClusterKey) (set : List Member) (b : Bool) → agreement.others f.me set ≡ [] → Alone (exchanged_if (notes.entered f key set (notes.own_row f)) key b)
 alone_in f key set true e = record { others = e; running = refl; batches = ap (λ ns. map (notes.target_for (notes.entered f key set (notes.own_row f))) ns) e }
 alone_in f key set false e = record { others = e; running = refl; batches = refl }
 
-alone_now : (f : Facts) (set : List Member) → (agreement.proposes_anew f.agreement (is_candidate f) && is_nil (agreement.others f.me set)) ≡ true → agreement.others f.me set ≡ []
+pub alone_now : (f : Facts) (set : List Member) → (agreement.proposes_anew f.agreement (is_candidate f) && is_nil (agreement.others f.me set)) ≡ true → agreement.others f.me set ≡ []
 alone_now f set e = no_node (agreement.others f.me set) (and_right (agreement.proposes_anew f.agreement (is_candidate f)) _ e)
 
 -- what the later parts of a tick send, of the facts after the proposal and after settling
-abbrev later : ℕ → Facts → Facts → List (ℕ × Message)
+abbrev pub later : ℕ → Facts → Facts → List (ℕ × Message)
 later n g i = (tick.rows g).sends ++ ((tick.transactions g).sends ++ ((tick.batches g).sends ++ ((tick.progress n i).sends ++ [])))
 
 progress_none : (n : ℕ) (f : Facts) (b : Bool) → others f ≡ [] → (tick.progress_if n f b).sends ≡ []
 progress_none n f true e = ap (λ ns. to_each ns (progress_message n f true)) e
 progress_none n f false e = refl
 
-nothing_later : (n : ℕ) (g i : Facts) → Alone g → others i ≡ others g → later n g i ≡ []
+pub nothing_later : (n : ℕ) (g i : Facts) → Alone g → others i ≡ others g → later n g i ≡ []
 nothing_later n g i h e =
     let first : (tick.rows g).sends ≡ [] = ap (λ ns. to_each (filter (lacks g.exchange.rows) ns) (state g true)) h.others in
     let second : (tick.transactions g).sends ≡ [] = ap (λ (xs : List Transaction). flat_map (λ (x : Transaction). tick.sends_again g x x.applied) xs) h.running in
@@ -263,11 +263,11 @@ settling_view (suc n) p f =
     ∙ settling_view n (p + 1) g
     ∙ settling_at_view (list_at f p) p f
 
-settled_view : (n : ℕ) (f : Facts) (b : Bool) → (noted None f (settling_if n f b)).exchange ≡ f.exchange
+pub settled_view : (n : ℕ) (f : Facts) (b : Bool) → (noted None f (settling_if n f b)).exchange ≡ f.exchange
 settled_view n f true = settling_view n 0 f
 settled_view n f false = refl
 
-same_others : (f g : Facts) → g.me ≡ f.me → g.exchange ≡ f.exchange → others g ≡ others f
+pub same_others : (f g : Facts) → g.me ≡ f.me → g.exchange ≡ f.exchange → others g ≡ others f
 same_others f g me x = ap (λ (e : Exchange). agreement.others g.me (members_of e.view)) x ∙ ap (λ (n : ℕ). agreement.others n (members f)) me
 
 same_key_of : (f g : Facts) → g.exchange ≡ f.exchange → view_key g ≡ view_key f

@@ -9,12 +9,17 @@ pub mod Wire
 pub mod Quiet
 pub mod Addressed
 pub mod Directed
+pub mod TableReads
+pub mod NamedLines
 pub mod DueViews
 pub mod DueTick
 pub mod DueMessages
 pub mod DueDirected
+pub mod NamedSends
+pub mod Peopled
 pub mod DueSteps
 pub mod Readings
 pub mod Licensed
 pub mod Runs
 pub mod AllowedRuns
+pub mod NamedSteps

@@ -4,3 +4,4 @@ pub mod Licences
 pub mod Sound
 pub mod Laws
 pub mod Addressed
+pub mod Ends
