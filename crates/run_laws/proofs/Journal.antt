@@ -21,7 +21,7 @@ use Rattle.cluster_rules.specs.Marks.{Mark, Begins, Writes, lines_among}
 use Rattle.cluster_rules.specs.Messages.{Posting}
 use Rattle.cluster_rules.specs.Network.{posting_at, posting_if, silent}
 use Rattle.cluster_rules.specs.Opening.{Header, declared_factor, declared_policy, declared_nodes, factor_step}
-use Rattle.cluster_rules.specs.Steps.{Step, marks_of, all_marks}
+use Rattle.cluster_rules.specs.Steps.{Step, marks_of, all_marks, all_lines}
 use Rattle.cluster_rules.specs.World.{World}
 use Rattle.cluster_rules.proofs.MarkLaws.{lines_of_steps}
 use Rattle.cluster_laws.specs.Ground.{Ground}
@@ -209,19 +209,23 @@ pub record Walks (h : Header) (ss : List Step) : Type 0 where
   pub goes : Goes (ground_of h ss) (first h) (all_marks ss)
   pub behind : AreBehind (lines_among (all_marks ss))
 
+none_first : (n : ℕ) → 0 + n ≡ n
+none_first n = omega arith
+
+-- as many lines stand behind the steps as they have
+pub lines_of_taken : (h : Header) (ss : List Step) → (after_all (first h) (all_marks ss)).lines ≡ length (all_lines ss)
+lines_of_taken h ss = more_lines (first h) (all_marks ss) ∙ none_first (length (lines_among (all_marks ss))) ∙ ap length (lines_of_steps ss)
+
+pub taken_walked : (h : Header) (ss : List Step) → Taken h ss → Premises (first h) ss → Walked (declared_policy h) (declared_factor h) (first h) (all_marks ss)
+taken_walked h ss t prem = walked (declared_policy h) (declared_factor h) (first h) ss (first_lawful h) (first_ended h) (recursion_from_All (λ (s : Step). IsProperEvent s.event) ss t.ranges) t.allowed
+    (subst (λ (n : ℕ). n < 2 ^ 32) (sym (lines_of_taken h ss)) t.short) prem
+
 pub walks : (h : Header) (ss : List Step) → Taken h ss → Premises (first h) ss → Walks h ss
-walks h ss t prem = record {
+walks h ss t prem = let w : Walked (declared_policy h) (declared_factor h) (first h) (all_marks ss) = taken_walked h ss t prem in record {
   key = w.key;
   goes = goes_of (ground_of h ss) (declared_policy h) (declared_factor h) (first h) (all_marks ss) refl refl w.key w.due (first_lawful h) (grounds h ss);
   behind = none_headers (first h) (all_marks ss) w.due;
 }
-  where
-    none_first : (n : ℕ) → 0 + n ≡ n
-    none_first n = omega arith
-
-    w : Walked (declared_policy h) (declared_factor h) (first h) (all_marks ss)
-    w = walked (declared_policy h) (declared_factor h) (first h) ss (first_lawful h) (first_ended h) (recursion_from_All (λ (s : Step). IsProperEvent s.event) ss t.ranges) t.allowed
-        (subst (λ (n : ℕ). n < 2 ^ 32) (sym (more_lines (first h) (all_marks ss) ∙ none_first (length (lines_among (all_marks ss))) ∙ ap length (lines_of_steps ss))) t.short) prem
 
 -- the lines among the marks are a journal of that ground
 pub marks_are_a_journal : (h : Header) (ss : List Step) → All IsProperHeaderLine h → Walks h ss → IsJournal h (ground_of h ss) (lines_among (all_marks ss))

@@ -27,7 +27,7 @@ use Rattle.run_laws.specs.Steps.{Ended, StepGoes}
 use Rattle.run_laws.specs.Taken.{IsProperEvent, Taken, first, ground_of}
 use Rattle.run_laws.proofs.AllSteps.{step_of}
 use Rattle.run_laws.proofs.Grounded.{onward_all}
-use Rattle.run_laws.proofs.Journal.{after_append, world_all, more_lines, lt_after, step_key, first_lawful, first_ended, Walks, walks, marks_are_a_journal}
+use Rattle.run_laws.proofs.Journal.{after_append, world_all, lt_after, step_key, first_lawful, first_ended, lines_of_taken, Walked, taken_walked, Walks, walks, marks_are_a_journal}
 use Rattle.run_laws.proofs.Lawful.{Onward, lawful_line, lawful_begun, strengthened}
 use Rattle.run_laws.proofs.RangedLines.{ranged_line, ranged_begun}
 use Rattle.run_laws.proofs.ReadSteps.{HasLine, sends_read}
@@ -79,10 +79,12 @@ first_ranged h = record {
 
 pub premises_of : (h : Header) (ss : List Step) → Taken h ss → Premises (first h) ss
 premises_of h ss t = premises_hold (declared_policy h) (declared_factor h) (first h) ss (first_lawful h) (first_ended h) (first_ranged h) (recursion_from_All (λ (s : Step). IsProperEvent s.event) ss t.ranges) t.allowed
-    (subst (λ (n : ℕ). n < 2 ^ 32) (sym (more_lines (first h) (all_marks ss) ∙ none_first (length (lines_among (all_marks ss))) ∙ ap length (lines_of_steps ss))) t.short)
-  where
-    none_first : (n : ℕ) → 0 + n ≡ n
-    none_first n = omega arith
+    (subst (λ (n : ℕ). n < 2 ^ 32) (sym (lines_of_taken h ss)) t.short)
+
+-- what nodes keep behind the steps has its ranges
+pub taken_ranged : (h : Header) (ss : List Step) → Taken h ss → Ranged (after_all (first h) (all_marks ss))
+taken_ranged h ss t = let w : Walked (declared_policy h) (declared_factor h) (first h) (all_marks ss) = taken_walked h ss t (premises_of h ss t) in
+    ranged_all (declared_policy h) (declared_factor h) (first h) (all_marks ss) w.key w.due (subst (λ (n : ℕ). n < 2 ^ 32) (sym (lines_of_taken h ss)) t.short) (first_lawful h) (first_ranged h)
 
 pub taken_walks : (h : Header) (ss : List Step) → Taken h ss → Walks h ss
 taken_walks h ss t = walks h ss t (premises_of h ss t)

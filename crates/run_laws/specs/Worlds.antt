@@ -1,0 +1,83 @@
+-- What holds of the world after steps that are taken, as its nodes and its client take it.
+use Rattle.std.specs.Prelude.{◌≡◌, ◌<◌, ◌⊎◌, ℕ, nat_lt, true, List, Option, Some, None, length, All, Contains}
+use Rattle.cluster_types.specs.declared.cluster_key.ClusterKey.{ClusterKey}
+use Rattle.cluster_types.specs.Partitions.{partition_count}
+use Rattle.partition_lists.specs.Lists.{in_order}
+use Rattle.wire_messages.specs.declared.message.Message.{Message}
+use Rattle.wire_messages.specs.declared.message.Message.TheVariants as message
+use Rattle.wire_messages.specs.Decoding.{message_of}
+use Rattle.node_rules.specs.Client.{node_for}
+use Rattle.node_rules.specs.Facts.{Facts}
+use Rattle.node_rules.specs.Notes.{in_view}
+use Rattle.node_rules.specs.Stamps.{applies_at}
+use Rattle.node_rules.specs.Standing.{others}
+use Rattle.cluster_rules.specs.Marks as marks
+use Rattle.cluster_rules.specs.Messages.{Posting}
+use Rattle.cluster_rules.specs.Network.{posting_at, client}
+use Rattle.cluster_rules.specs.Opening.{Header, declared_nodes, declared_peers}
+use Rattle.cluster_rules.specs.Steps.{Step, all_marks, all_lines}
+use Rattle.cluster_rules.specs.World.{World, opened, is_up}
+use Rattle.run_laws.specs.Taken.{Taken}
+
+-- the world after the steps
+abbrev pub world_after : Header → List Step → World
+world_after h ss = marks.after_all (opened h) (all_marks ss)
+
+-- it is so of the world after steps that are taken
+abbrev pub OfTakenWorlds : (Header → World → Type 0) → Type 0
+OfTakenWorlds P = (h : Header) (ss : List Step) → Taken h ss → P h (world_after h ss)
+
+-- ---- nodes
+
+-- each number's facts are its own, with the other declared nodes as its peers; and what runs is declared, so not the client
+pub record KnowsNodes (h : Header) (w : World) : Type 0 where
+  pub nodes : w.nodes ≡ declared_nodes h
+  pub me : (n : ℕ) → (w.facts n).me ≡ n
+  pub peers : (n : ℕ) → (w.facts n).peers ≡ in_order nat_lt (declared_peers h n)
+  pub up : (n : ℕ) → is_up w n ≡ true → Contains (declared_nodes h) n
+  pub client : (n : ℕ) → Contains (declared_nodes h) n → n ≡ client → ⊥
+
+-- ---- messages
+
+-- the key of a message that is of a view
+abbrev pub view_key_of : Message → Option ClusterKey
+view_key_of (message.State key wants row) = Some key
+view_key_of (message.Batch b) = Some b.key
+view_key_of (message.BatchAck key number) = Some key
+view_key_of (message.Progress key wants done handed settled) = Some key
+view_key_of (message.Repl key t nth digest v) = Some key
+view_key_of (message.ReplAck key t) = Some key
+view_key_of (message.Ask key t digest) = Some key
+view_key_of (message.Answer key t v) = Some key
+view_key_of _ = None
+
+-- it comes from a peer, or from the client where it asks for a table; and one of the node's view from another member of it
+pub record ComesFromPeer (f : Facts) (from : ℕ) (m : Message) : Type 0 where
+  pub sender : Contains f.peers from ⊎ ((from ≡ client) × (m ≡ message.MapAsk))
+  pub member : (key : ClusterKey) → view_key_of m ≡ Some key → in_view f key ≡ true → Contains (others f) from
+
+-- each message that was sent and is read as one comes so to its receiver
+abbrev pub MessagesCome : Header → World → Type 0
+MessagesCome h w = (i : ℕ) (p : Posting) (m : Message) → posting_at w.network i ≡ Some p → message_of p.bytes ≡ Some m → ComesFromPeer (w.facts p.to) p.from m
+
+-- each was sent to a declared node, or to the client
+abbrev pub HaveReceivers : Header → World → Type 0
+HaveReceivers h w = (i : ℕ) (p : Posting) → posting_at w.network i ≡ Some p → (p.to ≡ client) ⊎ Contains (declared_nodes h) p.to
+
+-- ---- the client
+
+-- the node that the client asks for a partition is declared
+abbrev pub AsksDeclared : Header → World → Type 0
+AsksDeclared h w = (p n : ℕ) → p < partition_count → node_for w.tables p ≡ Some n → Contains (declared_nodes h) n
+
+-- ---- numbers
+
+-- fewer transactions were opened in the view, fewer batches sent to each member, and fewer writes applied on each partition
+pub record CountsBelow (limit : ℕ) (f : Facts) : Type 0 where
+  pub transactions : f.transactions.opened < limit
+  pub batches : All (λ t. t.batches < limit) f.batches
+  pub applies : (p : ℕ) → applies_at f.writes p < limit
+
+-- where there are fewer lines than that, no node has counted so far
+abbrev pub CountsFew : Type 0
+CountsFew = (h : Header) (ss : List Step) → Taken h ss → (limit : ℕ) → length (all_lines ss) < limit → (n : ℕ) → CountsBelow limit ((world_after h ss).facts n)
