@@ -13,6 +13,7 @@ use Rattle.cluster_rules.specs.Allowed.{IsAllowed, AreAllowed}
 use Rattle.cluster_rules.specs.DueEvents.{due_of}
 use Rattle.cluster_rules.specs.Marks.{Mark, Begins, Writes, lines_among}
 use Rattle.cluster_rules.specs.Opening.{Header, declared_factor, declared_policy}
+use Rattle.cluster_rules.specs.Shape.{AreBehind}
 use Rattle.cluster_rules.specs.Steps.{Step, marks_of, all_marks, all_lines}
 use Rattle.cluster_rules.specs.World.{World}
 use Rattle.cluster_rules.proofs.MarkLaws.{lines_of_steps}
@@ -88,6 +89,10 @@ taken_ranged h ss t = let w : Walked (declared_policy h) (declared_factor h) (fi
 
 pub taken_walks : (h : Header) (ss : List Step) → Taken h ss → Walks h ss
 taken_walks h ss t = walks h ss t (premises_of h ss t)
+
+-- no line of the steps is one of a header
+pub taken_behind : (h : Header) (ss : List Step) → Taken h ss → AreBehind (all_lines ss)
+taken_behind h ss t = subst AreBehind (lines_of_steps ss) (taken_walks h ss t).behind
 
 pub taken_is_a_journal : (h : Header) (ss : List Step) → Taken h ss → IsJournal h (ground_of h ss) (all_lines ss)
 taken_is_a_journal h ss t = subst (λ (ls : List Line). IsJournal h (ground_of h ss) ls) (lines_of_steps ss) (marks_are_a_journal h ss t.header (taken_walks h ss t))
