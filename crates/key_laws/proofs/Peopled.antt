@@ -32,7 +32,7 @@ use Rattle.cluster_rules.specs.Marks.{Begins, Writes}
 use Rattle.cluster_rules.specs.Messages.{Posting, Arrival, arrived, arrived_cut}
 use Rattle.cluster_rules.specs.Network.{client, posting, posting_at}
 use Rattle.cluster_rules.specs.World.{World, at}
-use Rattle.key_laws.specs.Ends.{is_map_ask, TableNames, Tells, TellsIf, FromNode, FromClient, GoesRight, LineNames}
+use Rattle.key_laws.specs.Ends.{is_map_ask, IsOneOf, TableNames, Tells, TellsIf, FromNode, GoesRight, LineNames}
 use Rattle.key_laws.specs.Sound.{Sound}
 use Rattle.key_laws.specs.Traced.{Traced, facts_of, after, listed_if, promised_by, with_list}
 use Rattle.key_laws.proofs.Addressed.{Among, among_without}
@@ -41,10 +41,6 @@ use Rattle.key_laws.proofs.Kept.{WasPosted, was_posted, more}
 use Rattle.key_laws.proofs.NamedLines.{Ids, ids_put, ids_aged, neighbours_are, member_is}
 
 -- ---- a node
-
--- one of the declared nodes
-abbrev pub IsOne : List ℕ → ℕ → Type 0
-IsOne ns n = contains ns n ≡ true
 
 abbrev pub peers_of : List ℕ → ℕ → List ℕ
 peers_of ns n = in_order nat_lt (without ns n)
@@ -57,8 +53,8 @@ pub record Missing (me : ℕ) (a : Agreement) : Type 0 where
 pub record NodeEnds (ns : List ℕ) (n own : ℕ) (near : List ℕ) (runs : Bool) (es : Table Heard) (a : Agreement) : Type 0 where
   pub me : own ≡ n
   pub peers : near ≡ peers_of ns n
-  pub up : runs ≡ true → IsOne ns n
-  pub heard : Ids (IsOne ns) es
+  pub up : runs ≡ true → IsOneOf ns n
+  pub heard : Ids (IsOneOf ns) es
   pub missing : Missing own a
 
 abbrev pub EndsOf : List ℕ → ℕ → Facts → Type 0
@@ -113,8 +109,8 @@ proposed_missing me a k ms h = go (proposes a.proposal k)
 with_missing : {ns : List ℕ} {n own : ℕ} {near : List ℕ} {runs : Bool} {es : Table Heard} {a : Agreement} (b : Agreement) → NodeEnds ns n own near runs es a → Missing own b → NodeEnds ns n own near runs es b
 with_missing {ns} {n} {own} {near} {runs} {es} {a} b h m = record { me = h.me; peers = h.peers; up = h.up; heard = h.heard; missing = m }
 
-note_ends : (ns : List ℕ) (n : ℕ) (q : Option Want) (f : Facts) (l : Line) → ((m : ℕ) → l ≡ line.Start m → IsOne ns n) → EndsOf ns n f → EndsOf ns n (note q f l)
-note_ends ns n q f (line.Tick m) s h = record { me = h.me; peers = h.peers; up = h.up; heard = ids_aged (IsOne ns) f.hearing.heard h.heard; missing = kept_missing f.me f.agreement _ _ refl h.missing }
+note_ends : (ns : List ℕ) (n : ℕ) (q : Option Want) (f : Facts) (l : Line) → ((m : ℕ) → l ≡ line.Start m → IsOneOf ns n) → EndsOf ns n f → EndsOf ns n (note q f l)
+note_ends ns n q f (line.Tick m) s h = record { me = h.me; peers = h.peers; up = h.up; heard = ids_aged (IsOneOf ns) f.hearing.heard h.heard; missing = kept_missing f.me f.agreement _ _ refl h.missing }
 note_ends ns n q f (line.Stop m) s h = record { me = h.me; peers = h.peers; up = λ e. absurd (grind arith); heard = tt; missing = none_missing f.me _ refl }
 note_ends ns n q f (line.Start m) s h = record { me = h.me; peers = h.peers; up = λ e. s m refl; heard = h.heard; missing = h.missing }
 note_ends ns n q f (line.Quiesce m) s h = h
@@ -137,8 +133,8 @@ note_ends ns n q f _ s h = h
 
 -- ---- messages that reach the node, and that it sent
 
-reached_ends : (ns : List ℕ) (n : ℕ) (f : Facts) (from : ℕ) (m : Message) → (is_map_ask m ≡ false → IsOne ns from) → EndsOf ns n f → EndsOf ns n (reached f from m)
-reached_ends ns n f from (message.Heartbeat view promised hears role) s h = record { me = h.me; peers = h.peers; up = h.up; heard = ids_put (IsOne ns) from _ f.hearing.heard (s refl) h.heard; missing = same_missing f.me f.agreement _ refl h.missing }
+reached_ends : (ns : List ℕ) (n : ℕ) (f : Facts) (from : ℕ) (m : Message) → (is_map_ask m ≡ false → IsOneOf ns from) → EndsOf ns n f → EndsOf ns n (reached f from m)
+reached_ends ns n f from (message.Heartbeat view promised hears role) s h = record { me = h.me; peers = h.peers; up = h.up; heard = ids_put (IsOneOf ns) from _ f.hearing.heard (s refl) h.heard; missing = same_missing f.me f.agreement _ refl h.missing }
 reached_ends ns n f from (message.Accept k) s h = with_missing _ h (accepted_missing f.me f.agreement from k h.missing)
 reached_ends ns n f from (message.Refuse k promised) s h = with_missing _ h (refused_missing f.me f.agreement k promised h.missing)
 reached_ends ns n f from (message.State k wants row) s h = by_bool (in_view f k)
@@ -186,12 +182,12 @@ sent_ends ns n f to _ h = h
 
 abbrev pub AllTables : List ℕ → List MapTable → Type 0
 AllTables ns [] = Unit {0}
-AllTables ns (t ∷ ts) = TableNames (IsOne ns) t × AllTables ns ts
+AllTables ns (t ∷ ts) = TableNames (IsOneOf ns) t × AllTables ns ts
 
 pub record Peopled (ns : List ℕ) (t : Traced) : Type 0 where
   pub nodes : (n : ℕ) → EndsOf ns n (facts_of t n)
-  pub lists : (k : ClusterKey) (ms : List Member) (m : ℕ) → t.lists k ≡ Some ms → is_member ms m ≡ true → IsOne ns m
-  pub sent : (i : ℕ) (p : Posting) → slice_get t.world.network.sent i ≡ Some p → GoesRight (IsOne ns) p.from p.to p.bytes
+  pub lists : (k : ClusterKey) (ms : List Member) (m : ℕ) → t.lists k ≡ Some ms → is_member ms m ≡ true → IsOneOf ns m
+  pub sent : (i : ℕ) (p : Posting) → slice_get t.world.network.sent i ≡ Some p → GoesRight (IsOneOf ns) p.from p.to p.bytes
   pub tables : AllTables ns t.world.tables
 
 abbrev Nodes : List ℕ → (ℕ → Facts) → Type 0
@@ -200,17 +196,17 @@ Nodes ns facts = (n : ℕ) → EndsOf ns n (facts n)
 one : (ns : List ℕ) (facts : ℕ → Facts) (n : ℕ) (g : Facts) → Nodes ns facts → EndsOf ns n g → Nodes ns (at facts n g)
 one ns facts n g h here = at_each (λ m f. EndsOf ns m f) facts n g h here
 
-table_more : (ns : List ℕ) (ts : List MapTable) (t : MapTable) → AllTables ns ts → TableNames (IsOne ns) t → AllTables ns (ts ++ t ∷ [])
+table_more : (ns : List ℕ) (ts : List MapTable) (t : MapTable) → AllTables ns ts → TableNames (IsOneOf ns) t → AllTables ns (ts ++ t ∷ [])
 table_more ns [] t h n = (n, tt)
 table_more ns (x ∷ ts) t h n = (h.0, table_more ns ts t h.1 n)
 
 -- ---- a message arrives
 
 -- who sends another message than the client's
-pub sender_of : (ns : List ℕ) (p : Posting) (m : Message) → message_of p.bytes ≡ Some m → GoesRight (IsOne ns) p.from p.to p.bytes → is_map_ask m ≡ false → FromNode (IsOne ns) p.from p.to
+pub sender_of : (ns : List ℕ) (p : Posting) (m : Message) → message_of p.bytes ≡ Some m → GoesRight (IsOneOf ns) p.from p.to p.bytes → is_map_ask m ≡ false → FromNode (IsOneOf ns) p.from p.to
 sender_of ns p m r g e = ⊎_elim (λ x. x) (λ x. other x.asks) g.ends
   where
-    other : message_of p.bytes ≡ Some message.MapAsk → FromNode (IsOne ns) p.from p.to
+    other : message_of p.bytes ≡ Some message.MapAsk → FromNode (IsOneOf ns) p.from p.to
     other a = absurd (never (ap is_map_ask (some_same (sym r ∙ a))))
       where
         never : is_map_ask m ≡ true → ⊥
@@ -219,10 +215,10 @@ sender_of ns p m r g e = ⊎_elim (λ x. x) (λ x. other x.asks) g.ends
 abbrev Stays : List ℕ → Traced → World → Type 0
 Stays ns t w = Nodes ns w.facts × AllTables ns w.tables
 
-came_stays : (ns : List ℕ) (t : Traced) (b : ℕ) (p : Posting) → GoesRight (IsOne ns) p.from p.to p.bytes → Peopled ns t → Stays ns t (marks.came t.world (arrived b p))
+came_stays : (ns : List ℕ) (t : Traced) (b : ℕ) (p : Posting) → GoesRight (IsOneOf ns) p.from p.to p.bytes → Peopled ns t → Stays ns t (marks.came t.world (arrived b p))
 came_stays ns t b p g h = go (message_of p.bytes) refl
   where
-    at_client : (m : Message) → TellsIf (IsOne ns) (Some m) → Stays ns t (marks.came_to_client t.world m)
+    at_client : (m : Message) → TellsIf (IsOneOf ns) (Some m) → Stays ns t (marks.came_to_client t.world m)
     at_client (message.MapTable x) n = (h.nodes, table_more ns t.world.tables x h.tables n)
     at_client _ n = (h.nodes, h.tables)
 
@@ -231,14 +227,14 @@ came_stays ns t b p g h = go (message_of p.bytes) refl
     go (Some m) e = by_end (b == client)
       where
         by_end : (q : Bool) → Stays ns t (marks.came_to t.world (record { from = p.from; to = b; message = m }) q)
-        by_end true = at_client m (subst (TellsIf (IsOne ns)) e g.tells)
+        by_end true = at_client m (subst (TellsIf (IsOneOf ns)) e g.tells)
         by_end false = (one ns t.world.facts b (reached (t.world.facts b) p.from m) h.nodes (reached_ends ns b (t.world.facts b) p.from m (λ k. (sender_of ns p m e g k).sender) (h.nodes b)), h.tables)
 
-arrival_stays : (ns : List ℕ) (t : Traced) (b : ℕ) (o : Option Posting) → ((p : Posting) → o ≡ Some p → GoesRight (IsOne ns) p.from p.to p.bytes) → Peopled ns t → Stays ns t (marks.came t.world (option_and_then (arrived b) o))
+arrival_stays : (ns : List ℕ) (t : Traced) (b : ℕ) (o : Option Posting) → ((p : Posting) → o ≡ Some p → GoesRight (IsOneOf ns) p.from p.to p.bytes) → Peopled ns t → Stays ns t (marks.came t.world (option_and_then (arrived b) o))
 arrival_stays ns t b None g h = (h.nodes, h.tables)
 arrival_stays ns t b (Some p) g h = came_stays ns t b p (g p refl) h
 
-cut_stays : (ns : List ℕ) (t : Traced) (b size : ℕ) (o : Option Posting) → ((p : Posting) → o ≡ Some p → GoesRight (IsOne ns) p.from p.to p.bytes) → Peopled ns t → Stays ns t (marks.came t.world (option_and_then (arrived_cut b size) o))
+cut_stays : (ns : List ℕ) (t : Traced) (b size : ℕ) (o : Option Posting) → ((p : Posting) → o ≡ Some p → GoesRight (IsOneOf ns) p.from p.to p.bytes) → Peopled ns t → Stays ns t (marks.came t.world (option_and_then (arrived_cut b size) o))
 cut_stays ns t b size None g h = (h.nodes, h.tables)
 cut_stays ns t b size (Some p) g h = go (nat_le (length p.bytes) size)
   where
@@ -263,11 +259,11 @@ arrived_peopled ns t x entered s h = record { nodes = s.0; lists = h.lists; sent
 
 -- ---- a message is sent
 
-posted_peopled : (ns : List ℕ) (t : Traced) (i : ℕ) (p : Posting) (entered : ℕ → ClusterKey → Bool) → GoesRight (IsOne ns) p.from p.to p.bytes → Peopled ns t → Peopled ns (record { world = marks.posted_by t.world i p; lists = t.lists; entered = entered })
+posted_peopled : (ns : List ℕ) (t : Traced) (i : ℕ) (p : Posting) (entered : ℕ → ClusterKey → Bool) → GoesRight (IsOneOf ns) p.from p.to p.bytes → Peopled ns t → Peopled ns (record { world = marks.posted_by t.world i p; lists = t.lists; entered = entered })
 posted_peopled ns t i p entered g h = go (message_of p.bytes)
   where
-    sends : (j : ℕ) (q : Posting) → slice_get (t.world.network.sent ++ p ∷ []) j ≡ Some q → GoesRight (IsOne ns) q.from q.to q.bytes
-    sends j q e = ⊎_elim (λ z. h.sent j q z) (λ z. subst (λ (x : Posting). GoesRight (IsOne ns) x.from x.to x.bytes) (sym z) g) (more t.world.network.sent p q j e)
+    sends : (j : ℕ) (q : Posting) → slice_get (t.world.network.sent ++ p ∷ []) j ≡ Some q → GoesRight (IsOneOf ns) q.from q.to q.bytes
+    sends j q e = ⊎_elim (λ z. h.sent j q z) (λ z. subst (λ (x : Posting). GoesRight (IsOneOf ns) x.from x.to x.bytes) (sym z) g) (more t.world.network.sent p q j e)
 
     go : (o : Option Message) → Peopled ns (record { world = marks.sent_by (record t.world { network = posting t.world.network i p }) p.from p.to o; lists = t.lists; entered = entered })
     go None = record { nodes = h.nodes; lists = h.lists; sent = sends; tables = h.tables }
@@ -275,38 +271,38 @@ posted_peopled ns t i p entered g h = go (message_of p.bytes)
 
 -- ---- a line of a node
 
-noted_peopled : (ns : List ℕ) (t : Traced) (n : ℕ) (l : Line) (entered : ℕ → ClusterKey → Bool) → ((m : ℕ) → l ≡ line.Start m → IsOne ns n) → Peopled ns t → Peopled ns (record { world = marks.by_node t.world n l; lists = t.lists; entered = entered })
+noted_peopled : (ns : List ℕ) (t : Traced) (n : ℕ) (l : Line) (entered : ℕ → ClusterKey → Bool) → ((m : ℕ) → l ≡ line.Start m → IsOneOf ns n) → Peopled ns t → Peopled ns (record { world = marks.by_node t.world n l; lists = t.lists; entered = entered })
 noted_peopled ns t n l entered s h = record { nodes = one ns t.world.facts n (note t.world.want (facts_of t n) l) h.nodes (note_ends ns n t.world.want (facts_of t n) l s (h.nodes n)); lists = h.lists; sent = h.sent; tables = h.tables }
 
 abbrev is_start : Line → Bool
 is_start (line.Start n) = true
 is_start _ = false
 
-no_start : (ns : List ℕ) (n : ℕ) (l : Line) → is_start l ≡ false → (m : ℕ) → l ≡ line.Start m → IsOne ns n
+no_start : (ns : List ℕ) (n : ℕ) (l : Line) → is_start l ≡ false → (m : ℕ) → l ≡ line.Start m → IsOneOf ns n
 no_start ns n l e m same = absurd (never (ap is_start same))
   where
     never : is_start l ≡ true → ⊥
     never t = grind (arith, t, e)
 
 -- a key of the node's own is promised for its neighbours
-promised_lists : (ns : List ℕ) (t : Traced) (n : ℕ) (j : ClusterKey) → IsOne ns n → Peopled ns t → (k : ClusterKey) (ms : List Member) (m : ℕ) → promised_by t.lists j (neighbours (facts_of t n)) (j.principal == n) k ≡ Some ms → is_member ms m ≡ true → IsOne ns m
+promised_lists : (ns : List ℕ) (t : Traced) (n : ℕ) (j : ClusterKey) → IsOneOf ns n → Peopled ns t → (k : ClusterKey) (ms : List Member) (m : ℕ) → promised_by t.lists j (neighbours (facts_of t n)) (j.principal == n) k ≡ Some ms → is_member ms m ≡ true → IsOneOf ns m
 promised_lists ns t n j d h k ms m e i = go (j.principal == n) e
   where
-    near : (m : ℕ) → is_member (neighbours (facts_of t n)) m ≡ true → IsOne ns m
-    near m e = member_is (IsOne ns) (neighbours (facts_of t n)) m (neighbours_are (IsOne ns) (facts_of t n).me (facts_of t n).role (facts_of t n).hearing.heard (subst (IsOne ns) (sym (h.nodes n).me) d) (h.nodes n).heard) e
+    near : (m : ℕ) → is_member (neighbours (facts_of t n)) m ≡ true → IsOneOf ns m
+    near m e = member_is (IsOneOf ns) (neighbours (facts_of t n)) m (neighbours_are (IsOneOf ns) (facts_of t n).me (facts_of t n).role (facts_of t n).hearing.heard (subst (IsOneOf ns) (sym (h.nodes n).me) d) (h.nodes n).heard) e
 
-    listed : (b : Bool) → listed_if j (neighbours (facts_of t n)) (t.lists k) b ≡ Some ms → IsOne ns m
+    listed : (b : Bool) → listed_if j (neighbours (facts_of t n)) (t.lists k) b ≡ Some ms → IsOneOf ns m
     listed true q = near m (ap (λ (xs : List Member). is_member xs m) (some_same q) ∙ i)
     listed false q = h.lists k ms m q i
 
-    go : (b : Bool) → promised_by t.lists j (neighbours (facts_of t n)) b k ≡ Some ms → IsOne ns m
+    go : (b : Bool) → promised_by t.lists j (neighbours (facts_of t n)) b k ≡ Some ms → IsOneOf ns m
     go true q = listed (same_key j k) q
     go false q = h.lists k ms m q i
 
-posted_right : (ns : List ℕ) (t : Traced) (i : ℕ) → Peopled ns t → (p : Posting) → posting_at t.world.network i ≡ Some p → GoesRight (IsOne ns) p.from p.to p.bytes
+posted_right : (ns : List ℕ) (t : Traced) (i : ℕ) → Peopled ns t → (p : Posting) → posting_at t.world.network i ≡ Some p → GoesRight (IsOneOf ns) p.from p.to p.bytes
 posted_right ns t i h p e = let w : WasPosted t p = was_posted t i p e in h.sent w.place p w.stands
 
-pub line_peopled : (ns : List ℕ) (t : Traced) (l : Line) → LineNames (IsOne ns) l → Peopled ns t → Peopled ns (after t (Writes l))
+pub line_peopled : (ns : List ℕ) (t : Traced) (l : Line) → LineNames (IsOneOf ns) l → Peopled ns t → Peopled ns (after t (Writes l))
 line_peopled ns t (line.Deliver i a b) d h = arrived_peopled ns t (option_and_then (arrived b) (posting_at t.world.network i)) _ (arrival_stays ns t b (posting_at t.world.network i) (posted_right ns t i h) h) h
 line_peopled ns t (line.Repeat i a b) d h = arrived_peopled ns t (option_and_then (arrived b) (posting_at t.world.network i)) _ (arrival_stays ns t b (posting_at t.world.network i) (posted_right ns t i h) h) h
 line_peopled ns t (line.Cut i a b size) d h = arrived_peopled ns t (option_and_then (arrived_cut b size) (posting_at t.world.network i)) _ (cut_stays ns t b size (posting_at t.world.network i) (posted_right ns t i h) h) h

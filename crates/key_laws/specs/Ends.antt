@@ -1,8 +1,6 @@
 -- Between whom messages go, and whom lines name: nodes of which something holds, as that they are declared, and the client.
-use Rattle.std.specs.Prelude.{◌≡◌, ◌<◌, ◌⊎◌, ℕ, Bool, true, false, List, [], ◌∷◌, Option, Some, None, slice_get, slice_index}
+use Rattle.std.specs.Prelude.{◌≡◌, ◌<◌, ◌⊎◌, ℕ, Bool, true, false, List, [], ◌∷◌, Option, Some, None, slice_index, IsTrue}
 use Rattle.std.specs.List.{concat}
-use Rattle.cluster_types.specs.declared.cluster_key.ClusterKey.{ClusterKey}
-use Rattle.cluster_types.specs.declared.member.Member.{Member}
 use Rattle.cluster_types.specs.Members.{ids_of}
 use Rattle.cluster_types.specs.Partitions.{partition_count}
 use Rattle.wire_messages.specs.declared.message.MapTable.{MapTable}
@@ -13,7 +11,12 @@ use Rattle.journal_lines.specs.declared.refusal.Refusal.{Refusal}
 use Rattle.journal_lines.specs.declared.refusal.Refusal.TheVariants as refusal
 use Rattle.journal_lines.specs.declared.line.Line.{Line}
 use Rattle.journal_lines.specs.declared.line.Line.TheVariants as line
+use Rattle.cluster_rules.specs.Lines.{has_node}
 use Rattle.cluster_rules.specs.Network.{client}
+
+-- one of the declared nodes
+abbrev pub IsOneOf : List ℕ → ℕ → Type 0
+IsOneOf declared n = IsTrue (has_node declared n)
 
 -- ---- messages
 

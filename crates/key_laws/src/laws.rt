@@ -11,11 +11,12 @@ ghost use Rattle.cluster_rules.specs.Allowed.{AreAllowed};
 ghost use Rattle.cluster_rules.specs.Claims.{KeysRise};
 ghost use Rattle.cluster_rules.specs.Marks as marks;
 ghost use Rattle.cluster_rules.specs.Messages.{Posting};
-ghost use Rattle.cluster_rules.specs.Opening.{Header};
+ghost use Rattle.cluster_rules.specs.Opening.{Header, declared_nodes};
 ghost use Rattle.cluster_rules.specs.Runs.{RunOf, run_marks};
-ghost use Rattle.cluster_rules.specs.Steps.{Step, all_marks};
+ghost use Rattle.cluster_rules.specs.Steps.{Step, all_lines, all_marks};
 ghost use Rattle.cluster_rules.specs.World.{opened};
 ghost use Rattle.key_laws.specs.Addressed.{GoesBetween, ComesFromOther};
+ghost use Rattle.key_laws.specs.Ends.{IsOneOf, AllName};
 ghost use Rattle.key_laws.specs.Traced.{Traced, facts_of, untouched, after_all};
 ghost use Rattle.key_laws.specs.Licences.{Says, Licensed};
 ghost use Rattle.key_laws.specs.Laws.{KeepsRanges, traced_at, EntriesAgree};
@@ -62,4 +63,10 @@ pub fn messages_of_a_view_go_between_its_members()
 /// What is due of steps that are allowed has its licence, mark by mark.
 pub fn allowed_steps_are_licensed()
     ensures { (n : ℕ) → (h : Header) → (ss : List Step) → All IsProperHeaderLine h → AreAllowed n (opened h) ss → Licensed (untouched (opened h)) (all_marks ss) }
+{}
+
+/// Each line of steps that are allowed names declared nodes alone. Each message goes from a declared node to another
+/// one or to the client, or from the client to a node that it asks for its table; and a table names declared nodes.
+pub fn lines_name_declared_nodes()
+    ensures { (n : ℕ) → (h : Header) → (ss : List Step) → All IsProperHeaderLine h → AreAllowed n (opened h) ss → AllName (IsOneOf (declared_nodes h)) (all_lines ss) }
 {}

@@ -1,9 +1,6 @@
 -- Who is heard, who stands in a list and who sends a heartbeat is declared.
-use Rattle.std.proofs.Common.{◌≡◌, ℕ, zero, suc, ◌==◌, nat_lt, Bool, true, false, List, [], ◌∷◌, ◌++◌, map, length, Option, Some, None, refl, sym, ap, ◌∙◌, subst, ⊎_elim}
-use Rattle.std.specs.Prelude.{filter, option_map, option_and_then, slice_get, nat_le, if◌then◌else◌}
-use mathlib.Core.List.{reverse_aux}
-use Rattle.std.specs.Ordering.{nat_cmp}
-use Rattle.std.specs.FinMap.{put}
+use Rattle.std.proofs.Common.{◌≡◌, ℕ, zero, suc, ◌==◌, Bool, true, false, List, [], ◌∷◌, ◌++◌, length, Option, Some, None, refl, sym, ap, ◌∙◌, subst}
+use Rattle.std.specs.Prelude.{option_map, option_and_then, slice_get, nat_le, if◌then◌else◌}
 use Rattle.cluster_types.specs.declared.cluster_key.ClusterKey.{ClusterKey}
 use Rattle.cluster_types.specs.declared.member.Member.{Member}
 use Rattle.cluster_types.specs.declared.member.Role.{Role}
@@ -16,61 +13,31 @@ use Rattle.wire_messages.specs.Decoding.{message_of}
 use Rattle.node_rules.specs.Exchange.{is_member}
 use Rattle.node_rules.specs.Facts.{Facts, list_at}
 use Rattle.node_rules.specs.Map.{master}
-use Rattle.node_rules.specs.Hearing.{Heard, neighbours_of, aged, older, names, member_of, timeout}
+use Rattle.node_rules.specs.Hearing.{Heard}
 use Rattle.node_rules.specs.Keys.{same_key}
 use Rattle.node_rules.specs.Notes as notes
 use Rattle.node_rules.specs.Notes.{note, neighbours, reached, sent, in_view}
-use Rattle.node_rules.specs.Tables.{Table, contains, with_entry}
+use Rattle.node_rules.specs.Tables.{Table, contains}
 use Rattle.cluster_rules.specs.Marks.{Writes, after_line, came, came_to, came_to_client, sent_by}
 use Rattle.cluster_rules.specs.Messages.{Posting, Arrival, arrived, arrived_cut}
 use Rattle.cluster_rules.specs.Network.{posting_at, posting, client}
 use Rattle.cluster_rules.specs.World.{World, at}
 use Rattle.cluster_rules.proofs.AllowedLaws.{nodes_stay}
-use Rattle.cluster_laws.proofs.At.{number_same, or_cases, differ, some_same, no_some}
+use Rattle.cluster_laws.proofs.At.{number_same, some_same, no_some}
 use Rattle.key_laws.specs.Traced.{Traced, promised_by, listed_if}
 use Rattle.key_laws.specs.Traced as traced
 use Rattle.key_laws.proofs.Frames.{at_each}
 use Rattle.key_laws.proofs.Kept.{WasPosted, was_posted}
-use Rattle.key_laws.proofs.Neighbours.{by_test, put_cases}
+use Rattle.key_laws.proofs.NamedLines.{Ids, ids_put, ids_aged, AllMembers, neighbours_are, member_is}
 use Rattle.run_laws.specs.Fronts.{Front, world_of, facts_at, after}
 use Rattle.run_laws.specs.LineOk.{IsDeclared}
 use Rattle.run_laws.specs.LineDue.{SendDueIf, LineDue, DeclaredLaw}
 use Rattle.run_laws.specs.Tied.{Each}
 
--- ---- numbers of a table
-
-abbrev Ids : {X : Type 0} → (ℕ → Type 0) → Table X → Type 0
-Ids {X} P es = Each (λ (e : ℕ × X). P e.0) es
-
-ids_put : {X : Type 0} (P : ℕ → Type 0) (k : ℕ) (v : X) (es : Table X) → P k → Ids P es → Ids P (put nat_cmp k v es)
-ids_put {X} P k v [] h i = (h, tt)
-ids_put {X} P k v (e ∷ es) h i = put_cases (λ (xs : Table X). Ids P xs) k v e es (λ _. (h, i)) (λ _. i) (λ _. (i.0, ids_put P k v es h i.1))
-
-ids_aged : (P : ℕ → Type 0) (es : Table Heard) → Ids P es → Ids P (aged es)
-ids_aged P [] h = tt
-ids_aged P (e ∷ es) h = by_test (λ (xs : Table Heard). Ids P xs) (nat_lt (older e).1.age timeout) (older e ∷ aged es) (aged es) (h.0, ids_aged P es h.1) (ids_aged P es h.1)
-
-ids_roles : (P : ℕ → Type 0) (n : ℕ) (es : Table Heard) → Ids P es → Ids P (map (λ e. (e.0, e.1.beat.role)) (filter (names n) es))
-ids_roles P n [] h = tt
-ids_roles P n (e ∷ es) h = by_test (λ (xs : Table Heard). Ids P (map (λ e. (e.0, e.1.beat.role)) xs)) (names n e) (e ∷ filter (names n) es) (filter (names n) es) (h.0, ids_roles P n es h.1) (ids_roles P n es h.1)
-
-abbrev Members : (ℕ → Type 0) → List Member → Type 0
-Members P ms = Each (λ (m : Member). P m.id) ms
-
-members_of : (P : ℕ → Type 0) (es : Table Role) → Ids P es → Members P (map member_of es)
-members_of P [] h = tt
-members_of P (e ∷ es) h = (h.0, members_of P es h.1)
-
-members_onto : (P : ℕ → Type 0) (xs ms : List Member) → Members P xs → Members P ms → Members P (reverse_aux xs ms)
-members_onto P [] ms h i = i
-members_onto P (x ∷ xs) ms h i = members_onto P xs (x ∷ ms) h.1 (h.0, i)
-
-neighbours_are : (P : ℕ → Type 0) (me : ℕ) (role : Role) (es : Table Heard) → P me → Ids P es → Members P (neighbours_of me role es)
-neighbours_are P me role es h i = members_onto P (map member_of (with_entry (map (λ e. (e.0, e.1.beat.role)) (filter (names me) es)) me role)) [] (members_of P _ (ids_put P me role _ h (ids_roles P me es i))) tt
-
-member_is : (P : ℕ → Type 0) (ms : List Member) (n : ℕ) → Members P ms → is_member ms n ≡ true → P n
-member_is P [] n h e = differ e refl
-member_is P (m ∷ ms) n h e = ⊎_elim (λ x. subst P (number_same m.id n x) h.0) (λ y. member_is P ms n h.1 y) (or_cases (m.id == n) (is_member ms n) e)
+-- as the law says it
+ids_from : (P : ℕ → Type 0) (es : Table Heard) → Each (λ (e : ℕ × Heard). P e.0) es → Ids P es
+ids_from P [] h = tt
+ids_from P (e ∷ es) h = (h.0, ids_from P es h.1)
 
 -- ---- who is heard
 
@@ -161,34 +128,37 @@ posted_hears P w a b (Some m) h = one P w a (sent (w.facts a) b m) h (sent_hears
 hears_line : (z : Front) (l : Line) → DeclaredLaw z → Hears (IsDeclared z) (after_line (world_of z) l)
 hears_line z l h = go l
   where
+    hs : Hears (IsDeclared z) (world_of z)
+    hs n = ids_from (IsDeclared z) (facts_at z n).hearing.heard (h.heard n)
+
     beats_at : (i : ℕ) (p : Posting) → posting_at (world_of z).network i ≡ Some p → BeatsFrom (IsDeclared z) p
     beats_at i p e v q hs r m = let w : WasPosted z.chronicle.traced p = was_posted z.chronicle.traced i p e in h.beats w.place p v q hs r w.stands m
 
     go : (l : Line) → Hears (IsDeclared z) (after_line (world_of z) l)
-    go (line.Deliver i a b) = arrival_hears (IsDeclared z) (world_of z) b (posting_at (world_of z).network i) (beats_at i) h.heard
-    go (line.Repeat i a b) = arrival_hears (IsDeclared z) (world_of z) b (posting_at (world_of z).network i) (beats_at i) h.heard
-    go (line.Cut i a b size) = cut_hears (IsDeclared z) (world_of z) b size (posting_at (world_of z).network i) (beats_at i) h.heard
-    go (line.Sent i a b bytes) = posted_hears (IsDeclared z) (record (world_of z) { network = _ }) a b (message_of bytes) h.heard
-    go (line.Tick n) = one (IsDeclared z) (world_of z) n _ h.heard (ids_aged (IsDeclared z) (facts_at z n).hearing.heard (h.heard n))
-    go (line.Stop n) = one (IsDeclared z) (world_of z) n _ h.heard tt
-    go (line.Start n) = one (IsDeclared z) (world_of z) n _ h.heard (h.heard n)
-    go (line.Quiesce n) = one (IsDeclared z) (world_of z) n _ h.heard (h.heard n)
-    go (line.Unquiesce n) = one (IsDeclared z) (world_of z) n _ h.heard (h.heard n)
-    go (line.Promise n k) = one (IsDeclared z) (world_of z) n _ h.heard (h.heard n)
-    go (line.Enter n k ms) = one (IsDeclared z) (world_of z) n _ h.heard (h.heard n)
-    go (line.Exchanged n k) = one (IsDeclared z) (world_of z) n _ h.heard (h.heard n)
-    go (line.Opened n k t d a) = one (IsDeclared z) (world_of z) n _ h.heard (h.heard n)
-    go (line.Value n k t d v) = one (IsDeclared z) (world_of z) n _ h.heard (h.heard n)
-    go (line.Apply n k t d v) = one (IsDeclared z) (world_of z) n _ h.heard (h.heard n)
-    go (line.Done n k t) = one (IsDeclared z) (world_of z) n _ h.heard (h.heard n)
-    go (line.Aborted n k t) = one (IsDeclared z) (world_of z) n _ h.heard (h.heard n)
-    go (line.Doubt n k t) = one (IsDeclared z) (world_of z) n _ h.heard (h.heard n)
-    go (line.Merge n k d v) = one (IsDeclared z) (world_of z) n _ h.heard (h.heard n)
-    go (line.Handed n k p) = one (IsDeclared z) (world_of z) n _ h.heard (h.heard n)
-    go (line.Settled n k p) = one (IsDeclared z) (world_of z) n _ h.heard (h.heard n)
-    go (line.Learn n k p) = one (IsDeclared z) (world_of z) n _ h.heard (h.heard n)
-    go (line.Drop n k p) = one (IsDeclared z) (world_of z) n _ h.heard (h.heard n)
-    go _ = h.heard
+    go (line.Deliver i a b) = arrival_hears (IsDeclared z) (world_of z) b (posting_at (world_of z).network i) (beats_at i) hs
+    go (line.Repeat i a b) = arrival_hears (IsDeclared z) (world_of z) b (posting_at (world_of z).network i) (beats_at i) hs
+    go (line.Cut i a b size) = cut_hears (IsDeclared z) (world_of z) b size (posting_at (world_of z).network i) (beats_at i) hs
+    go (line.Sent i a b bytes) = posted_hears (IsDeclared z) (record (world_of z) { network = _ }) a b (message_of bytes) hs
+    go (line.Tick n) = one (IsDeclared z) (world_of z) n _ hs (ids_aged (IsDeclared z) (facts_at z n).hearing.heard (hs n))
+    go (line.Stop n) = one (IsDeclared z) (world_of z) n _ hs tt
+    go (line.Start n) = one (IsDeclared z) (world_of z) n _ hs (hs n)
+    go (line.Quiesce n) = one (IsDeclared z) (world_of z) n _ hs (hs n)
+    go (line.Unquiesce n) = one (IsDeclared z) (world_of z) n _ hs (hs n)
+    go (line.Promise n k) = one (IsDeclared z) (world_of z) n _ hs (hs n)
+    go (line.Enter n k ms) = one (IsDeclared z) (world_of z) n _ hs (hs n)
+    go (line.Exchanged n k) = one (IsDeclared z) (world_of z) n _ hs (hs n)
+    go (line.Opened n k t d a) = one (IsDeclared z) (world_of z) n _ hs (hs n)
+    go (line.Value n k t d v) = one (IsDeclared z) (world_of z) n _ hs (hs n)
+    go (line.Apply n k t d v) = one (IsDeclared z) (world_of z) n _ hs (hs n)
+    go (line.Done n k t) = one (IsDeclared z) (world_of z) n _ hs (hs n)
+    go (line.Aborted n k t) = one (IsDeclared z) (world_of z) n _ hs (hs n)
+    go (line.Doubt n k t) = one (IsDeclared z) (world_of z) n _ hs (hs n)
+    go (line.Merge n k d v) = one (IsDeclared z) (world_of z) n _ hs (hs n)
+    go (line.Handed n k p) = one (IsDeclared z) (world_of z) n _ hs (hs n)
+    go (line.Settled n k p) = one (IsDeclared z) (world_of z) n _ hs (hs n)
+    go (line.Learn n k p) = one (IsDeclared z) (world_of z) n _ hs (hs n)
+    go (line.Drop n k p) = one (IsDeclared z) (world_of z) n _ hs (hs n)
+    go _ = hs
 
 -- ---- lists
 
@@ -196,7 +166,7 @@ lists_line : (z : Front) (l : Line) → (facts_me : (n : ℕ) → (facts_at z n)
 lists_line z (line.Promise n j) me ok h k ms m e i = go (j.principal == n) refl e
   where
     listed : (b : Bool) → (j.principal == n) ≡ true → listed_if j (neighbours (facts_at z n)) (z.chronicle.traced.lists k) b ≡ Some ms → IsDeclared z m
-    listed true p q = member_is (IsDeclared z) ms m (subst (λ (xs : List Member). Members (IsDeclared z) xs) (some_same q) (neighbours_are (IsDeclared z) (facts_at z n).me (facts_at z n).role (facts_at z n).hearing.heard (subst (IsDeclared z) (sym (me n)) (ok.1 (number_same j.principal n p))) (h.heard n))) i
+    listed true p q = member_is (IsDeclared z) ms m (subst (λ (xs : List Member). AllMembers (IsDeclared z) xs) (some_same q) (neighbours_are (IsDeclared z) (facts_at z n).me (facts_at z n).role (facts_at z n).hearing.heard (subst (IsDeclared z) (sym (me n)) (ok.1 (number_same j.principal n p))) (ids_from (IsDeclared z) (facts_at z n).hearing.heard (h.heard n)))) i
     listed false p q = h.lists k ms m q i
 
     go : (b : Bool) → (j.principal == n) ≡ b → promised_by z.chronicle.traced.lists j (neighbours (facts_at z n)) b k ≡ Some ms → IsDeclared z m
@@ -247,6 +217,6 @@ declared_line z l me ok h = record {
     on : (m : ℕ) → IsDeclared z m → IsDeclared (after z (Writes l)) m
     on m d = ap (λ (ns : List ℕ). contains ns m) (nodes_stay (Writes l ∷ []) (world_of z)) ∙ d
 
-    all_on : (es : Table Heard) → Ids (IsDeclared z) es → Ids (IsDeclared (after z (Writes l))) es
+    all_on : (es : Table Heard) → Ids (IsDeclared z) es → Each (λ (e : ℕ × Heard). IsDeclared (after z (Writes l)) e.0) es
     all_on [] d = tt
     all_on (e ∷ es) d = (on e.0 d.0, all_on es d.1)

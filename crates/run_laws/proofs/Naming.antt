@@ -18,11 +18,10 @@ use Rattle.cluster_rules.specs.Steps.{Step, all_lines}
 use Rattle.cluster_rules.proofs.WorldReadings.{nodes_agree}
 use Rattle.cluster_laws.specs.Journals.{journal}
 use Rattle.cluster_laws.proofs.At.{and_both, and_left, and_right, differ, some_same, no_some}
-use Rattle.key_laws.specs.Ends.{AllName, AllNodes, CauseNames, IsEnd, LineNames}
+use Rattle.key_laws.specs.Ends.{IsOneOf, AllName, AllNodes, CauseNames, IsEnd, LineNames}
 use Rattle.key_laws.proofs.Addressed.{or_left, or_right}
 use Rattle.key_laws.proofs.Frames.{num_eq}
 use Rattle.key_laws.proofs.NamedSteps.{allowed_named}
-use Rattle.key_laws.proofs.Peopled.{IsOne}
 use Rattle.run_laws.specs.Claims.{OfEveryJournal}
 use Rattle.run_laws.specs.Taken.{Taken}
 use Rattle.run_laws.proofs.EveryJournal.{every_journal}
@@ -35,36 +34,36 @@ use Rattle.run_laws.proofs.Shapes.{entries_agree, stands_in_order}
 abbrev Pass : List ℕ → List ℕ → Type 0
 Pass ns ms = list_all (has_node ns) ms ≡ true
 
-pass_all : (ns ms : List ℕ) → AllNodes (IsOne ns) ms → Pass ns ms
+pass_all : (ns ms : List ℕ) → AllNodes (IsOneOf ns) ms → Pass ns ms
 pass_all ns [] h = refl
 pass_all ns (m ∷ ms) h = and_both (has_node ns m) _ h.0 (pass_all ns ms h.1)
 
-pass_one : (ns : List ℕ) (n : ℕ) → IsOne ns n → Pass ns (n ∷ [])
+pass_one : (ns : List ℕ) (n : ℕ) → IsOneOf ns n → Pass ns (n ∷ [])
 pass_one ns n h = and_both (has_node ns n) true h refl
 
 pass_append : (ns xs ys : List ℕ) → Pass ns xs → Pass ns ys → Pass ns (xs ++ ys)
 pass_append ns [] ys a b = b
 pass_append ns (x ∷ xs) ys a b = and_both (has_node ns x) _ (and_left (has_node ns x) _ a) (pass_append ns xs ys (and_right (has_node ns x) _ a) b)
 
-pass_end : (ns : List ℕ) (n : ℕ) → IsEnd (IsOne ns) n → Pass ns (end_nodes n)
+pass_end : (ns : List ℕ) (n : ℕ) → IsEnd (IsOneOf ns) n → Pass ns (end_nodes n)
 pass_end ns n h = go (n == 0) refl
   where
     go : (b : Bool) → (n == 0) ≡ b → list_all (has_node ns) (if b then [] else (n ∷ [])) ≡ true
     go true e = refl
     go false e = ⊎_elim (λ (q : n ≡ client). differ (num_eq n 0 q) e) (λ d. pass_one ns n d) h
 
-pass_ends : (ns : List ℕ) (a b : ℕ) → IsEnd (IsOne ns) a × IsEnd (IsOne ns) b → Pass ns (end_nodes a ++ end_nodes b)
+pass_ends : (ns : List ℕ) (a b : ℕ) → IsEnd (IsOneOf ns) a × IsEnd (IsOneOf ns) b → Pass ns (end_nodes a ++ end_nodes b)
 pass_ends ns a b h = pass_append ns (end_nodes a) (end_nodes b) (pass_end ns a h.0) (pass_end ns b h.1)
 
-pass_cause : (ns : List ℕ) (cause : Refusal) → CauseNames (IsOne ns) cause → Pass ns (refusal_nodes cause)
+pass_cause : (ns : List ℕ) (cause : Refusal) → CauseNames (IsOneOf ns) cause → Pass ns (refusal_nodes cause)
 pass_cause ns (refusal.Exchanging n) h = pass_one ns n h
 pass_cause ns (refusal.NotMaster n) h = pass_one ns n h
 pass_cause ns _ h = refl
 
-pass_more : (ns : List ℕ) (n : ℕ) (ms : List ℕ) → IsOne ns n → Pass ns ms → Pass ns (n ∷ ms)
+pass_more : (ns : List ℕ) (n : ℕ) (ms : List ℕ) → IsOneOf ns n → Pass ns ms → Pass ns (n ∷ ms)
 pass_more ns n ms h i = and_both (has_node ns n) _ h i
 
-line_passes : (ns : List ℕ) (l : Line) → LineNames (IsOne ns) l → Pass ns (named_nodes l)
+line_passes : (ns : List ℕ) (l : Line) → LineNames (IsOneOf ns) l → Pass ns (named_nodes l)
 unfolding named_nodes
 line_passes ns (line.Clock n time) h = pass_one ns n h
 line_passes ns (line.Groups groups) h = pass_all ns (concat groups) h
@@ -114,7 +113,7 @@ line_passes ns _ h = absurd h
 
 -- ---- a journal
 
-steps_pass : (ns : List ℕ) (ls : List Line) → AllName (IsOne ns) ls → (i : ℕ) (l : Line) → slice_get ls i ≡ Some l → Pass ns (named_nodes l)
+steps_pass : (ns : List ℕ) (ls : List Line) → AllName (IsOneOf ns) ls → (i : ℕ) (l : Line) → slice_get ls i ≡ Some l → Pass ns (named_nodes l)
 steps_pass ns [] h i l e = no_some e
 steps_pass ns (x ∷ ls) h zero l e = ap (λ (y : Line). list_all (has_node ns) (named_nodes y)) (sym (some_same e)) ∙ line_passes ns x h.0
 steps_pass ns (x ∷ ls) h (suc i) l e = steps_pass ns ls h.1 i l e
@@ -136,7 +135,7 @@ others_among ns (header.Factor factor) h a n e = a n e
 others_among ns (header.Node m rack) h a n e = a n (or_right (m == n) _ e)
 others_among ns (header.Policy by) h a n e = a n e
 
-journal_passes : (ns : List ℕ) (h : Header) (ls : List Line) → Among ns (declared_nodes h) → AllName (IsOne ns) ls → (i : ℕ) (l : Line) → slice_get (header_lines h ++ ls) i ≡ Some l → Pass ns (named_nodes l)
+journal_passes : (ns : List ℕ) (h : Header) (ls : List Line) → Among ns (declared_nodes h) → AllName (IsOneOf ns) ls → (i : ℕ) (l : Line) → slice_get (header_lines h ++ ls) i ≡ Some l → Pass ns (named_nodes l)
 journal_passes ns [] ls a n i l e = steps_pass ns ls n i l e
 journal_passes ns (x ∷ h) ls a n zero l e = ap (λ (y : Line). list_all (has_node ns) (named_nodes y)) (sym (some_same e)) ∙ header_passes ns x h a
 journal_passes ns (x ∷ h) ls a n (suc i) l e = journal_passes ns h ls (others_among ns x h a) n i l e

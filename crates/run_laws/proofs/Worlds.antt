@@ -26,14 +26,14 @@ use Rattle.cluster_rules.specs.Steps.{Step, all_marks, all_lines}
 use Rattle.cluster_rules.specs.World.{World, opened}
 use Rattle.cluster_laws.proofs.At.{some_same, no_some}
 use Rattle.key_laws.specs.Addressed.{IsOther, ComesFromOther}
-use Rattle.key_laws.specs.Ends.{FromNode, GoesRight}
+use Rattle.key_laws.specs.Ends.{IsOneOf, FromNode, GoesRight}
 use Rattle.key_laws.specs.Traced.{Traced, untouched}
 use Rattle.key_laws.specs.Traced as traced
 use Rattle.key_laws.proofs.Addressed.{member_id, to_without, or_cases, or_left, or_right}
 use Rattle.key_laws.proofs.AllowedRuns.{comes_from_other}
 use Rattle.key_laws.proofs.Kept.{WasPosted, was_posted}
 use Rattle.key_laws.proofs.NamedSteps.{Named, allowed_named, no_client, asked_is, to_end}
-use Rattle.key_laws.proofs.Peopled.{IsOne, peers_of, Peopled}
+use Rattle.key_laws.proofs.Peopled.{peers_of, Peopled}
 use Rattle.key_laws.proofs.Runs.{declared_ids, marks_nodes, world_of}
 use Rattle.run_laws.specs.Fronts as fronts
 use Rattle.run_laws.specs.Ranges.{Ranged, FitsFacts, FitsTargets}
@@ -106,12 +106,12 @@ of_view f from (message.Ask k number d) h key e i = other_member f from (h (ap (
 of_view f from (message.Answer k number v) h key e i = other_member f from (h (ap (in_view f) (some_same e) ∙ i))
 of_view f from _ h key e i = no_some e
 
-posted_right : (h : Header) (ss : List Step) → Taken h ss → (i : ℕ) (p : Posting) → posting_at (world_after h ss).network i ≡ Some p → GoesRight (IsOne (declared_nodes h)) p.from p.to p.bytes
+posted_right : (h : Header) (ss : List Step) → Taken h ss → (i : ℕ) (p : Posting) → posting_at (world_after h ss).network i ≡ Some p → GoesRight (IsOneOf (declared_nodes h)) p.from p.to p.bytes
 posted_right h ss t i p e = let w : WasPosted (end_of h ss) p = was_posted (end_of h ss) i p (ap (λ (x : World). posting_at x.network i) (world_is h ss) ∙ e) in (named h ss t).peopled.sent w.place p w.stands
 
 pub messages_come : OfTakenWorlds MessagesCome
 messages_come h ss t i p m e r = record {
-  sender = ⊎_elim (λ (x : FromNode (IsOne (declared_nodes h)) p.from p.to).
+  sender = ⊎_elim (λ (x : FromNode (IsOneOf (declared_nodes h)) p.from p.to).
       inl (is_in ((world_after h ss).facts p.to).peers p.from (ap (λ (ns : List ℕ). contains ns p.from) ((knows_nodes h ss t).peers p.to) ∙ peer (declared_nodes h) p.to p.from x.sender x.differ)))
       (λ x. inr (x.sender, some_same (sym r ∙ x.asks)))
       (posted_right h ss t i p e).ends;
@@ -120,7 +120,7 @@ messages_come h ss t i p m e r = record {
 }
 
 pub have_receivers : OfTakenWorlds HaveReceivers
-have_receivers h ss t i p e = ⊎_elim inl (λ d. inr (is_in (declared_nodes h) p.to d)) (to_end (IsOne (declared_nodes h)) p.from p.to p.bytes (posted_right h ss t i p e))
+have_receivers h ss t i p e = ⊎_elim inl (λ d. inr (is_in (declared_nodes h) p.to d)) (to_end (IsOneOf (declared_nodes h)) p.from p.to p.bytes (posted_right h ss t i p e))
 
 -- ---- the client
 
