@@ -1,5 +1,5 @@
 -- The lines that are due of a node name nodes that it knows of.
-use Rattle.std.proofs.Common.{◌≡◌, ℕ, zero, suc, ◌+◌, ◌==◌, Bool, true, false, cond, List, [], ◌∷◌, ◌++◌, Option, Some, None, map, refl, sym, ap, subst, ◌∙◌, arith, if◌then◌else◌, ⊎_elim, inl, inr, ◌-◌}
+use Rattle.std.proofs.Common.{◌≡◌, ℕ, zero, suc, ◌+◌, ◌==◌, Bool, true, false, cond, List, [], ◌∷◌, ◌++◌, Option, Some, None, map, refl, sym, ap, subst, ◌∙◌, arith, ⊎_elim, inr, ◌-◌}
 use Rattle.std.specs.Prelude.{find, filter, nat_lt}
 use Rattle.std.specs.List.{range_with_len}
 use Rattle.std.specs.Ordering.{nat_cmp}
@@ -11,11 +11,10 @@ use Rattle.conflict_order.specs.declared.want.Want.TheVariants as want
 use Rattle.cluster_types.specs.declared.cluster_key.ClusterKey.{ClusterKey}
 use Rattle.cluster_types.specs.declared.member.Member.{Member}
 use Rattle.cluster_types.specs.declared.member.Role.{Role}
-use Rattle.cluster_types.specs.Members.{ids_of, plain_role, role_of}
+use Rattle.cluster_types.specs.Members.{ids_of}
 use Rattle.cluster_types.specs.Partitions.{partition_of}
 use Rattle.partition_lists.specs.Lists.{list}
 use Rattle.journal_lines.specs.declared.line.Line.{Line}
-use Rattle.journal_lines.specs.declared.line.Line.TheVariants as line
 use Rattle.journal_lines.specs.declared.refusal.Refusal.{Refusal}
 use Rattle.wire_messages.specs.declared.message.Message.{Message}
 use Rattle.wire_messages.specs.declared.message.Message.TheVariants as message
@@ -28,7 +27,7 @@ use Rattle.node_rules.specs.Hearing.{Heard, neighbours_of, aged, older, names, m
 use Rattle.node_rules.specs.Map.{lacks, entry_of}
 use Rattle.node_rules.specs.Messages as due
 use Rattle.node_rules.specs.Messages.{due_message_of}
-use Rattle.node_rules.specs.Notes.{note, noted, neighbours, new_transaction, reached, in_view, after_ages}
+use Rattle.node_rules.specs.Notes.{noted, neighbours, new_transaction, reached, in_view, after_ages}
 use Rattle.node_rules.specs.Requests.{due_request, due_stop, due_start, asking, refusal_of, refusal_after, acting_refusal, busy_refusal, map_refusal, up_refusal, view_refusal, exchange_refusal, request_if, stop_if, start_if}
 use Rattle.node_rules.specs.Resolving.{resolving_want, done_if}
 use Rattle.node_rules.specs.Settling.{line_if, hand, settle, learn, drop, and_then, settling_at, settling_from, settling_if}
@@ -37,10 +36,10 @@ use Rattle.node_rules.specs.Standing.{acts}
 use Rattle.node_rules.specs.Tables.{Table, contains, with_entry}
 use Rattle.node_rules.specs.Tick as tick
 use Rattle.node_rules.specs.Tick.{Part, in_order, tick_of}
-use Rattle.node_rules.specs.Transactions.{Transaction, Write, answered, is_last_awaited, transaction, transaction_on}
+use Rattle.node_rules.specs.Transactions.{Transaction, Write, answered, is_last_awaited, transaction_on}
 use Rattle.cluster_rules.proofs.OwnLines.{noted_me}
 use Rattle.key_laws.specs.Ends.{AllNodes, CauseNames, LineNames, AllName}
-use Rattle.key_laws.proofs.Addressed.{differ, or_cases, or_left, or_right, member_id, listed_member, in_filter}
+use Rattle.key_laws.proofs.Addressed.{differ, or_cases, or_left, or_right, member_id}
 use Rattle.key_laws.proofs.Frames.{num_eq, num_same}
 use Rattle.key_laws.proofs.Neighbours.{by_test, put_cases}
 use Rattle.key_laws.proofs.TableReads.{Each, each_listed, member_listed, acting_in, named_in}

@@ -1,10 +1,9 @@
 -- What is due of every event is sent to other nodes that its sender knows of, or as a table to the client.
-use Rattle.std.proofs.Common.{◌≡◌, ◌⊎◌, ℕ, zero, suc, ◌+◌, ◌==◌, Bool, true, false, ◌&&◌, List, [], ◌∷◌, ◌++◌, Option, Some, None, map, refl, sym, ap, subst, ◌∙◌, inl, inr}
+use Rattle.std.proofs.Common.{◌≡◌, ℕ, ◌+◌, ◌==◌, Bool, true, false, ◌&&◌, List, [], ◌∷◌, ◌++◌, Option, Some, None, refl, sym, subst, ◌∙◌, inl, inr}
 use Rattle.std.specs.Prelude.{filter, filter_map, flat_map}
 use Rattle.std.specs.List.{cons_option}
 use Rattle.conflict_order.specs.declared.want.Want.{Want}
 use Rattle.conflict_order.specs.declared.want.Want.TheVariants as want
-use Rattle.cluster_types.specs.declared.cluster_key.ClusterKey.{ClusterKey}
 use Rattle.cluster_types.specs.declared.member.Member.{Member}
 use Rattle.cluster_types.specs.ClusterKeys as keys
 use Rattle.cluster_types.specs.Members.{ids_of}
@@ -21,9 +20,9 @@ use Rattle.node_rules.specs.Batches.{Target, Targets, next_batch}
 use Rattle.node_rules.specs.ByParts.{entered_alone}
 use Rattle.node_rules.specs.Copies.{is_nil}
 use Rattle.node_rules.specs.Effects.{to_each}
-use Rattle.node_rules.specs.Exchange.{View, is_member}
+use Rattle.node_rules.specs.Exchange.{is_member}
 use Rattle.node_rules.specs.Facts.{Facts, view_key, members, list_at}
-use Rattle.node_rules.specs.Hearing.{aged, heard_ids}
+use Rattle.node_rules.specs.Hearing.{aged}
 use Rattle.node_rules.specs.Map.{lacks}
 use Rattle.node_rules.specs.Messages as due
 use Rattle.node_rules.specs.Messages.{due_message_of}
@@ -34,7 +33,7 @@ use Rattle.node_rules.specs.Settling.{settling}
 use Rattle.node_rules.specs.Standing.{others, other_replicas, asked}
 use Rattle.node_rules.specs.Tables.{contains}
 use Rattle.node_rules.specs.Tick as tick
-use Rattle.node_rules.specs.Tick.{tick_of, propose, is_candidate, state, progress_message}
+use Rattle.node_rules.specs.Tick.{tick_of, propose, is_candidate, state}
 use Rattle.node_rules.specs.Transactions.{Transaction, Write, transaction, answered, awaits_ack, awaits_answer, is_last_awaited}
 use Rattle.node_rules.proofs.TickParts.{alone_is, among_others_is}
 use Rattle.cluster_rules.proofs.OwnLines.{noted_me}
@@ -44,7 +43,7 @@ use Rattle.key_laws.specs.Traced.{Traced}
 use Rattle.key_laws.proofs.Addressed.{in_filter, in_without, not_gone, member_id, NodeGoes, TargetsGo, AllAwait, Among, asked_among_others, replicas_among_others, or_left, or_right}
 use Rattle.key_laws.proofs.DueDirected.{Alone, alone_in, alone_now, later, nothing_later, same_others, settled_view}
 use Rattle.key_laws.proofs.Frames.{num_eq}
-use Rattle.key_laws.proofs.NamedLines.{Aware, AllMembers, member_is, neighbours_are, ids_aged}
+use Rattle.key_laws.proofs.NamedLines.{Aware, member_is, neighbours_are, ids_aged}
 use Rattle.key_laws.proofs.TableReads.{is_table, others_tell, table_tells}
 
 -- ---- where messages go

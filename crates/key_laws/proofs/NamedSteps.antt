@@ -1,12 +1,10 @@
 -- Steps that are allowed: each of their lines names declared nodes, and each message goes between two ends.
-use Rattle.std.proofs.Common.{◌≡◌, ℕ, zero, suc, ◌+◌, ◌==◌, ⊎_elim, inl, inr, Bool, true, false, cond, not, ◌&&◌, ◌||◌, List, [], ◌∷◌, ◌++◌, Option, Some, None, map, refl, sym, ap, subst, ◌∙◌, if◌then◌else◌, arith}
+use Rattle.std.proofs.Common.{◌≡◌, ℕ, zero, suc, ◌+◌, ◌==◌, ⊎_elim, inl, inr, Bool, true, false, cond, not, ◌&&◌, ◌||◌, List, [], ◌∷◌, Option, Some, None, refl, sym, ap, subst, ◌∙◌, if◌then◌else◌, arith}
 use Rattle.std.specs.Prelude.{All, slice_get, slice_index, length, find, nat_lt, option_map, ◌<◌}
-use Rattle.std.specs.List.{list_all, concat, flat_map}
+use Rattle.std.specs.List.{list_all, concat}
 use Rattle.std.proofs.lemmas.Bool.Decides.{nat_tests}
 use Rattle.conflict_order.specs.declared.want.Want.{Want}
 use Rattle.conflict_order.specs.declared.want.Want.TheVariants as want
-use Rattle.cluster_types.specs.declared.cluster_key.ClusterKey.{ClusterKey}
-use Rattle.cluster_types.specs.declared.member.Member.{Member}
 use Rattle.cluster_types.specs.Distinct.{without}
 use Rattle.cluster_types.specs.Partitions.{partition_count, partition_of}
 use Rattle.partition_lists.specs.Lists.{in_order, put_in_order}
@@ -21,7 +19,7 @@ use Rattle.wire_messages.proofs.DecodingLaws.{read_back}
 use Rattle.journal_lines.specs.declared.line.Line.{Line}
 use Rattle.node_rules.specs.Agreement.{Proposal}
 use Rattle.node_rules.specs.Client.{node_for, latest_at, is_latest_at}
-use Rattle.node_rules.specs.Effects.{Effects, sends_only, to_one}
+use Rattle.node_rules.specs.Effects.{Effects, to_one}
 use Rattle.node_rules.specs.Exchange.{View, is_member, members_of}
 use Rattle.node_rules.specs.Facts.{Facts, members}
 use Rattle.node_rules.specs.Messages.{due_message_of}
@@ -31,29 +29,27 @@ use Rattle.node_rules.specs.Tables.{contains}
 use Rattle.node_rules.specs.Tick.{tick_of}
 use Rattle.cluster_rules.specs.declared.event.Event.{Event}
 use Rattle.cluster_rules.specs.declared.event.Event.TheVariants as event
-use Rattle.cluster_rules.specs.Allowed.{AreAllowed, names_known, event_nodes, groups_all, ends_calm}
+use Rattle.cluster_rules.specs.Allowed.{AreAllowed, names_known, ends_calm}
 use Rattle.cluster_rules.specs.DueEvents.{due_of, due_at_named, due_at_client, due_at_end, due_arrival, arriving, arriving_cut, delivery, unless_blocked, is_blocked, losing, written, sent_lines, full_unless, one_more_if}
 use Rattle.cluster_rules.specs.Lines.{has_node}
-use Rattle.cluster_rules.specs.Marks as marks
-use Rattle.cluster_rules.specs.Marks.{Mark, Begins, Writes}
+use Rattle.cluster_rules.specs.Marks.{Begins, Writes}
 use Rattle.cluster_rules.specs.Messages.{Posting}
 use Rattle.cluster_rules.specs.Network.{Network, client, landed, flying_at, has_place, are_apart}
 use Rattle.cluster_rules.specs.Opening.{Header, declared_nodes}
 use Rattle.cluster_rules.specs.Steps.{Step, marks_of, all_marks, all_lines}
 use Rattle.cluster_rules.specs.World.{World, opened, is_up, members_now}
-use Rattle.key_laws.specs.Ends.{is_map_ask, IsOneOf, IsEnd, TableNames, FromNode, GoesRight, AllNodes, LineNames, AllName}
-use Rattle.key_laws.specs.Sound.{Sound, NodeKeys, Views, Entered, Proposed, Stands}
+use Rattle.key_laws.specs.Ends.{IsOneOf, IsEnd, TableNames, FromNode, GoesRight, AllNodes, AllName}
+use Rattle.key_laws.specs.Sound.{Sound, Views, Entered, Proposed, Stands}
 use Rattle.key_laws.specs.Traced.{Traced, facts_of, after, after_all, untouched}
 use Rattle.key_laws.specs.Licences.{Says, Licensed}
 use Rattle.key_laws.proofs.Addressed.{or_cases, differ, and_left, and_right, in_without, not_gone}
 use Rattle.key_laws.proofs.AllowedRuns.{Allowed, allowed_due, declared_id, posted_in, step_goes, none_directed}
 use Rattle.key_laws.proofs.Directed.{Directed, begun_goes}
-use Rattle.key_laws.proofs.DueSteps.{Begun, step_ok, own_keys}
-use Rattle.key_laws.proofs.Frames.{num_same}
+use Rattle.key_laws.proofs.DueSteps.{step_ok, own_keys}
 use Rattle.key_laws.proofs.Kept.{Keeps, kept_begun, kept_all, WasPosted, after_all-append}
 use Rattle.key_laws.proofs.NamedLines.{Aware, Commits, AllMembers, all_members, name_append, tick_name, map_name, show_name, place_name, message_name, request_name, stop_name, start_name}
-use Rattle.key_laws.proofs.NamedSends.{Other, Knows, Comes, SendsRight, AllRight, tick_right, message_right, request_right, stop_right, start_right}
-use Rattle.key_laws.proofs.Peopled.{peers_of, Missing, EndsOf, AllTables, Peopled, sender_of, line_peopled, begun_peopled}
+use Rattle.key_laws.proofs.NamedSends.{Other, Knows, AllRight, tick_right, message_right, request_right, stop_right, start_right}
+use Rattle.key_laws.proofs.Peopled.{peers_of, AllTables, Peopled, sender_of, line_peopled, begun_peopled}
 use Rattle.key_laws.proofs.Quiet.{writes}
 use Rattle.key_laws.proofs.Runs.{AreIds, declared_ids, marks_nodes, AllBegun, world_of, start}
 use Rattle.key_laws.proofs.TableReads.{others_tell}

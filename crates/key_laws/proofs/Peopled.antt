@@ -4,9 +4,7 @@ use Rattle.std.specs.Prelude.{slice_get, nat_le, nat_lt, length, option_map, opt
 use Rattle.conflict_order.specs.declared.want.Want.{Want}
 use Rattle.cluster_types.specs.declared.cluster_key.ClusterKey.{ClusterKey}
 use Rattle.cluster_types.specs.declared.member.Member.{Member}
-use Rattle.cluster_types.specs.declared.member.Role.{Role}
 use Rattle.cluster_types.specs.Distinct.{without}
-use Rattle.cluster_types.specs.Members.{ids_of}
 use Rattle.cluster_types.specs.Partitions.{partition_of}
 use Rattle.partition_lists.specs.Lists.{in_order}
 use Rattle.wire_messages.specs.declared.message.MapTable.{MapTable}
@@ -19,12 +17,12 @@ use Rattle.node_rules.specs.Agreement as agreement
 use Rattle.node_rules.specs.Agreement.{Agreement, Proposal, proposes, proposal_of}
 use Rattle.node_rules.specs.Exchange.{is_member}
 use Rattle.node_rules.specs.Facts.{Facts, list_at}
-use Rattle.node_rules.specs.Hearing.{Heard, neighbours_of}
+use Rattle.node_rules.specs.Hearing.{Heard}
 use Rattle.node_rules.specs.Keys.{same_key}
 use Rattle.node_rules.specs.Map.{master}
 use Rattle.node_rules.specs.Notes as notes
 use Rattle.node_rules.specs.Notes.{note, neighbours, reached, sent, in_view}
-use Rattle.node_rules.specs.Tables.{Table, contains}
+use Rattle.node_rules.specs.Tables.{Table}
 use Rattle.cluster_rules.specs.declared.event.Event.{Event}
 use Rattle.cluster_rules.specs.declared.event.Event.TheVariants as event
 use Rattle.cluster_rules.specs.Marks as marks
@@ -32,11 +30,10 @@ use Rattle.cluster_rules.specs.Marks.{Begins, Writes}
 use Rattle.cluster_rules.specs.Messages.{Posting, Arrival, arrived, arrived_cut}
 use Rattle.cluster_rules.specs.Network.{client, posting, posting_at}
 use Rattle.cluster_rules.specs.World.{World, at}
-use Rattle.key_laws.specs.Ends.{is_map_ask, IsOneOf, TableNames, Tells, TellsIf, FromNode, GoesRight, LineNames}
-use Rattle.key_laws.specs.Sound.{Sound}
-use Rattle.key_laws.specs.Traced.{Traced, facts_of, after, listed_if, promised_by, with_list}
+use Rattle.key_laws.specs.Ends.{is_map_ask, IsOneOf, TableNames, TellsIf, FromNode, GoesRight, LineNames}
+use Rattle.key_laws.specs.Traced.{Traced, facts_of, after, listed_if, promised_by}
 use Rattle.key_laws.proofs.Addressed.{Among, among_without}
-use Rattle.key_laws.proofs.Frames.{at_each, num_same}
+use Rattle.key_laws.proofs.Frames.{at_each}
 use Rattle.key_laws.proofs.Kept.{WasPosted, was_posted, more}
 use Rattle.key_laws.proofs.NamedLines.{Ids, ids_put, ids_aged, neighbours_are, member_is}
 

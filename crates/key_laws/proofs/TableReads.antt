@@ -1,10 +1,9 @@
 -- Only a table is read as one, and the table of a view names its members.
-use Rattle.std.proofs.Common.{◌≡◌, ◌≢◌, ℕ, zero, suc, ◌+◌, ◌==◌, ◌<◌, Bool, true, false, cond, List, [], ◌∷◌, length, Option, Some, None, refl, sym, ap, subst, ◌∙◌, ⊎_elim, arith, if◌then◌else◌}
-use Rattle.std.specs.Prelude.{All, slice_index, find, unwrap_or, nat_lt}
+use Rattle.std.proofs.Common.{◌≡◌, ℕ, zero, suc, ◌+◌, ◌==◌, ◌<◌, Bool, true, false, cond, List, [], ◌∷◌, length, Option, Some, None, refl, sym, ap, subst, ◌∙◌, ⊎_elim, arith, if◌then◌else◌}
+use Rattle.std.specs.Prelude.{All, slice_index, find, unwrap_or}
 use Rattle.std.specs.List.{concat}
 use Rattle.cluster_types.specs.declared.cluster_key.ClusterKey.{ClusterKey}
 use Rattle.cluster_types.specs.declared.member.Member.{Member}
-use Rattle.cluster_types.specs.declared.member.Role.{Role}
 use Rattle.cluster_types.specs.ClusterKeys as keys
 use Rattle.cluster_types.specs.Members.{ids_of}
 use Rattle.cluster_types.specs.Partitions.{partition_count}
@@ -23,12 +22,11 @@ use Rattle.wire_messages.specs.Spelling.{spelling}
 use Rattle.wire_messages.proofs.DecodingLaws.{what_is_read, read_back}
 use Rattle.node_rules.specs.Exchange.{View, is_member, members_of, key_of}
 use Rattle.node_rules.specs.Facts.{Facts, view_key, members, list_at}
-use Rattle.node_rules.specs.Map.{master, acting, state_at}
+use Rattle.node_rules.specs.Map.{master, state_at}
 use Rattle.node_rules.specs.Messages.{map_table, named_from, moved_from}
 use Rattle.node_rules.specs.Standing.{named, named_by, has_moved, acting_at}
 use Rattle.node_rules.specs.Tables.{contains}
 use Rattle.key_laws.specs.Ends.{TableNames, Tells, TellsIf, AllNodes}
-use Rattle.key_laws.specs.Licences.{Known}
 use Rattle.key_laws.specs.Sound.{NodeKeys, Views, Listed, Sound}
 use Rattle.key_laws.specs.Traced.{Traced}
 use Rattle.key_laws.proofs.Addressed.{differ, or_cases, or_left, or_right, member_id, listed_member}

@@ -16,7 +16,7 @@ use Rattle.node_rules.specs.Map.{master}
 use Rattle.node_rules.specs.Hearing.{Heard}
 use Rattle.node_rules.specs.Keys.{same_key}
 use Rattle.node_rules.specs.Notes as notes
-use Rattle.node_rules.specs.Notes.{note, neighbours, reached, sent, in_view}
+use Rattle.node_rules.specs.Notes.{neighbours, reached, sent, in_view}
 use Rattle.node_rules.specs.Tables.{Table, contains}
 use Rattle.cluster_rules.specs.Marks.{Writes, after_line, came, came_to, came_to_client, sent_by}
 use Rattle.cluster_rules.specs.Messages.{Posting, Arrival, arrived, arrived_cut}
@@ -24,7 +24,7 @@ use Rattle.cluster_rules.specs.Network.{posting_at, posting, client}
 use Rattle.cluster_rules.specs.World.{World, at}
 use Rattle.cluster_rules.proofs.AllowedLaws.{nodes_stay}
 use Rattle.cluster_laws.proofs.At.{number_same, some_same, no_some}
-use Rattle.key_laws.specs.Traced.{Traced, promised_by, listed_if}
+use Rattle.key_laws.specs.Traced.{promised_by, listed_if}
 use Rattle.key_laws.specs.Traced as traced
 use Rattle.key_laws.proofs.Frames.{at_each}
 use Rattle.key_laws.proofs.Kept.{WasPosted, was_posted}

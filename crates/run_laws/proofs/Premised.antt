@@ -1,5 +1,5 @@
 -- The messages of steps that are taken are read as they were sent, so that the steps' lines are a journal.
-use Rattle.std.proofs.Common.{◌≡◌, ℕ, ◌+◌, ◌<◌, ◌^◌, List, [], ◌∷◌, length, sym, ap, ◌∙◌, subst, arith, lit<}
+use Rattle.std.proofs.Common.{ℕ, ◌+◌, ◌<◌, ◌^◌, List, [], ◌∷◌, sym, ◌∙◌, subst, arith, lit<}
 use Rattle.std.specs.Prelude.{map}
 use Rattle.std.specs.List.{AllByRecursion}
 use Rattle.std.specs.FinMap.{get-empty}
@@ -11,7 +11,7 @@ use Rattle.cluster_types.specs.Partitions.{partition_count}
 use Rattle.journal_lines.specs.declared.line.Line.{Line}
 use Rattle.cluster_rules.specs.Allowed.{IsAllowed, AreAllowed}
 use Rattle.cluster_rules.specs.DueEvents.{due_of}
-use Rattle.cluster_rules.specs.Marks.{Mark, Begins, Writes, lines_among}
+use Rattle.cluster_rules.specs.Marks.{Mark, Begins, Writes}
 use Rattle.cluster_rules.specs.Opening.{Header, declared_factor, declared_policy}
 use Rattle.cluster_rules.specs.Shape.{AreBehind}
 use Rattle.cluster_rules.specs.Steps.{Step, marks_of, all_marks, all_lines}

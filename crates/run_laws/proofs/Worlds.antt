@@ -1,9 +1,8 @@
 -- The world after steps that are taken: who is declared, between whom messages go, whom the client asks, and how far nodes have counted.
-use Rattle.std.proofs.Common.{◌≡◌, ◌⊎◌, ⊎_elim, inl, inr, ℕ, ◌<◌, ◌≤◌, ◌==◌, ◌||◌, nat_lt, Bool, true, false, not, cond, List, [], ◌∷◌, length, Option, Some, None, refl, sym, ap, ◌∙◌, subst, if◌then◌else◌, arith}
+use Rattle.std.proofs.Common.{◌≡◌, ◌⊎◌, ⊎_elim, inl, inr, ℕ, ◌<◌, ◌≤◌, ◌==◌, nat_lt, Bool, true, false, List, [], ◌∷◌, Some, refl, sym, ap, ◌∙◌, subst, if◌then◌else◌, arith}
 use Rattle.std.specs.Prelude.{All, Contains, slice_get}
 use Rattle.std.proofs.lemmas.List.Elements.{All-nil, All-cons}
 use Rattle.cluster_types.specs.declared.cluster_key.ClusterKey.{ClusterKey}
-use Rattle.cluster_types.specs.declared.member.Member.{Member}
 use Rattle.cluster_types.specs.Distinct.{without}
 use Rattle.cluster_types.specs.Members.{ids_of}
 use Rattle.cluster_types.specs.Partitions.{partition_count}
@@ -11,10 +10,8 @@ use Rattle.partition_lists.specs.Lists.{in_order, put_in_order}
 use Rattle.partition_lists.proofs.ListLaws.{any_is_contained}
 use Rattle.wire_messages.specs.declared.message.Message.{Message}
 use Rattle.wire_messages.specs.declared.message.Message.TheVariants as message
-use Rattle.wire_messages.specs.Decoding.{message_of}
 use Rattle.node_rules.specs.Batches.{Target, Targets}
 use Rattle.node_rules.specs.Client.{node_for}
-use Rattle.node_rules.specs.Exchange.{is_member}
 use Rattle.node_rules.specs.Facts.{Facts, members}
 use Rattle.node_rules.specs.Notes.{in_view}
 use Rattle.node_rules.specs.Standing.{others}
@@ -22,7 +19,7 @@ use Rattle.node_rules.specs.Tables.{contains}
 use Rattle.cluster_rules.specs.Messages.{Posting}
 use Rattle.cluster_rules.specs.Network.{client, posting_at}
 use Rattle.cluster_rules.specs.Opening.{Header, declared_nodes}
-use Rattle.cluster_rules.specs.Steps.{Step, all_marks, all_lines}
+use Rattle.cluster_rules.specs.Steps.{Step, all_marks}
 use Rattle.cluster_rules.specs.World.{World, opened}
 use Rattle.cluster_laws.proofs.At.{some_same, no_some}
 use Rattle.key_laws.specs.Addressed.{IsOther, ComesFromOther}
@@ -36,10 +33,10 @@ use Rattle.key_laws.proofs.NamedSteps.{Named, allowed_named, no_client, asked_is
 use Rattle.key_laws.proofs.Peopled.{peers_of, Peopled}
 use Rattle.key_laws.proofs.Runs.{declared_ids, marks_nodes, world_of}
 use Rattle.run_laws.specs.Fronts as fronts
-use Rattle.run_laws.specs.Ranges.{Ranged, FitsFacts, FitsTargets}
+use Rattle.run_laws.specs.Ranges.{Ranged, FitsFacts}
 use Rattle.run_laws.specs.Taken.{Taken, first}
 use Rattle.run_laws.specs.Tied.{Among}
-use Rattle.run_laws.specs.Worlds.{world_after, OfTakenWorlds, KnowsNodes, view_key_of, ComesFromPeer, MessagesCome, HaveReceivers, AsksDeclared, CountsBelow, CountsFew}
+use Rattle.run_laws.specs.Worlds.{world_after, OfTakenWorlds, KnowsNodes, view_key_of, MessagesCome, HaveReceivers, AsksDeclared, CountsBelow, CountsFew}
 use Rattle.run_laws.proofs.Journal.{lines_of_taken, world_all}
 use Rattle.run_laws.proofs.Premised.{taken_ranged}
 
