@@ -1,0 +1,4 @@
+pub mod ClosingLaws
+pub mod CountLaws
+pub mod IndexLaws
+pub mod SlotLaws

@@ -1,0 +1,4 @@
+pub mod CollectLaws
+pub mod CountLaws
+pub mod FirstLaws
+pub mod TargetLaws

@@ -1,0 +1,4 @@
+pub mod PlaceLaws
+pub mod RowsLaws
+pub mod ServedLaws
+pub mod TakenLaws

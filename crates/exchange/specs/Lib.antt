@@ -1,0 +1,4 @@
+pub mod Met
+pub mod Rows
+pub mod Served
+pub mod Steps
