@@ -10,11 +10,11 @@ use Rattle.std.specs.Ordering.{nat_cmp, is_eq, is_lt, eq_by_cmp, ordering_revers
 use Rattle.std.specs.Cmp.Lexicographic.{slice_cmp}
 use Rattle.std.proofs.lemmas.Bool.Decides.{nat_tests}
 use Rattle.std.proofs.lemmas.Cmp.{nat_list_cmp_total}
-use Rattle.std.proofs.lemmas.List.{get_or_default, length-take}
+use Rattle.std.proofs.lemmas.List.{get_or-map, get_or_default, length-map, length-take}
 use Rattle.std.proofs.lemmas.Option.{get_or_from_slice_get, slice_get-get_or, slice_get_within, none-some}
-use Rattle.std.specs.Prelude.{slice_get}
-use Rattle.std.proofs.lemmas.List.Elements.{filter-append, filter_passes}
-use Rattle.std.proofs.lemmas.List.Folds.{list_any_none, list_any-append}
+use Rattle.std.specs.Prelude.{IfSome, IsSome, slice_get, ◌^◌}
+use Rattle.std.proofs.lemmas.List.Elements.{All-filter, filter-append, filter_passes}
+use Rattle.std.proofs.lemmas.List.Folds.{list_any_at, list_any_none, list_any-append}
 use Rattle.std.proofs.lemmas.Map.Views.{any-filter_same}
 use Rattle.std.specs.FinMap.{contains_key-keys, entries, entries_sorted, get, is_sorted}
 use Rattle.std.specs.FinMap.Entries.{below_all}
@@ -22,7 +22,8 @@ use lib.Dec.{T}
 use Rattle.conflict_order.specs.declared.version.Version.{Version}
 use Rattle.cluster_types.specs.Partitions.{partition_count, partition_of}
 use Rattle.node_rules.specs.Copies.{Content, digests, digests_of, is_of}
-use Rattle.emigrate.specs.Going.{digests_below}
+use Rattle.node_rules.specs.Batches.{Target, target, target_of, targets_of}
+use Rattle.emigrate.specs.Going.{AreHeld, digests_below}
 use Rattle.std.proofs.lemmas.List.Kept.{AllPairs-cons, AllPairs-filter}
 use Rattle.record_store.specs.Store.{above}
 use Rattle.record_store.proofs.CopyLaws.{same_digest}
@@ -383,3 +384,29 @@ entries_rise (e ∷ es) h = AllPairs-cons (λ d f. digest_cmp d f ≡ Less) e.0 
 -- the digests that are sent rise
 pub sent_rise : (content : Content) (test : ℕ → Bool) → Rising (filter (λ d. test (partition_of d)) (digests content))
 sent_rise content test = AllPairs-filter (λ a b. digest_cmp a b ≡ Less) (λ d. test (partition_of d)) (digests content) (entries_rise (entries content) (entries_sorted content))
+
+held_digests : (content : Content) → All (λ d. is_some (get content d) ≡ true) (digests content)
+held_digests content = λ k d within.
+    contains_key-keys content (get_or (digests content) k d) ∙ list_any_at (eq_by_cmp digest_cmp (get_or (digests content) k d)) (digests content) k d within (self_is (get_or (digests content) k d))
+
+-- what is pending at first is held
+pub pending_held : (is_for : ℕ → List ℕ → Bool) (content : Content) (ns : List ℕ) → AreHeld content (targets_of is_for content ns)
+pending_held is_for content ns = record {
+  held = λ k t within.
+      let inside : k < length ns = omega (arith, within, length-map ns (target_of is_for content)) in
+      subst (λ (u : Target). All (λ d. IsSome (get content d)) u.pending) (sym (get_or-map (target_of is_for content) ns k 0 t inside))
+      (All-filter (is_for (get_or ns k 0)) (λ d. IsSome (get content d)) (digests content) (held_digests content));
+}
+
+number_limit : 0 < 2 ^ 32 - 1
+number_limit = omega arith
+
+-- no batch was sent at first
+pub unsent : (is_for : ℕ → List ℕ → Bool) (content : Content) (ns : List ℕ) (n : ℕ) → IfSome (target (targets_of is_for content ns) n) (λ t. t.batches < 2 ^ 32 - 1)
+unsent is_for content [] n = tt
+unsent is_for content (m ∷ ns) n = go (m == n) (unsent is_for content ns n)
+  where
+    go : (b : Bool) → IfSome (target (targets_of is_for content ns) n) (λ t. t.batches < 2 ^ 32 - 1)
+        → IfSome (cond b (Some (target_of is_for content m)) (target (targets_of is_for content ns) n)) (λ t. t.batches < 2 ^ 32 - 1)
+    go true rest = number_limit
+    go false rest = rest

@@ -60,6 +60,10 @@ impl Emigration {
     ) -> Result<Emigration, NoMemory>
         ensures key { IfOk result (λ e. e.key ≡ key) }
         ensures targets { IfOk result (λ e. e.targets ≡ targets_of (λ to d. X.sends_to x.now (partition_of d) me to) store.now.versions (others_of members.now me)) }
+
+        // So a next batch can be taken.
+        ensures held { IfOk result (λ e. AreHeld store.now.versions e.targets) }
+        ensures limit { IfOk result (λ e. (n : ℕ) → IfSome (target e.targets n) (λ t. t.batches < 2 ^ 32 - 1)) }
     {
         let mut targets = Vec::with_capacity(alloc, members.len())?;
         let mut pending = Counts::new(alloc)?;

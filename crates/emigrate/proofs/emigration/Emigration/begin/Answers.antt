@@ -1,10 +1,12 @@
-use Rattle.std.proofs.Common.{◌≡◌, ◌==◌, ◌≤◌, ◌++◌, ℕ, Bool, true, false, List, [], ◌∷◌, Vec, Global, length, take, nat_eq, sym, ap, subst, ◌∙◌, arith}
+use Rattle.std.proofs.Common.{◌≡◌, ◌==◌, ◌<◌, ◌≤◌, ◌-◌, ◌++◌, ℕ, Bool, true, false, List, [], ◌∷◌, Vec, Global, length, take, nat_eq, sym, ap, subst, ◌∙◌, arith}
+use Rattle.std.specs.Prelude.{IfSome, ◌^◌}
 use Rattle.cluster_types.specs.declared.member.Member.{Member}
 use Rattle.cluster_types.specs.Members.{AreMembers}
 use Rattle.cluster_types.specs.Partitions.{partition_of}
-use Rattle.node_rules.specs.Batches.{Target, Targets, targets_of}
+use Rattle.node_rules.specs.Batches.{Target, Targets, target, targets_of}
 use Rattle.emigrate.specs.declared.outgoing.Outgoing.{Outgoing}
-use Rattle.emigrate.specs.Going.{AreApart, AreCounts, others_of}
+use Rattle.emigrate.specs.Going.{AreApart, AreCounts, AreHeld, others_of}
+use Rattle.emigrate.proofs.CollectLaws.{pending_held, unsent}
 use Rattle.emigrate.proofs.TargetLaws.{all_members, counts_snoc, is_false, is_true, no_counts, targets_apart, targets_push, targets_skip}
 use Rattle.emigrate.proofs.emigration.Emigration.begin.Goals.{then-ne+in_ok-outgoing+in_ok-push, else-ne}
 use Rattle.emigrate.proofs.emigration.Emigration.begin.Goals as goal
@@ -64,3 +66,13 @@ pub returns-clause-targets : goal.returns-clause-targets
 returns-clause-targets g c =
     let sent : List Member → Targets = λ ms. targets_of (λ to d. g.X.MapView.sends_to c.args.x.now (partition_of d) c.args.me to) c.args.store.now.versions (others_of ms c.args.me) in
     c.loop-member.invariant.targets ∙ ap sent (all_members c.as_slice-member-items.result.now c.loop-member.member-index c.loop-member-test.false ∙ c.as_slice-member-items.ensures.same)
+
+pub returns-clause-held : goal.returns-clause-held
+returns-clause-held g c =
+    let is_for : ℕ → List ℕ → Bool = λ to d. g.X.MapView.sends_to c.args.x.now (partition_of d) c.args.me to in
+    subst (AreHeld c.args.store.now.versions) (sym (returns-clause-targets g c)) (pending_held is_for c.args.store.now.versions (others_of c.args.members.now c.args.me))
+
+pub returns-clause-limit : goal.returns-clause-limit
+returns-clause-limit g c = λ n.
+    let is_for : ℕ → List ℕ → Bool = λ to d. g.X.MapView.sends_to c.args.x.now (partition_of d) c.args.me to in
+    subst (λ (ts : Targets). IfSome (target ts n) (λ t. t.batches < 2 ^ 32 - 1)) (sym (returns-clause-targets g c)) (unsent is_for c.args.store.now.versions (others_of c.args.members.now c.args.me) n)
