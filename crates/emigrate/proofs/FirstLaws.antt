@@ -19,7 +19,7 @@ use Rattle.cluster_types.specs.declared.cluster_key.ClusterKey.{ClusterKey}
 use Rattle.std.specs.FinMap.{get}
 use Rattle.std.specs.Prelude.{IsSome, Option, Some, None}
 use Rattle.std.proofs.lemmas.Option.{none-some}
-use Rattle.emigrate.specs.Going.{AreRising, IsFirst, IsNext, digests_of}
+use Rattle.emigrate.specs.Going.{AreRising, IsFirst, IsNext, batch_digests}
 
 abbrev digest_cmp : List ℕ → List ℕ → Ordering
 digest_cmp = slice_cmp nat_cmp
@@ -94,8 +94,8 @@ take_taken (suc n) (x ∷ xs) = ap (λ (ys : List _). x ∷ ys) (take_taken n xs
 -- what is left once the batch that is out is acknowledged
 pub acked_left : (pending : List (List ℕ)) (b : Batch) → AreRising pending → IsFirst pending b → drop (length b.records) pending ≡ filter (λ d. not (is_among b.records d)) pending
 acked_left pending b rising first =
-    let size : length (digests_of b) ≡ length b.records = length-map b.records (λ (r : List ℕ × Version). r.0) in
-    let taken : length (digests_of b) ≡ length (take (length b.records) pending) = ap length first.digests in
+    let size : length (batch_digests b) ≡ length b.records = length-map b.records (λ (r : List ℕ × Version). r.0) in
+    let taken : length (batch_digests b) ≡ length (take (length b.records) pending) = ap length first.digests in
     let le : length b.records ≤ length pending = omega (arith, size, taken, length-take (length b.records) pending) in
     sym (without_first b.records pending (length b.records) le rising first.digests)
 
@@ -104,10 +104,10 @@ some_taken [] h = absurd (h refl)
 some_taken (d ∷ ds) h = omega (arith, length-take batch_limit (d ∷ ds))
 
 -- a batch of the least digests, of which there are some
-pub least_first : (pending : List (List ℕ)) (b : Batch) → pending ≢ [] → digests_of b ≡ take batch_limit pending → IsFirst pending b
+pub least_first : (pending : List (List ℕ)) (b : Batch) → pending ≢ [] → batch_digests b ≡ take batch_limit pending → IsFirst pending b
 least_first pending b some are =
-    let size : length (digests_of b) ≡ length b.records = length-map b.records (λ (r : List ℕ × Version). r.0) in
-    let taken : length (digests_of b) ≡ length (take batch_limit pending) = ap length are in
+    let size : length (batch_digests b) ≡ length b.records = length-map b.records (λ (r : List ℕ × Version). r.0) in
+    let taken : length (batch_digests b) ≡ length (take batch_limit pending) = ap length are in
     let same : length (take batch_limit pending) ≡ length b.records = sym taken ∙ size in
     record {
       some = omega (arith, some_taken pending some, same);
@@ -126,7 +126,7 @@ all_taken ds i n low high = sym (take_taken i ds) ∙ ap (λ (k : ℕ). take k d
     same = omega (arith, low, high)
 
 -- those digests and then what is left
-pub acked_first : (pending : List (List ℕ)) (b : Batch) → IsFirst pending b → pending ≡ digests_of b ++ drop (length b.records) pending
+pub acked_first : (pending : List (List ℕ)) (b : Batch) → IsFirst pending b → pending ≡ batch_digests b ++ drop (length b.records) pending
 acked_first pending b first =
     sym (take-append-drop (length b.records) pending) ∙ ap (λ (xs : List (List ℕ)). xs ++ drop (length b.records) pending) (sym first.digests)
 
@@ -154,5 +154,5 @@ next_is key content node batches pending b is some held = record {
   some = λ e. some;
   key_of = λ e. ap (λ (x : Batch). x.key) is;
   number = λ e. ap (λ (x : Batch). x.number) is;
-  digests = λ e. ap digests_of is ∙ held_digests content (take batch_limit pending) (first_held content pending batch_limit held);
+  digests = λ e. ap batch_digests is ∙ held_digests content (take batch_limit pending) (first_held content pending batch_limit held);
 }

@@ -17,10 +17,11 @@ use Rattle.cluster_types.specs.declared.member.Member.{Member}
 use Rattle.cluster_types.specs.Distinct.{IsDescending, without}
 use Rattle.cluster_types.specs.Members.{AreMembers, ids_of}
 use Rattle.cluster_types.specs.Partitions.{partition_count}
+use Rattle.node_rules.specs.Agreement.{others}
 use Rattle.node_rules.specs.Batches.{Target, Targets, changing, is_pending, acked_out, has_number, out_of, out_to, target, target_of, targets_of, without_batch}
 use Rattle.node_rules.specs.Copies.{Content, is_of}
 use Rattle.node_rules.specs.Tables.{changed_if}
-use Rattle.emigrate.specs.Going.{AreApart, AreCounts, others_of, pending_count}
+use Rattle.emigrate.specs.Going.{AreApart, AreCounts, pending_count}
 
 -- ---- the target of a member
 
@@ -108,10 +109,10 @@ counts_snoc ts t now next h more = record {
 }
 
 -- members have a target each
-pub targets_apart : (is_for : ℕ → List ℕ → Bool) (content : Content) (ms : List Member) (me : ℕ) → AreMembers ms → AreApart (targets_of is_for content (others_of ms me))
+pub targets_apart : (is_for : ℕ → List ℕ → Bool) (content : Content) (ms : List Member) (me : ℕ) → AreMembers ms → AreApart (targets_of is_for content (others me ms))
 targets_apart is_for content ms me h = record {
   apart = λ i j d lower within same.
-      let ns = others_of ms me in
+      let ns = others me ms in
       let falls = AllPairs-filter (λ a b. b < a) (λ n. not (n == me)) (ids_of ms) h.descending.falls in
       let size : length (map (target_of is_for content) ns) ≡ length ns = length-map ns (target_of is_for content) in
       let inside : j < length ns = omega (arith, within, size) in
@@ -121,22 +122,22 @@ targets_apart is_for content ms me h = record {
       absurd (omega (arith, nodes, falls i j 0 lower inside));
 }
 
-take_others : (ms : List Member) (i : ℕ) (m : Member) (me : ℕ) → i < length ms → m ≡ get_or ms i m → others_of (take (i + 1) ms) me ≡ others_of (take i ms) me ++ without (m.id ∷ []) me
+take_others : (ms : List Member) (i : ℕ) (m : Member) (me : ℕ) → i < length ms → m ≡ get_or ms i m → others me (take (i + 1) ms) ≡ others me (take i ms) ++ without (m.id ∷ []) me
 take_others ms i m me within read =
-    ap (λ (xs : List Member). others_of xs me) (take_more ms i m within ∙ ap (λ (x : Member). take i ms ++ x ∷ []) (sym read))
+    ap (λ (xs : List Member). others me xs) (take_more ms i m within ∙ ap (λ (x : Member). take i ms ++ x ∷ []) (sym read))
     ∙ ap (λ ids. without ids me) (map-append (λ (x : Member). x.id) (take i ms) (m ∷ []))
     ∙ filter-append (λ n. not (n == me)) (ids_of (take i ms)) (m.id ∷ [])
 
 -- the node itself is left out
 pub targets_skip : (is_for : ℕ → List ℕ → Bool) (content : Content) (ms : List Member) (i : ℕ) (m : Member) (me : ℕ) → i < length ms → m ≡ get_or ms i m → (m.id == me) ≡ true
-    → targets_of is_for content (others_of (take (i + 1) ms) me) ≡ targets_of is_for content (others_of (take i ms) me)
-targets_skip is_for content ms i m me within read is = ap (targets_of is_for content) (take_others ms i m me within read ∙ rw is (append-nil (others_of (take i ms) me)))
+    → targets_of is_for content (others me (take (i + 1) ms)) ≡ targets_of is_for content (others me (take i ms))
+targets_skip is_for content ms i m me within read is = ap (targets_of is_for content) (take_others ms i m me within read ∙ rw is (append-nil (others me (take i ms))))
 
 -- another member's target stands behind those before it
 pub targets_push : (is_for : ℕ → List ℕ → Bool) (content : Content) (ms : List Member) (i : ℕ) (m : Member) (me : ℕ) → i < length ms → m ≡ get_or ms i m → (m.id == me) ≡ false
-    → targets_of is_for content (others_of (take (i + 1) ms) me) ≡ targets_of is_for content (others_of (take i ms) me) ++ target_of is_for content m.id ∷ []
+    → targets_of is_for content (others me (take (i + 1) ms)) ≡ targets_of is_for content (others me (take i ms)) ++ target_of is_for content m.id ∷ []
 targets_push is_for content ms i m me within read is =
-    ap (targets_of is_for content) (take_others ms i m me within read ∙ rw is refl) ∙ map-append (target_of is_for content) (others_of (take i ms) me) (m.id ∷ [])
+    ap (targets_of is_for content) (take_others ms i m me within read ∙ rw is refl) ∙ map-append (target_of is_for content) (others me (take i ms)) (m.id ∷ [])
 
 take_nil : (i : ℕ) → take {A = Member} i [] ≡ []
 take_nil zero = refl

@@ -7,8 +7,6 @@ use Rattle.std.specs.FinMap.{get}
 use Rattle.std.specs.List.{count_by, sum_by}
 use Rattle.cluster_types.specs.declared.cluster_key.ClusterKey.{ClusterKey}
 use Rattle.cluster_types.specs.declared.member.Member.{Member}
-use Rattle.cluster_types.specs.Distinct.{without}
-use Rattle.cluster_types.specs.Members.{ids_of}
 use Rattle.cluster_types.specs.Partitions.{partition_count}
 use Rattle.wire_messages.specs.declared.message.Batch.{Batch}
 use Rattle.node_rules.specs.Batches.{Target, Targets, batch_limit}
@@ -31,18 +29,14 @@ pub record Awaiting : Type 0 where
 pub record AreRising (ds : List (List ℕ)) : Type 0 where
   pub rising : AllPairs (λ a b. slice_cmp nat_cmp a b ≡ Less) ds
 
--- the members but one, in member order
-abbrev pub others_of : List Member → ℕ → List ℕ
-others_of members me = without (ids_of members) me
-
 -- the digests of a batch
-abbrev pub digests_of : Batch → List (List ℕ)
-digests_of b = map (λ r. r.0) b.records
+abbrev pub batch_digests : Batch → List (List ℕ)
+batch_digests b = map (λ r. r.0) b.records
 
 -- the batch's digests are the first of those that are pending
 pub record IsFirst (pending : List (List ℕ)) (b : Batch) : Type 0 where
   pub some : 0 < length b.records
-  pub digests : digests_of b ≡ take (length b.records) pending
+  pub digests : batch_digests b ≡ take (length b.records) pending
 
 -- the batch that may go to the target next: again the one that is out, or one of the next number
 -- with the least digests that are pending, of which there are some
@@ -51,7 +45,7 @@ pub record IsNext (key : ClusterKey) (t : Target) (b : Batch) : Type 0 where
   pub some : t.out ≡ None → t.pending ≢ []
   pub key_of : t.out ≡ None → b.key ≡ key
   pub number : t.out ≡ None → b.number ≡ t.batches + 1
-  pub digests : t.out ≡ None → digests_of b ≡ take batch_limit t.pending
+  pub digests : t.out ≡ None → batch_digests b ≡ take batch_limit t.pending
 
 -- each digest that is pending is held
 pub record AreHeld (content : Content) (targets : Targets) : Type 0 where

@@ -4,7 +4,7 @@ ghost use Rattle.std.specs.List.{count_by};
 ghost use Rattle.cluster_types.specs.Partitions.{partition_count, partition_of};
 ghost use Rattle.cluster_types.specs.Rows.{bit};
 ghost use Rattle.node_rules.specs.Copies.{is_of};
-ghost use Rattle.emigrate.specs.Going.{digests_of};
+ghost use Rattle.emigrate.specs.Going.{batch_digests};
 
 use cluster_types::partition::PARTITIONS;
 use cluster_types::{Digest, NoMemory, PartitionId, Row4096, partition_of};
@@ -72,8 +72,8 @@ impl Counts {
 
     /// The batch's digests, which were pending, aren't any more.
     pub(crate) fn remove_all(&mut self, batch: &Batch)
-        requires { (p : ℕ) → p < partition_count → count_by (is_of p) (digests_of batch.now) ≤ slice_index self.old p }
-        ensures { (p : ℕ) → p < partition_count → slice_index self.new p + count_by (is_of p) (digests_of batch.now) ≡ slice_index self.old p }
+        requires { (p : ℕ) → p < partition_count → count_by (is_of p) (batch_digests batch.now) ≤ slice_index self.old p }
+        ensures { (p : ℕ) → p < partition_count → slice_index self.new p + count_by (is_of p) (batch_digests batch.now) ≡ slice_index self.old p }
     {
         for i in 0..batch.records.len() {
             if let Some((digest, _)) = batch.records.get(i) {

@@ -6,7 +6,7 @@ ghost use Rattle.std.specs.List.{count_by};
 ghost use Rattle.cluster_types.specs.Partitions.{partition_count};
 ghost use Rattle.node_rules.specs.Batches.{acked_out, batch_limit, has_number, new_target, next_batch};
 ghost use Rattle.node_rules.specs.Copies.{is_of};
-ghost use Rattle.emigrate.specs.Going.{AreRising, IsNext, digests_of};
+ghost use Rattle.emigrate.specs.Going.{AreRising, IsNext, batch_digests};
 ghost use Rattle.emigrate.specs.Stages.{out_in, pending_in, target_seen};
 ghost use Rattle.emigrate.specs.declared.target.Target.TheVariants as stage;
 
@@ -103,7 +103,7 @@ impl Outgoing {
     pub(crate) fn sent(&mut self, batch: Batch)
         requires out { (o : Batch) → self.old.out ≡ Some o → batch ≡ o }
         requires some { self.old.out ≡ None → self.old.pending ≢ [] }
-        requires digests { self.old.out ≡ None → digests_of batch ≡ take batch_limit self.old.pending }
+        requires digests { self.old.out ≡ None → batch_digests batch ≡ take batch_limit self.old.pending }
         ensures { self.new ≡ record self.old { out = Some batch; batches = batch.number } }
     {
         self.batches = batch.number;
@@ -142,7 +142,7 @@ fn take_stage(target: &mut Target) -> Target
 fn sent(target: Target, batch: Batch) -> Target
     requires out { (o : Batch) → out_in target ≡ Some o → batch ≡ o }
     requires some { out_in target ≡ None → pending_in target ≢ [] }
-    requires digests { out_in target ≡ None → digests_of batch ≡ take batch_limit (pending_in target) }
+    requires digests { out_in target ≡ None → batch_digests batch ≡ take batch_limit (pending_in target) }
     ensures pending { pending_in result ≡ pending_in target }
     ensures out { out_in result ≡ Some batch }
 {

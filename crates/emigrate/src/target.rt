@@ -2,7 +2,7 @@
 ghost use Rattle.std.specs.Prelude.{◌≡◌, ◌≢◌, ◌↔◌, ◌<◌, ◌≤◌, ◌++◌, ◌∷◌, [], None, not, filter, length, drop, take, IfOk, IfErr, IsErr, OnOk};
 ghost use Rattle.std.specs.VecDeque.{deque_len};
 ghost use Rattle.node_rules.specs.Batches.{batch_limit, is_among, records_of};
-ghost use Rattle.emigrate.specs.Going.{AreRising, IsFirst, digests_of};
+ghost use Rattle.emigrate.specs.Going.{AreRising, IsFirst, batch_digests};
 ghost use Rattle.emigrate.specs.Stages.{out_in, pending_after, pending_in};
 
 use cluster_types::{ClusterKey, Digest, NoMemory};
@@ -127,7 +127,7 @@ impl Sent {
     /// back exactly where the number isn't its own.
     pub fn acked(self, number: u32) -> Result<AfterAck, Sent>
         ensures ok { IfOk result (λ after. pending_after after ≡ filter (λ d. not (is_among self.batch.records d)) self.pending) }
-        ensures first { IfOk result (λ after. self.pending ≡ digests_of self.batch ++ pending_after after) }
+        ensures first { IfOk result (λ after. self.pending ≡ batch_digests self.batch ++ pending_after after) }
         ensures refused { IsErr result ↔ (self.batch.number ≢ number) }
         ensures err { IfErr result (λ sent. sent ≡ self) }
     {

@@ -8,8 +8,8 @@
 #![tactic(auto)]
 
 mod cursors;
-pub mod exchanged;
-pub mod exchanging;
+mod exchanged;
+mod exchanging;
 mod served;
 mod view_rows;
 

@@ -2,14 +2,14 @@ use Rattle.std.proofs.Common.{◌≡◌, ◌+◌, ℕ, List, cond, count_by, sli
 use Rattle.std.proofs.lemmas.List.Sums.{sum_by-append}
 use Rattle.wire_messages.specs.declared.message.Batch.{Batch}
 use Rattle.node_rules.specs.Copies.{is_of}
-use Rattle.emigrate.specs.Going.{digests_of}
+use Rattle.emigrate.specs.Going.{batch_digests}
 use Rattle.emigrate.specs.Stages.{pending_after, pending_in}
 use Rattle.emigrate.proofs.outgoing.acked.Goals.{then-batch-number, else-batch-number}
 use Rattle.emigrate.proofs.outgoing.acked.Goals as goal
 
 pub returns-in-Ok-clause-counts : goal.returns-in-Ok-clause-counts
 returns-in-Ok-clause-counts c = λ p within.
-    let ds = digests_of c.args.sent.batch in
+    let ds = batch_digests c.args.sent.batch in
     let left = pending_after c.in-Ok.after in
     let whole : count_by (is_of p) c.args.sent.pending ≡ count_by (is_of p) ds + count_by (is_of p) left =
     ap (count_by (is_of p)) c.in-Ok.ensures.first ∙ sum_by-append (λ x. cond (is_of p x) 1 0) ds left in
@@ -18,7 +18,7 @@ returns-in-Ok-clause-counts c = λ p within.
       | then-batch-number w ↦
           let moved : slice_index c.if-batch-number.counts p + count_by (is_of p) ds ≡ slice_index c.args.counts.now p =
           ap (λ (ns : List ℕ). slice_index ns p + count_by (is_of p) ds) w.counts-is
-          ∙ ap (λ (b : Batch). slice_index w.remove_all.new.self p + count_by (is_of p) (digests_of b)) (sym w.batch-then-batch-number.ensures.same)
+          ∙ ap (λ (b : Batch). slice_index w.remove_all.new.self p + count_by (is_of p) (batch_digests b)) (sym w.batch-then-batch-number.ensures.same)
           ∙ w.remove_all.ensures p within in
           omega (arith, whole, now, moved)
       | else-batch-number w ↦ absurd (true≢false (sym (c.in-Ok.ensures.refused.1 (λ e. w.if-batch-number.false (ap (λ (b : Batch). b.number) c.batch.ensures.same ∙ e)))))

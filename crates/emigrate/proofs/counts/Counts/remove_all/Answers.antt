@@ -2,7 +2,7 @@ use Rattle.std.proofs.Common.{◌≡◌, ◌<◌, ◌+◌, ℕ, List, length, ta
 use Rattle.std.specs.Option.{option_copied}
 use Rattle.cluster_types.specs.Partitions.{partition_count}
 use Rattle.node_rules.specs.Copies.{is_of}
-use Rattle.emigrate.specs.Going.{digests_of}
+use Rattle.emigrate.specs.Going.{batch_digests}
 use Rattle.emigrate.proofs.CountLaws.{digest_at, digest_within, no_item, one_less, some_left}
 use Rattle.emigrate.proofs.counts.Counts.remove_all.Goals.{in-Some, in_default}
 use Rattle.emigrate.proofs.counts.Counts.remove_all.Goals as goal
@@ -11,13 +11,13 @@ pub remove-requires : goal.remove-requires
 remove-requires c =
     let rs = c.args.batch.now.records in
     let r = c.in-Some.field-0.now in
-    some_left (slice_index c.args.self.now) c.loop-i.self (digests_of c.args.batch.now) c.loop-i.i r.0 (digest_within rs c.loop-i.i r (sym c.in-Some.ensures)) (digest_at rs c.loop-i.i r (sym c.in-Some.ensures))
+    some_left (slice_index c.args.self.now) c.loop-i.self (batch_digests c.args.batch.now) c.loop-i.i r.0 (digest_within rs c.loop-i.i r (sym c.in-Some.ensures)) (digest_at rs c.loop-i.i r (sym c.in-Some.ensures))
     c.requires c.loop-i.invariant
 
 pub loop-i-preserved : goal.loop-i-preserved
 loop-i-preserved c =
     let rs = c.args.batch.now.records in
-    let ds = digests_of c.args.batch.now in
+    let ds = batch_digests c.args.batch.now in
     let within : c.loop-i.i < length rs = omega (arith, c.loop-i-test.true, c.len-i-end.ensures) in
     elim c.match-get.branch [
       | in-Some w ↦

@@ -1,6 +1,6 @@
 use Rattle.std.proofs.Common.{◌≡◌, ◌++◌, ℕ, List, not, filter, drop, sym, ap, subst, ◌∙◌}
 use Rattle.node_rules.specs.Batches.{is_among}
-use Rattle.emigrate.specs.Going.{Awaiting, digests_of}
+use Rattle.emigrate.specs.Going.{Awaiting, batch_digests}
 use Rattle.emigrate.specs.Stages.{pending_after}
 use Rattle.emigrate.proofs.FirstLaws.{acked_first, acked_left}
 use Rattle.emigrate.proofs.target.Sent.acked.Goals as goal
@@ -17,6 +17,6 @@ returns-clause-ok c =
 pub returns-clause-first : goal.returns-clause-first
 returns-clause-first c =
     let pending = c.self.inside.pending.items in
-    subst (λ (s : Awaiting). s.pending ≡ digests_of s.batch ++ pending_after c.after_ack.result) c.self.view_is
+    subst (λ (s : Awaiting). s.pending ≡ batch_digests s.batch ++ pending_after c.after_ack.result) c.self.view_is
     (acked_first pending c.self.inside.batch c.self.invariant.1
-    ∙ ap (λ (xs : List (List ℕ)). digests_of c.self.inside.batch ++ xs) (sym (c.after_ack.ensures ∙ c.drop_first.ensures ∙ ap (λ (n : ℕ). drop n pending) c.len.ensures)))
+    ∙ ap (λ (xs : List (List ℕ)). batch_digests c.self.inside.batch ++ xs) (sym (c.after_ack.ensures ∙ c.drop_first.ensures ∙ ap (λ (n : ℕ). drop n pending) c.len.ensures)))
