@@ -1,0 +1,29 @@
+use Rattle.std.proofs.Common.{sym, ap, ◌∙◌}
+use Rattle.node_rules.specs.Facts.{view_key}
+use Rattle.node_rules.specs.Here.{lines_here}
+use Rattle.node_view.specs.declared.here.Settling.{Settling}
+use Rattle.node_view.specs.Settlings.{here_of, settling_of}
+use Rattle.node_view.proofs.DueSettlingLaws.{lines_one, no_settling, not_live}
+use Rattle.node_view.proofs.view.View.settling_at.Goals as goal
+
+pub returns-then-not-contains-clause-partition : goal.returns-then-not-contains-clause-partition
+returns-then-not-contains-clause-partition c s e = absurd (no_settling s e)
+
+pub returns-then-not-contains-clause-settling : goal.returns-then-not-contains-clause-settling
+returns-then-not-contains-clause-settling c f h held s e = absurd (no_settling s e)
+
+pub returns-then-not-contains-clause-lines : goal.returns-then-not-contains-clause-lines
+returns-then-not-contains-clause-lines c f h held =
+    sym (not_live f c.args.self.now c.args.moving.now c.args.p c.requires.moving h c.requires.within (sym c.contains.ensures ∙ c.if-not-contains.true))
+
+pub returns-clause-partition : goal.returns-clause-partition
+returns-clause-partition c s e = ap (λ (x : Settling). x.partition) (c.of.ensures.some s e)
+
+pub returns-clause-settling : goal.returns-clause-settling
+returns-clause-settling c f h held s e = c.of.ensures.some s e ∙ ap (settling_of c.args.p) (c.here.ensures f h.viewed held)
+
+pub returns-clause-lines : goal.returns-clause-lines
+returns-clause-lines c f h held =
+    let p = c.args.p in
+    lines_one c.of.result f.me (view_key f) p (here_of c.here.result) c.of.ensures.some (c.of.ensures.none f.me (view_key f)) (c.of.ensures.lines f.me (view_key f))
+    ∙ ap (lines_here f.me (view_key f) p) (c.here.ensures f h.viewed held)
