@@ -20,7 +20,7 @@ use Rattle.wire_messages.specs.Spelling.{spelling}
 use Rattle.wire_messages.specs.Decoding.{decoded, message_of}
 use Rattle.partition_lists.specs.Hashes.{fnv1a, jenkins_state, jenkins_end, node_bytes, partition_bytes, place}
 use Rattle.partition_lists.specs.Lists.{list}
-use Rattle.cluster_rules.specs.Examples.{digest, key, version, one}
+use Rattle.journal_readings.specs.Examples.{digest, key, version, one}
 use Rattle.cluster_laws.specs.Changed.{at_digest}
 use Rattle.cluster_laws.specs.Changes.{opening}
 use Rattle.cluster_laws.specs.Ground.{is_member, master, is_replica, other_replicas, acting, all_empty, same_class, is_first, sends_to, asks}

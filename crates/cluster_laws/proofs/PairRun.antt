@@ -23,7 +23,7 @@ use Rattle.partition_lists.specs.Hashes.{fnv1a, jenkins_state, jenkins_end, node
 use Rattle.partition_lists.specs.Lists.{list}
 use Rattle.node_rules.specs.Batches.{is_among}
 use Rattle.node_rules.specs.Transactions.{Write}
-use Rattle.cluster_rules.specs.Examples.{digest, key, version}
+use Rattle.journal_readings.specs.Examples.{digest, key, version}
 use Rattle.cluster_laws.specs.Changed.{at_digest}
 use Rattle.cluster_laws.specs.Ground.{is_member, master, is_replica, other_replicas, acting, all_empty, same_class, is_first, sends_to, asks}
 use Rattle.cluster_laws.specs.Stay.{Running}

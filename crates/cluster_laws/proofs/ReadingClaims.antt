@@ -19,15 +19,15 @@ use Rattle.node_rules.specs.Map as the_map
 use Rattle.node_rules.specs.Map.{is_empty}
 use Rattle.node_rules.specs.Tables.{contains}
 use Rattle.cluster_rules.specs.Opening.{Header}
-use Rattle.cluster_rules.specs.Lines.{same_digest, is_done, is_exchanged, is_settled_line}
-use Rattle.cluster_rules.specs.Settings.{policy_of, nodes}
-use Rattle.cluster_rules.specs.Contents.{content, applied, join_all}
-use Rattle.cluster_rules.specs.Entries.{fold_of}
-use Rattle.cluster_rules.specs.Views.{view, first_of, master, is_replica, members}
-use Rattle.cluster_rules.specs.Stamps.{is_empty_at_entry, is_empty_everywhere}
-use Rattle.cluster_rules.specs.Settled.{is_settled, is_open_write, has_open_write}
-use Rattle.cluster_rules.specs.Claims.{NoLoss, SettledJoin, JoinsView, ReadJoin}
-use Rattle.cluster_rules.proofs.CopyLaws.{same_digest_is}
+use Rattle.journal_readings.specs.Lines.{same_digest, is_done, is_exchanged, is_settled_line}
+use Rattle.journal_readings.specs.Settings.{policy_of, nodes}
+use Rattle.journal_readings.specs.Contents.{content, applied, join_all}
+use Rattle.journal_readings.specs.Entries.{fold_of}
+use Rattle.journal_readings.specs.Views.{view, first_of, master, is_replica, members}
+use Rattle.journal_readings.specs.Stamps.{is_empty_at_entry, is_empty_everywhere}
+use Rattle.journal_readings.specs.Settled.{is_settled, is_open_write, has_open_write}
+use Rattle.journal_readings.specs.Claims.{NoLoss, SettledJoin, JoinsView, ReadJoin}
+use Rattle.journal_readings.proofs.CopyLaws.{same_digest_is}
 use Rattle.cluster_laws.specs.Ground as ground
 use Rattle.cluster_laws.specs.Ground.{Ground, is_member, list, all_empty}
 use Rattle.cluster_laws.specs.Picture.{Picture}

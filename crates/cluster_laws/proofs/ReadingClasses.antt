@@ -15,17 +15,17 @@ use Rattle.node_rules.specs.Map.{is_whole}
 use Rattle.node_rules.specs.Stamps as stamps
 use Rattle.node_rules.specs.Stamps.{no_class, recounted, spoiled}
 use Rattle.cluster_rules.specs.Opening.{Header}
-use Rattle.cluster_rules.specs.Lines.{has_node, is_enter, lines_after}
-use Rattle.cluster_rules.specs.Settings.{nodes}
-use Rattle.cluster_rules.specs.Contents.{holds_any}
-use Rattle.cluster_rules.specs.Entries.{entry}
-use Rattle.cluster_rules.specs.Views.{members, master}
-use Rattle.cluster_rules.specs.Messages.{posted}
-use Rattle.cluster_rules.specs.Counts.{is_apply_in, own_numbers, heard_numbers, numbers, is_foreign, has_foreign, has_number, has_no_gap, count}
-use Rattle.cluster_rules.specs.Rows.{stamped, copy_state, row}
-use Rattle.cluster_rules.specs.Classes.{has_records, are_alike, is_in_class_of, class_of, are_in_one_class}
-use Rattle.cluster_rules.specs.Claims.{EqualClasses}
-use Rattle.cluster_rules.proofs.StepLaws.{row-more}
+use Rattle.journal_readings.specs.Lines.{has_node, is_enter, lines_after}
+use Rattle.journal_readings.specs.Settings.{nodes}
+use Rattle.journal_readings.specs.Contents.{holds_any}
+use Rattle.journal_readings.specs.Entries.{entry}
+use Rattle.journal_readings.specs.Views.{members, master}
+use Rattle.journal_readings.specs.Messages.{posted}
+use Rattle.journal_readings.specs.Counts.{is_apply_in, own_numbers, heard_numbers, numbers, is_foreign, has_foreign, has_number, has_no_gap, count}
+use Rattle.journal_readings.specs.Rows.{stamped, copy_state, row}
+use Rattle.journal_readings.specs.Classes.{has_records, are_alike, is_in_class_of, class_of, are_in_one_class}
+use Rattle.journal_readings.specs.Claims.{EqualClasses}
+use Rattle.journal_readings.proofs.StepLaws.{row-more}
 use Rattle.cluster_laws.specs.Changed.{at_number}
 use Rattle.cluster_laws.specs.Ground as ground
 use Rattle.cluster_laws.specs.Ground.{Ground, IsGround, is_in_class, same_class}
@@ -312,7 +312,7 @@ same_entry G ns j w t k n m d e = ⊎_elim one two (or_cases ((m == n) && has_re
     p = partition_of d
 
     passes : is_in_class_of G.factor k p n m j ≡ true
-    passes = filter_passes (λ z. is_in_class_of G.factor k p n z j) (Rattle.cluster_rules.specs.Views.list k p j) m (and_right (has_node (class_of G.factor k p n j) n) (has_node (class_of G.factor k p n j) m) e)
+    passes = filter_passes (λ z. is_in_class_of G.factor k p n z j) (Rattle.journal_readings.specs.Views.list k p j) m (and_right (has_node (class_of G.factor k p n j) n) (has_node (class_of G.factor k p n j) m) e)
 
     one : ((m == n) && has_records (row G.factor k n p j)) ≡ true → entry G.by k n d j ≡ entry G.by k m d j
     one z = ap (λ (y : ℕ). entry G.by k y d j) (sym (number_same m n (and_left (m == n) (has_records (row G.factor k n p j)) z)))

@@ -12,8 +12,8 @@ use Rattle.journal_lines.specs.declared.line.Line.{Line}
 use Rattle.journal_lines.specs.declared.line.Line.TheVariants as line
 use Rattle.node_rules.specs.Keys.{same_key}
 use Rattle.node_rules.specs.Tables.{contains}
-use Rattle.cluster_rules.specs.Lines.{same_digest}
-use Rattle.cluster_rules.proofs.CopyLaws.{same_digest_is, same_digest_itself}
+use Rattle.journal_readings.specs.Lines.{same_digest}
+use Rattle.journal_readings.proofs.CopyLaws.{same_digest_is, same_digest_itself}
 use Rattle.cluster_laws.specs.Changed.{at_number, at_key, at_stay}
 use Rattle.cluster_laws.specs.Ground.{Ground}
 use Rattle.cluster_laws.specs.Stay.{Running, Stay}

@@ -9,12 +9,12 @@ use Rattle.journal_lines.specs.declared.line.Line.{Line}
 use Rattle.journal_lines.specs.declared.line.Line.TheVariants as line
 use Rattle.cluster_rules.specs.Opening as opening
 use Rattle.cluster_rules.specs.Opening.{Header, header_line, header_lines, declared_policy, declared_factor, declared_nodes}
-use Rattle.cluster_rules.specs.Settings.{policy_step, policy_of, factor_step, factor_of, declared_in, nodes}
+use Rattle.journal_readings.specs.Settings.{policy_step, policy_of, factor_step, factor_of, declared_in, nodes}
 use Rattle.cluster_laws.specs.Ground.{Ground, master, acting}
 use Rattle.cluster_laws.specs.Picture.{Picture, start}
 use Rattle.cluster_laws.specs.Licences.{Licensed, after, after_all}
 use Rattle.cluster_laws.specs.Journals.{journal, Fits, IsJournal, is_header, ShowsGround, lone_header, shown}
-use Rattle.cluster_rules.specs.Examples.{one, key}
+use Rattle.journal_readings.specs.Examples.{one, key}
 use Rattle.partition_lists.specs.Hashes.{fnv1a, jenkins_state, jenkins_end, node_bytes, partition_bytes, place}
 use Rattle.partition_lists.specs.Lists as lists
 use Rattle.cluster_laws.specs.Weaker.{lone, kept}

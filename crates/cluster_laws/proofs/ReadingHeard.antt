@@ -14,10 +14,10 @@ use Rattle.journal_lines.specs.declared.line.Line.{Line}
 use Rattle.journal_lines.specs.declared.line.Line.TheVariants as line
 use Rattle.node_rules.specs.Keys.{same_key}
 use Rattle.node_rules.specs.Stamps as stamps
-use Rattle.cluster_rules.specs.Messages.{Posting, Arrival, posted, posting_of, arrived, arrival, message_between}
-use Rattle.cluster_rules.specs.Views.{is_key, is_in_view}
-use Rattle.cluster_rules.specs.Counts.{is_apply_in, repl_number, with_number, heard_numbers}
-use Rattle.cluster_rules.proofs.StepLaws.{heard_numbers-more}
+use Rattle.journal_readings.specs.Messages.{Posting, Arrival, posted, posting_of, arrived, arrival, message_between}
+use Rattle.journal_readings.specs.Views.{is_key, is_in_view}
+use Rattle.journal_readings.specs.Counts.{is_apply_in, repl_number, with_number, heard_numbers}
+use Rattle.journal_readings.proofs.StepLaws.{heard_numbers-more}
 use Rattle.cluster_laws.specs.Ground as ground
 use Rattle.cluster_laws.specs.Ground.{Ground}
 use Rattle.cluster_laws.specs.Stay.{Running, Stay}

@@ -14,13 +14,13 @@ use Rattle.journal_lines.specs.declared.line.Line.{Line}
 use Rattle.journal_lines.specs.declared.line.Line.TheVariants as line
 use Rattle.node_rules.specs.Keys.{same_key}
 use Rattle.node_rules.specs.Tables.{contains}
-use Rattle.cluster_rules.specs.Lines.{same_digest, lines_before, is_enter}
-use Rattle.cluster_rules.specs.Contents.{content, joined_if, join_all}
-use Rattle.cluster_rules.specs.Entries.{entry}
-use Rattle.cluster_rules.specs.Views.{members}
-use Rattle.cluster_rules.specs.Stamps.{is_empty_at_entry, entered_empty}
-use Rattle.cluster_rules.proofs.CopyLaws.{same_digest_is}
-use Rattle.cluster_rules.proofs.StepLaws.{lines_before-more, entry-more}
+use Rattle.journal_readings.specs.Lines.{same_digest, lines_before, is_enter}
+use Rattle.journal_readings.specs.Contents.{content, joined_if, join_all}
+use Rattle.journal_readings.specs.Entries.{entry}
+use Rattle.journal_readings.specs.Views.{members}
+use Rattle.journal_readings.specs.Stamps.{is_empty_at_entry, entered_empty}
+use Rattle.journal_readings.proofs.CopyLaws.{same_digest_is}
+use Rattle.journal_readings.proofs.StepLaws.{lines_before-more, entry-more}
 use Rattle.cluster_laws.specs.Changed.{at_number, at_key}
 use Rattle.cluster_laws.specs.Stay.{Versions}
 use Rattle.cluster_laws.specs.Picture.{Seen}

@@ -14,14 +14,14 @@ use Rattle.node_rules.specs.Map as the_map
 use Rattle.node_rules.specs.Map.{is_whole}
 use Rattle.node_rules.specs.Tables.{contains}
 use Rattle.cluster_rules.specs.Opening.{Header}
-use Rattle.cluster_rules.specs.Lines.{is_enter}
-use Rattle.cluster_rules.specs.Settings.{nodes}
-use Rattle.cluster_rules.specs.Stamps.{stamp}
-use Rattle.cluster_rules.specs.Views.{members, first_of}
-use Rattle.cluster_rules.specs.Rows.{row, whole_key}
-use Rattle.cluster_rules.specs.Maps.{is_above, is_newest_whole, acting, with_roles}
-use Rattle.cluster_rules.specs.Claims.{OneMap, ShowsMap}
-use Rattle.cluster_rules.proofs.AlongLaws.{one_map}
+use Rattle.journal_readings.specs.Lines.{is_enter}
+use Rattle.journal_readings.specs.Settings.{nodes}
+use Rattle.journal_readings.specs.Stamps.{stamp}
+use Rattle.journal_readings.specs.Views.{members, first_of}
+use Rattle.journal_readings.specs.Rows.{row, whole_key}
+use Rattle.journal_readings.specs.Maps.{is_above, is_newest_whole, acting, with_roles}
+use Rattle.journal_readings.specs.Claims.{OneMap, ShowsMap}
+use Rattle.journal_readings.proofs.AlongLaws.{one_map}
 use Rattle.cluster_laws.specs.Ground as ground
 use Rattle.cluster_laws.specs.Ground.{Ground, IsGround, is_member, list, is_wholest}
 use Rattle.cluster_laws.specs.Picture.{Picture, start}

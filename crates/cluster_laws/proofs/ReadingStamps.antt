@@ -13,12 +13,12 @@ use Rattle.node_rules.specs.Keys.{same_key}
 use Rattle.node_rules.specs.Map.{is_empty}
 use Rattle.node_rules.specs.Stamps.{no_class, recounted, spoiled}
 use Rattle.node_rules.specs.Tables.{contains}
-use Rattle.cluster_rules.specs.Lines.{is_enter}
-use Rattle.cluster_rules.specs.Contents.{holds_any}
-use Rattle.cluster_rules.specs.Views.{members}
-use Rattle.cluster_rules.specs.Stamps.{stamp, is_empty_at_entry, is_empty_everywhere, begins_whole}
-use Rattle.cluster_rules.specs.Rows.{stamped, copy_state, row, whole_key}
-use Rattle.cluster_rules.proofs.StepLaws.{stamp-more, row-more}
+use Rattle.journal_readings.specs.Lines.{is_enter}
+use Rattle.journal_readings.specs.Contents.{holds_any}
+use Rattle.journal_readings.specs.Views.{members}
+use Rattle.journal_readings.specs.Stamps.{stamp, is_empty_at_entry, is_empty_everywhere, begins_whole}
+use Rattle.journal_readings.specs.Rows.{stamped, copy_state, row, whole_key}
+use Rattle.journal_readings.proofs.StepLaws.{stamp-more, row-more}
 use Rattle.cluster_laws.specs.Changed.{at_number}
 use Rattle.cluster_laws.specs.Ground as ground
 use Rattle.cluster_laws.specs.Ground.{Ground, is_member, list, all_empty}

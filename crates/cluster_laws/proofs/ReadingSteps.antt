@@ -10,11 +10,11 @@ use Rattle.journal_lines.specs.declared.line.Line.{Line}
 use Rattle.journal_lines.specs.declared.line.Line.TheVariants as line
 use Rattle.node_rules.specs.Keys.{same_key}
 use Rattle.node_rules.specs.Tables.{contains}
-use Rattle.cluster_rules.specs.Lines.{same_digest, is_enter, is_exchanged}
-use Rattle.cluster_rules.specs.Settings.{clock_of}
-use Rattle.cluster_rules.specs.Contents.{content, applied, joined_if}
-use Rattle.cluster_rules.specs.Views.{view, some_key}
-use Rattle.cluster_rules.proofs.StepLaws.{content-more, applied-more, view-more, clock_of-more}
+use Rattle.journal_readings.specs.Lines.{same_digest, is_enter, is_exchanged}
+use Rattle.journal_readings.specs.Settings.{clock_of}
+use Rattle.journal_readings.specs.Contents.{content, applied, joined_if}
+use Rattle.journal_readings.specs.Views.{view, some_key}
+use Rattle.journal_readings.proofs.StepLaws.{content-more, applied-more, view-more, clock_of-more}
 use Rattle.cluster_laws.specs.Changed.{at_number}
 use Rattle.cluster_laws.specs.Ground.{Ground}
 use Rattle.cluster_laws.specs.Stay.{Versions, Stay, blank}

@@ -9,10 +9,10 @@ use Rattle.cluster_types.specs.declared.member.Member.{Member}
 use Rattle.script_lang.specs.declared.script.HeaderLine.TheVariants as header
 use Rattle.journal_lines.specs.declared.line.Line.{Line}
 use Rattle.cluster_rules.specs.Opening.{Header, header_lines}
-use Rattle.cluster_rules.specs.Settings.{nodes, clock_of}
-use Rattle.cluster_rules.specs.Contents.{content, applied}
-use Rattle.cluster_rules.specs.Entries.{entry, applied_in, fold_of}
-use Rattle.cluster_rules.specs.Views.{view, members}
+use Rattle.journal_readings.specs.Settings.{nodes, clock_of}
+use Rattle.journal_readings.specs.Contents.{content, applied}
+use Rattle.journal_readings.specs.Entries.{entry, applied_in, fold_of}
+use Rattle.journal_readings.specs.Views.{view, members}
 use Rattle.cluster_laws.specs.Ground.{Ground, IsGround}
 use Rattle.cluster_laws.specs.Picture.{Picture, start}
 use Rattle.cluster_laws.specs.Licences.{Ok, after, after_all, Licensed}
@@ -145,7 +145,7 @@ pub in_view_entered : (G : Ground) (ns : List ℕ) (j : List Line) (w : Picture)
 in_view_entered G ns j w t n k e = ((t.sound.whole.known.entered n k).now e).0
 
 pub members_of : (G : Ground) (ns : List ℕ) (j : List Line) (w : Picture) → Tied G ns j w → (n : ℕ) (k : ClusterKey) → (w.stay n k).entered ≡ true → members k j ≡ G.members k
-members_of G ns j w t n k e = t.members k (any_wider (Rattle.cluster_rules.specs.Lines.is_enter k n) (enters_key k) (enter_is_key k n) j (t.entered n k ∙ e))
+members_of G ns j w t n k e = t.members k (any_wider (Rattle.journal_readings.specs.Lines.is_enter k n) (enters_key k) (enter_is_key k n) j (t.entered n k ∙ e))
 
 pub fold_is : (G : Ground) (ns : List ℕ) (j : List Line) (w : Picture) → Tied G ns j w → (n : ℕ) (k : ClusterKey) → (w.stay n k).entered ≡ true → (d : List ℕ) → fold_of G.by k d j ≡ w.fold k d
 unfolding fold_of

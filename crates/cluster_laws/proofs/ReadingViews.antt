@@ -12,13 +12,13 @@ use Rattle.journal_lines.specs.declared.line.Line.{Line}
 use Rattle.journal_lines.specs.declared.line.Line.TheVariants as line
 use Rattle.node_rules.specs.Keys.{same_key}
 use Rattle.node_rules.specs.Map.{is_empty}
-use Rattle.cluster_rules.specs.Lines.{same_digest, is_enter, is_settled_line, is_done}
-use Rattle.cluster_rules.specs.Contents.{content, holds_any, joined_if}
-use Rattle.cluster_rules.specs.Entries.{entry, applied_in}
-use Rattle.cluster_rules.specs.Views.{members}
-use Rattle.cluster_rules.specs.Stamps.{is_empty_at_entry}
-use Rattle.cluster_rules.proofs.CopyLaws.{no_record-empty, same_digest_itself}
-use Rattle.cluster_rules.proofs.StepLaws.{applied_in-more}
+use Rattle.journal_readings.specs.Lines.{same_digest, is_enter, is_settled_line, is_done}
+use Rattle.journal_readings.specs.Contents.{content, holds_any, joined_if}
+use Rattle.journal_readings.specs.Entries.{entry, applied_in}
+use Rattle.journal_readings.specs.Views.{members}
+use Rattle.journal_readings.specs.Stamps.{is_empty_at_entry}
+use Rattle.journal_readings.proofs.CopyLaws.{no_record-empty, same_digest_itself}
+use Rattle.journal_readings.proofs.StepLaws.{applied_in-more}
 use Rattle.cluster_laws.specs.Changed.{at_key, at_stay, at_part}
 use Rattle.cluster_laws.specs.Ground.{Ground}
 use Rattle.cluster_laws.specs.Stay.{Versions, Applied, Stay}

@@ -23,7 +23,7 @@ use Rattle.journal_lines.specs.declared.line.Line.TheVariants as line
 use Rattle.partition_lists.specs.Hashes.{fnv1a, jenkins_state, jenkins_end, node_bytes, partition_bytes, place}
 use Rattle.partition_lists.specs.Lists.{list}
 use Rattle.node_rules.specs.Transactions.{Write}
-use Rattle.cluster_rules.specs.Examples.{digest, second, key, version, one, two}
+use Rattle.journal_readings.specs.Examples.{digest, second, key, version, one, two}
 use Rattle.cluster_laws.specs.Changed.{at_number, at_digest}
 use Rattle.cluster_laws.specs.Ground.{Ground, is_member, master, is_replica, other_replicas, acting, all_empty, same_class, is_first, sends_to, asks}
 use Rattle.cluster_laws.specs.Stay.{Versions, Running}

@@ -7,7 +7,7 @@ use Rattle.conflict_order.specs.Order.{version_cmp, is_newer}
 use Rattle.conflict_order.proofs.OrderLaws.{no_version_AtMost_none}
 use Rattle.partition_lists.specs.Hashes.{fnv1a, jenkins_state, jenkins_end, node_bytes, partition_bytes, place}
 use Rattle.partition_lists.specs.Lists.{list}
-use Rattle.cluster_rules.specs.Examples.{digest, key, version}
+use Rattle.journal_readings.specs.Examples.{digest, key, version}
 use Rattle.cluster_laws.specs.Ground.{master, is_replica, other_replicas, acting, all_empty, same_class, is_first, sends_to, asks}
 use Rattle.cluster_laws.specs.Laws.{IsBounded, ReadJoin}
 use Rattle.cluster_laws.specs.Stay.{Running}

@@ -7,12 +7,12 @@ use Rattle.journal_lines.specs.declared.line.Line.{Line}
 use Rattle.journal_lines.specs.declared.line.Line.TheVariants as line
 use Rattle.node_rules.specs.Tables.{contains}
 use Rattle.cluster_rules.specs.Opening.{Header, header_lines}
-use Rattle.cluster_rules.specs.Settings.{policy_of, factor_of, nodes}
-use Rattle.cluster_rules.specs.Maps.{with_roles}
+use Rattle.journal_readings.specs.Settings.{policy_of, factor_of, nodes}
+use Rattle.journal_readings.specs.Maps.{with_roles}
 use Rattle.cluster_laws.specs.Ground.{Ground, IsGround, list, acting}
 use Rattle.cluster_laws.specs.Picture.{Packet, Picture, start}
 use Rattle.cluster_laws.specs.Licences.{Licensed}
-use Rattle.cluster_rules.specs.Examples.{one, key}
+use Rattle.journal_readings.specs.Examples.{one, key}
 use Rattle.cluster_laws.specs.Laws.{picture}
 use Rattle.cluster_laws.specs.Weaker.{kept}
 

@@ -21,7 +21,7 @@ use Rattle.wire_messages.specs.Spelling.{spelling}
 use Rattle.journal_lines.specs.declared.line.Line.{Line}
 use Rattle.journal_lines.specs.declared.line.Line.TheVariants as line
 use Rattle.node_rules.specs.Keys.{same_key}
-use Rattle.cluster_rules.specs.Examples.{digest, second, key, version, one, two, both}
+use Rattle.journal_readings.specs.Examples.{digest, second, key, version, one, two, both}
 use Rattle.cluster_laws.specs.Ground.{Ground, IsGround, master, acting, is_replica, all_empty}
 use Rattle.cluster_laws.specs.Stay.{Running}
 use Rattle.cluster_laws.specs.Picture.{Picture, start}

@@ -14,9 +14,9 @@ use Rattle.journal_lines.specs.declared.line.Line.TheVariants as line
 use Rattle.cluster_rules.specs.declared.event.Event.{Event}
 use Rattle.cluster_rules.specs.declared.event.Event.TheVariants as event
 use Rattle.cluster_rules.specs.Allowed.{may_come, AreAllowed, is_playable}
-use Rattle.cluster_rules.specs.Lines.{has_node}
+use Rattle.journal_readings.specs.Lines.{has_node}
 use Rattle.cluster_rules.specs.Marks.{Mark, Begins, Writes, begun, after_line, after_all, came, came_to, came_to_client, sent_by}
-use Rattle.cluster_rules.specs.Messages.{Arrival, arrived, arrived_cut}
+use Rattle.journal_readings.specs.Messages.{Arrival, arrived, arrived_cut}
 use Rattle.cluster_rules.specs.Network.{client, posting_at, posting}
 use Rattle.cluster_rules.specs.Runs.{ComesToCalm, calming, Plays, PlaysAll}
 use Rattle.cluster_rules.specs.Steps.{Step, marks_of, all_marks, AreDue, Played, and_then, play, play_all, flow, flows, round, rounds}

@@ -21,7 +21,7 @@ use Rattle.node_rules.specs.Facts.{Facts, list_at}
 use Rattle.node_rules.specs.Notes as notes
 use Rattle.node_rules.specs.Notes.{note, reached, sent, in_view}
 use Rattle.cluster_rules.specs.Marks.{Mark, Begins, Writes, after_line, after_all, by_node, came, came_to, came_to_client, sent_by, lines_among}
-use Rattle.cluster_rules.specs.Messages.{Arrival, arrived, arrived_cut}
+use Rattle.journal_readings.specs.Messages.{Arrival, arrived, arrived_cut}
 use Rattle.cluster_rules.specs.Network.{client, posting_at, posting}
 use Rattle.cluster_rules.specs.World.{World, at, new_if}
 

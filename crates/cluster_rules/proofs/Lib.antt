@@ -1,14 +1,3 @@
-pub mod Computing
-pub mod StepLaws
-pub mod CopyLaws
-pub mod Refusals
-pub mod AlongLaws
-pub mod Fronts
-pub mod Unwritten
-pub mod Worked
-pub mod WellKept
-pub mod EqualCopies
-pub mod Resting
 pub mod MarkLaws
 pub mod NodeLaws
 pub mod OwnLines

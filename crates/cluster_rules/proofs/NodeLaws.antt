@@ -18,7 +18,7 @@ use Rattle.node_rules.specs.Tick.{due_tick}
 use Rattle.cluster_rules.specs.declared.event.Event.TheVariants as event
 use Rattle.cluster_rules.specs.DueEvents.{full_unless, one_more_if, sent_lines, written}
 use Rattle.cluster_rules.specs.Marks.{Writes, after_line, after_all, begun, by_node, sent_by}
-use Rattle.cluster_rules.specs.Messages.{Posting}
+use Rattle.journal_readings.specs.Messages.{Posting}
 use Rattle.cluster_rules.specs.Network.{Network, posting, landed, has_place}
 use Rattle.cluster_rules.specs.World.{World, at, new_if}
 use Rattle.cluster_rules.specs.NodeSteps.{IsOf, AreOf, AreRead, IsNumbered, Moves, full_in, sent_in, all_sent_in, after_step}

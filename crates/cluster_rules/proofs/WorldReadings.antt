@@ -29,18 +29,18 @@ use Rattle.node_rules.specs.Exchange.{key_of}
 use Rattle.node_rules.specs.Facts.{view_key}
 use Rattle.cluster_rules.specs.declared.event.Event.{Event}
 use Rattle.cluster_rules.specs.declared.event.Event.TheVariants as event
-use Rattle.cluster_rules.specs.Contents.{content, content_step, joined_if}
-use Rattle.cluster_rules.specs.Lines.{same_digest, has_node}
+use Rattle.journal_readings.specs.Contents.{content, content_step, joined_if}
+use Rattle.journal_readings.specs.Lines.{same_digest, has_node}
 use Rattle.cluster_rules.specs.Marks.{Mark, Begins, Writes, begun, after_line, after_all, came, came_to, came_to_client, sent_by, lines_among}
-use Rattle.cluster_rules.specs.Messages.{Arrival, arrived, arrived_cut}
+use Rattle.journal_readings.specs.Messages.{Arrival, arrived, arrived_cut}
 use Rattle.cluster_rules.specs.Network.{client, posting_at, posting}
 use Rattle.cluster_rules.specs.Opening as opening
 use Rattle.cluster_rules.specs.Opening.{Header, header_line, header_lines, declared_policy, declared_factor, declared_nodes, declared_role, rack_in, rack_if}
-use Rattle.cluster_rules.specs.Settings.{policy_of, policy_step, factor_of, factor_step, nodes, declared_in, clock_of, clock_step, is_up, up_step, groups_of, groups_step, present_role, role_step}
-use Rattle.cluster_rules.specs.Shape.{is_header, AreBehind}
-use Rattle.cluster_rules.specs.Views.{promised_key, promise_step, last_key, last_step, view, view_step, some_key}
+use Rattle.journal_readings.specs.Settings.{policy_of, policy_step, factor_of, factor_step, nodes, declared_in, clock_of, clock_step, is_up, up_step, groups_of, groups_step, present_role, role_step}
+use Rattle.journal_readings.specs.Shape.{is_header, AreBehind}
+use Rattle.journal_readings.specs.Views.{promised_key, promise_step, last_key, last_step, view, view_step, some_key}
 use Rattle.cluster_rules.specs.World.{World, opened}
-use Rattle.cluster_rules.proofs.CopyLaws.{same_digest_is, same_digest_itself}
+use Rattle.journal_readings.proofs.CopyLaws.{same_digest_is, same_digest_itself}
 use Rattle.wire_messages.proofs.ItemForms.{later_pairs}
 use Rattle.cluster_rules.proofs.KeptFacts.{num_same, Kept, kept_of, own_step, is_own, kept_step, marks_kept}
 

@@ -7,7 +7,7 @@ use Rattle.cluster_rules.specs.declared.event.Event.{Event}
 use Rattle.cluster_rules.specs.declared.event.Event.TheVariants as event
 use Rattle.cluster_rules.specs.Calm.{is_calm_of}
 use Rattle.cluster_rules.specs.DueEvents.{due_of}
-use Rattle.cluster_rules.specs.Lines.{has_node}
+use Rattle.journal_readings.specs.Lines.{has_node}
 use Rattle.cluster_rules.specs.Marks.{after_all}
 use Rattle.cluster_rules.specs.Steps.{Step, marks_of}
 use Rattle.cluster_rules.specs.World.{World}

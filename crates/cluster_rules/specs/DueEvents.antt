@@ -18,7 +18,7 @@ use Rattle.node_rules.specs.Tick.{tick_of}
 use Rattle.cluster_rules.specs.declared.event.Event.{Event}
 use Rattle.cluster_rules.specs.declared.event.Event.TheVariants as event
 use Rattle.node_rules.specs.Client.{node_for}
-use Rattle.cluster_rules.specs.Messages.{Posting}
+use Rattle.journal_readings.specs.Messages.{Posting}
 use Rattle.cluster_rules.specs.Network.{Network, client, flying_at, landed, has_place, are_apart}
 use Rattle.cluster_rules.specs.World.{World, is_up, members_now}
 

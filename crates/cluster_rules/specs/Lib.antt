@@ -1,20 +1,3 @@
-pub mod Lines
-pub mod Settings
-pub mod Contents
-pub mod Views
-pub mod Entries
-pub mod Messages
-pub mod Stamps
-pub mod Counts
-pub mod Rows
-pub mod Classes
-pub mod Maps
-pub mod Pending
-pub mod Settled
-pub mod NamedKeys
-pub mod Claims
-pub mod CalmEnd
-pub mod Shape
 pub mod Network
 pub mod Opening
 pub mod World
@@ -29,6 +12,5 @@ pub mod Begun
 pub mod FrontRuns
 pub mod CalmBound
 pub mod Codes
-pub mod Examples
 pub mod WorldExamples
 pub mod WalkExamples

@@ -2,8 +2,8 @@
 use Rattle.std.specs.Prelude.{ℕ, ◌-◌, ◌==◌, ◌&&◌, nat_lt, Bool, true, false, not, List, [], ◌∷◌, ◌++◌, Option, None, slice_get}
 use Rattle.cluster_types.specs.Distinct.{without}
 use Rattle.cluster_types.specs.Groups.{apart}
-use Rattle.cluster_rules.specs.Lines.{has_node}
-use Rattle.cluster_rules.specs.Messages.{Posting}
+use Rattle.journal_readings.specs.Lines.{has_node}
+use Rattle.journal_readings.specs.Messages.{Posting}
 
 -- so many messages may be in flight
 abbrev pub flight_limit : ℕ

@@ -10,7 +10,7 @@ use Rattle.node_rules.specs.Facts.{Facts}
 use Rattle.cluster_rules.specs.declared.event.Event.{Event}
 use Rattle.cluster_rules.specs.DueEvents.{due_of}
 use Rattle.cluster_rules.specs.Marks.{after_all}
-use Rattle.cluster_rules.specs.Messages.{Posting}
+use Rattle.journal_readings.specs.Messages.{Posting}
 use Rattle.cluster_rules.specs.Network.{Network, posting, landed, has_place}
 use Rattle.cluster_rules.specs.Steps.{Step, marks_of}
 use Rattle.cluster_rules.specs.World.{World}

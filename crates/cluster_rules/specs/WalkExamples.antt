@@ -18,7 +18,7 @@ use Rattle.node_rules.specs.Facts.{Facts}
 use Rattle.node_rules.specs.Notes.{reached}
 use Rattle.node_rules.specs.Steps.{after}
 use Rattle.node_rules.specs.Tick.{progress_message}
-use Rattle.cluster_rules.specs.Examples.{version}
+use Rattle.journal_readings.specs.Examples.{version}
 
 -- ---- the two sides
 

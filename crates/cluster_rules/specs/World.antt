@@ -6,7 +6,7 @@ use Rattle.partition_lists.specs.Lists.{in_order}
 use Rattle.node_rules.specs.Facts.{Facts, fresh}
 use Rattle.cluster_rules.specs.declared.event.Event.{Event}
 use Rattle.node_rules.specs.Client.{Tables}
-use Rattle.cluster_rules.specs.Lines.{has_node}
+use Rattle.journal_readings.specs.Lines.{has_node}
 use Rattle.cluster_rules.specs.Network.{Network, silent}
 use Rattle.cluster_rules.specs.Opening.{Header, declared_factor, declared_policy, declared_nodes, declared_role, declared_peers}
 

@@ -4,13 +4,13 @@ ghost use Rattle.std.specs.FinMap as finite;
 ghost use Rattle.cluster_types.specs.Distinct.{AreDistinct};
 ghost use Rattle.journal_lines.specs.declared.line.Line.{Line};
 ghost use Rattle.node_rules.specs.Facts.{view_key};
-ghost use Rattle.cluster_rules.specs.Contents.{content};
-ghost use Rattle.cluster_rules.specs.Lines.{has_node};
+ghost use Rattle.journal_readings.specs.Contents.{content};
+ghost use Rattle.journal_readings.specs.Lines.{has_node};
 ghost use Rattle.cluster_rules.specs.Marks.{Mark, after_all, lines_among};
 ghost use Rattle.cluster_rules.specs.Opening.{Header, header_lines, declared_factor, declared_policy, declared_nodes};
-ghost use Rattle.cluster_rules.specs.Settings.{policy_of, factor_of, nodes, clock_of, is_up, groups_of, present_role};
-ghost use Rattle.cluster_rules.specs.Shape.{AreBehind};
-ghost use Rattle.cluster_rules.specs.Views.{promised_key, last_key, view, some_key};
+ghost use Rattle.journal_readings.specs.Settings.{policy_of, factor_of, nodes, clock_of, is_up, groups_of, present_role};
+ghost use Rattle.journal_readings.specs.Shape.{AreBehind};
+ghost use Rattle.journal_readings.specs.Views.{promised_key, last_key, view, some_key};
 ghost use Rattle.cluster_rules.specs.World.{opened};
 
 /// What is read of a node in the lines among any marks is what the world after them has of it. Whether it is up is

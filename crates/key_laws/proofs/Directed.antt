@@ -12,7 +12,7 @@ use Rattle.cluster_rules.specs.declared.event.Event.{Event}
 use Rattle.cluster_rules.specs.declared.event.Event.TheVariants as event
 use Rattle.cluster_rules.specs.Marks as marks
 use Rattle.cluster_rules.specs.Marks.{Mark, Begins, Writes}
-use Rattle.cluster_rules.specs.Messages.{Posting, Arrival, arrived, arrived_cut}
+use Rattle.journal_readings.specs.Messages.{Posting, Arrival, arrived, arrived_cut}
 use Rattle.cluster_rules.specs.Network.{client, posting, posting_at}
 use Rattle.cluster_rules.specs.World.{at}
 use Rattle.key_laws.specs.Addressed.{GoesBetween}

@@ -25,7 +25,7 @@ use Rattle.cluster_rules.specs.declared.event.Event.{Event}
 use Rattle.cluster_rules.specs.declared.event.Event.TheVariants as event
 use Rattle.cluster_rules.specs.DueEvents.{written, due_at_named, due_at_client, due_at_end, due_arrival, arriving, arriving_cut, unless_blocked, is_blocked, delivery, losing, due_of}
 use Rattle.cluster_rules.specs.Marks.{Begins, came_to}
-use Rattle.cluster_rules.specs.Messages.{Posting, Arrival, arrived, arrived_cut}
+use Rattle.journal_readings.specs.Messages.{Posting, Arrival, arrived, arrived_cut}
 use Rattle.node_rules.specs.Client.{node_for}
 use Rattle.cluster_rules.specs.Network.{Network, client, posting_at, posting_if, flying_at, flying_if, is_flying, landed}
 use Rattle.cluster_rules.specs.World.{World}

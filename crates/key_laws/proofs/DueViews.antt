@@ -25,7 +25,7 @@ use Rattle.node_rules.specs.Standing.{is_to_learn, is_to_drop, others}
 use Rattle.node_rules.specs.Tick.{sends_again, transactions, batch_to, batches, state, own_row_in, rows, progress_message, progress_if}
 use Rattle.node_rules.specs.Transactions.{Transaction, Write}
 use Rattle.cluster_rules.specs.Marks.{Writes, Begins, Mark}
-use Rattle.cluster_rules.specs.Lines.{is_enter}
+use Rattle.journal_readings.specs.Lines.{is_enter}
 use Rattle.key_laws.proofs.Frames.{at_here, never}
 use Rattle.key_laws.specs.Traced.{Traced, facts_of, after, after_all}
 use Rattle.key_laws.specs.Licences.{Known, RowOf, Says, MaySend, MayEnter, Licensed, Visited, MayFinish}

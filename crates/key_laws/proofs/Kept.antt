@@ -24,7 +24,7 @@ use Rattle.wire_messages.specs.declared.message.Batch.{Batch}
 use Rattle.node_rules.specs.Notes.{sent, target_for, exchanged}
 use Rattle.cluster_rules.specs.declared.event.Event.{Event}
 use Rattle.cluster_rules.specs.declared.event.Event.TheVariants as event
-use Rattle.cluster_rules.specs.Messages.{Posting, Arrival, arrived, arrived_cut}
+use Rattle.journal_readings.specs.Messages.{Posting, Arrival, arrived, arrived_cut}
 use Rattle.cluster_rules.specs.Network.{client, posting_at, posting_if, posting}
 use Rattle.cluster_rules.specs.Marks.{Mark, Begins, Writes, came, came_to, sent_by, posted_by}
 use Rattle.key_laws.specs.Order.{AtMost}

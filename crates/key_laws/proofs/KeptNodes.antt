@@ -24,7 +24,7 @@ use Rattle.node_rules.specs.Notes.{neighbours, after_ages, stopped, entered, own
 use Rattle.node_rules.specs.Facts.{list_at}
 use Rattle.node_rules.specs.Map.{master, lacks}
 use Rattle.cluster_types.specs.Partitions.{partition_count}
-use Rattle.cluster_rules.specs.Lines.{is_enter}
+use Rattle.journal_readings.specs.Lines.{is_enter}
 use Rattle.key_laws.specs.Order.{AtMost}
 use Rattle.key_laws.specs.Traced.{Traced, facts_of, listed_if, promised_by, entered_after}
 use Rattle.key_laws.specs.Licences.{Known, RowOf, Says, WasSent, MayPromise, MayEnter}

@@ -18,12 +18,12 @@ use Rattle.journal_lines.specs.declared.line.Line.TheVariants as line
 use Rattle.node_rules.specs.Copies.{Row}
 use Rattle.node_rules.specs.Exchange.{is_member}
 use Rattle.node_rules.specs.Facts.{Facts}
-use Rattle.cluster_rules.specs.Claims.{RaisesKey, KeysRise}
-use Rattle.cluster_rules.specs.Lines.{is_enter, has_node}
+use Rattle.journal_readings.specs.Claims.{RaisesKey, KeysRise}
+use Rattle.journal_readings.specs.Lines.{is_enter, has_node}
 use Rattle.cluster_rules.specs.Marks.{Mark, Begins, Writes, line_in, lines_among}
-use Rattle.cluster_rules.specs.NamedKeys.{copy_keys, message_keys, read_keys, named_keys, is_promised, names_promised, message_members, named_members}
-use Rattle.cluster_rules.specs.Shape.{EntersFalling, enters_once, names_entered}
-use Rattle.cluster_rules.specs.Views.{promised_key, last_key, promise_step, last_step}
+use Rattle.journal_readings.specs.NamedKeys.{copy_keys, message_keys, read_keys, named_keys, is_promised, names_promised, message_members, named_members}
+use Rattle.journal_readings.specs.Shape.{EntersFalling, enters_once, names_entered}
+use Rattle.journal_readings.specs.Views.{promised_key, last_key, promise_step, last_step}
 use Rattle.cluster_rules.proofs.MarkLaws.{front_of_lines}
 use Rattle.key_laws.specs.Order.{AtMost}
 use Rattle.key_laws.specs.Traced.{Traced, facts_of, after, after_all}

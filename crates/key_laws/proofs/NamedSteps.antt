@@ -31,9 +31,9 @@ use Rattle.cluster_rules.specs.declared.event.Event.{Event}
 use Rattle.cluster_rules.specs.declared.event.Event.TheVariants as event
 use Rattle.cluster_rules.specs.Allowed.{AreAllowed, names_known, ends_calm}
 use Rattle.cluster_rules.specs.DueEvents.{due_of, due_at_named, due_at_client, due_at_end, due_arrival, arriving, arriving_cut, delivery, unless_blocked, is_blocked, losing, written, sent_lines, full_unless, one_more_if}
-use Rattle.cluster_rules.specs.Lines.{has_node}
+use Rattle.journal_readings.specs.Lines.{has_node}
 use Rattle.cluster_rules.specs.Marks.{Begins, Writes}
-use Rattle.cluster_rules.specs.Messages.{Posting}
+use Rattle.journal_readings.specs.Messages.{Posting}
 use Rattle.cluster_rules.specs.Network.{Network, client, landed, flying_at, has_place, are_apart}
 use Rattle.cluster_rules.specs.Opening.{Header, declared_nodes}
 use Rattle.cluster_rules.specs.Steps.{Step, marks_of, all_marks, all_lines}

@@ -13,10 +13,10 @@ use Rattle.journal_lines.specs.declared.line.Line.TheVariants as line
 use Rattle.node_rules.specs.Facts.{Facts}
 use Rattle.node_rules.specs.Notes.{note, reached, sent}
 use Rattle.cluster_rules.specs.Marks.{Mark, Begins, Writes, came_to, sent_by, lines_among, by_node}
-use Rattle.cluster_rules.specs.Lines.{is_enter, same_key}
-use Rattle.cluster_rules.specs.Messages.{Arrival}
+use Rattle.journal_readings.specs.Lines.{is_enter, same_key}
+use Rattle.journal_readings.specs.Messages.{Arrival}
 use Rattle.cluster_rules.specs.Network.{client, posting}
-use Rattle.cluster_rules.specs.Views.{promise_step, last_step}
+use Rattle.journal_readings.specs.Views.{promise_step, last_step}
 use Rattle.cluster_rules.specs.World.{World, at, new_if}
 use Rattle.key_laws.specs.Traced.{Traced, facts_of, after, after_all}
 use Rattle.key_laws.specs.Order.{AtMost}

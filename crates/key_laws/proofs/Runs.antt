@@ -21,10 +21,10 @@ use Rattle.journal_lines.specs.declared.line.Line.{Line}
 use Rattle.journal_lines.specs.declared.line.Line.TheVariants as line
 use Rattle.cluster_rules.specs.declared.event.Event.{Event}
 use Rattle.cluster_rules.specs.declared.event.Event.TheVariants as event
-use Rattle.cluster_rules.specs.Claims.{KeysRise}
+use Rattle.journal_readings.specs.Claims.{KeysRise}
 use Rattle.cluster_rules.specs.Marks as marks
 use Rattle.cluster_rules.specs.Marks.{Mark, Begins, Writes, lines_among}
-use Rattle.cluster_rules.specs.Messages.{Arrival, arrived, arrived_cut}
+use Rattle.journal_readings.specs.Messages.{Arrival, arrived, arrived_cut}
 use Rattle.cluster_rules.specs.Network.{client, posting_at}
 use Rattle.cluster_rules.specs.Opening.{Header, declared_policy, header_lines, declared_nodes, node_in}
 use Rattle.cluster_rules.specs.Runs.{Plays, PlaysAll, RunOf, run_marks}

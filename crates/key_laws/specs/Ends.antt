@@ -11,7 +11,7 @@ use Rattle.journal_lines.specs.declared.refusal.Refusal.{Refusal}
 use Rattle.journal_lines.specs.declared.refusal.Refusal.TheVariants as refusal
 use Rattle.journal_lines.specs.declared.line.Line.{Line}
 use Rattle.journal_lines.specs.declared.line.Line.TheVariants as line
-use Rattle.cluster_rules.specs.Lines.{has_node}
+use Rattle.journal_readings.specs.Lines.{has_node}
 use Rattle.cluster_rules.specs.Network.{client}
 
 -- one of the declared nodes

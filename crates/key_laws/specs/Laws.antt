@@ -8,7 +8,7 @@ use Rattle.journal_lines.specs.declared.line.Line.{Line}
 use Rattle.journal_lines.specs.declared.line.Line.TheVariants as line
 use Rattle.cluster_rules.specs.Opening.{Header}
 use Rattle.cluster_rules.specs.Runs.{run_marks}
-use Rattle.cluster_rules.specs.Shape.{EntersFalling, enters_once, names_entered}
+use Rattle.journal_readings.specs.Shape.{EntersFalling, enters_once, names_entered}
 use Rattle.cluster_rules.specs.Steps.{Played}
 use Rattle.cluster_rules.specs.World.{opened}
 use Rattle.key_laws.specs.Traced.{Traced, untouched, after_all}

@@ -14,7 +14,7 @@ use Rattle.journal_lines.specs.declared.line.Line.{Line}
 use Rattle.journal_lines.specs.declared.line.Line.TheVariants as line
 use Rattle.node_rules.specs.Copies.{Row}
 use Rattle.node_rules.specs.Exchange.{is_member}
-use Rattle.cluster_rules.specs.Messages.{Posting}
+use Rattle.journal_readings.specs.Messages.{Posting}
 use Rattle.cluster_rules.specs.Marks.{Mark, Begins, Writes}
 use Rattle.node_rules.specs.Facts.{view_key}
 use Rattle.key_laws.specs.Order.{AtMost}

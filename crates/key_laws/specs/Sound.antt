@@ -20,7 +20,7 @@ use Rattle.node_rules.specs.Exchange.{View, is_member}
 use Rattle.node_rules.specs.Facts.{Facts, view_key}
 use Rattle.node_rules.specs.Hearing.{Heard}
 use Rattle.node_rules.specs.Tables.{Table}
-use Rattle.cluster_rules.specs.Messages.{Posting}
+use Rattle.journal_readings.specs.Messages.{Posting}
 use Rattle.key_laws.specs.Order.{AtMost}
 use Rattle.key_laws.specs.Traced.{Traced, facts_of}
 use Rattle.key_laws.specs.Licences.{Known, RowOf, Says}

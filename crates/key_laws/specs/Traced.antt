@@ -10,7 +10,7 @@ use Rattle.node_rules.specs.Notes.{neighbours}
 use Rattle.cluster_rules.specs.World.{World}
 use Rattle.cluster_rules.specs.Marks.{Mark, Begins, Writes}
 use Rattle.cluster_rules.specs.Marks as marks
-use Rattle.cluster_rules.specs.Lines.{is_enter}
+use Rattle.journal_readings.specs.Lines.{is_enter}
 
 -- the members that each key was first promised for, if it was
 abbrev pub Lists : Type 0

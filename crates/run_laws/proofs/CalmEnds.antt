@@ -25,16 +25,16 @@ use Rattle.node_rules.specs.Standing.{is_done, is_all_empty, is_to_drop, has_set
 use Rattle.node_rules.specs.Tables.{contains}
 use Rattle.node_rules.specs.Transactions.{Transaction, transaction}
 use Rattle.cluster_rules.specs.Calm.{up_in, as_members}
-use Rattle.cluster_rules.specs.CalmEnd.{IsSpread, HasNewest, IsSettledThroughout, IsUndivided, IsAtRest}
-use Rattle.cluster_rules.specs.Contents.{content, applied}
-use Rattle.cluster_rules.specs.Entries.{fold_of}
-use Rattle.cluster_rules.specs.Lines.{has_node, same_key, is_exchanged, is_settled_line}
-use Rattle.cluster_rules.specs.Lines as lines
-use Rattle.cluster_rules.specs.Settings as settings
-use Rattle.cluster_rules.specs.Settings.{nodes, groups_of, present_role, with_present_roles, up_members}
-use Rattle.cluster_rules.specs.Settled.{is_settled, is_settled_by, is_open_write, has_open_write}
-use Rattle.cluster_rules.specs.Stamps.{is_empty_at_entry, is_empty_everywhere}
-use Rattle.cluster_rules.specs.Views as views
+use Rattle.journal_readings.specs.CalmEnd.{IsSpread, HasNewest, IsSettledThroughout, IsUndivided, IsAtRest}
+use Rattle.journal_readings.specs.Contents.{content, applied}
+use Rattle.journal_readings.specs.Entries.{fold_of}
+use Rattle.journal_readings.specs.Lines.{has_node, same_key, is_exchanged, is_settled_line}
+use Rattle.journal_readings.specs.Lines as lines
+use Rattle.journal_readings.specs.Settings as settings
+use Rattle.journal_readings.specs.Settings.{nodes, groups_of, present_role, with_present_roles, up_members}
+use Rattle.journal_readings.specs.Settled.{is_settled, is_settled_by, is_open_write, has_open_write}
+use Rattle.journal_readings.specs.Stamps.{is_empty_at_entry, is_empty_everywhere}
+use Rattle.journal_readings.specs.Views as views
 use Rattle.cluster_rules.specs.World.{is_up, member_now}
 use Rattle.cluster_laws.specs.Ground.{Ground, IsGround, is_member, master, is_replica, acting, all_empty}
 use Rattle.cluster_laws.specs.Licences.{IsDone}

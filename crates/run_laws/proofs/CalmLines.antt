@@ -5,16 +5,16 @@ use Rattle.std.specs.List.{list_all, concat}
 use Rattle.conflict_order.specs.declared.policy.Policy.{Policy}
 use Rattle.journal_lines.specs.declared.line.Line.{Line}
 use Rattle.journal_lines.specs.declared.line.Line.TheVariants as line
-use Rattle.cluster_rules.specs.CalmEnd.{CalmEnd, IsAtRest}
+use Rattle.journal_readings.specs.CalmEnd.{CalmEnd, IsAtRest}
 use Rattle.cluster_rules.specs.Marks as marks
 use Rattle.cluster_rules.specs.Marks.{Mark, Writes, lines_among}
 use Rattle.cluster_rules.specs.Opening.{Header, header_lines, declared_nodes}
-use Rattle.cluster_rules.specs.Settings as settings
-use Rattle.cluster_rules.specs.Settings.{nodes, groups_of, present_role}
-use Rattle.cluster_rules.specs.Shape.{is_header, AreBehind}
+use Rattle.journal_readings.specs.Settings as settings
+use Rattle.journal_readings.specs.Settings.{nodes, groups_of, present_role}
+use Rattle.journal_readings.specs.Shape.{is_header, AreBehind}
 use Rattle.cluster_rules.specs.Steps.{Step, all_marks}
 use Rattle.cluster_rules.specs.World.{World, opened}
-use Rattle.cluster_rules.specs.Lines.{has_node}
+use Rattle.journal_readings.specs.Lines.{has_node}
 use Rattle.cluster_rules.proofs.AllowedLaws.{nodes_stay}
 use Rattle.cluster_rules.proofs.MarkLaws.{lines_of_steps, header_adds_nothing, after_all-append}
 use Rattle.cluster_rules.proofs.WorldReadings.{up_agrees, role_agrees, nodes_agree, groups_agree}

@@ -4,9 +4,9 @@ use Rattle.std.specs.List.{list_any}
 use Rattle.cluster_types.specs.declared.cluster_key.ClusterKey.{ClusterKey}
 use Rattle.journal_lines.specs.declared.line.Line.{Line}
 use Rattle.journal_lines.specs.declared.line.Line.TheVariants as line
-use Rattle.cluster_rules.specs.Lines.{same_key, is_settled_line, is_done}
+use Rattle.journal_readings.specs.Lines.{same_key, is_settled_line, is_done}
 use Rattle.cluster_rules.specs.Opening.{Header}
-use Rattle.cluster_rules.specs.Settings.{nodes}
+use Rattle.journal_readings.specs.Settings.{nodes}
 use Rattle.cluster_laws.specs.Ground.{Ground, master}
 use Rattle.cluster_laws.specs.Journals.{journal, IsJournal}
 use Rattle.cluster_laws.specs.Laws.{picture}

@@ -23,7 +23,7 @@ use Rattle.node_rules.specs.Tables.{contains}
 use Rattle.node_rules.specs.Transactions.{transaction}
 use Rattle.cluster_rules.specs.DueEvents.{full_unless, one_more_if, sent_lines}
 use Rattle.cluster_rules.specs.Marks.{Writes, sent_by}
-use Rattle.cluster_rules.specs.Messages.{Posting}
+use Rattle.journal_readings.specs.Messages.{Posting}
 use Rattle.cluster_rules.specs.Network.{posting_at, posting, has_place, landed}
 use Rattle.cluster_rules.specs.World.{new_if}
 use Rattle.cluster_laws.proofs.At.{number_same, differ, some_same, no_some}

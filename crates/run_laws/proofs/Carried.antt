@@ -17,7 +17,7 @@ use Rattle.cluster_rules.specs.declared.event.Event.{Event}
 use Rattle.cluster_rules.specs.declared.event.Event.TheVariants as event
 use Rattle.cluster_rules.specs.Network.{Network, posting_at, posting_if, landed}
 use Rattle.cluster_rules.specs.World.{World, at, new_if}
-use Rattle.cluster_rules.specs.Messages.{Posting}
+use Rattle.journal_readings.specs.Messages.{Posting}
 use Rattle.cluster_laws.specs.Changed.{at_number, at_key, at_stay}
 use Rattle.cluster_laws.specs.Changes as changes
 use Rattle.cluster_laws.specs.Ground.{Ground, is_member}

@@ -19,7 +19,7 @@ use Rattle.node_rules.specs.Notes as notes
 use Rattle.node_rules.specs.Notes.{neighbours, reached, sent, in_view}
 use Rattle.node_rules.specs.Tables.{Table, contains}
 use Rattle.cluster_rules.specs.Marks.{Writes, after_line, came, came_to, came_to_client, sent_by}
-use Rattle.cluster_rules.specs.Messages.{Posting, Arrival, arrived, arrived_cut}
+use Rattle.journal_readings.specs.Messages.{Posting, Arrival, arrived, arrived_cut}
 use Rattle.cluster_rules.specs.Network.{posting_at, posting, client}
 use Rattle.cluster_rules.specs.World.{World, at}
 use Rattle.cluster_rules.proofs.AllowedLaws.{nodes_stay}

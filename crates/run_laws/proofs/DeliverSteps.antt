@@ -15,7 +15,7 @@ use Rattle.node_rules.specs.Tables.{contains}
 use Rattle.node_rules.specs.declared.member_row.MemberRow.{MemberRow}
 use Rattle.cluster_rules.specs.DueEvents.{written, due_at_client, due_at_end, due_arrival}
 use Rattle.cluster_rules.specs.Marks.{Writes, came, came_to, came_to_client}
-use Rattle.cluster_rules.specs.Messages.{Posting}
+use Rattle.journal_readings.specs.Messages.{Posting}
 use Rattle.cluster_rules.specs.Network.{Network, client, posting_at}
 use Rattle.cluster_rules.specs.World.{World, with_facts}
 use Rattle.cluster_laws.specs.Picture.{Owed}

@@ -8,7 +8,7 @@ use Rattle.wire_messages.specs.Decoding.{message_of}
 use Rattle.node_rules.specs.Exchange as exchange
 use Rattle.node_rules.specs.Exchange.{View}
 use Rattle.cluster_rules.specs.Marks.{came, came_to, came_to_client}
-use Rattle.cluster_rules.specs.Messages.{Posting, Arrival, arrived, arrived_cut}
+use Rattle.journal_readings.specs.Messages.{Posting, Arrival, arrived, arrived_cut}
 use Rattle.cluster_rules.specs.Network.{posting_at, client}
 use Rattle.cluster_rules.specs.World.{World}
 use Rattle.cluster_laws.specs.Changes.{act}

@@ -24,7 +24,7 @@ use Rattle.cluster_rules.specs.declared.event.Event.{Event}
 use Rattle.cluster_rules.specs.declared.event.Event.TheVariants as event
 use Rattle.cluster_rules.specs.DueEvents.{due_of, written, due_at_named, arriving, arriving_cut, is_blocked, unless_blocked, delivery}
 use Rattle.cluster_rules.specs.Marks.{Begins, Writes, came}
-use Rattle.cluster_rules.specs.Messages.{Posting, arrived, arrived_cut}
+use Rattle.journal_readings.specs.Messages.{Posting, arrived, arrived_cut}
 use Rattle.cluster_rules.specs.Network.{client, posting_at, flying_at, landed}
 use Rattle.cluster_rules.specs.World.{World}
 use Rattle.cluster_laws.proofs.At.{some_same, no_some}

@@ -8,7 +8,7 @@ use Rattle.script_lang.specs.declared.script.Script.{Script}
 use Rattle.script_lang.specs.Proper.{IsProper, IsProperHeaderLine}
 use Rattle.journal_lines.specs.declared.line.Line.{Line}
 use Rattle.cluster_rules.specs.FrontRuns.{FrontRun}
-use Rattle.cluster_rules.specs.Claims.{KeysRise}
+use Rattle.journal_readings.specs.Claims.{KeysRise}
 use Rattle.cluster_rules.specs.Marks.{Mark, Writes}
 use Rattle.cluster_rules.specs.Opening.{Header, header_lines}
 use Rattle.cluster_rules.specs.Steps.{Step, all_marks, all_lines}

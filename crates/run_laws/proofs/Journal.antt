@@ -18,14 +18,14 @@ use Rattle.cluster_rules.specs.declared.event.Event.TheVariants as event
 use Rattle.cluster_rules.specs.Allowed.{IsAllowed, AreAllowed}
 use Rattle.cluster_rules.specs.Marks as marks
 use Rattle.cluster_rules.specs.Marks.{Mark, Begins, Writes, lines_among}
-use Rattle.cluster_rules.specs.Messages.{Posting}
+use Rattle.journal_readings.specs.Messages.{Posting}
 use Rattle.cluster_rules.specs.Network.{posting_at, posting_if, silent}
 use Rattle.cluster_rules.specs.Opening.{Header, declared_factor, declared_policy, declared_nodes, factor_step}
 use Rattle.cluster_rules.specs.Steps.{Step, marks_of, all_marks, all_lines}
 use Rattle.cluster_rules.specs.World.{World}
 use Rattle.cluster_rules.proofs.MarkLaws.{lines_of_steps}
 use Rattle.cluster_laws.specs.Ground.{Ground}
-use Rattle.cluster_rules.specs.Shape.{is_header, AreBehind}
+use Rattle.journal_readings.specs.Shape.{is_header, AreBehind}
 use Rattle.cluster_rules.proofs.WorldReadings.{policy_agrees, factor_agrees, nodes_agree}
 use Rattle.cluster_laws.specs.Journals.{IsJournal, Fits}
 use Rattle.cluster_laws.specs.Licences as licences

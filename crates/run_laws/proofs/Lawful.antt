@@ -21,7 +21,7 @@ use Rattle.node_rules.specs.Notes.{reached, sent, want_of}
 use Rattle.cluster_types.specs.Partitions.{partition_of}
 use Rattle.cluster_rules.specs.Marks.{Begins, Writes, after_line, came, came_to, came_to_client, sent_by}
 use Rattle.cluster_rules.specs.declared.event.Event.{Event}
-use Rattle.cluster_rules.specs.Messages.{Posting, arrived, arrived_cut}
+use Rattle.journal_readings.specs.Messages.{Posting, arrived, arrived_cut}
 use Rattle.cluster_rules.specs.Network.{posting_at, client}
 use Rattle.cluster_rules.specs.World.{World, at}
 use Rattle.cluster_rules.proofs.KeptFacts.{Kept, kept_of, own_step, is_own, marks_kept}

@@ -10,10 +10,10 @@ use Rattle.journal_lines.specs.declared.refusal.Refusal.{Refusal}
 use Rattle.journal_lines.specs.declared.refusal.Refusal.TheVariants as refusal
 use Rattle.journal_lines.specs.declared.line.Line.{Line}
 use Rattle.journal_lines.specs.declared.line.Line.TheVariants as line
-use Rattle.cluster_rules.specs.Lines.{has_node}
+use Rattle.journal_readings.specs.Lines.{has_node}
 use Rattle.cluster_rules.specs.Network.{client}
 use Rattle.cluster_rules.specs.Opening.{Header, declared_nodes, header_line, header_lines}
-use Rattle.cluster_rules.specs.Shape.{Shape, end_nodes, named_nodes, names_declared, refusal_nodes}
+use Rattle.journal_readings.specs.Shape.{Shape, end_nodes, named_nodes, names_declared, refusal_nodes}
 use Rattle.cluster_rules.specs.Steps.{Step, all_lines}
 use Rattle.cluster_rules.proofs.WorldReadings.{nodes_agree}
 use Rattle.cluster_laws.specs.Journals.{journal}

@@ -13,10 +13,10 @@ use Rattle.cluster_rules.specs.Allowed.{names_known}
 use Rattle.cluster_rules.specs.declared.event.Event.TheVariants as event
 use Rattle.cluster_rules.specs.Marks as marks
 use Rattle.cluster_rules.specs.Marks.{Mark, Begins, Writes, lines_among}
-use Rattle.cluster_rules.specs.Messages.{Arrival, arrived, arrived_cut}
+use Rattle.journal_readings.specs.Messages.{Arrival, arrived, arrived_cut}
 use Rattle.cluster_rules.specs.Network.{Network, client, posting_at}
 use Rattle.cluster_rules.specs.Opening.{Header, header_line, header_lines}
-use Rattle.cluster_rules.specs.Shape.{is_header}
+use Rattle.journal_readings.specs.Shape.{is_header}
 use Rattle.cluster_rules.specs.World.{World}
 use Rattle.cluster_rules.proofs.AllowedLaws.{nodes_stay}
 use Rattle.cluster_laws.specs.Ground.{Ground}

@@ -16,7 +16,7 @@ use Rattle.cluster_rules.specs.declared.event.Event.TheVariants as event
 use Rattle.cluster_rules.specs.Allowed.{names_known, ends_calm, may_come}
 use Rattle.cluster_rules.specs.DueEvents.{due_of, losing, written}
 use Rattle.cluster_rules.specs.Marks.{Begins, Writes}
-use Rattle.cluster_rules.specs.Messages.{Posting}
+use Rattle.journal_readings.specs.Messages.{Posting}
 use Rattle.cluster_rules.specs.Network.{Network, flying_at}
 use Rattle.cluster_rules.specs.World.{World, at, new_if}
 use Rattle.cluster_laws.proofs.At.{and_left, and_right, differ, no_some}

@@ -10,7 +10,7 @@ use Rattle.node_rules.specs.Agreement as agreement
 use Rattle.node_rules.specs.Agreement.{Agreement, Proposal}
 use Rattle.node_rules.specs.Notes.{sent}
 use Rattle.cluster_rules.specs.Marks.{posted_by, sent_by}
-use Rattle.cluster_rules.specs.Messages.{Posting}
+use Rattle.journal_readings.specs.Messages.{Posting}
 use Rattle.cluster_rules.specs.Network.{Network, posting_at, posting_if, posting}
 use Rattle.cluster_rules.specs.World.{at}
 use Rattle.cluster_laws.specs.Changed.{at_number, at_key}

@@ -13,7 +13,7 @@ use Rattle.cluster_rules.specs.Allowed.{IsAllowed, AreAllowed}
 use Rattle.cluster_rules.specs.DueEvents.{due_of}
 use Rattle.cluster_rules.specs.Marks.{Mark, Begins, Writes}
 use Rattle.cluster_rules.specs.Opening.{Header, declared_factor, declared_policy}
-use Rattle.cluster_rules.specs.Shape.{AreBehind}
+use Rattle.journal_readings.specs.Shape.{AreBehind}
 use Rattle.cluster_rules.specs.Steps.{Step, marks_of, all_marks, all_lines}
 use Rattle.cluster_rules.specs.World.{World}
 use Rattle.cluster_rules.proofs.MarkLaws.{lines_of_steps}

@@ -24,7 +24,7 @@ use Rattle.node_rules.specs.Standing.{is_to_drop, is_done, has_settled_bit}
 use Rattle.node_rules.specs.Transactions.{Transaction}
 use Rattle.cluster_rules.specs.Marks.{Begins, Writes, after_line, came, came_to, came_to_client, sent_by}
 use Rattle.cluster_rules.specs.declared.event.Event.{Event}
-use Rattle.cluster_rules.specs.Messages.{Posting, Arrival, arrived, arrived_cut}
+use Rattle.journal_readings.specs.Messages.{Posting, Arrival, arrived, arrived_cut}
 use Rattle.cluster_rules.specs.Network.{posting_at, client}
 use Rattle.cluster_rules.specs.World.{World, at}
 use Rattle.cluster_laws.proofs.At.{some_same, no_some, and_left, and_right}

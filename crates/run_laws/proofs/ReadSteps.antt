@@ -23,7 +23,7 @@ use Rattle.cluster_rules.specs.declared.event.Event.{Event}
 use Rattle.cluster_rules.specs.declared.event.Event.TheVariants as event
 use Rattle.node_rules.specs.Client.{node_for}
 use Rattle.cluster_rules.specs.DueEvents.{written, due_at_named, arriving, arriving_cut, is_blocked, unless_blocked, delivery, due_of}
-use Rattle.cluster_rules.specs.Messages.{Posting}
+use Rattle.journal_readings.specs.Messages.{Posting}
 use Rattle.cluster_rules.specs.Network.{Network, landed, flying_at}
 use Rattle.cluster_rules.specs.World.{World}
 use Rattle.run_laws.specs.Fronts.{Front, world_of, facts_at}

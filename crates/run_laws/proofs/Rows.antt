@@ -16,7 +16,7 @@ use Rattle.node_rules.specs.Keys.{same_key}
 use Rattle.node_rules.specs.Notes.{note, reached, sent, own_row, entered, stopped, row_came, batch_acked, progress_came, write_came, counted_if, write_acked, answer_came, in_view}
 use Rattle.node_rules.specs.declared.member_row.MemberRow.{MemberRow}
 use Rattle.cluster_rules.specs.Marks.{Writes, came, came_to, sent_by, posted_by}
-use Rattle.cluster_rules.specs.Messages.{Posting, Arrival, arrived, arrived_cut}
+use Rattle.journal_readings.specs.Messages.{Posting, Arrival, arrived, arrived_cut}
 use Rattle.cluster_rules.specs.Network.{client, posting, posting_at}
 use Rattle.cluster_rules.specs.World.{with_facts}
 use Rattle.cluster_laws.specs.Changed.{at_stay, at_key}

@@ -5,9 +5,9 @@ use Rattle.cluster_types.specs.declared.cluster_key.ClusterKey.{ClusterKey}
 use Rattle.cluster_types.specs.declared.member.Member.{Member}
 use Rattle.journal_lines.specs.declared.line.Line.{Line}
 use Rattle.journal_lines.specs.declared.line.Line.TheVariants as line
-use Rattle.cluster_rules.specs.Maps.{with_roles}
+use Rattle.journal_readings.specs.Maps.{with_roles}
 use Rattle.cluster_rules.specs.Marks.{Mark, Begins, Writes, lines_among}
-use Rattle.cluster_rules.specs.Messages.{Posting}
+use Rattle.journal_readings.specs.Messages.{Posting}
 use Rattle.cluster_rules.specs.Network.{posting_at}
 use Rattle.cluster_rules.proofs.AllowedLaws.{nodes_stay}
 use Rattle.cluster_laws.specs.Ground.{Ground}

@@ -9,8 +9,8 @@ use Rattle.cluster_types.specs.declared.member.Member.{Member}
 use Rattle.journal_lines.specs.declared.line.Line.{Line}
 use Rattle.journal_lines.specs.declared.line.Line.TheVariants as line
 use Rattle.cluster_rules.specs.Opening.{Header, header_lines}
-use Rattle.cluster_rules.specs.Settings.{nodes}
-use Rattle.cluster_rules.specs.Shape.{is_header, AreBehind, follows_header, has_entered, have_all_entered, follows_entries}
+use Rattle.journal_readings.specs.Settings.{nodes}
+use Rattle.journal_readings.specs.Shape.{is_header, AreBehind, follows_header, has_entered, have_all_entered, follows_entries}
 use Rattle.cluster_rules.specs.Steps.{Step, all_marks}
 use Rattle.cluster_rules.specs.Marks.{lines_among}
 use Rattle.cluster_rules.proofs.MarkLaws.{lines_of_steps}

@@ -16,7 +16,7 @@ use Rattle.node_rules.specs.Facts.{Facts, members}
 use Rattle.node_rules.specs.Notes.{in_view}
 use Rattle.node_rules.specs.Standing.{others}
 use Rattle.node_rules.specs.Tables.{contains}
-use Rattle.cluster_rules.specs.Messages.{Posting}
+use Rattle.journal_readings.specs.Messages.{Posting}
 use Rattle.cluster_rules.specs.Network.{client, posting_at}
 use Rattle.cluster_rules.specs.Opening.{Header, declared_nodes}
 use Rattle.cluster_rules.specs.Steps.{Step, all_marks}

@@ -11,7 +11,7 @@ use Rattle.node_rules.specs.Exchange.{View, is_member}
 use Rattle.node_rules.specs.Notes.{own_row}
 use Rattle.node_rules.specs.declared.member_row.MemberRow.{MemberRow}
 use Rattle.cluster_rules.specs.Marks.{Mark, Writes}
-use Rattle.cluster_rules.specs.Messages.{Posting}
+use Rattle.journal_readings.specs.Messages.{Posting}
 use Rattle.cluster_laws.specs.Changed.{at_stay}
 use Rattle.cluster_laws.specs.Ground.{Ground}
 use Rattle.key_laws.specs.Traced.{Traced, facts_of}

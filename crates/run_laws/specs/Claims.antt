@@ -8,8 +8,8 @@ use Rattle.cluster_rules.specs.Begun.{BegunRun}
 use Rattle.cluster_rules.specs.FrontRuns.{FrontRun}
 use Rattle.cluster_rules.specs.Opening.{Header}
 use Rattle.cluster_rules.specs.Runs.{Run}
-use Rattle.cluster_rules.specs.Settings.{nodes}
-use Rattle.cluster_rules.specs.Shape.{follows_header, follows_entries}
+use Rattle.journal_readings.specs.Settings.{nodes}
+use Rattle.journal_readings.specs.Shape.{follows_header, follows_entries}
 use Rattle.cluster_rules.specs.Steps.{Step, all_lines}
 use Rattle.cluster_laws.specs.Journals.{IsJournal, journal}
 use Rattle.run_laws.specs.Taken.{Taken, ground_of, line_bound}

@@ -15,7 +15,7 @@ use Rattle.node_rules.specs.Facts.{Facts}
 use Rattle.node_rules.specs.Notes.{in_view}
 use Rattle.node_rules.specs.Transactions.{transaction}
 use Rattle.cluster_rules.specs.Marks.{Mark, Begins, Writes}
-use Rattle.cluster_rules.specs.Messages.{Posting, Arrival, arrived, arrived_cut}
+use Rattle.journal_readings.specs.Messages.{Posting, Arrival, arrived, arrived_cut}
 use Rattle.cluster_rules.specs.Network.{Network, posting_at}
 use Rattle.cluster_rules.specs.World.{World, at}
 use Rattle.cluster_laws.specs.Changes.{owes}

@@ -19,7 +19,7 @@ use Rattle.node_rules.specs.Batches.{Target, Targets, target}
 use Rattle.node_rules.specs.Copies.{Row}
 use Rattle.node_rules.specs.Hearing.{Heard}
 use Rattle.cluster_types.specs.declared.member.Role.{Role}
-use Rattle.cluster_rules.specs.Messages.{Posting}
+use Rattle.journal_readings.specs.Messages.{Posting}
 use Rattle.node_rules.specs.Exchange.{is_member, View, Exchange, first_missing, members_of}
 use Rattle.node_rules.specs.Facts.{Facts, members, list_at}
 use Rattle.node_rules.specs.Map.{lacks}

@@ -30,9 +30,9 @@ use Rattle.node_rules.specs.Transactions.{Transaction, Write, transaction, trans
 use Rattle.cluster_rules.specs.declared.event.Event.TheVariants as event
 use Rattle.cluster_rules.specs.Allowed.{names_known}
 use Rattle.cluster_rules.specs.Calm.{is_calm_of}
-use Rattle.cluster_rules.specs.Maps.{with_roles}
+use Rattle.journal_readings.specs.Maps.{with_roles}
 use Rattle.cluster_rules.specs.Marks.{Mark, Begins, Writes}
-use Rattle.cluster_rules.specs.Messages.{Posting}
+use Rattle.journal_readings.specs.Messages.{Posting}
 use Rattle.cluster_rules.specs.Network.{posting_at}
 use Rattle.cluster_rules.specs.World.{World}
 use Rattle.cluster_laws.specs.Ground.{Ground, is_member}

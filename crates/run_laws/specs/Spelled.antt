@@ -15,7 +15,7 @@ use Rattle.node_rules.specs.Tick.{tick_of}
 use Rattle.cluster_rules.specs.declared.event.Event.{Event}
 use Rattle.cluster_rules.specs.declared.event.Event.TheVariants as event
 use Rattle.node_rules.specs.Client.{node_for}
-use Rattle.cluster_rules.specs.Messages.{Posting}
+use Rattle.journal_readings.specs.Messages.{Posting}
 use Rattle.cluster_rules.specs.Network.{flying_at}
 use Rattle.cluster_rules.specs.World.{World}
 use Rattle.run_laws.specs.Tied.{Each}

@@ -12,7 +12,7 @@ use Rattle.node_rules.specs.Notes.{in_view}
 use Rattle.node_rules.specs.Stamps.{applies_at}
 use Rattle.node_rules.specs.Standing.{others}
 use Rattle.cluster_rules.specs.Marks as marks
-use Rattle.cluster_rules.specs.Messages.{Posting}
+use Rattle.journal_readings.specs.Messages.{Posting}
 use Rattle.cluster_rules.specs.Network.{posting_at, client}
 use Rattle.cluster_rules.specs.Opening.{Header, declared_nodes, declared_peers}
 use Rattle.cluster_rules.specs.Steps.{Step, all_marks, all_lines}

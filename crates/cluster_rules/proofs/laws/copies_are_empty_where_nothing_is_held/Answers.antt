@@ -1,5 +1,0 @@
-use Rattle.cluster_rules.proofs.CopyLaws.{no_record-empty, row-empty}
-use Rattle.cluster_rules.proofs.laws.copies_are_empty_where_nothing_is_held.Goals as goal
-
-pub returns : goal.returns
-returns c = record { copies = no_record-empty; rows = row-empty }
