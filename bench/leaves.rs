@@ -1,46 +1,19 @@
 //! The work of the leaf crates in plain Rust, to be measured beside them. Reads lines `WORK TIMES`,
 //! writes a sum for each on standard output and its time in microseconds on standard error.
+mod lists;
 mod ripemd160;
 
+use lists::Ranks;
 use ripemd160::digest;
 use std::collections::BTreeMap;
 use std::io::{BufRead, stdin};
 use std::time::Instant;
 
-fn fnv1a(bytes: &[u8]) -> u64 {
-    bytes.iter().fold(0xcbf2_9ce4_8422_2325, |h, byte| {
-        (h ^ u64::from(*byte)).wrapping_mul(0x100_0000_01b3)
-    })
-}
-
-fn mix(h: u32, bytes: &[u8]) -> u32 {
-    bytes.iter().fold(h, |h, byte| {
-        let h = h.wrapping_add(u32::from(*byte));
-        let h = h.wrapping_add(h << 10);
-        h ^ (h >> 6)
-    })
-}
-
-fn finish(h: u32) -> u32 {
-    let h = h.wrapping_add(h << 3);
-    let h = h ^ (h >> 11);
-    h.wrapping_add(h << 15)
-}
-
 /// The lists of all partitions over sixteen plain nodes.
 fn lists() -> u64 {
-    let nodes: Vec<(u16, u32)> = (1..=16u16)
-        .map(|n| (n, mix(0, &fnv1a(&u64::from(n).to_le_bytes()).to_le_bytes())))
-        .collect();
-    let mut sum = 0u64;
-    for p in 0..4096u16 {
-        let partition = fnv1a(&p.to_le_bytes()).to_le_bytes();
-        let mut list: Vec<(u32, u16)> =
-            nodes.iter().map(|(n, h)| (finish(mix(*h, &partition)), *n)).collect();
-        list.sort_unstable();
-        sum += u64::from(list[0].1);
-    }
-    sum
+    let nodes: Vec<u16> = (1..=16).collect();
+    let ranks = Ranks::of(&nodes);
+    (0..4096).map(|p| u64::from(ranks.list(p)[0].1)).sum()
 }
 
 /// A digest whose first two bytes go over all partitions.
