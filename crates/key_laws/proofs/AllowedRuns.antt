@@ -32,7 +32,7 @@ use Rattle.journal_readings.specs.Lines.{has_node}
 use Rattle.cluster_rules.specs.Marks as marks
 use Rattle.cluster_rules.specs.Marks.{Mark, Begins, Writes}
 use Rattle.journal_readings.specs.Messages.{Posting}
-use Rattle.cluster_rules.specs.Network.{Network, client, landed, flying_at}
+use Rattle.cluster_rules.specs.Network.{Network, client, landed, flying_at, posting_if}
 use Rattle.cluster_rules.specs.NodeSteps.{AreOf}
 use Rattle.cluster_rules.specs.Opening.{Header}
 use Rattle.cluster_rules.specs.Steps.{Step, marks_of, all_marks, AreDue}
@@ -43,7 +43,7 @@ use Rattle.key_laws.specs.Licences.{Licensed}
 use Rattle.key_laws.specs.Sound.{Sound, NodeKeys, Views}
 use Rattle.key_laws.specs.Traced.{Traced, facts_of, after, after_all, untouched}
 use Rattle.key_laws.proofs.Addressed.{or_cases, differ, and_left, NodeGoes}
-use Rattle.key_laws.proofs.Directed.{Directed, AllGo, all_go_grow, line_goes, begun_goes}
+use Rattle.key_laws.proofs.Directed.{Directed, WentTo, AllGo, all_go_grow, line_goes, begun_goes}
 use Rattle.key_laws.proofs.DueDirected.{SendsGo, written_go, tick_go, message_go, request_go, stop_go, start_go}
 use Rattle.key_laws.proofs.DueSteps.{Begun, step_ok, own_keys, flying_posted}
 use Rattle.key_laws.proofs.Frames.{num_same}
@@ -137,6 +137,14 @@ posted_in t u i p same e =
     let x : WasPosted t p = was_posted t i p (flying_posted t.world.network i p e) in
     record { place = x.place; stands = subst (λ (xs : List Posting). slice_get xs x.place ≡ Some p) (sym same) x.stands }
 
+-- it went to its own end
+went_to : (t u : Traced) (i : ℕ) (p : Posting) → u.world.network.sent ≡ t.world.network.sent → flying_at t.world.network i ≡ Some p → WentTo u i p.to
+went_to t u i p same e = record { posting = p; stands = go (nat_lt 0 i) (flying_posted t.world.network i p e); end = refl }
+  where
+    go : (b : Bool) → posting_if t.world.network i b ≡ Some p → posting_if u.world.network i b ≡ Some p
+    go true e = subst (λ (xs : List Posting). slice_get xs (i - 1) ≡ Some p) (sym same) e
+    go false e = no_some e
+
 map_own : (n : ℕ) (f : Facts) (from to : ℕ) → AreOf n (due_map f from to).lines
 map_own n f from to = go (map_refusal f)
   where
@@ -173,16 +181,16 @@ event_go n t (event.Ask node) s h =
     written_go u client t.world.network (sends_only (to_one node message.MapAsk)) tt asks
 event_go n t (event.Deliver i) s h =
     let u : Traced = after t (Begins (event.Deliver i)) in
-    delivery_go u t.world i _ (λ p e. (tt, arriving_go n u t.world (landed t.world.network i) p refl s h (posted_in t u i p refl e)))
+    delivery_go u t.world i _ (λ p e. (went_to t u i p refl e, arriving_go n u t.world (landed t.world.network i) p refl s h (posted_in t u i p refl e)))
 event_go n t (event.Repeat i) s h =
     let u : Traced = after t (Begins (event.Repeat i)) in
-    delivery_go u t.world i _ (λ p e. (tt, arriving_go n u t.world t.world.network p refl s h (posted_in t u i p refl e)))
+    delivery_go u t.world i _ (λ p e. (went_to t u i p refl e, arriving_go n u t.world t.world.network p refl s h (posted_in t u i p refl e)))
 event_go n t (event.Lose i) s h = go (flying_at t.world.network i)
   where
     go : (o : Option Posting) → AllGo (after t (Begins (event.Lose i))) (losing i o)
     go None = (tt, tt)
     go (Some p) = (tt, tt)
-event_go n t (event.Cut i size) s h = delivery_go u t.world i _ (λ p e. (tt, go p e (nat_lt size (length p.bytes))))
+event_go n t (event.Cut i size) s h = delivery_go u t.world i _ (λ p e. (went_to t u i p refl e, go p e (nat_lt size (length p.bytes))))
   where
     u : Traced
     u = after t (Begins (event.Cut i size))

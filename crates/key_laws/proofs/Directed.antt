@@ -1,6 +1,6 @@
 -- Each message of a view that is sent goes between two members of it: at every mark, and what is due of every event.
-use Rattle.std.proofs.Common.{◌≡◌, ℕ, ◌==◌, ⊎_elim, Bool, true, false, List, [], ◌∷◌, ◌++◌, Option, Some, None, refl, sym, ap, subst, ◌∙◌}
-use Rattle.std.specs.Prelude.{slice_get, option_and_then}
+use Rattle.std.proofs.Common.{◌≡◌, ℕ, ◌==◌, ⊎_elim, Bool, true, false, List, [], ◌∷◌, ◌++◌, Option, Some, None, refl, sym, ap, subst, ◌∙◌, ◌-◌, arith}
+use Rattle.std.specs.Prelude.{slice_get, option_and_then, nat_lt}
 use Rattle.wire_messages.specs.declared.message.Message.{Message}
 use Rattle.wire_messages.specs.declared.message.Message.TheVariants as message
 use Rattle.wire_messages.specs.Decoding.{message_of}
@@ -13,7 +13,7 @@ use Rattle.cluster_rules.specs.declared.event.Event.TheVariants as event
 use Rattle.cluster_rules.specs.Marks as marks
 use Rattle.cluster_rules.specs.Marks.{Mark, Begins, Writes}
 use Rattle.journal_readings.specs.Messages.{Posting, Arrival, arrived, arrived_cut}
-use Rattle.cluster_rules.specs.Network.{client, posting, posting_at}
+use Rattle.cluster_rules.specs.Network.{client, posting, posting_at, posting_if}
 use Rattle.cluster_rules.specs.World.{at}
 use Rattle.key_laws.specs.Addressed.{GoesBetween}
 use Rattle.key_laws.specs.Sound.{Sound, Grows}
@@ -37,13 +37,36 @@ pub goes_if_grows : (t u : Traced) → Grows t u → (a b : ℕ) (o : Option Mes
 goes_if_grows t u g a b None h = h
 goes_if_grows t u g a b (Some m) h = goes_grows t u g a b m h
 
--- what a line that sends is to say; others say nothing
+-- the message of that number was sent to that end
+pub record WentTo (t : Traced) (i b : ℕ) : Type 0 where
+  pub posting : Posting
+  pub stands : posting_at t.world.network i ≡ Some posting
+  pub end : posting.to ≡ b
+
+-- what a line that sends is to say, and where a message arrives; others say nothing
 abbrev pub LineGoes : Traced → Line → Type 0
 LineGoes t (line.Sent i a b bytes) = GoesIf t a b (message_of bytes)
+LineGoes t (line.Deliver i a b) = WentTo t i b
+LineGoes t (line.Repeat i a b) = WentTo t i b
+LineGoes t (line.Cut i a b size) = WentTo t i b
 LineGoes t _ = Unit {0}
+
+-- what was sent stays
+posting_stays : (t u : Traced) → Grows t u → (i : ℕ) (p : Posting) → posting_at t.world.network i ≡ Some p → posting_at u.world.network i ≡ Some p
+posting_stays t u g i p e = go (nat_lt 0 i) e
+  where
+    go : (b : Bool) → posting_if t.world.network i b ≡ Some p → posting_if u.world.network i b ≡ Some p
+    go true e = g.sent (i - 1) p e
+    go false e = absurd (grind (arith, e))
+
+went_grows : (t u : Traced) → Grows t u → (i b : ℕ) → WentTo t i b → WentTo u i b
+went_grows t u g i b h = record { posting = h.posting; stands = posting_stays t u g i h.posting h.stands; end = h.end }
 
 line_goes_grows : (t u : Traced) → Grows t u → (l : Line) → LineGoes t l → LineGoes u l
 line_goes_grows t u g (line.Sent i a b bytes) h = goes_if_grows t u g a b (message_of bytes) h
+line_goes_grows t u g (line.Deliver i a b) h = went_grows t u g i b h
+line_goes_grows t u g (line.Repeat i a b) h = went_grows t u g i b h
+line_goes_grows t u g (line.Cut i a b size) h = went_grows t u g i b h
 line_goes_grows t u g _ h = h
 
 abbrev pub AllGo : Traced → List Line → Type 0

@@ -64,6 +64,9 @@ all_go_append t (l ∷ ls) more a b = (a.0, all_go_append t ls more a.1 b)
 -- a node's own line sends nothing
 own_goes : (t : Traced) (n : ℕ) (l : Line) → IsOf n l → LineGoes t l
 own_goes t n (line.Sent i a b bytes) h = absurd h
+own_goes t n (line.Deliver i a b) h = absurd h
+own_goes t n (line.Repeat i a b) h = absurd h
+own_goes t n (line.Cut i a b size) h = absurd h
 own_goes t n _ h = tt
 
 owns_go : (t : Traced) (n : ℕ) (ls : List Line) → AreOf n ls → AllGo t ls

@@ -23,7 +23,7 @@ use Rattle.node_rules.specs.Agreement.{Proposal}
 use Rattle.node_rules.specs.Entering.{ending, exchanging, closing, entering}
 use Rattle.node_rules.specs.Exchange.{View, is_member, members_of, first_missing}
 use Rattle.node_rules.specs.Facts.{Facts, view_key, members, list_at}
-use Rattle.node_rules.specs.Hearing.{Heard, neighbours_of, aged, older, names, member_of, timeout}
+use Rattle.node_rules.specs.Hearing.{Heard, heard_ids, neighbours_of, aged, older, names, member_of, timeout}
 use Rattle.node_rules.specs.Map.{lacks, entry_of}
 use Rattle.node_rules.specs.Messages as due
 use Rattle.node_rules.specs.Messages.{due_message_of}
@@ -46,37 +46,72 @@ use Rattle.key_laws.proofs.TableReads.{Each, each_listed, member_listed, acting_
 
 -- ---- lists of nodes
 
--- the numbers of a table
-abbrev pub Ids : {X : Type 0} → (ℕ → Type 0) → Table X → Type 0
-Ids {X} P [] = Unit {0}
-Ids {X} P (e ∷ es) = P e.0 × Ids P es
+-- of each that is heard, with its role
+abbrev pub HeardAs : (ℕ → Role → Type 0) → Table Heard → Type 0
+HeardAs Q [] = Unit {0}
+HeardAs Q (e ∷ es) = Q e.0 e.1.beat.role × HeardAs Q es
 
-pub ids_put : {X : Type 0} (P : ℕ → Type 0) (k : ℕ) (v : X) (es : Table X) → P k → Ids P es → Ids P (put nat_cmp k v es)
-ids_put {X} P k v [] h i = (h, tt)
-ids_put {X} P k v (e ∷ es) h i = put_cases (λ (xs : Table X). Ids P xs) k v e es (λ _. (h, i)) (λ _. i) (λ _. (i.0, ids_put P k v es h i.1))
+pub heard_put : (Q : ℕ → Role → Type 0) (k : ℕ) (v : Heard) (es : Table Heard) → Q k v.beat.role → HeardAs Q es → HeardAs Q (put nat_cmp k v es)
+heard_put Q k v [] h i = (h, tt)
+heard_put Q k v (e ∷ es) h i = put_cases (λ (xs : Table Heard). HeardAs Q xs) k v e es (λ _. (h, i)) (λ q. (subst (λ (n : ℕ). Q n v.beat.role) q h, i.1)) (λ _. (i.0, heard_put Q k v es h i.1))
 
-pub ids_aged : (P : ℕ → Type 0) (es : Table Heard) → Ids P es → Ids P (aged es)
-ids_aged P [] h = tt
-ids_aged P (e ∷ es) h = by_test (λ (xs : Table Heard). Ids P xs) (nat_lt (older e).1.age timeout) (older e ∷ aged es) (aged es) (h.0, ids_aged P es h.1) (ids_aged P es h.1)
+pub heard_aged : (Q : ℕ → Role → Type 0) (es : Table Heard) → HeardAs Q es → HeardAs Q (aged es)
+heard_aged Q [] h = tt
+heard_aged Q (e ∷ es) h = by_test (λ (xs : Table Heard). HeardAs Q xs) (nat_lt (older e).1.age timeout) (older e ∷ aged es) (aged es) (h.0, heard_aged Q es h.1) (heard_aged Q es h.1)
 
-ids_roles : (P : ℕ → Type 0) (n : ℕ) (es : Table Heard) → Ids P es → Ids P (map (λ e. (e.0, e.1.beat.role)) (filter (names n) es))
-ids_roles P n [] h = tt
-ids_roles P n (e ∷ es) h = by_test (λ (xs : Table Heard). Ids P (map (λ e. (e.0, e.1.beat.role)) xs)) (names n e) (e ∷ filter (names n) es) (filter (names n) es) (h.0, ids_roles P n es h.1) (ids_roles P n es h.1)
+pub heard_weak : (Q R : ℕ → Role → Type 0) → ((n : ℕ) (r : Role) → Q n r → R n r) → (es : Table Heard) → HeardAs Q es → HeardAs R es
+heard_weak Q R w [] h = tt
+heard_weak Q R w (e ∷ es) h = (w e.0 e.1.beat.role h.0, heard_weak Q R w es h.1)
+
+abbrev RolesAs : (ℕ → Role → Type 0) → Table Role → Type 0
+RolesAs Q [] = Unit {0}
+RolesAs Q (e ∷ es) = Q e.0 e.1 × RolesAs Q es
+
+roles_put : (Q : ℕ → Role → Type 0) (k : ℕ) (v : Role) (es : Table Role) → Q k v → RolesAs Q es → RolesAs Q (put nat_cmp k v es)
+roles_put Q k v [] h i = (h, tt)
+roles_put Q k v (e ∷ es) h i = put_cases (λ (xs : Table Role). RolesAs Q xs) k v e es (λ _. (h, i)) (λ q. (subst (λ (n : ℕ). Q n v) q h, i.1)) (λ _. (i.0, roles_put Q k v es h i.1))
+
+roles_heard : (Q : ℕ → Role → Type 0) (n : ℕ) (es : Table Heard) → HeardAs Q es → RolesAs Q (map (λ e. (e.0, e.1.beat.role)) (filter (names n) es))
+roles_heard Q n [] h = tt
+roles_heard Q n (e ∷ es) h = by_test (λ (xs : Table Heard). RolesAs Q (map (λ e. (e.0, e.1.beat.role)) xs)) (names n e) (e ∷ filter (names n) es) (filter (names n) es) (h.0, roles_heard Q n es h.1) (roles_heard Q n es h.1)
+
+-- of each member, with its role
+abbrev pub MembersAs : (ℕ → Role → Type 0) → List Member → Type 0
+MembersAs Q [] = Unit {0}
+MembersAs Q (m ∷ ms) = Q m.id m.role × MembersAs Q ms
+
+members_of_table : (Q : ℕ → Role → Type 0) (es : Table Role) → RolesAs Q es → MembersAs Q (map member_of es)
+members_of_table Q [] h = tt
+members_of_table Q (e ∷ es) h = (h.0, members_of_table Q es h.1)
+
+members_onto : (Q : ℕ → Role → Type 0) (xs ms : List Member) → MembersAs Q xs → MembersAs Q ms → MembersAs Q (reverse_aux xs ms)
+members_onto Q [] ms h i = i
+members_onto Q (x ∷ xs) ms h i = members_onto Q xs (x ∷ ms) h.1 (h.0, i)
+
+pub neighbours_as : (Q : ℕ → Role → Type 0) (me : ℕ) (role : Role) (es : Table Heard) → Q me role → HeardAs Q es → MembersAs Q (neighbours_of me role es)
+neighbours_as Q me role es h i = members_onto Q (map member_of (with_entry (map (λ e. (e.0, e.1.beat.role)) (filter (names me) es)) me role)) [] (members_of_table Q _ (roles_put Q me role _ h (roles_heard Q me es i))) tt
+
+-- the ids of those that are heard
+abbrev pub Ids : (ℕ → Type 0) → Table Heard → Type 0
+Ids P es = HeardAs (λ n r. P n) es
+
+ids_onto : (P : ℕ → Type 0) (es : Table Heard) (ns : List ℕ) → Ids P es → AllNodes P ns → AllNodes P (reverse_aux (map (λ e. e.0) es) ns)
+ids_onto P [] ns h i = i
+ids_onto P (e ∷ es) ns h i = ids_onto P es (e.0 ∷ ns) h.1 (h.0, i)
+
+pub heard_all : (P : ℕ → Type 0) (es : Table Heard) → Ids P es → AllNodes P (heard_ids es)
+heard_all P es h = ids_onto P es [] h tt
 
 -- the ids of members
 abbrev pub AllMembers : (ℕ → Type 0) → List Member → Type 0
 AllMembers P ms = AllNodes P (ids_of ms)
 
-members_of_table : (P : ℕ → Type 0) (es : Table Role) → Ids P es → AllMembers P (map member_of es)
-members_of_table P [] h = tt
-members_of_table P (e ∷ es) h = (h.0, members_of_table P es h.1)
-
-members_onto : (P : ℕ → Type 0) (xs ms : List Member) → AllMembers P xs → AllMembers P ms → AllMembers P (reverse_aux xs ms)
-members_onto P [] ms h i = i
-members_onto P (x ∷ xs) ms h i = members_onto P xs (x ∷ ms) h.1 (h.0, i)
+members_all : (P : ℕ → Type 0) (ms : List Member) → MembersAs (λ n r. P n) ms → AllMembers P ms
+members_all P [] h = tt
+members_all P (m ∷ ms) h = (h.0, members_all P ms h.1)
 
 pub neighbours_are : (P : ℕ → Type 0) (me : ℕ) (role : Role) (es : Table Heard) → P me → Ids P es → AllMembers P (neighbours_of me role es)
-neighbours_are P me role es h i = members_onto P (map member_of (with_entry (map (λ e. (e.0, e.1.beat.role)) (filter (names me) es)) me role)) [] (members_of_table P _ (ids_put P me role _ h (ids_roles P me es i))) tt
+neighbours_are P me role es h i = members_all P (neighbours_of me role es) (neighbours_as (λ n r. P n) me role es h i)
 
 pub member_is : (P : ℕ → Type 0) (ms : List Member) (n : ℕ) → AllMembers P ms → is_member ms n ≡ true → P n
 member_is P [] n h e = differ e refl
@@ -189,7 +224,7 @@ tick_name P n f h = go f.up
     go true = (
       h.me,
       then_name P g (tick.propose g).lines (λ k. (in_order later k).lines) h.me
-          (propose_name P g h.me (neighbours_are P f.me f.role (aged f.hearing.heard) h.me (ids_aged P f.hearing.heard h.heard)))
+          (propose_name P g h.me (neighbours_are P f.me f.role (aged f.hearing.heard) h.me (heard_aged (λ n r. P n) f.hearing.heard h.heard)))
           (λ k a. in_order_name P later (λ x _. tt, (λ x _. tt, (λ x _. tt, (λ x b. settling_name P n x x.exchange.exchanged b, (λ x _. progress_name P n x _, tt))))) k a),
     )
     go false = (h.me, tt)

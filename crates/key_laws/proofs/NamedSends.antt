@@ -43,7 +43,7 @@ use Rattle.key_laws.specs.Traced.{Traced}
 use Rattle.key_laws.proofs.Addressed.{in_filter, in_without, not_gone, member_id, NodeGoes, TargetsGo, AllAwait, Among, asked_among_others, replicas_among_others, or_left, or_right}
 use Rattle.key_laws.proofs.DueDirected.{Alone, alone_in, alone_now, later, nothing_later, same_others, settled_view}
 use Rattle.key_laws.proofs.Frames.{num_eq}
-use Rattle.key_laws.proofs.NamedLines.{Aware, member_is, neighbours_are, ids_aged}
+use Rattle.key_laws.proofs.NamedLines.{Aware, member_is, neighbours_are, heard_aged}
 use Rattle.key_laws.proofs.TableReads.{is_table, others_tell, table_tells}
 
 -- ---- where messages go
@@ -166,7 +166,7 @@ tick_parts_right P t n f h peers proposed = right_append P f.me _ _ (each_right 
         (later_right P t n g i k (noted_me None g (settling n g)) (settled_view n g g.exchange.exchanged))
 
 -- a proposal that stands after a tick's line stood before it
-aged_proposal : (f : Facts) (p : Proposal) → (after_ages f).agreement.proposal ≡ Some p → f.agreement.proposal ≡ Some p
+pub aged_proposal : (f : Facts) (p : Proposal) → (after_ages f).agreement.proposal ≡ Some p → f.agreement.proposal ≡ Some p
 aged_proposal f p e = go (agreement.proposes_set f.agreement.proposal (neighbours (after_ages f))) e
   where
     go : (b : Bool) → agreement.kept_if b f.agreement.proposal ≡ Some p → f.agreement.proposal ≡ Some p
@@ -180,7 +180,7 @@ tick_right P t n f h = go f.up
     g = after_ages f
 
     near : (n : ℕ) → is_member (neighbours g) n ≡ true → P n
-    near n e = member_is P (neighbours g) n (neighbours_are P f.me f.role (aged f.hearing.heard) h.aware.me (ids_aged P f.hearing.heard h.aware.heard)) e
+    near n e = member_is P (neighbours g) n (neighbours_are P f.me f.role (aged f.hearing.heard) h.aware.me (heard_aged (λ n r. P n) f.hearing.heard h.aware.heard)) e
 
     go : (b : Bool) → AllRight P f.me (tick.tick_if n f b).sends
     go true =

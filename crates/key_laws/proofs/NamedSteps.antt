@@ -1,14 +1,16 @@
 -- Steps that are allowed: each of their lines names declared nodes, and each message goes between two ends.
-use Rattle.std.proofs.Common.{◌≡◌, ℕ, zero, suc, ◌+◌, ◌==◌, ⊎_elim, inl, inr, Bool, true, false, cond, not, ◌&&◌, ◌||◌, List, [], ◌∷◌, Option, Some, None, refl, sym, ap, subst, ◌∙◌, if◌then◌else◌, arith}
-use Rattle.std.specs.Prelude.{All, slice_get, slice_index, length, find, nat_lt, option_map, ◌<◌}
-use Rattle.std.specs.List.{list_all, concat}
+use Rattle.std.proofs.Common.{◌≡◌, ℕ, zero, suc, ◌+◌, ◌==◌, ⊎_elim, inl, inr, Bool, true, false, cond, not, ◌&&◌, ◌||◌, List, [], ◌∷◌, Option, Some, None, refl, sym, ap, subst, ◌∙◌, if◌then◌else◌, arith, lit<}
+use Rattle.std.specs.Prelude.{All, filter_map, unwrap_or, ◌^◌, slice_get, slice_index, length, find, nat_lt, option_map, ◌<◌}
+use Rattle.std.specs.List.{cons_option, list_all, concat}
 use Rattle.std.proofs.lemmas.Bool.Decides.{nat_tests}
 use Rattle.conflict_order.specs.declared.want.Want.{Want}
 use Rattle.conflict_order.specs.declared.want.Want.TheVariants as want
 use Rattle.cluster_types.specs.Distinct.{without}
 use Rattle.cluster_types.specs.Partitions.{partition_count, partition_of}
 use Rattle.partition_lists.specs.Lists.{in_order, put_in_order}
-use Rattle.script_lang.specs.Proper.{IsProperHeaderLine}
+use Rattle.script_lang.specs.declared.script.HeaderLine.{HeaderLine}
+use Rattle.script_lang.specs.declared.script.HeaderLine.TheVariants as header
+use Rattle.script_lang.specs.Proper.{IsProperHeaderLine, IsRack}
 use Rattle.wire_messages.specs.declared.message.MapTable.{MapTable}
 use Rattle.wire_messages.specs.declared.message.Message.{Message}
 use Rattle.wire_messages.specs.declared.message.Message.TheVariants as message
@@ -35,7 +37,7 @@ use Rattle.journal_readings.specs.Lines.{has_node}
 use Rattle.cluster_rules.specs.Marks.{Begins, Writes}
 use Rattle.journal_readings.specs.Messages.{Posting}
 use Rattle.cluster_rules.specs.Network.{Network, client, landed, flying_at, has_place, are_apart}
-use Rattle.cluster_rules.specs.Opening.{Header, declared_nodes}
+use Rattle.cluster_rules.specs.Opening.{Header, declared_nodes, rack_in, rack_if}
 use Rattle.cluster_rules.specs.Steps.{Step, marks_of, all_marks, all_lines}
 use Rattle.cluster_rules.specs.World.{World, opened, is_up, members_now}
 use Rattle.key_laws.specs.Ends.{IsOneOf, IsEnd, TableNames, FromNode, GoesRight, AllNodes, AllName}
@@ -43,15 +45,15 @@ use Rattle.key_laws.specs.Sound.{Sound, Views, Entered, Proposed, Stands}
 use Rattle.key_laws.specs.Traced.{Traced, facts_of, after, after_all, untouched}
 use Rattle.key_laws.specs.Licences.{Says, Licensed}
 use Rattle.key_laws.proofs.Addressed.{or_cases, differ, and_left, and_right, in_without, not_gone}
-use Rattle.key_laws.proofs.AllowedRuns.{Allowed, allowed_due, declared_id, posted_in, step_goes, none_directed}
-use Rattle.key_laws.proofs.Directed.{Directed, begun_goes}
+use Rattle.key_laws.proofs.AllowedRuns.{Allowed, allowed_due, declared_id, posted_in, event_go, step_goes, none_directed}
+use Rattle.key_laws.proofs.Directed.{Directed, AllGo, all_go_grow, begun_goes}
 use Rattle.key_laws.proofs.DueSteps.{step_ok, own_keys}
-use Rattle.key_laws.proofs.Kept.{Keeps, kept_begun, kept_all, WasPosted, after_all-append}
-use Rattle.key_laws.proofs.NamedLines.{Aware, Commits, AllMembers, all_members, name_append, tick_name, map_name, show_name, place_name, message_name, request_name, stop_name, start_name}
+use Rattle.key_laws.proofs.Kept.{Keeps, kept_line, kept_begun, kept_all, WasPosted, after_all-append}
+use Rattle.key_laws.proofs.NamedLines.{Aware, heard_weak, Commits, AllMembers, all_members, name_append, tick_name, map_name, show_name, place_name, message_name, request_name, stop_name, start_name}
 use Rattle.key_laws.proofs.NamedSends.{Other, Knows, AllRight, tick_right, message_right, request_right, stop_right, start_right}
-use Rattle.key_laws.proofs.Peopled.{peers_of, AllTables, Peopled, sender_of, line_peopled, begun_peopled}
+use Rattle.key_laws.proofs.Peopled.{Neighbour, peers_of, AllTables, Peopled, sender_of, line_peopled, begun_peopled}
 use Rattle.key_laws.proofs.Quiet.{writes}
-use Rattle.key_laws.proofs.Runs.{AreIds, declared_ids, marks_nodes, AllBegun, world_of, start}
+use Rattle.key_laws.proofs.Runs.{of_first, of_others, AreIds, declared_ids, marks_nodes, AllBegun, world_of, start}
 use Rattle.key_laws.proofs.TableReads.{others_tell}
 
 -- ---- who is declared
@@ -116,7 +118,7 @@ aware_of ns t n s h d = record {
   me = subst (IsOneOf ns) (sym (h.nodes n).me) d;
   members = members_are ns t n s h;
   among = λ v e. subst (λ (m : ℕ). is_member v.members m ≡ true) (sym (h.nodes n).me) (in_own_view t n s v e);
-  heard = (h.nodes n).heard;
+  heard = heard_weak (Neighbour ns n) (λ m r. IsOneOf ns m) (λ m r x. x.node) (facts_of t n).hearing.heard (h.nodes n).heard;
   proposal = proposed_to ns t n s h;
 }
 
@@ -351,9 +353,11 @@ event_named n ns t _ ids all k s d h = tt
 
 -- ---- steps
 
-lines_peopled : (ns : List ℕ) (t : Traced) (ls : List Line) → AllName (IsOneOf ns) ls → Peopled ns t → Peopled ns (after_all t (writes ls))
-lines_peopled ns t [] names h = h
-lines_peopled ns t (l ∷ ls) names h = lines_peopled ns (after t (Writes l)) ls names.1 (line_peopled ns t l names.0 h)
+lines_peopled : (ns : List ℕ) (t : Traced) (ls : List Line) → Sound t → Licensed t (writes ls) → AllGo t ls → AllName (IsOneOf ns) ls → Peopled ns t → Peopled ns (after_all t (writes ls))
+lines_peopled ns t [] s ok go names h = h
+lines_peopled ns t (l ∷ ls) s ok go names h =
+    let k : Keeps t (after t (Writes l)) = kept_line t l ok.0 s in
+    lines_peopled ns (after t (Writes l)) ls k.sound ok.1 (all_go_grow t (after t (Writes l)) k.grows ls go.1) names.1 (line_peopled ns t l go.0 names.0 h)
 
 -- where steps lead, and their lines
 pub record Named (ns : List ℕ) (t : Traced) (ss : List Step) : Type 0 where
@@ -370,7 +374,8 @@ steps_named n ns t (x ∷ ss) ids all s d h b a =
     let k : Keeps t u = kept_begun t x.event s in
     let known : names_known ns x.event ≡ true = subst (λ (ms : List ℕ). names_known ms x.event ≡ true) all (and_left (names_known t.world.nodes x.event) (ends_calm n t.world x.event) a.0.comes) in
     let names : AllName (IsOneOf ns) x.lines = subst (AllName (IsOneOf ns)) (sym a.0.due) (event_named n ns t x.event ids all known k.sound (begun_goes t x.event k.grows d) (begun_peopled ns t x.event h)) in
-    let rest : Named ns next ss = steps_named n ns next ss ids (ap (λ (w : World). w.nodes) (world_of t (marks_of x)) ∙ marks_nodes t.world (marks_of x) ∙ all) (kept_all t (marks_of x) ok s).sound goes (lines_peopled ns u x.lines names (begun_peopled ns t x.event h)) b.1 (subst (λ v. AreAllowed n v ss) (sym (world_of t (marks_of x))) a.1) in
+    let sends : AllGo u x.lines = subst (AllGo u) (sym a.0.due) (event_go n t x.event k.sound (begun_goes t x.event k.grows d)) in
+    let rest : Named ns next ss = steps_named n ns next ss ids (ap (λ (w : World). w.nodes) (world_of t (marks_of x)) ∙ marks_nodes t.world (marks_of x) ∙ all) (kept_all t (marks_of x) ok s).sound goes (lines_peopled ns u x.lines k.sound ok.1 sends names (begun_peopled ns t x.event h)) b.1 (subst (λ v. AreAllowed n v ss) (sym (world_of t (marks_of x))) a.1) in
     record {
       peopled = subst (λ (v : Traced). Peopled ns v) (sym (after_all-append t (marks_of x) (all_marks ss))) rest.peopled;
       names = name_append (IsOneOf ns) x.lines (all_lines ss) names rest.names;
@@ -378,10 +383,27 @@ steps_named n ns t (x ∷ ss) ids all s d h b a =
 
 -- ---- from the opened world
 
-opened_peopled : (h : Header) → Peopled (declared_nodes h) (untouched (opened h))
-opened_peopled h = record {
-  nodes = λ n. record { me = refl; peers = refl; up = λ e. e; heard = tt; missing = record { each = λ p e. absurd (grind (arith, e)) } };
+-- a rack that a header names has a spelling, and so has none
+declared_rack : (n : ℕ) (h : Header) → All IsProperHeaderLine h → unwrap_or (slice_get (filter_map (rack_in n) h) 0) 0 < 2 ^ 8
+declared_rack n [] p = lit< tt
+declared_rack n (x ∷ h) p = go x (of_first IsProperHeaderLine x h p) (declared_rack n h (of_others IsProperHeaderLine x h p))
+  where
+    with_rack : (o : Option ℕ) → IsRack o → (b : Bool) → unwrap_or (slice_get (filter_map (rack_in n) h) 0) 0 < 2 ^ 8 → unwrap_or (slice_get (cons_option (rack_if o b) (filter_map (rack_in n) h)) 0) 0 < 2 ^ 8
+    with_rack None q true rest = rest
+    with_rack (Some rack) q true rest = q
+    with_rack o q false rest = rest
+
+    go : (x : HeaderLine) → IsProperHeaderLine x → unwrap_or (slice_get (filter_map (rack_in n) h) 0) 0 < 2 ^ 8 → unwrap_or (slice_get (cons_option (rack_in n x) (filter_map (rack_in n) h)) 0) 0 < 2 ^ 8
+    go (header.Script version) q rest = rest
+    go (header.Factor factor) q rest = rest
+    go (header.Node m rack) q rest = with_rack rack q.1 (m == n) rest
+    go (header.Policy by) q rest = rest
+
+opened_peopled : (h : Header) → All IsProperHeaderLine h → Peopled (declared_nodes h) (untouched (opened h))
+opened_peopled h proper = record {
+  nodes = λ n. record { me = refl; peers = refl; up = λ e. e; rack = declared_rack n h proper; heard = tt; missing = record { each = λ p e. absurd (grind (arith, e)) } };
   lists = λ k ms m e i. absurd (grind (arith, e));
+  racks = λ k ms e. absurd (grind (arith, e));
   sent = λ i p e. absurd (grind (arith, e));
   tables = tt;
 }
@@ -391,7 +413,7 @@ allowed_named n h ss proper allowed =
     let t : Traced = untouched (opened h) in
     let ids : AreIds (declared_nodes h) = declared_ids h proper in
     let a : Allowed n (opened h) ss = allowed_due n (opened h) ss ids allowed in
-    steps_named n (declared_nodes h) t ss ids refl (start h).sound (none_directed (opened h) (λ m. record { targets = tt; waits = tt }) refl) (opened_peopled h) a.begun allowed
+    steps_named n (declared_nodes h) t ss ids refl (start h).sound (none_directed (opened h) (λ m. record { targets = tt; waits = tt }) refl) (opened_peopled h proper) a.begun allowed
 
 pub all_named : (n : ℕ) (h : Header) (ss : List Step) → All IsProperHeaderLine h → AreAllowed n (opened h) ss → AllName (IsOneOf (declared_nodes h)) (all_lines ss)
 all_named n h ss proper allowed = (allowed_named n h ss proper allowed).names

@@ -9,9 +9,10 @@ use Rattle.std.specs.FinMap.{put}
 use Rattle.cluster_types.specs.declared.member.Member.{Member}
 use Rattle.cluster_types.specs.declared.member.Role.{Role}
 use Rattle.wire_messages.specs.Nodes.{IsId}
+use Rattle.cluster_types.specs.Distinct.{IsDescending}
 use Rattle.cluster_types.specs.Members.{ids_of}
 use Rattle.node_rules.specs.Exchange.{is_member}
-use Rattle.node_rules.specs.Hearing.{Heard, neighbours_of, aged, older, names, member_of, timeout}
+use Rattle.node_rules.specs.Hearing.{Heard, heard_ids, neighbours_of, aged, older, names, member_of, timeout}
 use Rattle.node_rules.specs.Tables.{Table, with_entry}
 use Rattle.key_laws.specs.Traced.{Traced}
 use Rattle.key_laws.specs.Sound.{GoodList, HeardOf, HeardAll, Hears, Rises, IsUnder}
@@ -208,3 +209,34 @@ pub neighbours_good : (t : Traced) (n : ℕ) (role : Role) (heard : Table Heard)
 neighbours_good t n role heard fits h =
     subst (λ ms. GoodList n ms) (sym (neighbours_onto (put nat_cmp n role (roles n heard)) []))
     (good_onto n role (roles n heard) fits (rises_roles n heard h.rises) (fit_roles t n heard h.each))
+
+-- ---- the ids that are heard
+
+abbrev all_roles : Table Heard → Table Role
+all_roles es = map (λ e. (e.0, e.1.beat.role)) es
+
+under_all : (n : ℕ) (es : Table Heard) → IsUnder n es → IsUnder n (all_roles es)
+under_all n [] h = tt
+under_all n (e ∷ es) h = (h.0, under_all n es h.1)
+
+rises_all : (es : Table Heard) → Rises es → Rises (all_roles es)
+rises_all [] h = tt
+rises_all (e ∷ es) h = (under_all e.0 es h.0, rises_all es h.1)
+
+fit_roles_all : (t : Traced) (es : Table Heard) → HeardAll t es → FitTable (all_roles es)
+fit_roles_all t [] h = tt
+fit_roles_all t (e ∷ es) h = (h.0.sender, fit_roles_all t es h.1)
+
+ids_onto : (es : Table Heard) (ms : List Member) → reverse_aux (map (λ e. e.0) es) (ids_of ms) ≡ ids_of (onto (all_roles es) ms)
+ids_onto [] ms = refl
+ids_onto (e ∷ es) ms = ids_onto es (member_of (e.0, e.1.beat.role) ∷ ms)
+
+ids_fit : (ms : List Member) → FitMembers ms → All IsId (ids_of ms)
+ids_fit [] h = all_none IsId
+ids_fit (m ∷ ms) h = all_cons IsId m.id (ids_of ms) h.0 (ids_fit ms h.1)
+
+pub heard_falls : (t : Traced) (heard : Table Heard) → Hears t heard → IsDescending (heard_ids heard)
+heard_falls t heard h = subst IsDescending (sym (ids_onto heard [])) (record { falls = falls_pairs _ (falls_onto (all_roles heard) [] (rises_all heard h.rises) tt (over_none _)) })
+
+pub heard_fit : (t : Traced) (heard : Table Heard) → Hears t heard → All IsId (heard_ids heard)
+heard_fit t heard h = subst (λ (ns : List ℕ). All IsId ns) (sym (ids_onto heard [])) (ids_fit _ (fit_onto (all_roles heard) [] (fit_roles_all t heard h.each) tt))

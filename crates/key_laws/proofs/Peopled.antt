@@ -1,9 +1,10 @@
 -- Each line keeps who is declared: whom nodes hear, propose views to and list, between whom messages go, and what the client has.
-use Rattle.std.proofs.Common.{◌≡◌, ◌⊎◌, ℕ, ◌==◌, ⊎_elim, Bool, true, false, List, [], ◌∷◌, ◌++◌, Option, Some, None, refl, sym, ap, subst, ◌∙◌, arith}
+use Rattle.std.proofs.Common.{◌≡◌, ◌<◌, ◌^◌, ◌⊎◌, ℕ, ◌==◌, ⊎_elim, Bool, true, false, List, [], ◌∷◌, ◌++◌, Option, Some, None, refl, sym, ap, subst, ◌∙◌, arith}
 use Rattle.std.specs.Prelude.{slice_get, nat_le, nat_lt, length, option_map, option_and_then, if◌then◌else◌}
 use Rattle.conflict_order.specs.declared.want.Want.{Want}
 use Rattle.cluster_types.specs.declared.cluster_key.ClusterKey.{ClusterKey}
 use Rattle.cluster_types.specs.declared.member.Member.{Member}
+use Rattle.cluster_types.specs.declared.member.Role.{Role}
 use Rattle.cluster_types.specs.Distinct.{without}
 use Rattle.cluster_types.specs.Partitions.{partition_of}
 use Rattle.partition_lists.specs.Lists.{in_order}
@@ -11,6 +12,8 @@ use Rattle.wire_messages.specs.declared.message.MapTable.{MapTable}
 use Rattle.wire_messages.specs.declared.message.Message.{Message}
 use Rattle.wire_messages.specs.declared.message.Message.TheVariants as message
 use Rattle.wire_messages.specs.Decoding.{message_of}
+use Rattle.wire_messages.specs.Proper.{IsProper}
+use Rattle.wire_messages.proofs.DecodingLaws.{what_is_read}
 use Rattle.journal_lines.specs.declared.line.Line.{Line}
 use Rattle.journal_lines.specs.declared.line.Line.TheVariants as line
 use Rattle.node_rules.specs.Agreement as agreement
@@ -33,9 +36,10 @@ use Rattle.cluster_rules.specs.World.{World, at}
 use Rattle.key_laws.specs.Ends.{is_map_ask, IsOneOf, TableNames, TellsIf, FromNode, GoesRight, LineNames}
 use Rattle.key_laws.specs.Traced.{Traced, facts_of, after, listed_if, promised_by}
 use Rattle.key_laws.proofs.Addressed.{Among, among_without}
+use Rattle.key_laws.proofs.Directed.{WentTo, LineGoes}
 use Rattle.key_laws.proofs.Frames.{at_each}
 use Rattle.key_laws.proofs.Kept.{WasPosted, was_posted, more}
-use Rattle.key_laws.proofs.NamedLines.{Ids, ids_put, ids_aged, neighbours_are, member_is}
+use Rattle.key_laws.proofs.NamedLines.{HeardAs, MembersAs, heard_put, heard_aged, heard_weak, neighbours_as, neighbours_are, member_is}
 
 -- ---- a node
 
@@ -46,16 +50,27 @@ peers_of ns n = in_order nat_lt (without ns n)
 pub record Missing (me : ℕ) (a : Agreement) : Type 0 where
   pub each : (p : Proposal) → a.proposal ≡ Some p → Among (agreement.others me p.members) p.missing
 
--- the parts of a node's facts: its number, its peers, whether it runs, whom it hears, and what it proposes
-pub record NodeEnds (ns : List ℕ) (n own : ℕ) (near : List ℕ) (runs : Bool) (es : Table Heard) (a : Agreement) : Type 0 where
+-- a rack that has a spelling
+abbrev pub FitsRack : ℕ → Role → Type 0
+FitsRack n role = role.rack < 2 ^ 8
+
+-- another declared node
+pub record Neighbour (ns : List ℕ) (me n : ℕ) (role : Role) : Type 0 where
+  pub node : IsOneOf ns n
+  pub other : n ≡ me → ⊥
+  pub rack : FitsRack n role
+
+-- the parts of a node's facts: its number, its peers, whether it runs, its role, whom it hears, and what it proposes
+pub record NodeEnds (ns : List ℕ) (n own : ℕ) (near : List ℕ) (runs : Bool) (part : Role) (es : Table Heard) (a : Agreement) : Type 0 where
   pub me : own ≡ n
   pub peers : near ≡ peers_of ns n
   pub up : runs ≡ true → IsOneOf ns n
-  pub heard : Ids (IsOneOf ns) es
+  pub rack : FitsRack n part
+  pub heard : HeardAs (Neighbour ns n) es
   pub missing : Missing own a
 
 abbrev pub EndsOf : List ℕ → ℕ → Facts → Type 0
-EndsOf ns n f = NodeEnds ns n f.me f.peers f.up f.hearing.heard f.agreement
+EndsOf ns n f = NodeEnds ns n f.me f.peers f.up f.role f.hearing.heard f.agreement
 
 -- ---- what a proposal misses
 
@@ -103,15 +118,15 @@ proposed_missing me a k ms h = go (proposes a.proposal k)
 -- ---- lines of the node
 
 -- all parts but one or two are the same
-with_missing : {ns : List ℕ} {n own : ℕ} {near : List ℕ} {runs : Bool} {es : Table Heard} {a : Agreement} (b : Agreement) → NodeEnds ns n own near runs es a → Missing own b → NodeEnds ns n own near runs es b
-with_missing {ns} {n} {own} {near} {runs} {es} {a} b h m = record { me = h.me; peers = h.peers; up = h.up; heard = h.heard; missing = m }
+with_missing : {ns : List ℕ} {n own : ℕ} {near : List ℕ} {runs : Bool} {part : Role} {es : Table Heard} {a : Agreement} (b : Agreement) → NodeEnds ns n own near runs part es a → Missing own b → NodeEnds ns n own near runs part es b
+with_missing {ns} {n} {own} {near} {runs} {part} {es} {a} b h m = record { me = h.me; peers = h.peers; up = h.up; rack = h.rack; heard = h.heard; missing = m }
 
 note_ends : (ns : List ℕ) (n : ℕ) (q : Option Want) (f : Facts) (l : Line) → ((m : ℕ) → l ≡ line.Start m → IsOneOf ns n) → EndsOf ns n f → EndsOf ns n (note q f l)
-note_ends ns n q f (line.Tick m) s h = record { me = h.me; peers = h.peers; up = h.up; heard = ids_aged (IsOneOf ns) f.hearing.heard h.heard; missing = kept_missing f.me f.agreement _ _ refl h.missing }
-note_ends ns n q f (line.Stop m) s h = record { me = h.me; peers = h.peers; up = λ e. absurd (grind arith); heard = tt; missing = none_missing f.me _ refl }
-note_ends ns n q f (line.Start m) s h = record { me = h.me; peers = h.peers; up = λ e. s m refl; heard = h.heard; missing = h.missing }
-note_ends ns n q f (line.Quiesce m) s h = h
-note_ends ns n q f (line.Unquiesce m) s h = h
+note_ends ns n q f (line.Tick m) s h = record { me = h.me; peers = h.peers; up = h.up; rack = h.rack; heard = heard_aged (Neighbour ns n) f.hearing.heard h.heard; missing = kept_missing f.me f.agreement _ _ refl h.missing }
+note_ends ns n q f (line.Stop m) s h = record { me = h.me; peers = h.peers; up = λ e. absurd (grind arith); rack = h.rack; heard = tt; missing = none_missing f.me _ refl }
+note_ends ns n q f (line.Start m) s h = record { me = h.me; peers = h.peers; up = λ e. s m refl; rack = h.rack; heard = h.heard; missing = h.missing }
+note_ends ns n q f (line.Quiesce m) s h = record { me = h.me; peers = h.peers; up = h.up; rack = h.rack; heard = h.heard; missing = h.missing }
+note_ends ns n q f (line.Unquiesce m) s h = record { me = h.me; peers = h.peers; up = h.up; rack = h.rack; heard = h.heard; missing = h.missing }
 note_ends ns n q f (line.Promise m key) s h = with_missing _ h (kept_missing f.me f.agreement _ _ refl h.missing)
 note_ends ns n q f (line.Enter m key ms) s h = with_missing _ h (none_missing f.me _ refl)
 note_ends ns n q f (line.Exchanged m key) s h = h
@@ -130,26 +145,26 @@ note_ends ns n q f _ s h = h
 
 -- ---- messages that reach the node, and that it sent
 
-reached_ends : (ns : List ℕ) (n : ℕ) (f : Facts) (from : ℕ) (m : Message) → (is_map_ask m ≡ false → IsOneOf ns from) → EndsOf ns n f → EndsOf ns n (reached f from m)
-reached_ends ns n f from (message.Heartbeat view promised hears role) s h = record { me = h.me; peers = h.peers; up = h.up; heard = ids_put (IsOneOf ns) from _ f.hearing.heard (s refl) h.heard; missing = same_missing f.me f.agreement _ refl h.missing }
-reached_ends ns n f from (message.Accept k) s h = with_missing _ h (accepted_missing f.me f.agreement from k h.missing)
-reached_ends ns n f from (message.Refuse k promised) s h = with_missing _ h (refused_missing f.me f.agreement k promised h.missing)
-reached_ends ns n f from (message.State k wants row) s h = by_bool (in_view f k)
+reached_ends : (ns : List ℕ) (n : ℕ) (f : Facts) (from : ℕ) (m : Message) → IsProper m → (is_map_ask m ≡ false → FromNode (IsOneOf ns) from n) → EndsOf ns n f → EndsOf ns n (reached f from m)
+reached_ends ns n f from (message.Heartbeat view promised hears role) p s h = record { me = h.me; peers = h.peers; up = h.up; rack = h.rack; heard = heard_put (Neighbour ns n) from _ f.hearing.heard (record { node = (s refl).sender; other = (s refl).differ; rack = p.3 }) h.heard; missing = same_missing f.me f.agreement _ refl h.missing }
+reached_ends ns n f from (message.Accept k) p s h = with_missing _ h (accepted_missing f.me f.agreement from k h.missing)
+reached_ends ns n f from (message.Refuse k promised) p s h = with_missing _ h (refused_missing f.me f.agreement k promised h.missing)
+reached_ends ns n f from (message.State k wants row) p s h = by_bool (in_view f k)
   where
     by_bool : (q : Bool) → EndsOf ns n (notes.row_came f from row q)
     by_bool true = h
     by_bool false = h
-reached_ends ns n f from (message.BatchAck k number) s h = by_bool (in_view f k)
+reached_ends ns n f from (message.BatchAck k number) p s h = by_bool (in_view f k)
   where
     by_bool : (q : Bool) → EndsOf ns n (notes.batch_acked f from number q)
     by_bool true = h
     by_bool false = h
-reached_ends ns n f from (message.Progress k wants done handed settled) s h = by_bool (in_view f k)
+reached_ends ns n f from (message.Progress k wants done handed settled) p s h = by_bool (in_view f k)
   where
     by_bool : (q : Bool) → EndsOf ns n (notes.progress_came f from done handed settled q)
     by_bool true = h
     by_bool false = h
-reached_ends ns n f from (message.Repl k t nth d v) s h = by_bool (in_view f k)
+reached_ends ns n f from (message.Repl k t nth d v) p s h = by_bool (in_view f k)
   where
     counted : (l : List ℕ) (p : ℕ) (q : Bool) → EndsOf ns n (notes.counted_if f k l p nth q)
     counted l p true = h
@@ -158,17 +173,17 @@ reached_ends ns n f from (message.Repl k t nth d v) s h = by_bool (in_view f k)
     by_bool : (q : Bool) → EndsOf ns n (notes.write_came f from k nth (partition_of d) q)
     by_bool true = counted (list_at f (partition_of d)) (partition_of d) (from == master (list_at f (partition_of d)))
     by_bool false = h
-reached_ends ns n f from (message.ReplAck k t) s h = by_bool (in_view f k)
+reached_ends ns n f from (message.ReplAck k t) p s h = by_bool (in_view f k)
   where
     by_bool : (q : Bool) → EndsOf ns n (notes.write_acked f from t q)
     by_bool true = h
     by_bool false = h
-reached_ends ns n f from (message.Answer k t v) s h = by_bool (in_view f k)
+reached_ends ns n f from (message.Answer k t v) p s h = by_bool (in_view f k)
   where
     by_bool : (q : Bool) → EndsOf ns n (notes.answer_came f from t v q)
     by_bool true = h
     by_bool false = h
-reached_ends ns n f from _ s h = h
+reached_ends ns n f from _ p s h = h
 
 sent_ends : (ns : List ℕ) (n : ℕ) (f : Facts) (to : ℕ) (m : Message) → EndsOf ns n f → EndsOf ns n (sent f to m)
 sent_ends ns n f to (message.Propose k ms) h = with_missing _ h (proposed_missing f.me f.agreement k ms h.missing)
@@ -184,6 +199,7 @@ AllTables ns (t ∷ ts) = TableNames (IsOneOf ns) t × AllTables ns ts
 pub record Peopled (ns : List ℕ) (t : Traced) : Type 0 where
   pub nodes : (n : ℕ) → EndsOf ns n (facts_of t n)
   pub lists : (k : ClusterKey) (ms : List Member) (m : ℕ) → t.lists k ≡ Some ms → is_member ms m ≡ true → IsOneOf ns m
+  pub racks : (k : ClusterKey) (ms : List Member) → t.lists k ≡ Some ms → MembersAs FitsRack ms
   pub sent : (i : ℕ) (p : Posting) → slice_get t.world.network.sent i ≡ Some p → GoesRight (IsOneOf ns) p.from p.to p.bytes
   pub tables : AllTables ns t.world.tables
 
@@ -212,8 +228,8 @@ sender_of ns p m r g e = ⊎_elim (λ x. x) (λ x. other x.asks) g.ends
 abbrev Stays : List ℕ → Traced → World → Type 0
 Stays ns t w = Nodes ns w.facts × AllTables ns w.tables
 
-came_stays : (ns : List ℕ) (t : Traced) (b : ℕ) (p : Posting) → GoesRight (IsOneOf ns) p.from p.to p.bytes → Peopled ns t → Stays ns t (marks.came t.world (arrived b p))
-came_stays ns t b p g h = go (message_of p.bytes) refl
+came_stays : (ns : List ℕ) (t : Traced) (b : ℕ) (p : Posting) → p.to ≡ b → GoesRight (IsOneOf ns) p.from p.to p.bytes → Peopled ns t → Stays ns t (marks.came t.world (arrived b p))
+came_stays ns t b p to g h = go (message_of p.bytes) refl
   where
     at_client : (m : Message) → TellsIf (IsOneOf ns) (Some m) → Stays ns t (marks.came_to_client t.world m)
     at_client (message.MapTable x) n = (h.nodes, table_more ns t.world.tables x h.tables n)
@@ -225,18 +241,18 @@ came_stays ns t b p g h = go (message_of p.bytes) refl
       where
         by_end : (q : Bool) → Stays ns t (marks.came_to t.world (record { from = p.from; to = b; message = m }) q)
         by_end true = at_client m (subst (TellsIf (IsOneOf ns)) e g.tells)
-        by_end false = (one ns t.world.facts b (reached (t.world.facts b) p.from m) h.nodes (reached_ends ns b (t.world.facts b) p.from m (λ k. (sender_of ns p m e g k).sender) (h.nodes b)), h.tables)
+        by_end false = (one ns t.world.facts b (reached (t.world.facts b) p.from m) h.nodes (reached_ends ns b (t.world.facts b) p.from m (what_is_read p.bytes m e).0 (λ k. subst (FromNode (IsOneOf ns) p.from) to (sender_of ns p m e g k)) (h.nodes b)), h.tables)
 
-arrival_stays : (ns : List ℕ) (t : Traced) (b : ℕ) (o : Option Posting) → ((p : Posting) → o ≡ Some p → GoesRight (IsOneOf ns) p.from p.to p.bytes) → Peopled ns t → Stays ns t (marks.came t.world (option_and_then (arrived b) o))
-arrival_stays ns t b None g h = (h.nodes, h.tables)
-arrival_stays ns t b (Some p) g h = came_stays ns t b p (g p refl) h
+arrival_stays : (ns : List ℕ) (t : Traced) (b : ℕ) (o : Option Posting) → ((p : Posting) → o ≡ Some p → p.to ≡ b) → ((p : Posting) → o ≡ Some p → GoesRight (IsOneOf ns) p.from p.to p.bytes) → Peopled ns t → Stays ns t (marks.came t.world (option_and_then (arrived b) o))
+arrival_stays ns t b None to g h = (h.nodes, h.tables)
+arrival_stays ns t b (Some p) to g h = came_stays ns t b p (to p refl) (g p refl) h
 
-cut_stays : (ns : List ℕ) (t : Traced) (b size : ℕ) (o : Option Posting) → ((p : Posting) → o ≡ Some p → GoesRight (IsOneOf ns) p.from p.to p.bytes) → Peopled ns t → Stays ns t (marks.came t.world (option_and_then (arrived_cut b size) o))
-cut_stays ns t b size None g h = (h.nodes, h.tables)
-cut_stays ns t b size (Some p) g h = go (nat_le (length p.bytes) size)
+cut_stays : (ns : List ℕ) (t : Traced) (b size : ℕ) (o : Option Posting) → ((p : Posting) → o ≡ Some p → p.to ≡ b) → ((p : Posting) → o ≡ Some p → GoesRight (IsOneOf ns) p.from p.to p.bytes) → Peopled ns t → Stays ns t (marks.came t.world (option_and_then (arrived_cut b size) o))
+cut_stays ns t b size None to g h = (h.nodes, h.tables)
+cut_stays ns t b size (Some p) to g h = go (nat_le (length p.bytes) size)
   where
     go : (q : Bool) → Stays ns t (marks.came t.world (if q then arrived b p else None))
-    go true = came_stays ns t b p (g p refl) h
+    go true = came_stays ns t b p (to p refl) (g p refl) h
     go false = (h.nodes, h.tables)
 
 came_sent : (t : Traced) (x : Option Arrival) → (marks.came t.world x).network.sent ≡ t.world.network.sent
@@ -252,7 +268,7 @@ came_sent t (Some x) = go (x.to == client)
     go false = refl
 
 arrived_peopled : (ns : List ℕ) (t : Traced) (x : Option Arrival) (entered : ℕ → ClusterKey → Bool) → Stays ns t (marks.came t.world x) → Peopled ns t → Peopled ns (record { world = marks.came t.world x; lists = t.lists; entered = entered })
-arrived_peopled ns t x entered s h = record { nodes = s.0; lists = h.lists; sent = λ i p e. h.sent i p (sym (ap (λ (xs : List Posting). slice_get xs i) (came_sent t x)) ∙ e); tables = s.1 }
+arrived_peopled ns t x entered s h = record { nodes = s.0; lists = h.lists; racks = h.racks; sent = λ i p e. h.sent i p (sym (ap (λ (xs : List Posting). slice_get xs i) (came_sent t x)) ∙ e); tables = s.1 }
 
 -- ---- a message is sent
 
@@ -263,13 +279,13 @@ posted_peopled ns t i p entered g h = go (message_of p.bytes)
     sends j q e = ⊎_elim (λ z. h.sent j q z) (λ z. subst (λ (x : Posting). GoesRight (IsOneOf ns) x.from x.to x.bytes) (sym z) g) (more t.world.network.sent p q j e)
 
     go : (o : Option Message) → Peopled ns (record { world = marks.sent_by (record t.world { network = posting t.world.network i p }) p.from p.to o; lists = t.lists; entered = entered })
-    go None = record { nodes = h.nodes; lists = h.lists; sent = sends; tables = h.tables }
-    go (Some m) = record { nodes = one ns t.world.facts p.from (sent (t.world.facts p.from) p.to m) h.nodes (sent_ends ns p.from (t.world.facts p.from) p.to m (h.nodes p.from)); lists = h.lists; sent = sends; tables = h.tables }
+    go None = record { nodes = h.nodes; lists = h.lists; racks = h.racks; sent = sends; tables = h.tables }
+    go (Some m) = record { nodes = one ns t.world.facts p.from (sent (t.world.facts p.from) p.to m) h.nodes (sent_ends ns p.from (t.world.facts p.from) p.to m (h.nodes p.from)); lists = h.lists; racks = h.racks; sent = sends; tables = h.tables }
 
 -- ---- a line of a node
 
 noted_peopled : (ns : List ℕ) (t : Traced) (n : ℕ) (l : Line) (entered : ℕ → ClusterKey → Bool) → ((m : ℕ) → l ≡ line.Start m → IsOneOf ns n) → Peopled ns t → Peopled ns (record { world = marks.by_node t.world n l; lists = t.lists; entered = entered })
-noted_peopled ns t n l entered s h = record { nodes = one ns t.world.facts n (note t.world.want (facts_of t n) l) h.nodes (note_ends ns n t.world.want (facts_of t n) l s (h.nodes n)); lists = h.lists; sent = h.sent; tables = h.tables }
+noted_peopled ns t n l entered s h = record { nodes = one ns t.world.facts n (note t.world.want (facts_of t n) l) h.nodes (note_ends ns n t.world.want (facts_of t n) l s (h.nodes n)); lists = h.lists; racks = h.racks; sent = h.sent; tables = h.tables }
 
 abbrev is_start : Line → Bool
 is_start (line.Start n) = true
@@ -286,7 +302,7 @@ promised_lists : (ns : List ℕ) (t : Traced) (n : ℕ) (j : ClusterKey) → IsO
 promised_lists ns t n j d h k ms m e i = go (j.principal == n) e
   where
     near : (m : ℕ) → is_member (neighbours (facts_of t n)) m ≡ true → IsOneOf ns m
-    near m e = member_is (IsOneOf ns) (neighbours (facts_of t n)) m (neighbours_are (IsOneOf ns) (facts_of t n).me (facts_of t n).role (facts_of t n).hearing.heard (subst (IsOneOf ns) (sym (h.nodes n).me) d) (h.nodes n).heard) e
+    near m e = member_is (IsOneOf ns) (neighbours (facts_of t n)) m (neighbours_are (IsOneOf ns) (facts_of t n).me (facts_of t n).role (facts_of t n).hearing.heard (subst (IsOneOf ns) (sym (h.nodes n).me) d) (heard_weak (Neighbour ns n) (λ m r. IsOneOf ns m) (λ m r x. x.node) (facts_of t n).hearing.heard (h.nodes n).heard)) e
 
     listed : (b : Bool) → listed_if j (neighbours (facts_of t n)) (t.lists k) b ≡ Some ms → IsOneOf ns m
     listed true q = near m (ap (λ (xs : List Member). is_member xs m) (some_same q) ∙ i)
@@ -296,39 +312,56 @@ promised_lists ns t n j d h k ms m e i = go (j.principal == n) e
     go true q = listed (same_key j k) q
     go false q = h.lists k ms m q i
 
+promised_racks : (ns : List ℕ) (t : Traced) (n : ℕ) (j : ClusterKey) → Peopled ns t → (k : ClusterKey) (ms : List Member) → promised_by t.lists j (neighbours (facts_of t n)) (j.principal == n) k ≡ Some ms → MembersAs FitsRack ms
+promised_racks ns t n j h k ms e = go (j.principal == n) e
+  where
+    near : MembersAs FitsRack (neighbours (facts_of t n))
+    near = neighbours_as FitsRack (facts_of t n).me (facts_of t n).role (facts_of t n).hearing.heard (h.nodes n).rack (heard_weak (Neighbour ns n) FitsRack (λ m r x. x.rack) (facts_of t n).hearing.heard (h.nodes n).heard)
+
+    listed : (b : Bool) → listed_if j (neighbours (facts_of t n)) (t.lists k) b ≡ Some ms → MembersAs FitsRack ms
+    listed true q = subst (MembersAs FitsRack) (some_same q) near
+    listed false q = h.racks k ms q
+
+    go : (b : Bool) → promised_by t.lists j (neighbours (facts_of t n)) b k ≡ Some ms → MembersAs FitsRack ms
+    go true q = listed (same_key j k) q
+    go false q = h.racks k ms q
+
 posted_right : (ns : List ℕ) (t : Traced) (i : ℕ) → Peopled ns t → (p : Posting) → posting_at t.world.network i ≡ Some p → GoesRight (IsOneOf ns) p.from p.to p.bytes
 posted_right ns t i h p e = let w : WasPosted t p = was_posted t i p e in h.sent w.place p w.stands
 
-pub line_peopled : (ns : List ℕ) (t : Traced) (l : Line) → LineNames (IsOneOf ns) l → Peopled ns t → Peopled ns (after t (Writes l))
-line_peopled ns t (line.Deliver i a b) d h = arrived_peopled ns t (option_and_then (arrived b) (posting_at t.world.network i)) _ (arrival_stays ns t b (posting_at t.world.network i) (posted_right ns t i h) h) h
-line_peopled ns t (line.Repeat i a b) d h = arrived_peopled ns t (option_and_then (arrived b) (posting_at t.world.network i)) _ (arrival_stays ns t b (posting_at t.world.network i) (posted_right ns t i h) h) h
-line_peopled ns t (line.Cut i a b size) d h = arrived_peopled ns t (option_and_then (arrived_cut b size) (posting_at t.world.network i)) _ (cut_stays ns t b size (posting_at t.world.network i) (posted_right ns t i h) h) h
-line_peopled ns t (line.Sent i a b bytes) d h = posted_peopled ns t i (record { from = a; to = b; bytes = bytes }) _ d h
-line_peopled ns t (line.Tick n) d h = noted_peopled ns t n (line.Tick n) _ (no_start ns n (line.Tick n) refl) h
-line_peopled ns t (line.Stop n) d h = noted_peopled ns t n (line.Stop n) _ (no_start ns n (line.Stop n) refl) h
-line_peopled ns t (line.Start n) d h = noted_peopled ns t n (line.Start n) _ (λ m e. d) h
-line_peopled ns t (line.Quiesce n) d h = noted_peopled ns t n (line.Quiesce n) _ (no_start ns n (line.Quiesce n) refl) h
-line_peopled ns t (line.Unquiesce n) d h = noted_peopled ns t n (line.Unquiesce n) _ (no_start ns n (line.Unquiesce n) refl) h
-line_peopled ns t (line.Promise n k) d h =
+goes_to : (t : Traced) (i b : ℕ) → WentTo t i b → (p : Posting) → posting_at t.world.network i ≡ Some p → p.to ≡ b
+goes_to t i b w p e = ap (λ (x : Posting). x.to) (some_same (sym e ∙ w.stands)) ∙ w.end
+
+pub line_peopled : (ns : List ℕ) (t : Traced) (l : Line) → LineGoes t l → LineNames (IsOneOf ns) l → Peopled ns t → Peopled ns (after t (Writes l))
+line_peopled ns t (line.Deliver i a b) go d h = arrived_peopled ns t (option_and_then (arrived b) (posting_at t.world.network i)) _ (arrival_stays ns t b (posting_at t.world.network i) (goes_to t i b go) (posted_right ns t i h) h) h
+line_peopled ns t (line.Repeat i a b) go d h = arrived_peopled ns t (option_and_then (arrived b) (posting_at t.world.network i)) _ (arrival_stays ns t b (posting_at t.world.network i) (goes_to t i b go) (posted_right ns t i h) h) h
+line_peopled ns t (line.Cut i a b size) go d h = arrived_peopled ns t (option_and_then (arrived_cut b size) (posting_at t.world.network i)) _ (cut_stays ns t b size (posting_at t.world.network i) (goes_to t i b go) (posted_right ns t i h) h) h
+line_peopled ns t (line.Sent i a b bytes) go d h = posted_peopled ns t i (record { from = a; to = b; bytes = bytes }) _ d h
+line_peopled ns t (line.Tick n) go d h = noted_peopled ns t n (line.Tick n) _ (no_start ns n (line.Tick n) refl) h
+line_peopled ns t (line.Stop n) go d h = noted_peopled ns t n (line.Stop n) _ (no_start ns n (line.Stop n) refl) h
+line_peopled ns t (line.Start n) go d h = noted_peopled ns t n (line.Start n) _ (λ m e. d) h
+line_peopled ns t (line.Quiesce n) go d h = noted_peopled ns t n (line.Quiesce n) _ (no_start ns n (line.Quiesce n) refl) h
+line_peopled ns t (line.Unquiesce n) go d h = noted_peopled ns t n (line.Unquiesce n) _ (no_start ns n (line.Unquiesce n) refl) h
+line_peopled ns t (line.Promise n k) go d h =
     let u : Peopled ns (record { world = marks.by_node t.world n (line.Promise n k); lists = t.lists; entered = t.entered }) = noted_peopled ns t n (line.Promise n k) t.entered (no_start ns n (line.Promise n k) refl) h in
-    record { nodes = u.nodes; lists = promised_lists ns t n k d h; sent = u.sent; tables = u.tables }
-line_peopled ns t (line.Enter n k ms) d h = noted_peopled ns t n (line.Enter n k ms) _ (no_start ns n (line.Enter n k ms) refl) h
-line_peopled ns t (line.Exchanged n k) d h = noted_peopled ns t n (line.Exchanged n k) _ (no_start ns n (line.Exchanged n k) refl) h
-line_peopled ns t (line.Opened n k number e a) d h = noted_peopled ns t n (line.Opened n k number e a) _ (no_start ns n (line.Opened n k number e a) refl) h
-line_peopled ns t (line.Value n k number e v) d h = noted_peopled ns t n (line.Value n k number e v) _ (no_start ns n (line.Value n k number e v) refl) h
-line_peopled ns t (line.Apply n k number e v) d h = noted_peopled ns t n (line.Apply n k number e v) _ (no_start ns n (line.Apply n k number e v) refl) h
-line_peopled ns t (line.Done n k number) d h = noted_peopled ns t n (line.Done n k number) _ (no_start ns n (line.Done n k number) refl) h
-line_peopled ns t (line.Aborted n k number) d h = noted_peopled ns t n (line.Aborted n k number) _ (no_start ns n (line.Aborted n k number) refl) h
-line_peopled ns t (line.Doubt n k number) d h = noted_peopled ns t n (line.Doubt n k number) _ (no_start ns n (line.Doubt n k number) refl) h
-line_peopled ns t (line.Merge n k e v) d h = noted_peopled ns t n (line.Merge n k e v) _ (no_start ns n (line.Merge n k e v) refl) h
-line_peopled ns t (line.Handed n k p) d h = noted_peopled ns t n (line.Handed n k p) _ (no_start ns n (line.Handed n k p) refl) h
-line_peopled ns t (line.Settled n k p) d h = noted_peopled ns t n (line.Settled n k p) _ (no_start ns n (line.Settled n k p) refl) h
-line_peopled ns t (line.Learn n k p) d h = noted_peopled ns t n (line.Learn n k p) _ (no_start ns n (line.Learn n k p) refl) h
-line_peopled ns t (line.Drop n k p) d h = noted_peopled ns t n (line.Drop n k p) _ (no_start ns n (line.Drop n k p) refl) h
-line_peopled ns t _ d h = record { nodes = h.nodes; lists = h.lists; sent = h.sent; tables = h.tables }
+    record { nodes = u.nodes; lists = promised_lists ns t n k d h; racks = promised_racks ns t n k h; sent = u.sent; tables = u.tables }
+line_peopled ns t (line.Enter n k ms) go d h = noted_peopled ns t n (line.Enter n k ms) _ (no_start ns n (line.Enter n k ms) refl) h
+line_peopled ns t (line.Exchanged n k) go d h = noted_peopled ns t n (line.Exchanged n k) _ (no_start ns n (line.Exchanged n k) refl) h
+line_peopled ns t (line.Opened n k number e a) go d h = noted_peopled ns t n (line.Opened n k number e a) _ (no_start ns n (line.Opened n k number e a) refl) h
+line_peopled ns t (line.Value n k number e v) go d h = noted_peopled ns t n (line.Value n k number e v) _ (no_start ns n (line.Value n k number e v) refl) h
+line_peopled ns t (line.Apply n k number e v) go d h = noted_peopled ns t n (line.Apply n k number e v) _ (no_start ns n (line.Apply n k number e v) refl) h
+line_peopled ns t (line.Done n k number) go d h = noted_peopled ns t n (line.Done n k number) _ (no_start ns n (line.Done n k number) refl) h
+line_peopled ns t (line.Aborted n k number) go d h = noted_peopled ns t n (line.Aborted n k number) _ (no_start ns n (line.Aborted n k number) refl) h
+line_peopled ns t (line.Doubt n k number) go d h = noted_peopled ns t n (line.Doubt n k number) _ (no_start ns n (line.Doubt n k number) refl) h
+line_peopled ns t (line.Merge n k e v) go d h = noted_peopled ns t n (line.Merge n k e v) _ (no_start ns n (line.Merge n k e v) refl) h
+line_peopled ns t (line.Handed n k p) go d h = noted_peopled ns t n (line.Handed n k p) _ (no_start ns n (line.Handed n k p) refl) h
+line_peopled ns t (line.Settled n k p) go d h = noted_peopled ns t n (line.Settled n k p) _ (no_start ns n (line.Settled n k p) refl) h
+line_peopled ns t (line.Learn n k p) go d h = noted_peopled ns t n (line.Learn n k p) _ (no_start ns n (line.Learn n k p) refl) h
+line_peopled ns t (line.Drop n k p) go d h = noted_peopled ns t n (line.Drop n k p) _ (no_start ns n (line.Drop n k p) refl) h
+line_peopled ns t _ go d h = record { nodes = h.nodes; lists = h.lists; racks = h.racks; sent = h.sent; tables = h.tables }
 
 pub begun_peopled : (ns : List ℕ) (t : Traced) (e : Event) → Peopled ns t → Peopled ns (after t (Begins e))
-begun_peopled ns t (event.Deliver i) h = record { nodes = h.nodes; lists = h.lists; sent = h.sent; tables = h.tables }
-begun_peopled ns t (event.Lose i) h = record { nodes = h.nodes; lists = h.lists; sent = h.sent; tables = h.tables }
-begun_peopled ns t (event.Cut i size) h = record { nodes = h.nodes; lists = h.lists; sent = h.sent; tables = h.tables }
-begun_peopled ns t _ h = record { nodes = h.nodes; lists = h.lists; sent = h.sent; tables = h.tables }
+begun_peopled ns t (event.Deliver i) h = record { nodes = h.nodes; lists = h.lists; racks = h.racks; sent = h.sent; tables = h.tables }
+begun_peopled ns t (event.Lose i) h = record { nodes = h.nodes; lists = h.lists; racks = h.racks; sent = h.sent; tables = h.tables }
+begun_peopled ns t (event.Cut i size) h = record { nodes = h.nodes; lists = h.lists; racks = h.racks; sent = h.sent; tables = h.tables }
+begun_peopled ns t _ h = record { nodes = h.nodes; lists = h.lists; racks = h.racks; sent = h.sent; tables = h.tables }

@@ -27,7 +27,7 @@ use Rattle.node_rules.specs.Messages.{map_table, named_from, moved_from}
 use Rattle.node_rules.specs.Standing.{named, named_by, has_moved, acting_at}
 use Rattle.node_rules.specs.Tables.{contains}
 use Rattle.key_laws.specs.Ends.{TableNames, Tells, TellsIf, AllNodes}
-use Rattle.key_laws.specs.Sound.{NodeKeys, Views, Listed, Sound}
+use Rattle.key_laws.specs.Sound.{Entered, NodeKeys, Views, Listed, Sound}
 use Rattle.key_laws.specs.Traced.{Traced}
 use Rattle.key_laws.proofs.Addressed.{differ, or_cases, or_left, or_right, member_id, listed_member}
 use Rattle.key_laws.proofs.DueViews.{view_known}
@@ -175,41 +175,51 @@ no_field k e h = absurd (grind (arith, e, h))
 read_key : (t : Traced) (f : Facts) → NodeKeys t f.me f → (u : MapTable) → message_of (spelling (message.MapTable (map_table f))) ≡ Some (message.MapTable u) → u.key ≡ view_key f
 read_key t f keys u r = subst (λ o. If (HasKey (view_key f)) o) r (read_table (HasKey (view_key f)) (map_table f) (view_known t f.me f keys).field (λ y e. e))
 
-pub table_tells : (P : ℕ → Type 0) (t : Traced) (f : Facts) → Sound t → NodeKeys t f.me f → ((n : ℕ) → is_member (members f) n ≡ true → P n) → TellsIf P (message_of (spelling (message.MapTable (map_table f))))
-table_tells P t f s keys h = read_tells P (message.MapTable (map_table f)) (λ u r. go f.exchange.view refl keys.view u r)
+id_of : (ms : List Member) (n : ℕ) → All (λ m. IsId m.id) ms → is_member ms n ≡ true → IsId n
+id_of [] n fit e = differ e refl
+id_of (m ∷ ms) n fit e =
+    ⊎_elim (λ q. subst (λ (x : ℕ). IsId x) (num_same m.id n q) (of_first (λ m. IsId m.id) m ms fit)) (λ q. id_of ms n (of_others (λ m. IsId m.id) m ms fit) q)
+    (or_cases (m.id == n) (is_member ms n) e)
+
+-- what a node of that view tells of it
+record InView (t : Traced) (f : Facts) (v : View) : Type 0 where
+  is : f.exchange.view ≡ Some v
+  entered : Entered t f.me f.agreement.last v
+
+in_view_of : (t : Traced) (f : Facts) → NodeKeys t f.me f → (v : View) → f.exchange.view ≡ Some v → InView t f v
+in_view_of t f keys v e = record { is = e; entered = entered (subst (Views t f.me f.agreement.last) e keys.view) }
   where
-    go : (o : Option View) → f.exchange.view ≡ o → Views t f.me f.agreement.last o → (u : MapTable) → message_of (spelling (message.MapTable (map_table f))) ≡ Some (message.MapTable u) → TableNames P u
-    go None e v u r = absurd (no_field u.key (read_key t f keys u r ∙ ap key_of e) (what_is_read (spelling (message.MapTable (map_table f))) (message.MapTable u) r).0.key)
-    go (Some v) e i u r = subst (λ (x : MapTable). TableNames P x) (same_table (sym (read_back (message.MapTable (map_table f)) proper) ∙ r)) (λ p lt. at_place P (map_table f).ids p (names_all P f (λ q. named_of P q h) partition_count 0) (subst (λ (x : ℕ). p < x) (sym (names_size f partition_count 0)) lt))
-      where
-        listed : Listed t v.key v.members
-        listed = s.lists v.key v.members i.list
+    entered : Views t f.me f.agreement.last (Some v) → Entered t f.me f.agreement.last v
+    entered x = x
 
-        key_is : view_key f ≡ v.key
-        key_is = ap key_of e
+named_of : (P : ℕ → Type 0) (t : Traced) (f : Facts) (v : View) → InView t f v → ((n : ℕ) → is_member (members f) n ≡ true → P n) → (p : ℕ) → P (named f (list_at f p) p)
+named_of P t f v i h p = named_in P f (list_at f p) p f.me own (each_listed P (members f) p h)
+  where
+    own : contains (list_at f p) f.me ≡ true
+    own = member_listed (members f) p f.me (member_id (members f) f.me ∙ ap (λ (o : Option View). is_member (members_of o) f.me) i.is ∙ i.entered.among)
 
-        own : (p : ℕ) → contains (list_at f p) f.me ≡ true
-        own p = member_listed (members f) p f.me (member_id (members f) f.me ∙ ap (λ (o : Option View). is_member (members_of o) f.me) e ∙ i.among)
+-- the table of a view has a spelling
+pub table_proper : (t : Traced) (f : Facts) → Sound t → NodeKeys t f.me f → (v : View) → f.exchange.view ≡ Some v → IsProper (message.MapTable (map_table f))
+table_proper t f s keys v e = record {
+  key = subst (λ (k : ClusterKey). IsKeyField k) (sym (ap key_of e)) listed.key;
+  size = names_size f partition_count 0;
+  ids = all_of IsId (map_table f).ids (names_all IsId f (named_of IsId t f v (in_view_of t f keys v e) ids) partition_count 0);
+  moved = record { size = moves_size f partition_count 0 };
+}
+  where
+    listed : Listed t v.key v.members
+    listed = s.lists v.key v.members (in_view_of t f keys v e).entered.list
 
-        named_of : (Q : ℕ → Type 0) (p : ℕ) → ((n : ℕ) → is_member (members f) n ≡ true → Q n) → Q (named f (list_at f p) p)
-        named_of Q p q = named_in Q f (list_at f p) p f.me (own p) (each_listed Q (members f) p q)
+    ids : (n : ℕ) → is_member (members f) n ≡ true → IsId n
+    ids n m = id_of v.members n listed.good.fit (sym (ap (λ (o : Option View). is_member (members_of o) n) e) ∙ m)
 
-        ids : (n : ℕ) → is_member (members f) n ≡ true → IsId n
-        ids n m = id_of v.members n listed.good.fit (sym (ap (λ (o : Option View). is_member (members_of o) n) e) ∙ m)
-          where
-            id_of : (ms : List Member) (n : ℕ) → All (λ m. IsId m.id) ms → is_member ms n ≡ true → IsId n
-            id_of [] n fit e = differ e refl
-            id_of (m ∷ ms) n fit e =
-                ⊎_elim (λ q. subst (λ (x : ℕ). IsId x) (num_same m.id n q) (of_first (λ m. IsId m.id) m ms fit)) (λ q. id_of ms n (of_others (λ m. IsId m.id) m ms fit) q)
-                (or_cases (m.id == n) (is_member ms n) e)
+pub table_tells : (P : ℕ → Type 0) (t : Traced) (f : Facts) → Sound t → NodeKeys t f.me f → ((n : ℕ) → is_member (members f) n ≡ true → P n) → TellsIf P (message_of (spelling (message.MapTable (map_table f))))
+table_tells P t f s keys h = read_tells P (message.MapTable (map_table f)) (λ u r. go f.exchange.view refl u r)
+  where
+    same_table : {x y : MapTable} → Some (message.MapTable x) ≡ Some (message.MapTable y) → x ≡ y
+    same_table {x} {y} e = grind arith
 
-        proper : IsProper (message.MapTable (map_table f))
-        proper = record {
-          key = subst (λ (k : ClusterKey). IsKeyField k) (sym key_is) listed.key;
-          size = names_size f partition_count 0;
-          ids = all_of IsId (map_table f).ids (names_all IsId f (λ q. named_of IsId q ids) partition_count 0);
-          moved = record { size = moves_size f partition_count 0 };
-        }
-
-        same_table : {x y : MapTable} → Some (message.MapTable x) ≡ Some (message.MapTable y) → x ≡ y
-        same_table {x} {y} e = grind arith
+    go : (o : Option View) → f.exchange.view ≡ o → (u : MapTable) → message_of (spelling (message.MapTable (map_table f))) ≡ Some (message.MapTable u) → TableNames P u
+    go None e u r = absurd (no_field u.key (read_key t f keys u r ∙ ap key_of e) (what_is_read (spelling (message.MapTable (map_table f))) (message.MapTable u) r).0.key)
+    go (Some v) e u r = subst (λ (x : MapTable). TableNames P x) (same_table (sym (read_back (message.MapTable (map_table f)) (table_proper t f s keys v e)) ∙ r))
+        (λ p lt. at_place P (map_table f).ids p (names_all P f (named_of P t f v (in_view_of t f keys v e) h) partition_count 0) (subst (λ (x : ℕ). p < x) (sym (names_size f partition_count 0)) lt))

@@ -161,6 +161,13 @@ impl Net {
         self.groups = Some(g);
     }
 
+    /// The groups into which the network is divided, and `None` before any were set.
+    pub fn groups(&self) -> Option<&Groups>
+        ensures { option_copied result ≡ self.now.groups }
+    {
+        self.groups.as_ref()
+    }
+
     /// Whether the two endpoints are nodes of different groups. No endpoint is apart from the
     /// client, 0, nor from any other before groups are set.
     pub fn apart(&self, a: u16, b: u16) -> bool

@@ -28,7 +28,7 @@ use Rattle.key_laws.specs.Traced.{promised_by, listed_if}
 use Rattle.key_laws.specs.Traced as traced
 use Rattle.key_laws.proofs.Frames.{at_each}
 use Rattle.key_laws.proofs.Kept.{WasPosted, was_posted}
-use Rattle.key_laws.proofs.NamedLines.{Ids, ids_put, ids_aged, AllMembers, neighbours_are, member_is}
+use Rattle.key_laws.proofs.NamedLines.{Ids, heard_put, heard_aged, AllMembers, neighbours_are, member_is}
 use Rattle.run_laws.specs.Fronts.{Front, world_of, facts_at, after}
 use Rattle.run_laws.specs.LineOk.{IsDeclared}
 use Rattle.run_laws.specs.LineDue.{SendDueIf, LineDue, DeclaredLaw}
@@ -49,7 +49,7 @@ one P w n g h x = at_each (λ (m : ℕ) (f : Facts). Ids P f.hearing.heard) w.fa
 
 -- a message of another kind says nothing of who is heard
 reached_hears : (P : ℕ → Type 0) (f : Facts) (from : ℕ) (m : Message) → ((view promised : ClusterKey) (hears : List ℕ) (role : Role) → m ≡ message.Heartbeat view promised hears role → P from) → Ids P f.hearing.heard → Ids P (reached f from m).hearing.heard
-reached_hears P f from (message.Heartbeat view promised hears role) b h = ids_put P from _ f.hearing.heard (b view promised hears role refl) h
+reached_hears P f from (message.Heartbeat view promised hears role) b h = heard_put (λ n r. P n) from _ f.hearing.heard (b view promised hears role refl) h
 reached_hears P f from (message.State k wants row) b h = by_bool (in_view f k)
   where
     by_bool : (q : Bool) → Ids P (notes.row_came f from row q).hearing.heard
@@ -139,7 +139,7 @@ hears_line z l h = go l
     go (line.Repeat i a b) = arrival_hears (IsDeclared z) (world_of z) b (posting_at (world_of z).network i) (beats_at i) hs
     go (line.Cut i a b size) = cut_hears (IsDeclared z) (world_of z) b size (posting_at (world_of z).network i) (beats_at i) hs
     go (line.Sent i a b bytes) = posted_hears (IsDeclared z) (record (world_of z) { network = _ }) a b (message_of bytes) hs
-    go (line.Tick n) = one (IsDeclared z) (world_of z) n _ hs (ids_aged (IsDeclared z) (facts_at z n).hearing.heard (hs n))
+    go (line.Tick n) = one (IsDeclared z) (world_of z) n _ hs (heard_aged (λ n r. IsDeclared z n) (facts_at z n).hearing.heard (hs n))
     go (line.Stop n) = one (IsDeclared z) (world_of z) n _ hs tt
     go (line.Start n) = one (IsDeclared z) (world_of z) n _ hs (hs n)
     go (line.Quiesce n) = one (IsDeclared z) (world_of z) n _ hs (hs n)

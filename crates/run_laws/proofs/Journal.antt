@@ -62,7 +62,7 @@ due_append z (Begins e ∷ a) b x y = due_append (after z (Begins e)) a b x y
 due_append z (Writes l ∷ a) b x y = (x.0, due_append (after z (Writes l)) a b x.1 y)
 
 -- the chronicle and the world go with the marks
-traced_all : (z : Front) (ms : List Mark) → (after_all z ms).chronicle.traced ≡ traced.after_all z.chronicle.traced ms
+pub traced_all : (z : Front) (ms : List Mark) → (after_all z ms).chronicle.traced ≡ traced.after_all z.chronicle.traced ms
 traced_all z [] = refl
 traced_all z (Begins e ∷ ms) = traced_all (after z (Begins e)) ms
 traced_all z (Writes l ∷ ms) = traced_all (after z (Writes l)) ms
@@ -94,12 +94,15 @@ begun _ p = tt
 pub record Walked (by : Policy) (factor : ℕ) (z : Front) (ms : List Mark) : Type 0 where
   pub due : DueMarks z ms
   pub key : Licensed z.chronicle.traced ms
+  -- where they lead
+  pub lawful : Lawful by factor (after_all z ms)
+  pub ends : Ended (after_all z ms)
 
 pub step_key : (z : Front) (s : Step) (by : Policy) (factor : ℕ) → Lawful by factor z → IsProperEvent s.event → IsAllowed partition_count (world_of z) s → Licensed z.chronicle.traced (marks_of s)
 step_key z s by factor h p a = subst (λ (ls : List Line). Licensed z.chronicle.traced (Begins s.event ∷ map Writes ls)) (sym a.due) (step_ok partition_count z.chronicle.traced s.event (begun s.event p) h.sound)
 
 pub walked : (by : Policy) (factor : ℕ) (z : Front) (ss : List Step) → Lawful by factor z → Ended z → AllByRecursion (λ (s : Step). IsProperEvent s.event) ss → AreAllowed partition_count (world_of z) ss → (after_all z (all_marks ss)).lines < 2 ^ 32 → Premises z ss → Walked by factor z (all_marks ss)
-walked by factor z [] h e p a short prem = record { due = tt; key = tt }
+walked by factor z [] h e p a short prem = record { due = tt; key = tt; lawful = h; ends = e }
 walked by factor z (s ∷ ss) h e p a short prem =
     let goes : StepGoes z s = step_of by factor z s h e p.0 a.0 (lt_after (after_all z (marks_of s)) (all_marks ss) (subst (λ (y : Front). y.lines < 2 ^ 32) (after_append z (marks_of s) (all_marks ss)) short)) prem.0 in
     let key : Licensed z.chronicle.traced (marks_of s) = step_key z s by factor h p.0 a.0 in
@@ -108,6 +111,8 @@ walked by factor z (s ∷ ss) h e p a short prem =
     record {
       due = due_append z (marks_of s) (all_marks ss) goes.due rest.due;
       key = licensed_append z.chronicle.traced (marks_of s) (all_marks ss) key (subst (λ (t : Traced). Licensed t (all_marks ss)) (traced_all z (marks_of s)) rest.key);
+      lawful = subst (λ (y : Front). Lawful by factor y) (sym (after_append z (marks_of s) (all_marks ss))) rest.lawful;
+      ends = subst (λ (y : Front). Ended y) (sym (after_append z (marks_of s) (all_marks ss))) rest.ends;
     }
 
 -- ---- the beginning

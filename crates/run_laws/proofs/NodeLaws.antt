@@ -42,7 +42,7 @@ use Rattle.run_laws.proofs.Tables.{changing_at, target_new}
 
 -- ---- rows of bits
 
-set_length : (row : List Bool) (p : ℕ) (b : Bool) → length (slice_set row p b) ≡ length row
+pub set_length : (row : List Bool) (p : ℕ) (b : Bool) → length (slice_set row p b) ≡ length row
 set_length [] zero b = refl
 set_length [] (suc p) b = refl
 set_length (x ∷ row) zero b = refl

@@ -82,9 +82,13 @@ pub premises_of : (h : Header) (ss : List Step) → Taken h ss → Premises (fir
 premises_of h ss t = premises_hold (declared_policy h) (declared_factor h) (first h) ss (first_lawful h) (first_ended h) (first_ranged h) (recursion_from_All (λ (s : Step). IsProperEvent s.event) ss t.ranges) t.allowed
     (subst (λ (n : ℕ). n < 2 ^ 32) (sym (lines_of_taken h ss)) t.short)
 
+-- where the steps lead
+pub taken_leads : (h : Header) (ss : List Step) → Taken h ss → Walked (declared_policy h) (declared_factor h) (first h) (all_marks ss)
+taken_leads h ss t = taken_walked h ss t (premises_of h ss t)
+
 -- what nodes keep behind the steps has its ranges
 pub taken_ranged : (h : Header) (ss : List Step) → Taken h ss → Ranged (after_all (first h) (all_marks ss))
-taken_ranged h ss t = let w : Walked (declared_policy h) (declared_factor h) (first h) (all_marks ss) = taken_walked h ss t (premises_of h ss t) in
+taken_ranged h ss t = let w : Walked (declared_policy h) (declared_factor h) (first h) (all_marks ss) = taken_leads h ss t in
     ranged_all (declared_policy h) (declared_factor h) (first h) (all_marks ss) w.key w.due (subst (λ (n : ℕ). n < 2 ^ 32) (sym (lines_of_taken h ss)) t.short) (first_lawful h) (first_ranged h)
 
 pub taken_walks : (h : Header) (ss : List Step) → Taken h ss → Walks h ss

@@ -68,7 +68,7 @@ delivery_line w i first rest (Some p) = go (is_blocked w p)
 
 -- ---- between steps
 
-stood : {by : Policy} {factor : ℕ} {z : Front} → Lawful by factor z → Ended z → Ranged z → (n : ℕ) → StoodFacts z.lines (facts_at z n)
+pub stood : {by : Policy} {factor : ℕ} {z : Front} → Lawful by factor z → Ended z → Ranged z → (n : ℕ) → StoodFacts z.lines (facts_at z n)
 stood {by} {factor} {z} l h r n = record {
   fits = r.nodes n;
   key = λ v e. subst IsKeyField (sym (ap key_of e)) (key_fits z n v.key l.sound (ap key_in e));

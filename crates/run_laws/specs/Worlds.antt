@@ -1,23 +1,31 @@
 -- What holds of the world after steps that are taken, as its nodes and its client take it.
-use Rattle.std.specs.Prelude.{◌≡◌, ◌<◌, ◌⊎◌, ℕ, nat_lt, true, List, Option, Some, None, length, All, Contains}
+use Rattle.std.specs.Prelude.{◌≡◌, ◌<◌, ◌+◌, ◌⊎◌, ℕ, nat_lt, true, List, Option, Some, None, length, All, Contains}
+use Rattle.conflict_order.specs.declared.want.Want.{Want}
 use Rattle.cluster_types.specs.declared.cluster_key.ClusterKey.{ClusterKey}
+use Rattle.cluster_types.specs.NodeLists.{IsNodeList}
 use Rattle.cluster_types.specs.Partitions.{partition_count}
 use Rattle.partition_lists.specs.Lists.{in_order}
 use Rattle.wire_messages.specs.declared.message.Message.{Message}
 use Rattle.wire_messages.specs.declared.message.Message.TheVariants as message
 use Rattle.wire_messages.specs.Decoding.{message_of}
+use Rattle.wire_messages.specs.Requests.{IsWant}
+use Rattle.wire_messages.specs.Versions.{IsDigest}
 use Rattle.node_rules.specs.Client.{node_for}
 use Rattle.node_rules.specs.Facts.{Facts}
+use Rattle.node_rules.specs.Messages.{due_message}
 use Rattle.node_rules.specs.Notes.{in_view}
+use Rattle.node_rules.specs.Requests.{due_request}
 use Rattle.node_rules.specs.Stamps.{applies_at}
 use Rattle.node_rules.specs.Standing.{others}
+use Rattle.node_rules.specs.Tick.{due_tick}
 use Rattle.cluster_rules.specs.Marks as marks
 use Rattle.journal_readings.specs.Messages.{Posting}
 use Rattle.cluster_rules.specs.Network.{posting_at, client}
+use Rattle.cluster_rules.specs.NodeSteps.{AreRead}
 use Rattle.cluster_rules.specs.Opening.{Header, declared_nodes, declared_peers}
 use Rattle.cluster_rules.specs.Steps.{Step, all_marks, all_lines}
 use Rattle.cluster_rules.specs.World.{World, opened, is_up}
-use Rattle.run_laws.specs.Taken.{Taken}
+use Rattle.run_laws.specs.Taken.{Taken, line_bound}
 
 -- the world after the steps
 abbrev pub world_after : Header → List Step → World
@@ -81,3 +89,15 @@ pub record CountsBelow (limit : ℕ) (f : Facts) : Type 0 where
 -- where there are fewer lines than that, no node has counted so far
 abbrev pub CountsFew : Type 0
 CountsFew = (h : Header) (ss : List Step) → Taken h ss → (limit : ℕ) → length (all_lines ss) < limit → (n : ℕ) → CountsBelow limit ((world_after h ss).facts n)
+
+-- ---- what is sent
+
+-- what is due of a node is read as it was sent: of a tick, of a request that keeps its ranges, and of a message that was sent
+pub record SendsAreRead (w : World) : Type 0 where
+  pub tick : (n : ℕ) → is_up w n ≡ true → AreRead (due_tick (w.facts n)).sends
+  pub request : (n : ℕ) (d : List ℕ) (q : Want) → IsDigest d → IsWant q → AreRead (due_request (w.facts n) (w.clocks n) d q).sends
+  pub message : (i : ℕ) (p : Posting) (m : Message) → posting_at w.network i ≡ Some p → message_of p.bytes ≡ Some m → is_up w p.to ≡ true → AreRead (due_message (w.facts p.to) (w.clocks p.to) p.from m).sends
+
+-- where at most sixteen nodes are declared, and a number is left for one line more
+abbrev pub SendsRead : Type 0
+SendsRead = (h : Header) (ss : List Step) → Taken h ss → IsNodeList (declared_nodes h) → length (all_lines ss) + 1 < line_bound → SendsAreRead (world_after h ss)
