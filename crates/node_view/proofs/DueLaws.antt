@@ -5,6 +5,7 @@ use Rattle.std.specs.List.{cons_option}
 use Rattle.std.specs.Option.{ForSome, option_and_then, option_to_list}
 use Rattle.std.specs.FinMap.{get}
 use Rattle.std.proofs.lemmas.List.{length-map, take_all, take_more}
+use Rattle.std.proofs.lemmas.Option.{none-some, same_Some}
 use Rattle.std.proofs.lemmas.List.Elements.{All-cons, All-tail, filter_map-append}
 use Rattle.std.proofs.lemmas.List.Kept.{AllPairs-cons}
 use Rattle.std.proofs.Math.ListN.{get_or-map}
@@ -125,27 +126,15 @@ next_of : (key : ClusterKey) (content : Content) (node batches : ℕ) (pending :
 next_of key content node batches pending (Some o) b is held =
     let again : o ≡ b = cc in
     record {
-      out = λ x e. let same : o ≡ x = one o x e in sym again ∙ same;
-      some = λ e. absurd (some-none o e);
-      key_of = λ e. absurd (some-none o e);
-      number = λ e. absurd (some-none o e);
-      digests = λ e. absurd (some-none o e);
+      out = λ x e. let same : o ≡ x = same_Some o x e in sym again ∙ same;
+      some = λ e. absurd (none-some o (sym e));
+      key_of = λ e. absurd (none-some o (sym e));
+      number = λ e. absurd (none-some o (sym e));
+      digests = λ e. absurd (none-some o (sym e));
     }
-  where
-    one : (x y : Batch) → Some x ≡ Some y → x ≡ y
-    one x y e = cc
-
-    some-none : (x : Batch) → Some x ≡ None → ⊥
-    some-none x e = cc
 next_of key content node batches [] None b is held = absurd (none-some b is)
-  where
-    none-some : (x : Batch) → None ≡ Some x → ⊥
-    none-some x e = cc
 next_of key content node batches (d ∷ ds) None b is held =
-    next_is key content node batches (d ∷ ds) b (one b _ (sym is)) (λ (e : d ∷ ds ≡ []). cc) held
-  where
-    one : (x y : Batch) → Some x ≡ Some y → x ≡ y
-    one x y e = cc
+    next_is key content node batches (d ∷ ds) b (same_Some b _ (sym is)) (λ (e : d ∷ ds ≡ []). cc) held
 
 all_due : (P : Sent → Type 0) (key : ClusterKey) (content : Content) (us : Targets) → All (λ (u : Target). (b : Batch) → next_batch key content u ≡ Some b → P (u.node, b)) us → All P (batches_due key content us)
 all_due P key content [] h = λ k d within. absurd (omega arith)
@@ -176,10 +165,7 @@ due_are_next key content ts ns exchanged finished is distinct held =
       next = all_due (λ (x : Sent). IsSome (target ts x.0) × ForSome (target ts x.0) (λ t. IsNext key t x.1)) key content ts (λ k d within b e.
           let there = all_found ts apart k d within in (
             ap is_some there,
-            λ t f. subst (λ (u : Target). IsNext key u b) (one (get_or ts k d) t (sym there ∙ f))
+            λ t f. subst (λ (u : Target). IsNext key u b) (same_Some (get_or ts k d) t (sym there ∙ f))
                 (next_of key content (get_or ts k d).node (get_or ts k d).batches (get_or ts k d).pending (get_or ts k d).out b e (held.held k d within)),
           ));
     }
-  where
-    one : (x y : Target) → Some x ≡ Some y → x ≡ y
-    one x y e = cc

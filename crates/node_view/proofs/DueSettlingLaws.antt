@@ -2,6 +2,7 @@
 use Rattle.std.proofs.Common.{◌≡◌, ◌<◌, ◌+◌, ℕ, zero, suc, Bool, true, false, List, [], ◌∷◌, ◌++◌, get_or, All, AllPairs, Option, Some, None, refl, sym, ap, ap₂, subst, ◌∙◌, append_assoc, arith}
 use Rattle.std.specs.Option.{option_to_list}
 use Rattle.std.proofs.lemmas.Grind.{flat_map-append}
+use Rattle.std.proofs.lemmas.List.{append-nil}
 use Rattle.std.proofs.lemmas.List.Concat.{flat_map-cons}
 use Rattle.std.proofs.lemmas.List.Elements.{All-append, All-cons, All-tail}
 use Rattle.std.proofs.lemmas.List.Kept.{AllPairs-cons}
@@ -39,18 +40,11 @@ not_live f v m p h k within off =
 
 -- ---- one partition more
 
-right_nil : {X : Type 0} → (xs : List X) → xs ++ [] ≡ xs
-right_nil [] = refl
-right_nil (x ∷ xs) = ap (λ ys. x ∷ ys) (right_nil xs)
-
-pub no_settling : (s : Settling) → None ≡ Some s → ⊥
-no_settling s e = cc
-
 pub lines_one : (r : Option Settling) (me : ℕ) (key : ClusterKey) (p : ℕ) (h : Here) → ((s : Settling) → r ≡ Some s → s ≡ settling_of p h) → (r ≡ None → lines_here me key p h ≡ [])
     → lines_of me key (settling_of p h) ≡ lines_here me key p h → settling_lines me key (option_to_list r) ≡ lines_here me key p h
 lines_one None me key p h some none lines = sym (none refl)
 lines_one (Some s) me key p h some none lines =
-    flat_map-cons (lines_of me key) s [] ∙ right_nil (lines_of me key s) ∙ ap (lines_of me key) (some s refl) ∙ lines
+    flat_map-cons (lines_of me key) s [] ∙ append-nil (lines_of me key s) ∙ ap (lines_of me key) (some s refl) ∙ lines
 
 pub all_more : (P : Settling → Type 0) (xs us : List Settling) (r : Option Settling) → us ≡ xs ++ option_to_list r → All P xs → ((s : Settling) → r ≡ Some s → P s) → All P us
 all_more P xs us r is all some = subst (λ (ys : List Settling). All P ys) (sym is) (go r some)
@@ -77,7 +71,7 @@ pub rise_more : (xs us : List Settling) (r : Option Settling) (n : ℕ) → us �
 rise_more xs us r n is below rise some = subst (λ (ys : List Settling). AllPairs Rises ys) (sym is) (go r some)
   where
     go : (r : Option Settling) → ((s : Settling) → r ≡ Some s → s.partition ≡ n) → AllPairs Rises (xs ++ option_to_list r)
-    go None some = subst (λ (ys : List Settling). AllPairs Rises ys) (sym (right_nil xs)) rise
+    go None some = subst (λ (ys : List Settling). AllPairs Rises ys) (sym (append-nil xs)) rise
     go (Some s) some = rise_last xs s (subst (λ (k : ℕ). All (λ (a : Settling). a.partition < k) xs) (sym (some s refl)) below) rise
 
 pub below_more : (xs us : List Settling) (r : Option Settling) (n : ℕ) → us ≡ xs ++ option_to_list r → All (λ (s : Settling). s.partition < n) xs → ((s : Settling) → r ≡ Some s → s.partition ≡ n)
@@ -89,7 +83,7 @@ below_more xs us r n is below some =
 
 lines_last : (n p : ℕ) (f : Facts) → lines_from (suc n) p f ≡ lines_from n p f ++ part_lines f (p + n)
 unfolding lines_from
-lines_last zero p f = let same : p ≡ p + 0 = omega arith in right_nil (part_lines f p) ∙ ap (part_lines f) same
+lines_last zero p f = let same : p ≡ p + 0 = omega arith in append-nil (part_lines f p) ∙ ap (part_lines f) same
 lines_last (suc n) p f =
     let same : (p + 1) + n ≡ p + suc n = omega arith in
     let regroup : (part_lines f p ++ lines_from n (p + 1) f) ++ part_lines f (p + suc n) ≡ part_lines f p ++ (lines_from n (p + 1) f ++ part_lines f (p + suc n)) = rw append_assoc refl in

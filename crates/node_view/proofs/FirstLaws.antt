@@ -34,7 +34,7 @@ use Rattle.node_view.proofs.AnewLaws.{IsAnew, like_anew, watch_anew}
 use Rattle.node_view.proofs.EntryLaws.{alone_has_no_others, alone_lacks_none}
 use Rattle.node_view.proofs.RowLaws.{row_of_bits}
 use Rattle.node_view.proofs.SightLaws.{in_view}
-use Rattle.node_view.proofs.WaitingLaws.{none_is}
+use Rattle.node_view.proofs.WaitingLaws.{none_is, some_is}
 
 -- ---- the first stage
 
@@ -57,9 +57,9 @@ pub record IsBegun (me factor : ℕ) (key : ClusterKey) (ms : List Member) (row 
 abbrev entering : ℕ → ℕ → ClusterKey → List Member → Row → Met
 entering me factor key ms row = record { me = me; factor = factor; exchange = begun me key ms row }
 
-begun_waiting : (me factor : ℕ) (key : ClusterKey) (ms : List Member) (row : Row) → is_single ms ≡ false → IsBegun me factor key ms row (stage.Exchanging (entering me factor key ms row))
-begun_waiting me factor key ms row single = record {
-  stage_of = record { met = record { me = refl; factor = refl }; unfinished = refl };
+begun_waiting : (me factor : ℕ) (key : ClusterKey) (ms : List Member) (row : Row) → is_single ms ≡ false → is_none (first_missing (record { node = me; row = row } ∷ []) ms) ≡ false → IsBegun me factor key ms row (stage.Exchanging (entering me factor key ms row))
+begun_waiting me factor key ms row single more = record {
+  stage_of = record { met = record { me = refl; factor = refl }; unfinished = refl; missing = some_is (first_missing (record { node = me; row = row } ∷ []) ms) more };
   exchange = ap (λ (b : Bool). record (begun me key ms row) { exchanged = b }) (sym single);
   targets = refl;
   done = none_done [];
@@ -97,7 +97,7 @@ begins me factor key ms row records step s valid member is first = go (is_none (
 
     go : (b : Bool) → is_none (first_missing (record { node = me; row = row } ∷ []) ms) ≡ b → IsFirstStage (step_if b (entering me factor key ms row)) records ms key me s → IsBegun me factor key ms row s
     go true e h = moves s e h
-    go false e h = subst (IsBegun me factor key ms row) (sym h) (begun_waiting me factor key ms row (sym (alone_lacks_none me row ms valid member) ∙ e))
+    go false e h = subst (IsBegun me factor key ms row) (sym h) (begun_waiting me factor key ms row (sym (alone_lacks_none me row ms valid member) ∙ e) e)
 
 -- ---- nothing of it is known
 

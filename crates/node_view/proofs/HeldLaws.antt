@@ -1,5 +1,5 @@
 -- What is held of other partitions, and of what is pending, as a record comes and as a copy goes.
-use Rattle.std.proofs.Common.{◌≡◌, ◌≢◌, ◌<◌, ◌||◌, ℕ, zero, suc, Bool, true, false, not, cond, List, [], ◌∷◌, length, Option, Some, None, is_some, refl, sym, ap, ◌∙◌, arith}
+use Rattle.std.proofs.Common.{◌≡◌, ◌≢◌, ◌<◌, ℕ, zero, suc, Bool, true, false, not, cond, List, [], ◌∷◌, length, Option, Some, None, is_some, refl, sym, ap, ◌∙◌, arith}
 use Rattle.std.specs.FinMap as map
 use Rattle.std.specs.List.{list_any}
 use Rattle.std.specs.Option.{IsSome}
@@ -8,6 +8,7 @@ use Rattle.std.specs.declared.cmp.Ordering.{Ordering}
 use Rattle.std.specs.declared.cmp.Ordering.TheVariants.{Less, Equal, Greater}
 use Rattle.std.specs.Cmp.Lexicographic.{slice_cmp}
 use Rattle.std.specs.Prelude.{slice_index_or}
+use Rattle.std.proofs.lemmas.Bool.{or_parts}
 use Rattle.std.proofs.lemmas.Cmp.{nat_list_cmp_total}
 use Rattle.conflict_order.specs.declared.policy.Policy.{Policy}
 use Rattle.conflict_order.specs.declared.version.Version.{Version}
@@ -88,16 +89,8 @@ pending_joined by c d v ts h = record { held = λ k t within. λ i e inside. sta
 -- where no item passes the test, this one doesn't
 none_at : {X : Type 0} (test : X → Bool) (xs : List X) (k : ℕ) (d : X) → list_any test xs ≡ false → k < length xs → test (slice_index_or xs k d) ≡ false
 none_at test [] k d none within = absurd (omega (arith, within))
-none_at test (x ∷ xs) zero d none within = first (test x) (list_any test xs) none
-  where
-    first : (a b : Bool) → (a || b) ≡ false → a ≡ false
-    first true b e = e
-    first false b e = refl
-none_at test (x ∷ xs) (suc k) d none within = none_at test xs k d (second (test x) (list_any test xs) none) (omega (arith, within))
-  where
-    second : (a b : Bool) → (a || b) ≡ false → b ≡ false
-    second true b e = cc
-    second false b e = e
+none_at test (x ∷ xs) zero d none within = (or_parts (test x) (list_any test xs) none).0
+none_at test (x ∷ xs) (suc k) d none within = none_at test xs k d (or_parts (test x) (list_any test xs) none).1 (omega (arith, within))
 
 -- a copy that goes leaves what is pending, where nothing of it is
 pub pending_dropped : (c : Content) (p : ℕ) (ts : Targets) → is_pending ts p ≡ false → AreHeld c ts → AreHeld (map.retain_keys c (λ d. not (is_of p d))) ts

@@ -20,10 +20,10 @@ mod OutcomeLaws
 mod PlanLaws
 mod ReadyLaws
 mod ResolveLaws
-mod RowLaws
+pub mod RowLaws
 mod SendLaws
-mod SettleLaws
-mod SettledLaws
+pub mod SettleLaws
+pub mod SettledLaws
 mod ShownLaws
 mod SightLaws
 mod SpoilLaws
@@ -34,7 +34,7 @@ mod TableLaws
 mod TakeLaws
 mod TargetLaws
 mod TxnLaws
-mod UnsettledLaws
+pub mod UnsettledLaws
 mod WaitingLaws
 mod WakeLaws
 mod WatchLaws

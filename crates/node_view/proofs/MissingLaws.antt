@@ -3,6 +3,7 @@ use Rattle.std.proofs.Common.{◌≡◌, ◌≢◌, ◌==◌, ◌&&◌, ◌||◌
 use Rattle.std.specs.Prelude.{is_none}
 use Rattle.std.specs.Bool.{beq}
 use Rattle.std.specs.List.{list_all, list_any}
+use Rattle.std.proofs.lemmas.Bool.{and_right, true≢false}
 use Rattle.cluster_types.specs.declared.member.Member.{Member}
 use Rattle.cluster_types.specs.Members.{ids_of}
 use Rattle.partition_lists.proofs.InOrderLaws.{any_has, equal, from_equal, has_map, index_of, unequal}
@@ -13,9 +14,6 @@ use Rattle.node_rules.specs.Copies.{Row}
 use Rattle.node_rules.specs.Exchange.{first_missing, is_member, with_row, with_row_if}
 use Rattle.node_rules.specs.Map.{lacks, row_of}
 use Rattle.node_view.proofs.StageLaws.{is_other}
-
-no_way : true ≡ false → ⊥
-no_way wrong = cc
 
 -- a member is one of the ids
 pub listed : (ms : List Member) (n : ℕ) → is_member ms n ≡ true → Contains (ids_of ms) n
@@ -58,7 +56,7 @@ less_one (r ∷ rows) n row h = go (r.node == n) refl (less_one rows n row)
   where
     go : (b : Bool) → (r.node == n) ≡ b → (list_all (λ x. not (x.node == n)) rows ≡ true → filter (λ x. not (x.node == n)) (rows ++ record { node = n; row = row } ∷ []) ≡ rows)
         → filter (λ x. not (x.node == n)) (r ∷ (rows ++ record { node = n; row = row } ∷ [])) ≡ r ∷ rows
-    go true e ih = absurd (no_way (sym h ∙ ap (λ (b : Bool). not b && list_all (λ (x : MemberRow). not (x.node == n)) rows) e))
+    go true e ih = absurd (true≢false (sym h ∙ ap (λ (b : Bool). not b && list_all (λ (x : MemberRow). not (x.node == n)) rows) e))
     go false e ih = rw e (ap (λ (rs : List MemberRow). r ∷ rs) (ih (sym (ap (λ (b : Bool). not b && list_all (λ (x : MemberRow). not (x.node == n)) rows) e) ∙ h)))
 
 pub last_row : (rows : List MemberRow) (n : ℕ) (row : Row) → list_all (λ r. not (r.node == n)) rows ≡ true → row_of (rows ++ record { node = n; row = row } ∷ []) n ≡ Some row
@@ -67,7 +65,7 @@ last_row (r ∷ rows) n row h = go (r.node == n) refl (last_row rows n row)
   where
     go : (b : Bool) → (r.node == n) ≡ b → (list_all (λ x. not (x.node == n)) rows ≡ true → row_of (rows ++ record { node = n; row = row } ∷ []) n ≡ Some row)
         → row_of (r ∷ (rows ++ record { node = n; row = row } ∷ [])) n ≡ Some row
-    go true e ih = absurd (no_way (sym h ∙ ap (λ (b : Bool). not b && list_all (λ (x : MemberRow). not (x.node == n)) rows) e))
+    go true e ih = absurd (true≢false (sym h ∙ ap (λ (b : Bool). not b && list_all (λ (x : MemberRow). not (x.node == n)) rows) e))
     go false e ih = rw e (ih (sym (ap (λ (b : Bool). not b && list_all (λ (x : MemberRow). not (x.node == n)) rows) e) ∙ h))
 
 pub row_out : (rows : List MemberRow) (n : ℕ) (row : Row) → lacks rows n ≡ true → filter (λ r. not (r.node == n)) (with_row rows n row) ≡ rows
@@ -87,7 +85,7 @@ tells_alone rows from n true absent e =
     let back : (from == n) ≡ true = equal from n (sym same) in
     rw (e, missing, back) refl
 tells_alone rows from n false absent e =
-    let back : (from == n) ≡ false = unequal from n (λ (i : from ≡ n). no_way (sym (equal n from (sym i)) ∙ e)) in
+    let back : (from == n) ≡ false = unequal from n (λ (i : from ≡ n). true≢false (sym (equal n from (sym i)) ∙ e)) in
     rw (e, back) (both (lacks rows n))
   where
     both : (b : Bool) → beq false b ≡ not (b && true)
@@ -116,16 +114,12 @@ only_missing me from rows row (m ∷ ms) absent own = go (m.id == me) refl (only
         rw e (ap₂ (λ (a b : Bool). a && b) here ih ∙ sym (none_or (lacks more m.id) m.id (first_missing more ms)))
 
 all_fails : (test : ℕ → Bool) (ns : List ℕ) (n : ℕ) → list_any (λ m. m == n) ns ≡ true → test n ≡ false → list_all test ns ≡ false
-all_fails test [] n found fails = absurd (no_way (sym found))
+all_fails test [] n found fails = absurd (true≢false (sym found))
 all_fails test (m ∷ ns) n found fails = go (m == n) refl (all_fails test ns n)
   where
-    and_false : (b : Bool) → (b && false) ≡ false
-    and_false true = refl
-    and_false false = refl
-
     go : (b : Bool) → (m == n) ≡ b → (list_any (λ k. k == n) ns ≡ true → test n ≡ false → list_all test ns ≡ false) → (test m && list_all test ns) ≡ false
     go true e ih = ap (λ (b : Bool). b && list_all test ns) (ap test (from_equal m n e) ∙ fails)
-    go false e ih = ap (λ (b : Bool). test m && b) (ih (sym (ap (λ (b : Bool). b || list_any (λ k. k == n) ns) e) ∙ found) fails) ∙ and_false (test m)
+    go false e ih = ap (λ (b : Bool). test m && b) (ih (sym (ap (λ (b : Bool). b || list_any (λ k. k == n) ns) e) ∙ found) fails) ∙ and_right (test m) false refl
 
 -- whether all rows are there but that member's
 pub last_missing : (me from : ℕ) (rows : List MemberRow) (row : Row) (ms : List Member) → is_member ms from ≡ true → from ≢ me → lacks rows me ≡ false

@@ -1,16 +1,10 @@
 -- What is kept of transactions in slots, by their numbers.
 use Rattle.std.proofs.Common.{◌≡◌, ◌==◌, ◌<◌, ◌≤◌, ◌+◌, ◌-◌, ℕ, zero, suc, true, false, List, [], ◌∷◌, ◌++◌, length, get_or, set, Option, Some, None, refl, sym, ap, ◌∙◌, ◌⊎◌, inl, inr, arith}
-use Rattle.std.proofs.lemmas.Bool.Decides.{nat_tests}
 use Rattle.std.specs.Option.{option_map}
+use Rattle.partition_lists.proofs.InOrderLaws.{equal, unequal}
 use Rattle.node_rules.specs.Tables.{Table}
 use Rattle.node_view.specs.declared.notes.TxnNote.{TxnNote}
 use Rattle.node_view.specs.Transactions.{note_of, notes_after, with_note, without_note}
-
-same_number : (a b : ℕ) → a ≡ b → (a == b) ≡ true
-same_number a b e = grind (arith, nat_tests)
-
-other_number : (a b : ℕ) → (a ≡ b → ⊥) → (a == b) ≡ false
-other_number a b l = grind (arith, nat_tests)
 
 -- the number is none of so many after one
 abbrev pub IsNone : ℕ → ℕ → ℕ → Type 0
@@ -35,7 +29,7 @@ none_kept b [] t h = refl
 none_kept b (None ∷ s) t h = none_kept (b + 1) s t (next_none b (length s) t h)
 none_kept b (Some n ∷ s) t h =
     let r : note_of (notes_after (b + 1) s) t ≡ None = none_kept (b + 1) s t (next_none b (length s) t h) in
-    let e : (b + 1 == t) ≡ false = other_number (b + 1) t (first_other b (length s) t h) in
+    let e : (b + 1 == t) ≡ false = unequal (b + 1) t (first_other b (length s) t h) in
     rw e r
 
 pub none_closed : (b : ℕ) (s : List (Option TxnNote)) (t : ℕ) → IsNone b (length s) t → without_note (notes_after b s) t ≡ notes_after b s
@@ -43,7 +37,7 @@ none_closed b [] t h = refl
 none_closed b (None ∷ s) t h = none_closed (b + 1) s t (next_none b (length s) t h)
 none_closed b (Some n ∷ s) t h =
     let r : without_note (notes_after (b + 1) s) t ≡ notes_after (b + 1) s = none_closed (b + 1) s t (next_none b (length s) t h) in
-    let e : (b + 1 == t) ≡ false = other_number (b + 1) t (first_other b (length s) t h) in
+    let e : (b + 1 == t) ≡ false = unequal (b + 1) t (first_other b (length s) t h) in
     rw e (ap (λ (ns : Table TxnNote). (b + 1, n) ∷ ns) r)
 
 pub none_changed : (f : TxnNote → TxnNote) (b : ℕ) (s : List (Option TxnNote)) (t : ℕ) → IsNone b (length s) t → with_note (notes_after b s) t f ≡ notes_after b s
@@ -51,7 +45,7 @@ none_changed f b [] t h = refl
 none_changed f b (None ∷ s) t h = none_changed f (b + 1) s t (next_none b (length s) t h)
 none_changed f b (Some n ∷ s) t h =
     let r : with_note (notes_after (b + 1) s) t f ≡ notes_after (b + 1) s = none_changed f (b + 1) s t (next_none b (length s) t h) in
-    let e : (b + 1 == t) ≡ false = other_number (b + 1) t (first_other b (length s) t h) in
+    let e : (b + 1 == t) ≡ false = unequal (b + 1) t (first_other b (length s) t h) in
     rw e (ap (λ (ns : Table TxnNote). (b + 1, n) ∷ ns) r)
 
 -- the note in the slot of a number
@@ -59,12 +53,12 @@ pub slot_kept : (b : ℕ) (s : List (Option TxnNote)) (i t : ℕ) (d : Option Tx
 slot_kept b [] i t d l e = absurd (omega arith)
 slot_kept b (None ∷ s) zero t d l e = none_kept (b + 1) s t (inl (omega arith))
 slot_kept b (Some n ∷ s) zero t d l e =
-    let same : (b + 1 == t) ≡ true = same_number (b + 1) t (omega arith) in
+    let same : (b + 1 == t) ≡ true = equal (b + 1) t (omega arith) in
     rw same refl
 slot_kept b (None ∷ s) (suc i) t d l e = slot_kept (b + 1) s i t d (omega arith) (omega arith)
 slot_kept b (Some n ∷ s) (suc i) t d l e =
     let r : note_of (notes_after (b + 1) s) t ≡ get_or s i d = slot_kept (b + 1) s i t d (omega arith) (omega arith) in
-    let other : (b + 1 == t) ≡ false = other_number (b + 1) t (omega arith) in
+    let other : (b + 1 == t) ≡ false = unequal (b + 1) t (omega arith) in
     rw other r
 
 -- a slot that is emptied
@@ -72,12 +66,12 @@ pub slot_closed : (b : ℕ) (s : List (Option TxnNote)) (i t : ℕ) → i < leng
 slot_closed b [] i t l e = absurd (omega arith)
 slot_closed b (None ∷ s) zero t l e = sym (none_closed (b + 1) s t (inl (omega arith)))
 slot_closed b (Some n ∷ s) zero t l e =
-    let same : (b + 1 == t) ≡ true = same_number (b + 1) t (omega arith) in
+    let same : (b + 1 == t) ≡ true = equal (b + 1) t (omega arith) in
     rw same (sym (none_closed (b + 1) s t (inl (omega arith))))
 slot_closed b (None ∷ s) (suc i) t l e = slot_closed (b + 1) s i t (omega arith) (omega arith)
 slot_closed b (Some n ∷ s) (suc i) t l e =
     let r : notes_after (b + 1) (set s i None) ≡ without_note (notes_after (b + 1) s) t = slot_closed (b + 1) s i t (omega arith) (omega arith) in
-    let other : (b + 1 == t) ≡ false = other_number (b + 1) t (omega arith) in
+    let other : (b + 1 == t) ≡ false = unequal (b + 1) t (omega arith) in
     rw other (ap (λ (ns : Table TxnNote). (b + 1, n) ∷ ns) r)
 
 -- a slot whose note is changed
@@ -90,12 +84,12 @@ slot_changed f b s i t o new l e at is =
     changed b [] i t d l e = absurd (omega arith)
     changed b (None ∷ s) zero t d l e = sym (none_changed f (b + 1) s t (inl (omega arith)))
     changed b (Some n ∷ s) zero t d l e =
-        let same : (b + 1 == t) ≡ true = same_number (b + 1) t (omega arith) in
+        let same : (b + 1 == t) ≡ true = equal (b + 1) t (omega arith) in
         rw same (ap (λ (ns : Table TxnNote). (b + 1, f n) ∷ ns) (sym (none_changed f (b + 1) s t (inl (omega arith)))))
     changed b (None ∷ s) (suc i) t d l e = changed (b + 1) s i t d (omega arith) (omega arith)
     changed b (Some n ∷ s) (suc i) t d l e =
         let r = changed (b + 1) s i t d (omega arith) (omega arith) in
-        let other : (b + 1 == t) ≡ false = other_number (b + 1) t (omega arith) in
+        let other : (b + 1 == t) ≡ false = unequal (b + 1) t (omega arith) in
         rw other (ap (λ (ns : Table TxnNote). (b + 1, n) ∷ ns) r)
 
 -- a slot more

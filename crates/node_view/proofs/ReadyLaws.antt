@@ -1,6 +1,7 @@
 -- A view that was ready for a step of a transaction is ready to resolve it.
 use Rattle.std.proofs.Common.{◌≡◌, ◌+◌, ℕ, Bool, true, false, List, [], ◌∷◌, Option, Some, None, is_some, option_map, refl, sym, ap, subst, ◌∙◌}
 use Rattle.std.specs.Prelude.{IsTrue, ◌↔◌, unwrap_or}
+use Rattle.std.proofs.lemmas.Option.{same_Some}
 use Rattle.conflict_order.specs.declared.policy.Policy.{Policy}
 use Rattle.conflict_order.specs.declared.version.Version.{Version}
 use Rattle.conflict_order.specs.declared.want.Want.{Want}
@@ -96,14 +97,11 @@ ready_with_opened v u s number digest want best asked o k is found h =
       node = subst (λ (g : Facts). IsNodeOf g u s) same (opens (facts_in v s) v u s digest want best asked (record v.room { transactions = k }) is h.node);
       fits = record {
         open_one = ap is_some found;
-        outcome_of = λ x e. let y : t ≡ x = one t x (sym found ∙ e) in subst (λ (z : Transaction). FitsOutcome (facts_in u s) z o) y fits;
+        outcome_of = λ x e. let y : t ≡ x = same_Some t x (sym found ∙ e) in subst (λ (z : Transaction). FitsOutcome (facts_in u s) z o) y fits;
       };
       room = subst (λ (r : ViewRoom). HasRoomForOutcome r s.spare (digest_in u number) o) (ap (λ (z : Viewed). z.room) (sym is))
           (subst (λ (d : List ℕ). HasRoomForOutcome (record v.room { transactions = k }) s.spare d o) (sym (digest_opened u number t found)) (room_still v.room k s.spare digest o (h.room.1 o refl)));
     }
-  where
-    one : (x y : Transaction) → Some x ≡ Some y → x ≡ y
-    one x y e = cc
 
 -- ---- a write is applied
 

@@ -1,6 +1,5 @@
 -- What a change of the open transactions and of their notes makes of a view.
-use Rattle.std.proofs.Common.{◌≡◌, ◌==◌, ◌&&◌, ◌+◌, ℕ, Bool, true, false, not, List, [], ◌∷◌, ◌++◌, Option, Some, None, Result, Err, ◌≢◌, ◌↔◌, find, map, min, option_map, is_some, bytes_eq, refl, sym, ap, ap₂, subst, ◌∙◌, arith}
-use Rattle.std.proofs.lemmas.Bool.Decides.{nat_tests}
+use Rattle.std.proofs.Common.{◌≡◌, ◌==◌, ◌&&◌, ◌+◌, ℕ, Bool, true, false, not, List, [], ◌∷◌, ◌++◌, Option, Some, None, Result, Err, ◌≢◌, ◌↔◌, find, map, min, option_map, bytes_eq, refl, sym, ap, ap₂, subst, ◌∙◌}
 use Rattle.std.specs.Prelude.{IsSome}
 use Rattle.std.proofs.lemmas.Slice.Eq.{bytes_eq-Decides}
 use Rattle.conflict_order.specs.declared.policy.Policy.{Policy}
@@ -11,17 +10,18 @@ use Rattle.dup_resolve.specs.Open.{HasOpen, Open}
 use Rattle.dup_resolve.specs.Open as table
 use Rattle.dup_resolve.specs.declared.txns.BeginFault.{BeginFault}
 use Rattle.dup_resolve.specs.declared.txns.BeginFault.TheVariants.{Busy, NoMemory}
+use Rattle.partition_lists.proofs.InOrderLaws.{equal}
 use Rattle.node_rules.specs.Tables.{Table, changed_if, contains}
 use Rattle.node_rules.specs.Transactions as rules
 use Rattle.node_rules.specs.Transactions.{Transaction, Transactions}
 use Rattle.node_view.specs.declared.notes.TxnNote.{TxnNote}
 use Rattle.node_view.specs.declared.notes.Write.{Write}
 use Rattle.node_view.specs.declared.view.View.TheInside.{Inside}
-use Rattle.node_view.specs.Transactions.{AreNoted, AreNotesOf, Noted, kept_of, note_of, running_with, transaction_with, transactions_of, with_note, with_write, without_note, write_of}
+use Rattle.node_view.specs.Transactions.{AreNoted, AreNotesOf, Noted, kept_of, note_of, running_with, transaction_with, transactions_of, with_note, with_write, without_note}
 use Rattle.node_view.specs.Writes.{Written}
 use Rattle.node_view.specs.Views.{Agrees, ViewRoom, view_of}
 use Rattle.node_view.proofs.ShownLaws.{transaction_kept}
-use Rattle.node_view.proofs.TxnLaws.{IsChange, found_kept, kept_running, notes_changed, notes_closed, notes_opened, running_changed, running_closed, running_opened}
+use Rattle.node_view.proofs.TxnLaws.{IsChange, found_kept, kept_running, notes_changed, notes_closed, notes_opened, running_changed, running_closed, running_opened, written}
 
 abbrev transactions_at : ℕ → List Transaction → Transactions
 transactions_at opened running = record { opened = opened; running = running }
@@ -53,13 +53,6 @@ mapped (Some t) h = refl
 
 pub is_open : (o : Open) (n : Noted) (number : ℕ) → AreNoted o n → IsSome (rules.transaction (transactions_of o n) number) → IsSome (table.transaction o.running number)
 is_open o n number h there = subst (λ (t : Option Txn). IsSome t) (sym (transaction_kept o n number h)) (mapped _ there)
-
--- what a look-up gave
-pub no_txn : (t : Txn) → None ≡ Some t → ⊥
-no_txn t e = cc
-
-pub digest_given : (t u : Txn) → Some t ≡ Some u → t.digest ≡ u.digest
-digest_given t u e = cc
 
 -- one that is looked for among others, of which one is changed
 changed_found : (h : Transaction → Transaction) (number : ℕ) (t : Transaction) (xs : List Transaction) (b : Bool) → (h t).number ≡ t.number → (t.number == number) ≡ b
@@ -113,10 +106,6 @@ note_kept n false = refl
 same_notes : (number : ℕ) (ns : Table TxnNote) → ns ≡ with_note ns number (λ n. n)
 same_notes number [] = refl
 same_notes number (n ∷ ns) = ap₂ (λ (x : ℕ × TxnNote) (xs : Table TxnNote). x ∷ xs) (note_kept n (n.0 == number)) (same_notes number ns)
-
-written : (w : Option Write) → is_some (option_map write_of w) ≡ is_some w
-written None = refl
-written (Some w) = refl
 
 -- ---- an acknowledgement comes
 
@@ -214,12 +203,9 @@ found_last : (p : Transaction → Bool) (xs : List Transaction) (t : Transaction
 found_last p [] t is none = rw is refl
 found_last p (x ∷ xs) t is none = last_step p x t xs (p x) refl (found_last p xs t is) none
 
-same_number : (n : ℕ) → (n == n) ≡ true
-same_number n = grind (arith, nat_tests)
-
 -- the transaction is the one of its number
 pub found_opened : (o : Open) (n : Noted) (t : Transaction) → AreNoted o n → note_of n.kept t.number ≡ None → rules.transaction (rules.opening (transactions_of o n) t) t.number ≡ Some t
-found_opened o n t h none = found_last (λ x. x.number == t.number) (running_with o.running n.kept) t (same_number t.number) (none_noted t.number o.running n.kept h.notes none)
+found_opened o n t h none = found_last (λ x. x.number == t.number) (running_with o.running n.kept) t (equal t.number t.number refl) (none_noted t.number o.running n.kept h.notes none)
 
 -- no transaction is open on the digest
 same_bytes : (a b : List ℕ) → bytes_eq a b ≡ bytes_eq b a

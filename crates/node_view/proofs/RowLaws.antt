@@ -1,5 +1,6 @@
 -- Rows of bits by index.
-use Rattle.std.proofs.Common.{◌≡◌, ◌<◌, ◌+◌, ◌||◌, ℕ, zero, suc, Bool, true, false, List, [], ◌∷◌, length, refl, sym, ap, ap₂, ◌∙◌, arith}
+use Rattle.std.proofs.Common.{◌≡◌, ◌<◌, ◌+◌, ◌||◌, ℕ, zero, suc, Bool, List, [], ◌∷◌, length, refl, sym, ap, ap₂, ◌∙◌, arith}
+use Rattle.std.proofs.Math.Bool.{or-false}
 use Rattle.cluster_types.specs.Rows.{bit}
 use Rattle.node_rules.specs.Bits.{or_rows}
 use Rattle.node_rules.specs.Tables.{bits_from}
@@ -39,10 +40,6 @@ row_of_bits row test n size at =
 pub or_bits : (a b : List Bool) (p : ℕ) → bit (or_rows a b) p ≡ (bit a p || bit b p)
 or_bits [] [] p = refl
 or_bits [] (y ∷ b) p = refl
-or_bits (x ∷ a) [] p = sym (or_false (bit (x ∷ a) p))
-  where
-    or_false : (b : Bool) → (b || false) ≡ b
-    or_false true = refl
-    or_false false = refl
+or_bits (x ∷ a) [] p = sym (or-false (bit (x ∷ a) p))
 or_bits (x ∷ a) (y ∷ b) zero = refl
 or_bits (x ∷ a) (y ∷ b) (suc p) = or_bits a b p

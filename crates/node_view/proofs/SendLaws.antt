@@ -39,9 +39,6 @@ other_target (t ∷ ts) n m b apart = one_found t ts (sending ts n b) m (t.node 
     same e true i = absurd (apart (sym (from_equal t.node n i) ∙ from_equal t.node m e))
     same e false i = refl
 
-pub first_exchanged : (x : Bool) (key : ClusterKey) (ts : Targets) (b : Sent) (bs : List Sent) → AreNext x key ts (b ∷ bs) → x ≡ true
-first_exchanged x key ts b bs h = h.finished (λ none. cc)
-
 pub first_member : (x : Bool) (key : ClusterKey) (ts : Targets) (b : Sent) (bs : List Sent) → AreNext x key ts (b ∷ bs) → IsSome (target ts b.0)
 first_member x key ts b bs h = (h.next 0 b (omega arith)).0
 

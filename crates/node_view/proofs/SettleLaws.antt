@@ -1,6 +1,6 @@
 -- What a tick does about partitions, one after another.
-use Rattle.std.proofs.Common.{◌≡◌, ◌≢◌, ◌==◌, ◌<◌, ◌≤◌, ◌+◌, ◌&&◌, ◌||◌, ℕ, zero, suc, Bool, true, false, not, List, [], ◌∷◌, drop, get_or, length, take, if◌then◌else◌, refl, sym, ap, ap₂, subst, ◌∙◌, arith}
-use Rattle.std.proofs.lemmas.List.{drop_more, take_all}
+use Rattle.std.proofs.Common.{◌≡◌, ◌≢◌, ◌==◌, ◌<◌, ◌+◌, ◌&&◌, ◌||◌, ℕ, zero, suc, Bool, true, false, not, List, [], ◌∷◌, drop, get_or, length, if◌then◌else◌, refl, sym, ap, ap₂, subst, ◌∙◌, arith}
+use Rattle.std.proofs.lemmas.List.{drop_more}
 use Rattle.std.specs.Prelude.{slice_index_or}
 use Rattle.cluster_types.specs.declared.cluster_key.ClusterKey.{ClusterKey}
 use Rattle.cluster_types.specs.declared.map_view.MapEntry.{MapEntry}
@@ -372,6 +372,3 @@ rest_in_view f g v s t ts h is node =
 
 pub next_of : (ts : List Settling) (i : ℕ) (t : Settling) → i < length ts → t ≡ get_or ts i t → drop i ts ≡ t ∷ drop (i + 1) ts
 next_of ts i t within is = drop_more ts i t within ∙ ap (λ (u : Settling). u ∷ drop (i + 1) ts) (sym is)
-
-pub all_taken : (ts : List Settling) (i : ℕ) → length ts ≤ i → take i ts ≡ ts
-all_taken ts i past = take_all i ts past

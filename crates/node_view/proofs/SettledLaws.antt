@@ -1,7 +1,7 @@
 -- Whether all partitions are settled, and what is to be learnt or dropped, as what is kept of the partitions tells.
 use Rattle.std.proofs.Common.{◌≡◌, ◌==◌, ◌<◌, ◌+◌, ◌||◌, ◌&&◌, ℕ, zero, suc, Bool, true, false, not, cond, List, count_by, refl, sym, ap, subst, ◌∙◌, arith}
 use Rattle.std.specs.List.{range_with_len}
-use Rattle.std.proofs.lemmas.Bool.{false_from_ne_true}
+use Rattle.std.proofs.lemmas.Bool.{and_right, false_from_ne_true, or_right}
 use Rattle.std.proofs.lemmas.List.Sums.{sum_by-cons}
 use Rattle.cluster_types.specs.Partitions.{partition_count}
 use Rattle.cluster_types.specs.Rows.{bit}
@@ -17,7 +17,7 @@ use Rattle.node_view.proofs.SightLaws.{sees}
 
 -- ---- how many partitions aren't known settled
 
-none_counted : (f : Facts) (n p : ℕ) → (count_by (λ q. not (knows_settled f q)) (range_with_len p n) == 0) ≡ knows_all_settled f n p
+pub none_counted : (f : Facts) (n p : ℕ) → (count_by (λ q. not (knows_settled f q)) (range_with_len p n) == 0) ≡ knows_all_settled f n p
 unfolding knows_all_settled
 none_counted f zero p = refl
 none_counted f (suc n) p =
@@ -47,18 +47,11 @@ settled_with f v s q h =
     three false true c = refl
     three false false c = refl
 
-pub by_first : (a b : Bool) → a ≡ true → (a || b) ≡ true
-by_first a b e = rw e refl
-
-pub by_second : (a b : Bool) → b ≡ true → (a || b) ≡ true
-by_second true b e = refl
-by_second false b e = e
-
 -- all are known settled already
 pub all_with : (f : Facts) (v : Viewed) (s : List Bool) → IsViewOf f v → knows_all_settled f partition_count 0 ≡ true → knows_all_settled (with_settled_bits f s) partition_count 0 ≡ true
 all_with f v s h all =
     (settled_tells (with_settled_bits f s) partition_count).1
-    (λ q within. settled_with f v s q h.viewed ∙ by_second (bit s q) (knows_settled (facts_seen v) q) (seen q ∙ (settled_tells f partition_count).0 all q within))
+    (λ q within. settled_with f v s q h.viewed ∙ or_right (bit s q) (knows_settled (facts_seen v) q) (seen q ∙ (settled_tells f partition_count).0 all q within))
   where
     seen : (q : ℕ) → knows_settled (facts_seen v) q ≡ knows_settled f q
     seen q = let t = sees f v h.viewed in rw (t.bits, t.exchange) refl
@@ -83,15 +76,11 @@ pub record Rests (f : Facts) (p : ℕ) : Type 0 where
   pub learnt : is_to_learn f (list_at f p) p ≡ false
   pub dropped : is_to_drop f (list_at f p) p ≡ false
 
-and_false : (a b : Bool) → b ≡ false → (a && b) ≡ false
-and_false true b e = e
-and_false false b e = refl
-
 pub quiet_rests : (f : Facts) (p : ℕ) → IsQuiet f p → Rests f p
 quiet_rests f p (IsQuiet.asleep a) = record { learnt = rw a.unsettled refl; dropped = rw a.unsettled refl }
 quiet_rests f p (IsQuiet.over o) = record {
-  learnt = and_false (has_settled_bit f p) _ o.learnt;
-  dropped = and_false (has_settled_bit f p) _ (and_false (is_done f p) _ o.dropped);
+  learnt = and_right (has_settled_bit f p) _ o.learnt;
+  dropped = and_right (has_settled_bit f p) _ (and_right (is_done f p) _ o.dropped);
 }
 
 neither : (s l d : Bool) → (s && (l || d)) ≡ false → ((s && l) ≡ false) × ((s && d) ≡ false)

@@ -1,6 +1,7 @@
 -- How the fields of a view agree.
 use Rattle.std.proofs.Common.{◌≡◌, ◌≢◌, ◌==◌, ◌&&◌, ◌||◌, ℕ, Bool, true, false, not, List, [], ◌∷◌, refl, sym, ap, ◌∙◌}
 use Rattle.std.specs.List.{list_any}
+use Rattle.std.proofs.lemmas.Bool.{and_parts, and_right}
 use Rattle.cluster_types.specs.declared.member.Member.{Member}
 use Rattle.cluster_types.specs.Distinct.{without}
 use Rattle.cluster_types.specs.Members.{ids_of}
@@ -21,20 +22,10 @@ seen_empty x y p same done =
 
 -- ---- other members
 
-or_true : (b : Bool) → (b || true) ≡ true
-or_true true = refl
-or_true false = refl
-
 -- one id more, which is the node itself, is looked for, or is neither
 kept_without : (me n k : ℕ) (ids : List ℕ) (rest gone : Bool) → list_any (λ m. m == n) (without ids me) ≡ (rest && not gone) → (n == me) ≡ gone
     → (b c : Bool) → (k == me) ≡ b → (k == n) ≡ c → list_any (λ m. m == n) (without (k ∷ ids) me) ≡ ((c || rest) && not gone)
-kept_without me n k ids rest true h self true c e i = rw (e, h) (both rest c)
-  where
-    both : (r c : Bool) → (r && false) ≡ ((c || r) && false)
-    both true true = refl
-    both true false = refl
-    both false true = refl
-    both false false = refl
+kept_without me n k ids rest true h self true c e i = rw (e, h) (and_right rest false refl ∙ sym (and_right (c || rest) false refl))
 kept_without me n k ids rest false h self true true e i = absurd (let same : n ≡ me = sym (from_equal k n i) ∙ from_equal k me e in let wrong : false ≡ true = sym self ∙ equal n me same in cc)
 kept_without me n k ids rest false h self true false e i = rw (e, h) refl
 kept_without me n k ids rest true h self false true e i = absurd (let same : k ≡ me = from_equal k n i ∙ from_equal n me self in let wrong : false ≡ true = sym e ∙ equal k me same in cc)
@@ -47,19 +38,11 @@ pub other_tells : (me n : ℕ) (ms : List Member) → list_any (λ m. m == n) (o
 other_tells me n [] = refl
 other_tells me n (m ∷ ms) = kept_without me n m.id (ids_of ms) (is_member ms n) (n == me) (other_tells me n ms) refl (m.id == me) (m.id == n) refl refl
 
-and_first : (a b : Bool) → (a && b) ≡ true → a ≡ true
-and_first true b h = refl
-and_first false b h = h
-
-and_second : (a b : Bool) → (a && b) ≡ true → b ≡ true
-and_second true b h = h
-and_second false b h = absurd (let wrong : false ≡ true = h in cc)
-
 pub other_from : (me n : ℕ) (ms : List Member) → list_any (λ m. m == n) (others me ms) ≡ true → (is_member ms n ≡ true) × (n ≢ me)
 other_from me n ms h =
-    let e : (is_member ms n && not (n == me)) ≡ true = sym (other_tells me n ms) ∙ h in (
-      and_first (is_member ms n) (not (n == me)) e,
-      λ (same : n ≡ me). let wrong : not true ≡ true = sym (ap not (equal n me same)) ∙ and_second (is_member ms n) (not (n == me)) e in let w : false ≡ true = wrong in cc,
+    let both = and_parts (is_member ms n) (not (n == me)) (sym (other_tells me n ms) ∙ h) in (
+      both.0,
+      λ (same : n ≡ me). let wrong : false ≡ true = sym (ap not (equal n me same)) ∙ both.1 in cc,
     )
 
 pub is_other : (me n : ℕ) (ms : List Member) → is_member ms n ≡ true → n ≢ me → list_any (λ m. m == n) (others me ms) ≡ true

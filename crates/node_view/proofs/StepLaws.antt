@@ -1,10 +1,8 @@
 -- Facts of a node in a view after a step, part by part.
-use Rattle.std.proofs.Common.{◌≡◌, ℕ, Bool, List, refl, sym, ap, ap₂, ◌∙◌}
-use Rattle.cluster_types.specs.Rows.{bit}
+use Rattle.std.proofs.Common.{◌≡◌, ℕ, Bool, refl, sym, ap₂, ◌∙◌}
 use Rattle.record_store.specs.Store as held
 use Rattle.emigrate.specs.Going.{AreHeld}
 use Rattle.node_rules.specs.Batches.{Targets}
-use Rattle.node_rules.specs.Bits.{Bits}
 use Rattle.node_rules.specs.Exchange.{Exchange, members_of}
 use Rattle.node_rules.specs.Facts.{Facts}
 use Rattle.node_rules.specs.Stamps.{Writes}
@@ -12,7 +10,7 @@ use Rattle.node_rules.specs.Standing.{knows_settled, knows_settled_by}
 use Rattle.node_rules.specs.Map.{all_empty}
 use Rattle.cluster_types.specs.Members.{ids_of}
 use Rattle.node_rules.specs.Transactions.{Transactions}
-use Rattle.node_view.specs.Views.{IsNodeOf, IsWithStore, KeepsWatch, ViewRoom, Viewed, Watch}
+use Rattle.node_view.specs.Views.{IsNodeOf, KeepsWatch, ViewRoom, Viewed, Watch}
 use Rattle.node_view.proofs.SightLaws.{Sees, in_view, sees}
 use Rattle.node_view.proofs.WatchLaws.{StandsAlike, count_alike, live_alike}
 
@@ -91,37 +89,4 @@ with_writes f v s u ws room same by h =
       content = n.content ∙ sym same;
       stamps = refl;
       by = n.by ∙ sym by;
-    })
-
--- the node heard how far the others are, and no settled bit is new
-pub with_rows : (f : Facts) (v : Viewed) (s : held.Store) (bs : Bits) → ((p : ℕ) → bit bs.settled p ≡ bit v.bits.settled p) → bs.own_handed ≡ v.bits.own_handed → bs.learnt ≡ v.bits.learnt
-    → IsNodeOf f v s → IsNodeOf (record f { bits = bs }) (record v { bits = bs }) s
-with_rows f v s bs settled own learnt h =
-    let n = is_node f v s h in
-    let same : (p : ℕ) → bit bs.settled p ≡ bit f.bits.settled p = λ p. settled p ∙ ap (λ (b : Bits). bit b.settled p) (sym n.sight.bits) in
-    let own_same : (p : ℕ) → bit bs.own_handed p ≡ bit f.bits.own_handed p = λ p. ap (λ (r : List Bool). bit r p) own ∙ ap (λ (b : Bits). bit b.own_handed p) (sym n.sight.bits) in
-    let learnt_same : (p : ℕ) → bit bs.learnt p ≡ bit f.bits.learnt p = λ p. ap (λ (r : List Bool). bit r p) learnt ∙ ap (λ (b : Bits). bit b.learnt p) (sym n.sight.bits) in
-    node_of _ _ s (record {
-      sight = record { me = n.sight.me; factor = n.sight.factor; exchange = n.sight.exchange; writes = n.sight.writes; transactions = n.sight.transactions; batches = n.sight.batches; bits = refl };
-      policy = n.policy;
-      pending = n.pending;
-      watch = watch_alike f (record f { bits = bs }) v.watch (λ p. record { me = refl; factor = refl; exchange = refl; own_handed = own_same p; settled = same p; learnt = learnt_same p; holds = refl }) refl n.watch;
-      content = n.content;
-      stamps = n.stamps;
-      by = n.by;
-    })
-
--- all is counted and looked at anew
-pub with_watch : (f g : Facts) (v w : Viewed) (s u : held.Store) → IsNodeOf f v s → Sees g w → w.by ≡ v.by → g.store.by ≡ f.store.by → AreHeld g.store.content w.batches → KeepsWatch g w.watch
-    → IsWithStore g u → IsNodeOf g w u
-with_watch f g v w s u h sight by policy held watch stored =
-    let n = is_node f v s h in
-    node_of g w u (record {
-      sight = sight;
-      policy = by ∙ n.policy ∙ sym policy;
-      pending = held;
-      watch = watch;
-      content = stored.content;
-      stamps = stored.stamps;
-      by = stored.by;
     })

@@ -1,5 +1,5 @@
 -- What stands at the place of a number in a table, and what a change at that place makes of the table.
-use Rattle.std.proofs.Common.{◌≡◌, ℕ, zero, suc, ◌+◌, ◌<◌, ◌≤◌, Bool, true, false, cond, ◌&&◌, List, [], ◌∷◌, length, map, get_or, set, Some, None, Result, Ok, Err, MatchResult, refl, sym, ap, subst, ◌∙◌, arith}
+use Rattle.std.proofs.Common.{◌≡◌, ℕ, zero, suc, ◌+◌, ◌<◌, ◌≤◌, Bool, true, false, cond, List, [], ◌∷◌, length, map, get_or, set, Some, None, Result, Ok, Err, MatchResult, refl, sym, ap, subst, ◌∙◌, arith}
 use Rattle.std.specs.List.{insert}
 use Rattle.std.specs.List.Sorted.{IsSearchInRange, IsBinarySearchResult, IsSortedBy}
 use Rattle.std.specs.Cmp.{nat_cmp_is}
@@ -10,22 +10,15 @@ use Rattle.std.specs.FinMap.Entries.{by_order, below_all, find-put, is_sorted-pu
 use lib.Dec.{T}
 use Rattle.std.proofs.lemmas.Cmp.{nat_cmp_total, ranked}
 use Rattle.std.proofs.lemmas.List.Sorted.{searchable_from_sorted}
-use Rattle.std.proofs.lemmas.Bool.{false≢true}
+use Rattle.std.proofs.lemmas.Bool.{and_parts}
+use Rattle.std.proofs.lemmas.Float.{T_from_true}
 use Rattle.node_rules.specs.Tables.{at, with_entry}
 use Rattle.node_view.specs.Writes.{IsAscending, IsGapFor, IsPlaceOf}
-
-both : (a b : Bool) → (a && b) ≡ true → record { one : a ≡ true; other : b ≡ true }
-both true b h = record { one = refl; other = h }
-both false b h = absurd (false≢true h)
 
 less : (o : Ordering) → is_lt o ≡ true → o ≡ Less
 less Less h = refl
 less Equal h = cc
 less Greater h = cc
-
-holds : (b : Bool) → b ≡ true → T b
-holds true h = tt
-holds false h = absurd (false≢true h)
 
 told : (b : Bool) → T b → b ≡ true
 told true h = refl
@@ -43,15 +36,15 @@ is_equal a b h = sym (nat_cmp_is a b Equal h)
 module _ {X : Type 0} where
   all_above : (p : ℕ) (es : List (ℕ × X)) (j : ℕ) (d : ℕ × X) → below_all nat_cmp p es ≡ true → j < length es → p < (get_or es j d).0
   all_above p [] j d h within = absurd (omega arith)
-  all_above p (e ∷ es) zero d h within = ranked p e.0 Less (sym (less _ (both _ _ h).one))
-  all_above p (e ∷ es) (suc j) d h within = all_above p es j d (both _ _ h).other (omega (arith, within))
+  all_above p (e ∷ es) zero d h within = ranked p e.0 Less (sym (less _ (and_parts _ _ h).0))
+  all_above p (e ∷ es) (suc j) d h within = all_above p es j d (and_parts _ _ h).1 (omega (arith, within))
 
   -- the numbers rise from place to place
   rises : (es : List (ℕ × X)) (i j : ℕ) (d : ℕ × X) → IsAscending es → i < j → j < length es → (get_or es i d).0 < (get_or es j d).0
   rises [] i j d h lower within = absurd (omega arith)
   rises (e ∷ es) i zero d h lower within = absurd (omega arith)
-  rises (e ∷ es) zero (suc j) d h lower within = all_above e.0 es j d (both _ _ h).one (omega (arith, within))
-  rises (e ∷ es) (suc i) (suc j) d h lower within = rises es i j d (both _ _ h).other (omega (arith, lower)) (omega (arith, within))
+  rises (e ∷ es) zero (suc j) d h lower within = all_above e.0 es j d (and_parts _ _ h).0 (omega (arith, within))
+  rises (e ∷ es) (suc i) (suc j) d h lower within = rises es i j d (and_parts _ _ h).1 (omega (arith, lower)) (omega (arith, within))
 
   sorted : (es : List (ℕ × X)) → IsAscending es → IsSortedBy (λ a b. is_lt (nat_cmp a.0 b.0)) es
   sorted es h i d low high = ap is_lt (is_greater (get_or es (i + 1) d).0 (get_or es i d).0 (rises es i (i + 1) d h (omega arith) high))
@@ -130,7 +123,7 @@ module _ {X : Type 0} (p : ℕ) where
 
   -- a table with an entry more or another one still rises
   pub put_ascends : (v : X) (es us : List (ℕ × X)) → IsAscending es → us ≡ with_entry es p v → IsAscending us
-  put_ascends v es us h is = subst (λ (ts : List (ℕ × X)). IsAscending ts) (sym is) (told _ (is_sorted-put nat_cmp nat_cmp_total p v es (holds _ h)))
+  put_ascends v es us h is = subst (λ (ts : List (ℕ × X)). IsAscending ts) (sym is) (told _ (is_sorted-put nat_cmp nat_cmp_total p v es (T_from_true _ h)))
 
 -- ---- a table of what each entry gives
 

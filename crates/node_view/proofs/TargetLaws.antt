@@ -1,10 +1,11 @@
 -- Targets whose pending digests or batches change.
-use Rattle.std.proofs.Common.{◌≡◌, ◌==◌, ◌<◌, ◌&&◌, ◌||◌, ℕ, zero, suc, ◌+◌, Bool, true, false, not, List, [], ◌∷◌, Option, Some, None, if◌then◌else◌, length, map, refl, ap, ap₂}
+use Rattle.std.proofs.Common.{◌≡◌, ◌==◌, ◌<◌, ◌&&◌, ◌||◌, ℕ, zero, suc, ◌+◌, Bool, true, false, not, List, [], ◌∷◌, Some, length, map, refl, ap, ap₂}
 use Rattle.std.specs.List.{list_any}
 use Rattle.cluster_types.specs.Partitions.{partition_count}
 use Rattle.cluster_types.specs.Rows.{bit}
 use Rattle.wire_messages.specs.declared.message.Batch.{Batch}
-use Rattle.node_rules.specs.Batches.{Target, Targets, acking, acked_out, changing, done_row, is_pending, sending, without_batch}
+use Rattle.emigrate.proofs.TargetLaws.{acked_node}
+use Rattle.node_rules.specs.Batches.{Target, Targets, acking, acked_out, changing, done_row, is_pending, sending}
 use Rattle.node_rules.specs.Copies.{is_of}
 use Rattle.node_rules.specs.Tables.{bits_from, changed_if}
 use Rattle.node_view.proofs.RowLaws.{row_of_bits}
@@ -18,16 +19,8 @@ nodes_changing change same n [] = refl
 nodes_changing change same n (t ∷ ts) = ap₂ (λ (x : ℕ) (xs : List ℕ). x ∷ xs) (one_node change same t (t.node == n)) (nodes_changing change same n ts)
 
 -- an acknowledgement and a batch leave the nodes
-numbered : (t : Target) (b : Batch) (c : Bool) → (if c then without_batch t b else t).node ≡ t.node
-numbered t b true = refl
-numbered t b false = refl
-
-acked : (t : Target) (number : ℕ) (o : Option Batch) → (acked_out t number o).node ≡ t.node
-acked t number None = refl
-acked t number (Some b) = numbered t b (b.number == number)
-
 pub nodes_acking : (ts : Targets) (from number : ℕ) → map (λ (t : Target). t.node) (acking ts from number) ≡ map (λ (t : Target). t.node) ts
-nodes_acking ts from number = nodes_changing (λ t. acked_out t number t.out) (λ t. acked t number t.out) from ts
+nodes_acking ts from number = nodes_changing (λ t. acked_out t number t.out) (λ t. acked_node t number t.out) from ts
 
 pub nodes_sending : (ts : Targets) (to : ℕ) (b : Batch) → map (λ (t : Target). t.node) (sending ts to b) ≡ map (λ (t : Target). t.node) ts
 nodes_sending ts to b = nodes_changing (λ t. record t { out = Some b; batches = b.number }) (λ t. refl) to ts

@@ -100,6 +100,10 @@ notes_opened t n [] (m ∷ ns) note notes = absurd notes
 notes_opened t n (s ∷ ts) [] note notes = absurd notes
 notes_opened t n (s ∷ ts) (m ∷ ns) note notes = (notes.0, notes_opened t n ts ns note notes.1)
 
+pub written : (w : Option Write) → is_some (option_map write_of w) ≡ is_some w
+written None = refl
+written (Some w) = refl
+
 -- without its note a transaction is as it is kept
 pub kept_running : (ts : List Txn) (ns : Table TxnNote) → AreNotesOf ts ns → ts ≡ map kept_of (running_with ts ns)
 kept_running [] ns notes = refl
@@ -107,10 +111,6 @@ kept_running (t ∷ ts) [] notes = absurd notes
 kept_running (t ∷ ts) (n ∷ ns) notes =
     ap₂ (λ (x : Txn) (xs : List Txn). x ∷ xs) (one t n.1 notes.0.applied) (kept_running ts ns notes.1)
   where
-    written : (w : Option Write) → is_some (option_map write_of w) ≡ is_some w
-    written None = refl
-    written (Some w) = refl
-
     one : (t : Txn) (n : TxnNote) → is_some n.write ≡ t.applied → t ≡ kept_of (transaction_with t n)
     one t n e = let w = written n.write in rw (w, e) refl
 

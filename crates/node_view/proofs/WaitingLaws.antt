@@ -1,6 +1,6 @@
 -- At which stage of a view rows are missing.
-use Rattle.std.proofs.Common.{◌≡◌, ℕ, Bool, true, false, not, Option, Some, None, refl, sym, ◌∙◌}
-use Rattle.std.specs.Prelude.{is_none}
+use Rattle.std.proofs.Common.{◌≡◌, ℕ, true, false, Option, Some, None, refl, sym, ◌∙◌}
+use Rattle.std.specs.Prelude.{IsSome, is_none}
 use Rattle.cluster_types.specs.declared.cluster_key.ClusterKey.{ClusterKey}
 use Rattle.exchange.specs.Met.{Met}
 use Rattle.node_rules.specs.Copies.{Row}
@@ -36,10 +36,10 @@ more_waits me factor key stage.Taken n row h member more other = h
 
 -- ---- tests
 
+pub some_is : {X : Type 0} (o : Option X) → is_none o ≡ false → IsSome o
+some_is None h = absurd (let wrong : true ≡ false = h in cc)
+some_is (Some x) h = refl
+
 pub none_is : {X : Type 0} (o : Option X) → is_none o ≡ true → o ≡ None
 none_is None h = refl
 none_is (Some x) h = absurd (let wrong : false ≡ true = h in cc)
-
-pub not_is_false : (b : Bool) → false ≡ not b → b ≡ true
-not_is_false true h = refl
-not_is_false false h = h

@@ -1,5 +1,5 @@
 -- The writes of a partition after one more.
-use Rattle.std.proofs.Common.{◌≡◌, ℕ, zero, suc, ◌+◌, ◌<◌, Bool, false, List, [], ◌∷◌, length, get_or, set, Option, Some, None, Result, Ok, Err, IfOk, IsOk, OnOk, sym, ap, subst, ◌∙◌, arith}
+use Rattle.std.proofs.Common.{◌≡◌, ℕ, zero, suc, ◌+◌, ◌<◌, Bool, false, List, [], ◌∷◌, length, get_or, set, Option, Some, None, Result, Ok, Err, IfOk, sym, ap, subst, ◌∙◌, arith}
 use Rattle.std.specs.Prelude.{unwrap_or}
 use Rattle.std.specs.List.{insert}
 use Rattle.node_rules.specs.Stamps.{Writes, count_at, count_of, with_number}
@@ -8,10 +8,6 @@ use Rattle.write_path.specs.Numbered.{Numbered}
 use Rattle.node_view.specs.Writes.{heard_in, rooms_in, HasRoomToHear, IsAscending, IsGapFor, IsPlaceOf}
 use Rattle.node_view.specs.Writes.HasRoomToHear.{known, new}
 use Rattle.node_view.proofs.TableLaws.{at_gap, at_mapped, at_place, at_put, none_mapped, put_gap, put_mapped, put_place}
-
-pub on_ok : {A E : Type 0} (r : Result A E) (P : Type 0) → OnOk r P → IsOk r → P
-on_ok (Ok x) P h e = h
-on_ok (Err x) P h e = cc e
 
 -- ---- applied writes
 

@@ -35,11 +35,3 @@ HasRoomIn v spare (step.Opened digest w best asked o) =
     (0 < v.room.transactions) × ForSome o (HasRoomForOutcome v.room spare digest)
 HasRoomIn v spare (step.Merged m) = held.HasRoom (map (λ r. r.0) m.newer) spare
 HasRoomIn v spare _ = Unit {0}
-
--- a step that needs no room
-abbrev pub NeedsNoRoom : ViewStep → Type 0
-NeedsNoRoom (step.Replicated r) = ⊥
-NeedsNoRoom (step.Resolved from number answer o) = ⊥
-NeedsNoRoom (step.Opened digest w best asked o) = ⊥
-NeedsNoRoom (step.Merged m) = ⊥
-NeedsNoRoom _ = Unit {0}

@@ -1,8 +1,5 @@
 -- The open transactions of a view: what dup_resolve keeps of each, with whom it asked and the write that it applied.
-use Rattle.std.specs.Prelude.{◌≡◌, ◌==◌, ℕ, ◌+◌, not, if◌then◌else◌, List, [], ◌∷◌, Option, Some, None, is_some, option_map, map, filter, find}
-use Rattle.cluster_types.specs.declared.cluster_key.ClusterKey.{ClusterKey}
-use Rattle.journal_lines.specs.declared.line.Line.{Line}
-use Rattle.journal_lines.specs.declared.line.Line.TheVariants as line
+use Rattle.std.specs.Prelude.{◌≡◌, ◌==◌, ℕ, ◌+◌, not, List, [], ◌∷◌, Option, Some, None, is_some, option_map, map, filter, find}
 use Rattle.dup_resolve.specs.declared.txn.Txn.{Txn}
 use Rattle.dup_resolve.specs.Open.{Open}
 use Rattle.node_rules.specs.Tables.{Table, changed_if}
@@ -67,15 +64,6 @@ running_with [] notes = []
 running_with (t ∷ ts) [] = []
 running_with (t ∷ ts) (n ∷ notes) = transaction_with t n.1 ∷ running_with ts notes
 
--- the open transaction is the one that dup_resolve keeps so
-pub record IsAsKept (x : Txn) (t : rules.Transaction) : Type 0 where
-  pub number : t.number ≡ x.id
-  pub digest : t.digest ≡ x.digest
-  pub want : t.want ≡ x.want
-  pub best : t.best ≡ x.best
-  pub awaiting : t.awaiting ≡ x.awaiting
-  pub applied : is_some t.applied ≡ x.applied
-
 -- the transactions of a view
 abbrev pub transactions_of : Open → Noted → rules.Transactions
 transactions_of o n = record { opened = o.opened; running = running_with o.running n.kept }
@@ -96,7 +84,3 @@ AreNotesOf (t ∷ ts) (n ∷ notes) = IsNoteOf t n × AreNotesOf ts notes
 pub record AreNoted (o : Open) (n : Noted) : Type 0 where
   pub opened : n.opened ≡ o.opened
   pub notes : AreNotesOf o.running n.kept
-
--- the line of a transaction that ends: in doubt where its write was applied
-abbrev pub ending_of : ℕ → ClusterKey → Txn → Line
-ending_of me key t = if t.applied then line.Doubt me key t.id else line.Aborted me key t.id

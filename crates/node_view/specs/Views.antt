@@ -1,5 +1,5 @@
 -- What lasts for a view, as the rules know it.
-use Rattle.std.specs.Prelude.{◌≡◌, ◌≢◌, ℕ, ◌<◌, Bool, true, false, not, List, [], Option, Some, None, ◌-◌, ◌&&◌, is_none, map, min, option_map, unwrap_or}
+use Rattle.std.specs.Prelude.{◌≡◌, ◌≢◌, ℕ, ◌<◌, Bool, true, false, not, List, [], IsSome, Option, Some, None, ◌-◌, ◌&&◌, map, min, option_map, unwrap_or}
 use Rattle.std.specs.FinMap as finite
 use Rattle.std.specs.List.{count_by, range_with_len}
 use Rattle.conflict_order.specs.declared.policy.Policy.{Policy}
@@ -20,7 +20,7 @@ use Rattle.record_store.specs.Store as held
 use Rattle.node_rules.specs.Facts.{Facts, fresh, list_at}
 use Rattle.node_rules.specs.Here.{here, IsAsleep, IsOver}
 use Rattle.node_rules.specs.Standing.{is_all_empty, is_replica, knows_settled}
-use Rattle.node_rules.specs.Stamps.{Writes, applies_at, no_writes, stamped_with}
+use Rattle.node_rules.specs.Stamps.{Writes, no_writes, stamped_with}
 use Rattle.node_rules.specs.Transactions as rules
 use Rattle.emigrate.specs.Going.{AreHeld}
 use Rattle.node_view.specs.declared.view.Moving.{Moving}
@@ -30,7 +30,6 @@ use Rattle.node_view.specs.declared.view.View.TheInside.{Inside}
 use Rattle.exchange.specs.declared.exchanging.ExchangeStep.{ExchangeStep}
 use Rattle.exchange.specs.declared.exchanging.ExchangeStep.TheVariants.{Waiting, Complete}
 use Rattle.exchange.specs.Met.{Met, sends_to}
-use Rattle.node_view.specs.Counts.{last_count}
 use Rattle.node_view.specs.Transactions.{AreNoted, transactions_of}
 use Rattle.node_view.specs.Writes.{writes_of}
 
@@ -200,11 +199,6 @@ pub record IsNodeOf (f : Facts) (v : Viewed) (s : held.Store) : Type 0 where
   pub view : IsViewOf f v
   pub stored : IsWithStore f s
 
--- fewer transactions were opened in the view, and fewer writes applied on each partition, than there are numbers
-pub record HasNumbers (v : Viewed) : Type 0 where
-  pub transactions : v.transactions.opened < last_count
-  pub applies : (p : ℕ) → applies_at v.writes p < last_count
-
 -- the view where ticks look at these partitions
 abbrev pub with_live : Viewed → List Bool → Viewed
 with_live v live = record v { watch = record v.watch { live = live } }
@@ -254,6 +248,7 @@ pub record IsMet (x : Met) (n count : ℕ) : Type 0 where
 pub record IsWaitingOf (x : Met) (me factor : ℕ) : Type 0 where
   pub met : IsMet x me factor
   pub unfinished : x.exchange.exchanged ≡ false
+  pub missing : IsSome (exchange.first_missing x.exchange.rows (exchange.members_of x.exchange.view))
 
 -- each other member has its target, in member order
 abbrev pub AreTargeted : Targets → ℕ → List Member → Type 0
@@ -353,11 +348,6 @@ pub record IsEntered (f : Facts) (key : ClusterKey) (members : List Member) (v :
   pub watch : KeepsWatch (with_view f (Some v)) v.watch
 
 -- ---- the last row
-
--- whether the exchange is over with that row and wasn't before
-abbrev pub finishes_with : Viewed → ℕ → Row → Bool
-finishes_with v from row =
-    is_none (exchange.first_missing (exchange.with_row v.exchange.rows from row) (exchange.members_of v.exchange.view)) && not v.exchange.exchanged
 
 -- these are the targets once that row is there: what the store holds and hands on is pending
 pub record IsHandedOn (v : Viewed) (s : held.Store) (from : ℕ) (row : Row) (targets : Targets) : Type 0 where

@@ -66,6 +66,7 @@ impl View {
     /// Makes room for a write of the node's own.
     pub fn reserve_apply(&mut self) -> Result<(), NoMemory>
         ensures room { OnOk result (0 < self.new.room.applies) }
+        ensures other_room { self.new.room.transactions ≡ self.old.room.transactions }
         ensures same { IsSame self.old self.new }
     {
         self.writes.reserve_apply()

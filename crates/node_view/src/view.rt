@@ -173,6 +173,7 @@ impl View {
         ensures some { is_some result ≡ not self.now.exchange.exchanged }
         ensures met { IfSome result (λ x. IsMet x.now self.now.me self.now.factor) }
         ensures exchange { IfSome result (λ x. x.now.exchange ≡ self.now.exchange) }
+        ensures missing { IfSome result (λ x. IsSome (first_missing x.now.exchange.rows (members_of x.now.exchange.view))) }
 
         // Otherwise no member's row is missing.
         ensures whole { IfNone result (first_missing self.now.exchange.rows (members_of self.now.exchange.view) ≡ None) }

@@ -1,9 +1,10 @@
 use Rattle.std.proofs.Common.{◌≡◌, ◌-◌, ◌<◌, subst, ◌∙◌, arith}
 use Rattle.std.specs.Prelude.{vec_capacity, vec_len}
+use Rattle.immigrate.proofs.BatchLaws.{on_ok}
 use Rattle.node_rules.specs.Stamps.{with_number}
 use Rattle.node_view.specs.Writes.{IsGapFor, IsPlaceOf}
 use Rattle.node_view.proofs.TableLaws.{put_ascends, put_gap, put_place}
-use Rattle.node_view.proofs.WriteLaws.{heard_gap, heard_place, on_ok, room_known, room_new}
+use Rattle.node_view.proofs.WriteLaws.{heard_gap, heard_place, room_known, room_new}
 use Rattle.node_view.proofs.writes.hear_at.Goals as goal
 
 pub put_at-requires-clause-room : goal.put_at-requires-clause-room

@@ -1,6 +1,8 @@
 use Rattle.std.proofs.Common.{◌≡◌, ◌+◌, ℕ, List, Some, is_some, option_map, refl, sym, ap, ◌∙◌}
 use Rattle.std.specs.Option.{option_copied}
+use Rattle.std.proofs.lemmas.Option.{none-some, same_Some}
 use Rattle.cluster_types.specs.Partitions.{partition_of}
+use Rattle.dup_resolve.specs.declared.txn.Txn.{Txn}
 use Rattle.node_rules.specs.Facts.{list_at}
 use Rattle.node_rules.specs.Stamps.{applies_at}
 use Rattle.node_rules.specs.Standing.{other_replicas}
@@ -8,21 +10,21 @@ use Rattle.node_rules.specs.Transactions as rules
 use Rattle.node_view.specs.Transactions.{kept_of}
 use Rattle.node_view.specs.Views.{Viewed, digest_in, facts_in, key_of}
 use Rattle.node_view.proofs.OutcomeLaws.{applies_at_place, found_writing, is_writing}
-use Rattle.node_view.proofs.ResolveLaws.{digest_given, found_changed, no_txn}
+use Rattle.node_view.proofs.ResolveLaws.{found_changed}
 use Rattle.node_view.proofs.view.View.apply.Goals as goal
 
 pub unreachable-requires : goal.unreachable-requires
 unreachable-requires c =
     let x = is_writing c.args.self.now c.args.store.now c.args.transaction c.args.writing c.requires in
     let there = found_writing c.self.inside c.args.self.now c.args.store.now c.args.transaction c.args.writing x.0 c.self.invariant.noted c.self.view_is x.1 in
-    no_txn (kept_of x.0) (ap option_copied (sym c.in_default.is) ∙ c.get.ensures ∙ there)
+    none-some (kept_of x.0) (ap option_copied (sym c.in_default.is) ∙ c.get.ensures ∙ there)
 
 pub write_version-requires-clause-partition : goal.write_version-requires-clause-partition
 write_version-requires-clause-partition c =
     let x = is_writing c.args.self.now c.args.store.now c.args.transaction c.args.writing c.requires in
     let there = found_writing c.self.inside c.args.self.now c.args.store.now c.args.transaction c.args.writing x.0 c.self.invariant.noted c.self.view_is x.1 in
     let same : Some c.in-Some.txn.now ≡ Some (kept_of x.0) = ap option_copied (sym c.in-Some.is) ∙ c.get.ensures ∙ there in
-    let digest = digest_given c.in-Some.txn.now (kept_of x.0) same in
+    let digest = ap (λ (t : Txn). t.digest) (same_Some c.in-Some.txn.now (kept_of x.0) same) in
     c.partition_of-p.ensures ∙ ap partition_of (digest ∙ sym x.1.digest)
 
 pub returns-clause-node : goal.returns-clause-node
@@ -30,7 +32,7 @@ returns-clause-node c f h =
     let x = is_writing c.args.self.now c.args.store.now c.args.transaction c.args.writing c.requires in
     let there = found_writing c.self.inside c.args.self.now c.args.store.now c.args.transaction c.args.writing x.0 c.self.invariant.noted c.self.view_is x.1 in
     let same : Some c.in-Some.txn.now ≡ Some (kept_of x.0) = ap option_copied (sym c.in-Some.is) ∙ c.get.ensures ∙ there in
-    let digest = digest_given c.in-Some.txn.now (kept_of x.0) same in
+    let digest = ap (λ (t : Txn). t.digest) (same_Some c.in-Some.txn.now (kept_of x.0) same) in
     let p : c.partition_of-p.result ≡ partition_of (digest_in c.args.self.now c.args.transaction) = c.partition_of-p.ensures ∙ ap partition_of (digest ∙ sym x.1.digest) in
     applies_at_place f c.args.self.now c.write_version.new.self c.refresh.new.self c.args.store.now c.write_version.new.store c.count_own_write.new.store c.args.transaction (digest_in c.args.self.now c.args.transaction) c.self.inside.key c.count_at.result c.args.writing.kept c.args.writing.version c.args.writing.to
     c.partition_of-p.result p

@@ -2,13 +2,14 @@ use Rattle.std.proofs.Common.{◌≡◌, ◌==◌, ◌&&◌, Bool, true, false, 
 use Rattle.std.specs.Prelude.{is_none}
 use Rattle.std.specs.Bool.{beq}
 use Rattle.std.specs.List.{list_all}
+use Rattle.std.proofs.lemmas.Bool.{not-false}
 use Rattle.cluster_types.specs.declared.member.Member.{Member}
 use Rattle.node_rules.specs.Agreement.{others}
 use Rattle.node_rules.specs.Exchange.{Exchange, first_missing, is_member, members_of, with_row}
 use Rattle.node_rules.specs.Map.{lacks}
 use Rattle.node_view.specs.Views.{Viewed}
 use Rattle.node_view.proofs.MissingLaws.{last_missing}
-use Rattle.node_view.proofs.WaitingLaws.{exchanged_has, not_is_false}
+use Rattle.node_view.proofs.WaitingLaws.{exchanged_has}
 use Rattle.node_view.proofs.view.View.is_last_missing.Goals as goal
 
 pub returns-in-None : goal.returns-in-None
@@ -16,7 +17,7 @@ returns-in-None c =
     let v = c.self.inside in
     let x = c.args.self.now.exchange in
     let from = c.args.from in
-    let finished = not_is_false x.exchanged c.in-None.ensures.some in
+    let finished = not-false x.exchanged (sym c.in-None.ensures.some) in
     let done = subst (λ (w : Viewed). w.exchange.exchanged ≡ true) (sym c.self.view_is) finished in
     let member = subst (λ (w : Viewed). is_member (members_of w.exchange.view) from ≡ true) (sym c.self.view_is) c.requires.member in
     let there = subst (λ (w : Viewed). lacks w.exchange.rows from ≡ false) c.self.view_is (exchanged_has v.me v.factor v.key v.stage from c.self.invariant.stage_of done member) in

@@ -1,10 +1,11 @@
 use Rattle.std.proofs.Common.{◌≡◌, ◌<◌, ◌||◌, ℕ, true, sym, ◌∙◌, arith}
+use Rattle.std.proofs.lemmas.Bool.{or_left, or_right}
 use Rattle.cluster_types.specs.Partitions.{partition_count}
 use Rattle.cluster_types.specs.Rows.{bit}
 use Rattle.node_rules.specs.Standing.{knows_settled}
 use Rattle.node_view.specs.Views.{facts_seen}
 use Rattle.node_view.proofs.ByNumberLaws.{below_more}
-use Rattle.node_view.proofs.SettledLaws.{all_with, by_first, by_second, each_with, one_without}
+use Rattle.node_view.proofs.SettledLaws.{all_with, each_with, one_without}
 use Rattle.node_view.proofs.view.View.knows_all_settled_with.Goals as goal
 use Rattle.node_view.proofs.view.View.knows_all_settled_with.Goals.{else-not-get-via-then-not-get+else-not-knows_settled, else-not-get-via-else-not-get}
 
@@ -25,8 +26,8 @@ loop-number-preserved c =
     let p = c.partition_at-p.result in
     let here : (bit s p || knows_settled (facts_seen v) p) ≡ true = elim c.else-not-get.branch [
       | else-not-get-via-then-not-get+else-not-knows_settled w ↦
-          by_second (bit s p) (knows_settled (facts_seen v) p) (sym w.knows_settled.ensures ∙ w.if-not-knows_settled.false)
-      | else-not-get-via-else-not-get w ↦ by_first (bit s p) (knows_settled (facts_seen v) p) (sym c.get.ensures.value ∙ w.if-not-get.false)
+          or_right (bit s p) (knows_settled (facts_seen v) p) (sym w.knows_settled.ensures ∙ w.if-not-knows_settled.false)
+      | else-not-get-via-else-not-get w ↦ or_left (bit s p) (knows_settled (facts_seen v) p) (sym c.get.ensures.value ∙ w.if-not-get.false)
     ] in
     below_more (λ (q : ℕ). (bit s q || knows_settled (facts_seen v) q) ≡ true) c.loop-number.number p c.partition_at-p.ensures here c.loop-number.invariant
 

@@ -1,4 +1,5 @@
 use Rattle.std.proofs.Common.{◌≡◌, ◌∷◌, ◌+◌, List, drop, take, refl, sym, ap, subst, ◌∙◌}
+use Rattle.std.proofs.lemmas.List.{take_all}
 use Rattle.std.proofs.lemmas.List.Sums.{fold_more}
 use Rattle.node_rules.specs.Facts.{Facts}
 use Rattle.node_view.specs.declared.here.Settling.{Settling}
@@ -6,7 +7,7 @@ use Rattle.node_view.specs.Fits.{AreSettlings}
 use Rattle.node_view.specs.Plans.{settled_at, settled_by}
 use Rattle.node_view.specs.Views.{IsNodeOf, facts_in}
 use Rattle.node_view.proofs.NodeLaws.{node_in}
-use Rattle.node_view.proofs.SettleLaws.{all_taken, first_settling, next_of, rest_in_view}
+use Rattle.node_view.proofs.SettleLaws.{first_settling, next_of, rest_in_view}
 use Rattle.node_view.proofs.view.View.settle_all.Goals as goal
 
 pub settle_at-requires : goal.settle_at-requires
@@ -46,4 +47,4 @@ loop-settling-preserved c =
 pub returns : goal.returns
 returns c f h =
     subst (λ (xs : List Settling). IsNodeOf (settled_by f xs) c.loop-settling.self c.loop-settling.store)
-    (all_taken c.args.settlings.now c.loop-settling.settling-index c.loop-settling-test.false) (c.loop-settling.invariant.node f h)
+    (take_all c.loop-settling.settling-index c.args.settlings.now c.loop-settling-test.false) (c.loop-settling.invariant.node f h)

@@ -1,16 +1,17 @@
 use Rattle.std.proofs.Common.{sym, ap, ◌∙◌}
+use Rattle.std.proofs.lemmas.Option.{none-some}
 use Rattle.node_rules.specs.Facts.{view_key}
 use Rattle.node_rules.specs.Here.{lines_here}
 use Rattle.node_view.specs.declared.here.Settling.{Settling}
 use Rattle.node_view.specs.Settlings.{here_of, settling_of}
-use Rattle.node_view.proofs.DueSettlingLaws.{lines_one, no_settling, not_live}
+use Rattle.node_view.proofs.DueSettlingLaws.{lines_one, not_live}
 use Rattle.node_view.proofs.view.View.settling_at.Goals as goal
 
 pub returns-then-not-contains-clause-partition : goal.returns-then-not-contains-clause-partition
-returns-then-not-contains-clause-partition c s e = absurd (no_settling s e)
+returns-then-not-contains-clause-partition c s e = absurd (none-some s e)
 
 pub returns-then-not-contains-clause-settling : goal.returns-then-not-contains-clause-settling
-returns-then-not-contains-clause-settling c f h held s e = absurd (no_settling s e)
+returns-then-not-contains-clause-settling c f h held s e = absurd (none-some s e)
 
 pub returns-then-not-contains-clause-lines : goal.returns-then-not-contains-clause-lines
 returns-then-not-contains-clause-lines c f h held =
