@@ -1,15 +1,17 @@
 -- What holds of the entries of the nodes that are heard.
-use Rattle.std.proofs.Common.{◌≡◌, ◌≢◌, ℕ, ◌+◌, ◌<◌, ◌≤◌, ◌==◌, ◌⊎◌, ◌||◌, ◌&&◌, not, nat_lt, Bool, true, false, cond, List, [], ◌∷◌, ◌++◌, map, reverse, length, take, drop, get_or, zero, suc, refl, sym, ap, subst, ◌∙◌, inl, inr, arith, append_assoc, length-append, Contains, Option, Some}
+use Rattle.std.proofs.Common.{◌≡◌, ◌≢◌, ℕ, ◌+◌, ◌<◌, ◌≤◌, ◌==◌, ◌⊎◌, ◌||◌, ◌&&◌, not, nat_lt, Bool, true, false, cond, List, [], ◌∷◌, ◌++◌, map, reverse, length, take, drop, get_or, set, zero, suc, refl, sym, ap, ap₂, subst, ◌∙◌, inl, inr, arith, append_assoc, length-append, Contains, Option, Some}
 use Rattle.std.specs.Prelude.{All, filter}
 use Rattle.std.specs.List.{list_all}
 use Rattle.std.specs.Ordering.{nat_cmp}
 use Rattle.std.specs.FinMap.{put}
+use Rattle.std.proofs.lemmas.Bool.{and_parts}
 use Rattle.std.proofs.lemmas.Bool.Decides.{nat_tests}
 use Rattle.std.proofs.lemmas.List.{append-nil, map-append, take-append-drop, length-map, take-map, get_or-map}
-use Rattle.std.proofs.lemmas.List.Elements.{All-head, All-tail, All-cons, All-append, All-map, All-filter, All-weaker, filter-append, filter_more, filter_passes}
+use Rattle.std.proofs.lemmas.List.Elements.{All-head, All-tail, All-cons, All-append, All-map, All-filter, All-weaker, filter-append, filter_passes}
 use Rattle.std.proofs.lemmas.List.Filters.{length-filter_more, length-filter_both}
 use Rattle.std.proofs.lemmas.List.Folds.{list_all-append}
 use Rattle.std.proofs.lemmas.List.Kept.{AllPairs-cons}
+use Rattle.std.proofs.lemmas.List.Sums.{AllPass-from_list_all}
 use Rattle.cluster_types.specs.declared.member.Member.{Member}
 use Rattle.cluster_types.specs.declared.member.Role.{Role}
 use Rattle.cluster_types.specs.declared.cluster_key.ClusterKey.{ClusterKey}
@@ -23,8 +25,8 @@ use Rattle.heartbeat.specs.Adjacent.{adjacent}
 use Rattle.node_rules.specs.Keys.{same_key}
 use Rattle.node_rules.specs.Tables.{with_entry}
 use Rattle.heartbeat.specs.declared.entries.Entry.{Entry}
-use Rattle.heartbeat.specs.Entries.{table_by, heard_entry, table_of, is_above, is_below, with_one, still_heard, one_older, aged, names, member_in, Falls, AreHeardBy, of_itself}
-use Rattle.heartbeat.proofs.TableLaws.{table_by-append, table_by-put, reversed, filtered}
+use Rattle.heartbeat.specs.Entries.{table_by, heard_entry, table_of, is_above, is_below, with_one, still_heard, one_older, aged, names, names_from_above, names_from_below, member_in, Falls, AreHeardBy, of_itself}
+use Rattle.heartbeat.proofs.TableLaws.{all_below, filtered, lower, lt_false, lt_true, none_above, reversed, table_by-append, table_by-put}
 
 -- ---- loops
 
@@ -43,18 +45,6 @@ filter_room p xs i x within read pass =
 
 pub filter_short : {X : Type 0} (p : X → Bool) (xs : List X) → length (filter p xs) ≤ length xs
 filter_short p xs = omega (arith, length-filter_both p (λ x. not (p x)) (λ x. refl) xs)
-
--- a filter's loop takes one step
-pub filter_step : (p : Entry → Bool) (es : List Entry) (i : ℕ) (e : Entry) (room next : List Member) → i < length es → e ≡ get_or es i e → room ≡ map member_in (filter p (take i es))
-    → next ≡ cond (p e) (room ++ member_in e ∷ []) room → next ≡ map member_in (filter p (take (i + 1) es))
-filter_step p es i e room next within read before step =
-    step ∙ go (p e) refl
-    ∙ ap (λ t. map member_in (filter p (take i es) ++ t)) (ap (λ x. cond (p x) (x ∷ []) []) read)
-    ∙ ap (map member_in) (sym (filter_more p es i e within))
-  where
-    go : (b : Bool) → p e ≡ b → cond b (room ++ member_in e ∷ []) room ≡ map member_in (filter p (take i es) ++ cond b (e ∷ []) [])
-    go true h = ap (λ r. r ++ member_in e ∷ []) before ∙ sym (map-append member_in (filter p (take i es)) (e ∷ []))
-    go false h = before ∙ ap (map member_in) (sym (append-nil (filter p (take i es))))
 
 -- ---- falling entries
 
@@ -143,6 +133,48 @@ heard_aged me es h = record {
   others = All-map (λ x. x.node ≢ me) one_older (filter still_heard es) (All-filter still_heard (λ x. x.node ≢ me) es h.others);
 }
 
+-- ---- changes in place
+
+-- the entry of a node that is heard already is overwritten
+pub overwritten : (es : List Entry) (i : ℕ) (new d : Entry) → Falls es → i < length es → (get_or es i d).node ≡ new.node → set es i new ≡ with_one es new
+overwritten [] i new d h within same = absurd (omega (arith, within))
+overwritten (e ∷ es) zero new d h within same =
+    let under : All (λ x. x.node < new.node) es = lower new.node e es h.0 (omega (arith, same)) in
+    rw (lt_false new.node e.node (omega (arith, same)), lt_false e.node new.node (omega (arith, same)), none_above new.node es under, all_below new.node es under) refl
+overwritten (e ∷ es) (suc i) new d h within same =
+    let low : (get_or es i d).node < e.node = h.0 i d (omega (arith, within)) in
+    let above : new.node < e.node = omega (arith, low, same) in
+    rw (lt_true new.node e.node above, lt_false e.node new.node (omega (arith, above)))
+    (ap (λ rest. e ∷ rest) (overwritten es i new d h.1 (omega (arith, within)) same))
+
+-- where none is forgotten, each is one older
+pub aged_each : (es : List Entry) → list_all still_heard es ≡ true → map one_older es ≡ aged es
+aged_each [] h = refl
+aged_each (e ∷ es) h =
+    let both = and_parts (still_heard e) (list_all still_heard es) h in
+    rw both.0 (ap (λ rest. one_older e ∷ rest) (aged_each es both.1))
+
+-- the first so many are one older
+abbrev pub older_till : ℕ → List Entry → List Entry
+older_till i es = map one_older (take i es) ++ drop i es
+
+pub next_older : (es : List Entry) (i : ℕ) (d : Entry) → i < length es → get_or (older_till i es) i d ≡ get_or es i d
+next_older [] i d within = absurd (omega (arith, within))
+next_older (e ∷ es) zero d within = refl
+next_older (e ∷ es) (suc i) d within = next_older es i d (omega (arith, within))
+
+pub older_more : (es : List Entry) (i : ℕ) (d b : Entry) → i < length es
+    → set (older_till i es) i (record (get_or (older_till i es) i d) { age = (get_or (older_till i es) i b).age + 1 }) ≡ older_till (suc i) es
+older_more [] i d b within = absurd (omega (arith, within))
+older_more (e ∷ es) zero d b within = refl
+older_more (e ∷ es) (suc i) d b within = ap (λ rest. one_older e ∷ rest) (older_more es i d b (omega (arith, within)))
+
+-- an entry that isn't forgotten has an age that a byte has room for, and so has one tick more
+pub young : (es : List Entry) (i : ℕ) (d : Entry) → i < length es → list_all still_heard es ≡ true → (get_or (older_till i es) i d).age + 1 < timeout
+young es i d within all =
+    let pass : still_heard (get_or es i d) ≡ true = AllPass-from_list_all still_heard es all i d within in
+    rw (next_older es i d within) (grind (arith, nat_tests, pass))
+
 -- ---- what is heard_entry of them
 
 -- the entry of a node is put into the table
@@ -151,10 +183,6 @@ shown_with es new h =
     table_by-append heard_entry (filter (is_above new.node) es) (new ∷ filter (is_below new.node) es)
     ∙ append_assoc (table_by heard_entry (filter (is_below new.node) es)) (heard_entry new ∷ []) (table_by heard_entry (filter (is_above new.node) es))
     ∙ sym (table_by-put heard_entry (λ e. refl) new.node (record { age = new.age; beat = new.beat }) es h)
-
-last_aged : (e : Entry) (b : Bool) → still_heard e ≡ b → filter (λ x. nat_lt x.1.age timeout) (older (heard_entry e) ∷ []) ≡ cond b (older (heard_entry e) ∷ []) []
-last_aged e true h = rw h refl
-last_aged e false h = rw h refl
 
 pub shown_aged : (es : List Entry) → table_of (aged es) ≡ hearing.aged (table_of es)
 shown_aged [] = refl
@@ -183,6 +211,27 @@ filter_both p q (e ∷ es) = go (p e) (q e) refl refl (filter_both p q es)
     go false true h i ih = rw (h, i) (rw h ih)
     go false false h i ih = rw (h, i) ih
 
+filter_twice : (p q : Entry → Bool) (es : List Entry) → filter (λ e. p e && q e) es ≡ filter p (filter q es)
+filter_twice p q [] = refl
+filter_twice p q (e ∷ es) = go (p e) (q e) refl refl (filter_twice p q es)
+  where
+    go : (a b : Bool) → p e ≡ a → q e ≡ b → filter (λ x. p x && q x) es ≡ filter p (filter q es) → filter (λ x. p x && q x) (e ∷ es) ≡ filter p (filter q (e ∷ es))
+    go true true h i ih = rw (h, i) (rw h (ap (λ rest. e ∷ rest) ih))
+    go true false h i ih = rw (h, i) ih
+    go false true h i ih = rw (h, i) (rw h ih)
+    go false false h i ih = rw (h, i) ih
+
+-- with the node itself those that hear it are no more than those that are heard, and one
+pub room_named : (me : ℕ) (es : List Entry) → length (filter (names_from_above me) es) + length (filter (names_from_below me) es) ≤ length es
+room_named me es =
+    omega (
+      arith,
+      ap length (filter_twice (is_above me) (names me) es),
+      ap length (filter_twice (is_below me) (names me) es),
+      around me (filter (names me) es),
+      filter_short (names me) es,
+    )
+
 abbrev roled : Entry → ℕ × Role
 roled e = (e.node, e.beat.role)
 
@@ -196,6 +245,15 @@ named_with me es new h =
   where
     front : filter (names me) (new ∷ filter (is_below new.node) es) ≡ new ∷ filter (is_below new.node) (filter (names me) es)
     front = rw h (ap (λ t. new ∷ t) (filter_both (names me) (is_below new.node) es))
+
+-- those above the node, the node itself, and those below it
+pub named_apart : (me : ℕ) (role : Role) (es : List Entry) → names me (of_itself me role) ≡ true
+    → (map member_in (filter (names_from_above me) es) ++ member_in (of_itself me role) ∷ []) ++ map member_in (filter (names_from_below me) es) ≡ map member_in (filter (names me) (with_one es (of_itself me role)))
+named_apart me role es itself =
+    append_assoc (map member_in (filter (names_from_above me) es)) (member_in (of_itself me role) ∷ []) (map member_in (filter (names_from_below me) es))
+    ∙ ap₂ (λ (xs ys : List Entry). map member_in xs ++ member_in (of_itself me role) ∷ map member_in ys) (filter_twice (is_above me) (names me) es) (filter_twice (is_below me) (names me) es)
+    ∙ sym (map-append member_in (filter (is_above me) (filter (names me) es)) (of_itself me role ∷ filter (is_below me) (filter (names me) es)))
+    ∙ ap (map member_in) (sym (named_with me es (of_itself me role) itself))
 
 pub shown_neighbours : (me : ℕ) (role : Role) (es : List Entry) → Falls es → names me (of_itself me role) ≡ true
     → map member_in (filter (names me) (with_one es (of_itself me role))) ≡ neighbours_of me role (table_of es)

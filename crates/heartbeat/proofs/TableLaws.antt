@@ -1,5 +1,5 @@
 -- Entries in descending order, as a table in rising order.
-use Rattle.std.proofs.Common.{◌≡◌, ℕ, ◌<◌, ◌≤◌, ◌==◌, nat_lt, Bool, true, false, cond, List, [], ◌∷◌, ◌++◌, map, reverse, refl, sym, ap, ◌∙◌, arith, append_assoc}
+use Rattle.std.proofs.Common.{◌≡◌, ℕ, ◌<◌, ◌≤◌, ◌==◌, nat_lt, Bool, true, false, List, [], ◌∷◌, ◌++◌, map, reverse, refl, sym, ap, ◌∙◌, arith, append_assoc}
 use Rattle.std.specs.Prelude.{All, filter}
 use Rattle.std.specs.Ordering.{nat_cmp}
 use Rattle.std.specs.declared.cmp.Ordering.{Ordering}
@@ -77,10 +77,6 @@ module _ {X : Type 0} (g : Entry → ℕ × X) where
       ∙ reverse-append (map h (table_by g es)) (h (g e) ∷ [])
       ∙ ap (λ rest. h (g e) ∷ rest) (reversed h es)
 
-  one_more : {Y : Type 0} (f : ℕ × X → Y) (p : ℕ × X → Bool) (e : ℕ × X) (b : Bool) → p e ≡ b → map f (filter p (e ∷ [])) ≡ cond b (f e ∷ []) []
-  one_more f p e true h = rw h refl
-  one_more f p e false h = rw h refl
-
   pub filtered : {Y : Type 0} (f : ℕ × X → ℕ × Y) (p : ℕ × X → Bool) (es : List Entry) → map f (filter p (table_by g es)) ≡ table_by (λ e. f (g e)) (filter (λ e. p (g e)) es)
   filtered f p [] = refl
   filtered f p (e ∷ es) =
@@ -97,19 +93,19 @@ module _ {X : Type 0} (g : Entry → ℕ × X) where
   under_tabled same k [] h = tt
   under_tabled same k (e ∷ es) h = under_snoc k (table_by g es) (g e) (under_tabled same k es (All-tail (λ x. x.node < k) e es h)) (rw (same e) (All-head (λ x. x.node < k) e es h))
 
-none_above : (k : ℕ) (es : List Entry) → All (λ x. x.node < k) es → filter (is_above k) es ≡ []
+pub none_above : (k : ℕ) (es : List Entry) → All (λ x. x.node < k) es → filter (is_above k) es ≡ []
 none_above k [] h = refl
 none_above k (e ∷ es) h =
     let low : e.node < k = All-head (λ x. x.node < k) e es h in
     rw (lt_false k e.node (omega (arith, low))) (none_above k es (All-tail (λ x. x.node < k) e es h))
 
-all_below : (k : ℕ) (es : List Entry) → All (λ x. x.node < k) es → filter (is_below k) es ≡ es
+pub all_below : (k : ℕ) (es : List Entry) → All (λ x. x.node < k) es → filter (is_below k) es ≡ es
 all_below k [] h = refl
 all_below k (e ∷ es) h =
     let low : e.node < k = All-head (λ x. x.node < k) e es h in
     rw (lt_true e.node k low) (ap (λ rest. e ∷ rest) (all_below k es (All-tail (λ x. x.node < k) e es h)))
 
-lower : (k : ℕ) (e : Entry) (es : List Entry) → All (λ x. x.node < e.node) es → e.node ≤ k → All (λ x. x.node < k) es
+pub lower : (k : ℕ) (e : Entry) (es : List Entry) → All (λ x. x.node < e.node) es → e.node ≤ k → All (λ x. x.node < k) es
 lower k e es h le i d within = omega (arith, h i d within, le)
 
 -- what is put into a table stands between what is below and what is above

@@ -1,5 +1,5 @@
 -- What was heard, by the nodes in descending order, and the table that it is.
-use Rattle.std.specs.Prelude.{Bool, ◌≢◌, ℕ, ◌+◌, ◌<◌, ◌≤◌, nat_lt, List, [], ◌∷◌, ◌++◌, map, filter, length, All}
+use Rattle.std.specs.Prelude.{Bool, ◌&&◌, ◌≢◌, ℕ, ◌+◌, ◌<◌, ◌≤◌, nat_lt, List, [], ◌∷◌, ◌++◌, map, filter, length, All}
 use Rattle.cluster_types.specs.declared.member.Member.{Member}
 use Rattle.cluster_types.specs.ClusterKeys as keys
 use Rattle.cluster_types.specs.declared.member.Role.{Role}
@@ -40,6 +40,13 @@ aged es = map one_older (filter still_heard es)
 -- whether the entry's heartbeat says that its sender hears the node
 abbrev pub names : ℕ → Entry → Bool
 names me e = contains e.beat.hears me
+
+-- whether one above the node hears it, or one below it
+abbrev pub names_from_above : ℕ → Entry → Bool
+names_from_above me e = is_above me e && names me e
+
+abbrev pub names_from_below : ℕ → Entry → Bool
+names_from_below me e = is_below me e && names me e
 
 abbrev pub member_in : Entry → Member
 member_in e = record { id = e.node; role = e.beat.role }

@@ -81,7 +81,7 @@ impl Adjacency {
         requires room { HasRoomFor from self.old.hearing }
         ensures { self.new ≡ record self.old { hearing = beat_heard self.old.hearing from beat.now } }
     {
-        self.heard = self.heard.with(&Entry {
+        self.heard.put(&Entry {
             node: from,
             age: 0,
             beat: *beat,
@@ -92,7 +92,7 @@ impl Adjacency {
     pub fn tick(&mut self)
         ensures { self.new ≡ record self.old { hearing = ticked self.old.me self.old.role self.old.hearing } }
     {
-        self.heard = self.heard.aged();
+        self.heard.age();
         let set = self.neighbours();
         self.quiet = quieter(self.quiet, is_unchanged(&self.set, &set));
         self.set = Some(set);
@@ -118,8 +118,8 @@ impl Adjacency {
     pub fn neighbours(&self) -> Members
         ensures { result ≡ neighbours_of self.now.me self.now.role self.now.hearing.heard }
     {
-        let all = self.heard.with(&Entry::of_itself(self.me, self.role));
-        match Members::with_roles(members_naming(self.me, all.as_slice()).as_slice()) {
+        let naming = members_naming(self.me, self.role, self.heard.as_slice());
+        match Members::with_roles(naming.as_slice()) {
             Ok(members) => members,
             Err(_) => unreachable!(),
         }

@@ -1,9 +1,9 @@
 //! Room for members.
-ghost use Rattle.std.specs.Prelude.{◌≡◌, ◌<◌, ◌≤◌, ◌++◌, ◌∷◌, [], length, filter, map};
-ghost use Rattle.heartbeat.specs.Entries.{names, member_in};
+ghost use Rattle.std.specs.Prelude.{◌≡◌, ◌+◌, ◌<◌, ◌≤◌, ◌++◌, ◌∷◌, [], length, filter, map};
+ghost use Rattle.heartbeat.specs.Entries.{member_in, names, names_from_above, names_from_below, of_itself, with_one};
 
 use crate::entries::Entry;
-use cluster_types::{Member, NodeId};
+use cluster_types::{Member, NodeId, Role};
 use std::marker::Model;
 
 /// At most sixteen members.
@@ -47,21 +47,64 @@ impl Room {
         self.places[self.len] = member;
         self.len += 1;
     }
-}
 
-/// Those of the nodes that hear this one.
-pub(crate) fn members_naming(me: NodeId, entries: &[Entry]) -> Room
-    requires { length entries.now ≤ 16 }
-    ensures { result ≡ map member_in (filter (names me) entries.now) }
-{
-    let mut room = Room::new();
-    for entry in entries {
-        if entry.beat.hears.contains(me) {
-            room.push(Member {
-                id: entry.node,
-                role: entry.beat.role,
-            });
+    /// Adds those above the node that hear it.
+    fn add_above(&mut self, me: NodeId, entries: &[Entry])
+        requires { length self.old + length (filter (names_from_above me) entries.now) ≤ 16 }
+        ensures { self.new ≡ self.old ++ map member_in (filter (names_from_above me) entries.now) }
+    {
+        for entry in entries {
+            if names_from_above(me, entry) {
+                self.push(member_in(entry));
+            }
         }
     }
+
+    /// Adds those below the node that hear it.
+    fn add_below(&mut self, me: NodeId, entries: &[Entry])
+        requires { length self.old + length (filter (names_from_below me) entries.now) ≤ 16 }
+        ensures { self.new ≡ self.old ++ map member_in (filter (names_from_below me) entries.now) }
+    {
+        for entry in entries {
+            if names_from_below(me, entry) {
+                self.push(member_in(entry));
+            }
+        }
+    }
+}
+
+/// The node itself and those that hear it, by their order.
+pub(crate) fn members_naming(me: NodeId, role: Role, entries: &[Entry]) -> Room
+    requires { length entries.now ≤ 15 }
+    ensures { result ≡ map member_in (filter (names me) (with_one entries.now (of_itself me role))) }
+{
+    let mut room = Room::new();
+    room.add_above(me, entries);
+    room.push(Member { id: me, role });
+    room.add_below(me, entries);
     room
+}
+
+/// Whether one above the node hears it.
+fn names_from_above(me: NodeId, entry: &Entry) -> bool
+    ensures { result ≡ names_from_above me entry.now }
+{
+    me < entry.node && entry.beat.hears.contains(me)
+}
+
+/// Whether one below the node hears it.
+fn names_from_below(me: NodeId, entry: &Entry) -> bool
+    ensures { result ≡ names_from_below me entry.now }
+{
+    entry.node < me && entry.beat.hears.contains(me)
+}
+
+/// The node with the role that it told.
+fn member_in(entry: &Entry) -> Member
+    ensures { result ≡ member_in entry.now }
+{
+    Member {
+        id: entry.node,
+        role: entry.beat.role,
+    }
 }

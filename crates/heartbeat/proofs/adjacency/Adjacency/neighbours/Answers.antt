@@ -6,13 +6,10 @@ use Rattle.heartbeat.specs.Entries.{of_itself}
 use Rattle.heartbeat.proofs.EntryLaws.{around, named_members, shown_neighbours, itself_named}
 use Rattle.heartbeat.proofs.adjacency.Adjacency.neighbours.Goals as goal
 
-pub with-all-requires : goal.with-all-requires
-with-all-requires c = omega (arith, around c.of_itself.result.node c.self.inside.heard, c.self.invariant.limit)
-
 pub unreachable-requires : goal.unreachable-requires
 unreachable-requires c =
     let members : AreMembers c.as_slice-2.result.now =
-    rw (c.as_slice-2.ensures, c.members_naming.ensures, c.as_slice.ensures.same, c.with-all.ensures, c.of_itself.ensures)
+    rw (c.as_slice-2.ensures, c.members_naming-naming.ensures, c.as_slice.ensures.same)
     (named_members c.self.inside.me c.self.inside.heard (of_itself c.self.inside.me c.self.inside.role) c.self.invariant.falls
     (omega (arith, around c.self.inside.me c.self.inside.heard, c.self.invariant.limit))
     (itself_named c.self.inside.me c.self.inside.role)) in
@@ -21,7 +18,7 @@ unreachable-requires c =
 
 pub returns : goal.returns
 returns c =
-    c.in-Ok.ensures.ok ∙ c.as_slice-2.ensures ∙ c.members_naming.ensures
-    ∙ rw (c.as_slice.ensures.same, c.with-all.ensures, c.of_itself.ensures)
+    c.in-Ok.ensures.ok ∙ c.as_slice-2.ensures ∙ c.members_naming-naming.ensures
+    ∙ rw c.as_slice.ensures.same
     (shown_neighbours c.self.inside.me c.self.inside.role c.self.inside.heard c.self.invariant.falls (itself_named c.self.inside.me c.self.inside.role)
     ∙ ap (λ (a : Adjacent). neighbours_of a.me a.role a.hearing.heard) c.self.view_is)
