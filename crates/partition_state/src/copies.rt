@@ -1,10 +1,11 @@
 //! Copies with their nodes, and lists of nodes.
-ghost use Rattle.std.specs.Prelude.{◌≡◌, ◌<◌, ◌==◌, ◌&&◌, not, find, length};
+ghost use Rattle.std.specs.Prelude.{◌≡◌, ◌<◌, ◌==◌, ◌&&◌, true, not, find, length};
 ghost use Rattle.std.specs.List.{list_all};
 ghost use Rattle.cluster_types.specs.ClusterKeys.{key_lt};
 ghost use Rattle.cluster_types.specs.NodeLists.{IsNodeList};
 ghost use Rattle.cluster_types.specs.StateRows.{state_of};
 ghost use Rattle.partition_lists.specs.Acting.{acting_by, is_empty, is_wholest_by, whole_key};
+ghost use Rattle.partition_state.specs.Copies.{is_copy_at_most, is_under, is_whole_under};
 ghost use Rattle.partition_lists.specs.Classes.{asked_among, class_first_by, is_first_by, is_whole_with, same_class_by};
 
 use cluster_types::{ClusterKey, CopyState, NodeId, NodeList};
@@ -31,6 +32,12 @@ fn whole_key(state: CopyState) -> ClusterKey
         CopyState::Part => ClusterKey::NONE,
         CopyState::Whole { key, .. } => key,
     }
+}
+
+fn is_below(a: ClusterKey, b: ClusterKey) -> bool
+    ensures { result ≡ key_lt a b }
+{
+    a < b
 }
 
 /// Whether the copy was whole under that key after that many writes.
@@ -68,7 +75,56 @@ pub(crate) fn acting(copies: &[Copy], nodes: &[NodeId]) -> NodeId
     }
 }
 
+/// Mostly all copies are those of the nodes: then it is the first under the greatest key of all.
 fn first_wholest(copies: &[Copy], nodes: &[NodeId]) -> Option<NodeId>
+    ensures { result ≡ find (is_wholest_by nodes.now (state_of copies.now)) nodes.now }
+{
+    match first_under(copies, nodes, greatest_key(copies)) {
+        Some(n) => Some(n),
+        // Not all copies are those of the nodes, or none was whole.
+        None => first_of_wholest(copies, nodes),
+    }
+}
+
+/// The greatest key under which a copy was whole; `NONE` where none was.
+fn greatest_key(copies: &[Copy]) -> ClusterKey
+    ensures { list_all (is_copy_at_most result) copies.now ≡ true }
+{
+    let mut greatest = ClusterKey::NONE;
+    for copy in copies {
+        let key = whole_key(copy.1);
+        if is_below(greatest, key) {
+            greatest = key;
+        }
+    }
+    greatest
+}
+
+/// The first of the nodes whose copy was whole under that key.
+fn first_under(copies: &[Copy], nodes: &[NodeId], key: ClusterKey) -> Option<NodeId>
+    ensures { result ≡ find (is_under key (state_of copies.now)) nodes.now }
+{
+    for n in nodes {
+        if is_whole_under(state_in(copies, *n), key) {
+            return Some(*n);
+        }
+    }
+    None
+}
+
+/// Whether the copy was whole under that key.
+fn is_whole_under(state: CopyState, key: ClusterKey) -> bool
+    ensures { result ≡ is_whole_under key state }
+{
+    match state {
+        CopyState::Empty => false,
+        CopyState::Part => false,
+        CopyState::Whole { key: k, .. } => key == k,
+    }
+}
+
+/// The same, by a look at all nodes for each of them.
+fn first_of_wholest(copies: &[Copy], nodes: &[NodeId]) -> Option<NodeId>
     ensures { result ≡ find (is_wholest_by nodes.now (state_of copies.now)) nodes.now }
 {
     for n in nodes {
@@ -99,9 +155,7 @@ fn is_none_above(copies: &[Copy], nodes: &[NodeId], key: ClusterKey) -> bool
 fn is_not_above(copies: &[Copy], m: NodeId, key: ClusterKey) -> bool
     ensures { result ≡ not (key_lt key (whole_key (state_of copies.now m))) }
 {
-    let other = whole_key(state_in(copies, m));
-    let is_above = key < other;
-    !is_above
+    !is_below(key, whole_key(state_in(copies, m)))
 }
 
 /// Whether `b`'s copy is in the class of `a`'s.

@@ -1,4 +1,4 @@
-use Rattle.std.proofs.Common.{◌&&◌, not, ℕ, Bool, take, length, ap, arith}
+use Rattle.std.proofs.Common.{◌&&◌, not, ℕ, Bool, take}
 use Rattle.cluster_types.proofs.DistinctLaws.{fresh_next}
 use Rattle.cluster_types.specs.StateRows.{state_of}
 use Rattle.partition_lists.specs.Classes.{is_first_by, same_class_by}
