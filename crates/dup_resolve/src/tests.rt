@@ -82,6 +82,7 @@ fn one_is_open_on_a_digest(rt: HostRuntime) -> Result<(), Fail> {
     close(&rt, &mut txns, t);
     assert!(rt; txns.get(t).is_none());
     assert!(rt; !txns.busy_on(p));
+    assert_eq!(rt; txns.opened(), 1);
     assert_eq!(rt; txns.next_id(), 2);
     Ok(())
 }

@@ -4,6 +4,7 @@ ghost use Rattle.std.specs.Option.{option_copied};
 ghost use Rattle.conflict_order.specs.declared.policy.Policy.TheVariants.{Time};
 ghost use Rattle.dup_resolve.specs.Open.{HasOpen, IsNew, IsSame, acked_step, acknowledged_if, answer_step, answered_if, changing, closing, is_busy, new_txn, number_on, transaction, with_write};
 ghost use Rattle.dup_resolve.specs.Open as table;
+ghost use Rattle.dup_resolve.specs.Places.{AreRising};
 
 use crate::closed::Closed;
 use crate::counts::Counts;
@@ -106,6 +107,14 @@ impl Txns {
         ensures { result ≡ self.now.opened + 1 }
     {
         self.slots.opened() + 1
+    }
+
+    /// How many were opened. The numbers of those that are open rise up to that.
+    pub fn opened(&self) -> u32
+        ensures value { result ≡ self.now.opened }
+        ensures numbers { AreRising self.now.opened self.now.running }
+    {
+        self.slots.opened()
     }
 
     /// Makes room: the next `begin` then doesn't want memory.
