@@ -1,9 +1,10 @@
 -- What the calls answer.
-use Rattle.std.specs.Prelude.{ℕ, Bool, true, false, List, [], Option, Some, None}
+use Rattle.std.specs.Prelude.{◌≡◌, ℕ, Bool, true, false, List, [], Option, Some, None}
 use Rattle.cluster_types.specs.declared.cluster_key.ClusterKey.{ClusterKey}
 use Rattle.cluster_types.specs.declared.member.Member.{Member}
 use Rattle.node_rules.specs.Agreement as rules
 use Rattle.node_rules.specs.Agreement.{Agreement, refuses, proposes, is_accepted_with, may_enter, next_key, enters_alone, still_proposing, ticking}
+use Rattle.node_rules.specs.Exchange.{is_member}
 use Rattle.clustering.specs.declared.steps.Proposal.{Proposal}
 use Rattle.clustering.specs.declared.steps.Proposal.TheVariants as proposal
 use Rattle.clustering.specs.declared.steps.Vote.{Vote}
@@ -53,6 +54,11 @@ accept_if true true key members = accept.Enter key members
 -- an Accept of the key by that member
 abbrev pub accept_of : Agreement → ℕ → ClusterKey → AcceptStep
 accept_of a from key = accept_if (proposes a.proposal key) (is_accepted_with a.proposal from) key (proposed_members a.proposal)
+
+-- a view that is entered with an Accept has the node among its members
+abbrev pub IsEnteredBy : ℕ → AcceptStep → Type 0
+IsEnteredBy me (accept.Enter key members) = is_member members me ≡ true
+IsEnteredBy me _ = Unit {0}
 
 -- a Refuse stops the proposal where the test holds
 abbrev pub refuse_if : Bool → RefuseStep

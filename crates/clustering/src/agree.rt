@@ -7,7 +7,7 @@ ghost use Rattle.node_rules.specs.Agreement.{agreement_of, others, seeing, ticki
 ghost use Rattle.node_rules.specs.Copies.{is_nil};
 ghost use Rattle.node_rules.specs.Exchange.{is_member};
 ghost use Rattle.clustering.specs.Agreeing.{with_agreement};
-ghost use Rattle.clustering.specs.Answers.{accept_if, accept_of, commit_of, refuse_of, sent_of, tick_answer, vote_of};
+ghost use Rattle.clustering.specs.Answers.{IsEnteredBy, accept_if, accept_of, commit_of, refuse_of, sent_of, tick_answer, vote_of};
 ghost use Rattle.clustering.specs.Parts.{agreeing_with, agreeing_if_accepted, agreeing_if_alone, answer_if_alone, entered_from};
 ghost use Rattle.clustering.specs.Stages.{AreKeys, IsPromised, IsProposing, IsStage, agreement_at, agreement_with, keys_of, proposal_of};
 
@@ -120,6 +120,7 @@ impl Agree {
     pub fn on_accept(self, from: NodeId, key: ClusterKey) -> (Agree, AcceptStep)
         ensures agree { result.0 ≡ with_agreement self (counting self.agreement from key) }
         ensures answer { result.1 ≡ accept_of self.agreement from key }
+        ensures member { IsEnteredBy self.me result.1 }
     {
         match self.stage {
             Stage::Proposing(proposing) if proposing.keys.promised == key => {
@@ -249,6 +250,7 @@ fn enter_or_wait(proposing: &Proposing) -> (Agree, AcceptStep)
     requires { IsProposing proposing.now }
     ensures agree { result.0 ≡ agreeing_if_accepted proposing.now (is_nil proposing.now.missing) }
     ensures answer { let s = proposing.now in result.1 ≡ accept_if true (is_nil s.missing) s.keys.promised s.members }
+    ensures member { IsEnteredBy proposing.now.keys.me result.1 }
 {
     let key = proposing.keys.promised;
     let members = proposing.members;
