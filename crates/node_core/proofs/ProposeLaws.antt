@@ -1,0 +1,209 @@
+-- What a node proposes at a tick.
+use Rattle.std.proofs.Common.{◌≡◌, ◌≢◌, suc, ◌<◌, ◌≤◌, ◌==◌, ◌&&◌, ℕ, ◌+◌, nat_lt, Bool, true, false, not, List, [], ◌∷◌, Option, Some, None, length, map, reverse, filter, All, Contains, get_or, refl, sym, ap, ap₂, subst, ◌∙◌, arith}
+use Rattle.std.specs.FinMap.{put}
+use Rattle.std.specs.Ordering.{nat_cmp}
+use Rattle.std.specs.List.{list_all}
+use Rattle.std.specs.Option.{ForSome}
+use Rattle.std.specs.Prelude.{nat_le}
+use Rattle.std.proofs.lemmas.Bool.Decides.{nat_tests}
+use Rattle.std.proofs.lemmas.List.Elements.{All-contains, All-head, All-tail, Contains-append_right}
+use Rattle.std.proofs.lemmas.Map.Made.{Contains-tail}
+use Rattle.std.proofs.lemmas.List.Sorted.{Contains-permutation, IsPermutation-map, IsPermutation-reverse}
+use Rattle.cluster_types.specs.declared.cluster_key.ClusterKey.{ClusterKey}
+use Rattle.cluster_types.specs.declared.member.Member.{Member}
+use Rattle.cluster_types.specs.declared.member.Role.{Role}
+use Rattle.cluster_types.specs.Distinct.{IsDescending}
+use Rattle.cluster_types.specs.Members.{ids_of}
+use Rattle.partition_lists.proofs.InOrderLaws.{from_equal}
+use Rattle.clustering.specs.Answers.{entered_or_sent, tick_answer}
+use Rattle.clustering.specs.declared.steps.Proposal as answers
+use Rattle.clustering.specs.declared.steps.Proposal.TheVariants as proposal
+use Rattle.journal_lines.specs.declared.line.Line.{Line}
+use Rattle.journal_lines.specs.declared.line.Line.TheVariants as line
+use Rattle.wire_messages.specs.declared.message.Message.TheVariants as message
+use Rattle.node_rules.specs.Agreement as agreement
+use Rattle.node_rules.specs.Agreement.{Agreement, Proposal, enters_alone, has_round, kept_if, next_key, proposes_anew, proposes_set, proposing_if, seen_round, still_proposing, ticking}
+use Rattle.node_rules.specs.Copies.{is_nil}
+use Rattle.node_rules.specs.Effects as rules
+use Rattle.node_rules.specs.Effects.{lines_only, nothing, sends_only, to_each}
+use Rattle.node_rules.specs.Entering.{entering}
+use Rattle.node_rules.specs.Facts.{Facts}
+use Rattle.node_rules.specs.Hearing.{Heard, is_greatest, member_of, names, neighbours_of}
+use Rattle.node_rules.specs.Keys.{same_key}
+use Rattle.node_rules.specs.Notes.{neighbours}
+use Rattle.node_rules.specs.Tables.{Table, with_entry}
+use Rattle.node_rules.specs.Tick.{is_candidate, propose, propose_new, proposing_to}
+use Rattle.node_rules.proofs.Agreeing.{same_itself}
+use Rattle.wire_messages.specs.Keys.{IsKeyField}
+use Rattle.node_core.specs.declared.effects.Effects.{Effects}
+use Rattle.node_core.specs.Plans.{only_if}
+use Rattle.node_core.specs.Spelled.{followed_by}
+use Rattle.node_core.proofs.HeartbeatLaws.{unlike}
+use Rattle.node_core.proofs.SpelledLaws.{told_twice}
+
+-- ---- the neighbours
+
+first_one : (n : ℕ) (ns : List ℕ) → Contains (n ∷ ns) n
+first_one n ns = (0, omega arith, refl)
+
+abbrev keys_in : Table Role → List ℕ
+keys_in es = map (λ e. e.0) es
+
+-- what is put into a table is there
+put_there : (n : ℕ) (role : Role) (es : Table Role) → Contains (keys_in (put nat_cmp n role es)) n
+put_there n role [] = first_one n []
+put_there n role (e ∷ es) = go (nat_lt n e.0) (n == e.0) refl refl (put_there n role es)
+  where
+    go : (a b : Bool) → nat_lt n e.0 ≡ a → (n == e.0) ≡ b → Contains (keys_in (put nat_cmp n role es)) n → Contains (keys_in (put nat_cmp n role (e ∷ es))) n
+    go true b p q later = rw p (first_one n (keys_in (e ∷ es)))
+    go false true p q later = rw (p, q) (subst (λ (m : ℕ). Contains (m ∷ keys_in es) n) (from_equal n e.0 q) (first_one n (keys_in es)))
+    go false false p q later = rw (p, q) (Contains-append_right (e.0 ∷ []) (keys_in (put nat_cmp n role es)) n later)
+
+ids_in : (es : Table Role) → ids_of (map member_of es) ≡ keys_in es
+ids_in [] = refl
+ids_in (e ∷ es) = ap (λ (ns : List ℕ). e.0 ∷ ns) (ids_in es)
+
+-- a node is one of its neighbours
+pub itself_among : (me : ℕ) (role : Role) (heard : Table Heard) → Contains (ids_of (neighbours_of me role heard)) me
+itself_among me role heard =
+    let before : Table Role = map (λ (e : ℕ × Heard). (e.0, e.1.beat.role)) (filter (names me) heard) in
+    let ms : List Member = map member_of (with_entry before me role) in
+    Contains-permutation (ids_of ms) (ids_of (reverse ms)) me (IsPermutation-map (λ (m : Member). m.id) ms (reverse ms) (IsPermutation-reverse ms))
+    (subst (λ (ns : List ℕ). Contains ns me) (sym (ids_in (with_entry before me role))) (put_there me role before))
+
+-- ---- the greatest
+
+others_below : (me : ℕ) (ms : List Member) → All (λ n. n < me) (ids_of ms) → list_all (λ m. nat_le m.id me) ms ≡ true
+others_below me [] h = refl
+others_below me (m ∷ ms) h =
+    let low : m.id < me = All-head (λ (n : ℕ). n < me) m.id (ids_of ms) h in
+    let passes : nat_le m.id me ≡ true = grind (arith, nat_tests) in
+    ap (λ (b : Bool). b && list_all (λ (x : Member). nat_le x.id me) ms) passes ∙ others_below me ms (All-tail (λ (n : ℕ). n < me) m.id (ids_of ms) h)
+
+-- of descending members the first is the greatest
+first_is_greatest : (me : ℕ) (m : Member) (ms : List Member) → IsDescending (ids_of (m ∷ ms)) → Contains (ids_of (m ∷ ms)) me
+    → (m.id == me) ≡ is_greatest me (m ∷ ms)
+first_is_greatest me m ms falls among = go (m.id == me) refl
+  where
+    below : All (λ n. n < m.id) (ids_of ms)
+    below k d within = falls.falls 0 (suc k) d (omega arith) (omega (arith, within))
+
+    go : (b : Bool) → (m.id == me) ≡ b → b ≡ (nat_le m.id me && list_all (λ x. nat_le x.id me) ms)
+    go true is =
+        let same : m.id ≡ me = from_equal m.id me is in
+        let passes : nat_le m.id me ≡ true = grind (arith, nat_tests) in
+        sym (ap (λ (b : Bool). b && list_all (λ (x : Member). nat_le x.id me) ms) passes ∙ others_below me ms (subst (λ (n : ℕ). All (λ x. x < n) (ids_of ms)) same below))
+    go false is =
+        let other : m.id ≢ me = λ same. unlike m.id me same is in
+        let low : me < m.id = All-contains (λ (n : ℕ). n < m.id) (ids_of ms) me below (Contains-tail m.id (ids_of ms) me other among) in
+        let fails : nat_le m.id me ≡ false = grind (arith, nat_tests) in
+        sym (ap (λ (b : Bool). b && list_all (λ (x : Member). nat_le x.id me) ms) fails)
+
+pub head_is_greatest : (me : ℕ) (ms : List Member) (m : Member) → 0 < length ms → m ≡ get_or ms 0 m → IsDescending (ids_of ms) → Contains (ids_of ms) me
+    → (m.id == me) ≡ is_greatest me ms
+head_is_greatest me [] m some is falls among = absurd (omega (arith, some))
+head_is_greatest me (n ∷ ms) m some is falls among = ap (λ (x : Member). x.id == me) is ∙ first_is_greatest me n ms falls among
+
+-- ---- the agreement
+
+kept_twice : (set : List Member) (o : Option Proposal) (b : Bool) → proposes_set o set ≡ b → kept_if (proposes_set (kept_if b o) set) (kept_if b o) ≡ kept_if b o
+kept_twice set o true e = ap (λ (b : Bool). kept_if b o) e
+kept_twice set o false e = refl
+
+-- what was given up of a proposal is given up once
+pub still_twice : (a : Agreement) (set : List Member) → still_proposing (still_proposing a set) set ≡ still_proposing a set
+still_twice a set = ap (λ (o : Option Proposal). record a { proposal = o }) (kept_twice set a.proposal (proposes_set a.proposal set) refl)
+
+pub ticking_twice : (me : ℕ) (a : Agreement) (set : List Member) (candidate : Bool) → ticking me (still_proposing a set) set candidate ≡ ticking me a set candidate
+ticking_twice me a set candidate = ap (λ (x : Agreement). proposing_if me x set (proposes_anew x candidate)) (still_twice a set)
+
+pub answer_twice : (me : ℕ) (a : Agreement) (set : List Member) (candidate : Bool) → tick_answer me (still_proposing a set) set candidate ≡ tick_answer me a set candidate
+answer_twice me a set candidate =
+    ap (λ (x : Agreement). entered_or_sent (enters_alone me x set candidate) (next_key me a) set (proposing_if me x set (proposes_anew x candidate)).proposal) (still_twice a set)
+
+-- ---- what is said of the proposal
+
+-- what is due of that answer
+abbrev pub due_answer : Facts → answers.Proposal → rules.Effects
+due_answer f proposal.Nothing = nothing
+due_answer f (proposal.Send key members to) = sends_only (to_each to (message.Propose key members))
+due_answer f (proposal.Enter key members) = lines_only (entering f key members)
+
+-- the promise that is told, where it is another one
+abbrev pub promise_lines : Facts → ClusterKey → List Line
+promise_lines f key = only_if (line.Promise f.me key) (not (same_key key f.agreement.promised))
+
+-- a new key is another one
+new_key : (me : ℕ) (a : Agreement) → same_key (next_key me a) a.promised ≡ false
+new_key me a = above (seen_round a) me a.promised (seen_most a)
+  where
+    seen_most : (x : Agreement) → x.promised.round ≤ seen_round x
+    seen_most x = omega arith
+
+    above : (seen n : ℕ) (k : ClusterKey) → k.round ≤ seen → same_key (record { round = seen + 1; principal = n }) k ≡ false
+    above seen n k most = grind (arith, nat_tests)
+
+abbrev answer_by : ℕ → Agreement → List Member → Bool → answers.Proposal
+answer_by me a set candidate = entered_or_sent (enters_alone me a set candidate) (next_key me a) set (proposing_if me a set (proposes_anew a candidate)).proposal
+
+abbrev pub told_by : Facts → Agreement → answers.Proposal → rules.Effects
+told_by f a answer = rules.followed_by (lines_only (promise_lines f a.promised)) (due_answer f answer)
+
+-- facts with a proposal or none
+abbrev with_proposal : Facts → Option Proposal → Facts
+with_proposal f o = record f { agreement = record f.agreement { proposal = o } }
+
+-- what is promised as a view is proposed
+said_anew : (f : Facts) (key : ClusterKey) (set : List Member) (ns : List ℕ) → f.agreement.proposal ≡ None → ns ≡ agreement.others f.me set → same_key key f.agreement.promised ≡ false
+    → proposing_to f key set ns ≡ told_by f (agreement.proposing_to f.me f.agreement key set ns) (entered_or_sent (is_nil ns) key set (agreement.proposing_to f.me f.agreement key set ns).proposal)
+said_anew f key set [] none same new = rw new refl
+said_anew f key set (n ∷ ns) none same new =
+    let anew : Option Proposal → Agreement = λ (o : Option Proposal). agreement.proposing (agreement.promising (record f.agreement { proposal = o }) key) f.me key set in
+    ap (λ (to : List ℕ). record { lines = line.Promise f.me key ∷ []; sends = to_each to (message.Propose key set) }) same
+    ∙ sym (rw new refl)
+    ∙ ap (λ (o : Option Proposal). told_by f (anew o) (entered_or_sent false key set (anew o).proposal)) (sym none)
+
+said_none : (f : Facts) (b : Bool) → f.agreement.proposal ≡ None
+    → propose_new f b
+    ≡ told_by f (proposing_if f.me f.agreement (neighbours f) b) (entered_or_sent (b && is_nil (agreement.others f.me (neighbours f))) (next_key f.me f.agreement) (neighbours f) (proposing_if f.me f.agreement (neighbours f) b).proposal)
+said_none f true none =
+    said_anew f (next_key f.me f.agreement) (neighbours f) (agreement.others f.me (neighbours f)) none refl (new_key f.me f.agreement)
+said_none f false none = rw (same_itself f.agreement.promised, none) refl
+
+said : (f : Facts) (o : Option Proposal)
+    → propose (with_proposal f o)
+    ≡ told_by (with_proposal f o) (proposing_if f.me (with_proposal f o).agreement (neighbours f) (proposes_anew (with_proposal f o).agreement (is_candidate f))) (answer_by f.me (with_proposal f o).agreement (neighbours f) (is_candidate f))
+said f (Some p) = rw (same_itself f.agreement.promised) refl
+said f None = said_none (with_proposal f None) (is_candidate f && has_round f.agreement) refl
+
+-- what the agreement says at a tick is due, with the line of a promise where there is a new one
+pub proposed_as : (f : Facts) (a : Agreement) (answer : answers.Proposal) → still_proposing f.agreement (neighbours f) ≡ f.agreement
+    → a ≡ ticking f.me f.agreement (neighbours f) (is_candidate f) → answer ≡ tick_answer f.me f.agreement (neighbours f) (is_candidate f)
+    → propose f ≡ told_by f a answer
+proposed_as f a answer still is answered =
+    let set : List Member = neighbours f in
+    let b : Bool = is_candidate f in
+    said f f.agreement.proposal
+    ∙ ap (λ (x : Agreement). told_by f (proposing_if f.me x set (proposes_anew x b)) (entered_or_sent (enters_alone f.me x set b) (next_key f.me f.agreement) set (proposing_if f.me x set (proposes_anew x b)).proposal)) (sym still)
+    ∙ ap₂ (λ (x : Agreement) (y : answers.Proposal). told_by f x y) (sym is) (sym answered)
+
+-- ---- what follows from an answer
+
+-- a proposal that is sent has a key that has a spelling
+pub sent_key : (b : Bool) (k key : ClusterKey) (set ms : List Member) (to : List ℕ) (o : Option Proposal) → ForSome o (λ p. IsKeyField p.key)
+    → proposal.Send key ms to ≡ entered_or_sent b k set o → IsKeyField key
+sent_key true k key set ms to o h e = cc
+sent_key false k key set ms to None h e = cc
+sent_key false k key set ms to (Some p) h e = let same : p.key ≡ key = cc in subst IsKeyField same (h p refl)
+
+-- a view that is entered is one of these members
+pub entered_set : (b : Bool) (k key : ClusterKey) (set ms : List Member) (o : Option Proposal) → proposal.Enter key ms ≡ entered_or_sent b k set o → ms ≡ set
+entered_set true k key set ms o e = cc
+entered_set false k key set ms None e = cc
+entered_set false k key set ms (Some p) e = cc
+
+-- what is told of an answer is what is due
+pub told_answer : (told : Effects) (f : Facts) (a : Agreement) (answer : answers.Proposal) → propose f ≡ told_by f a answer
+    → followed_by (followed_by told (lines_only (promise_lines f a.promised))) (due_answer f answer) ≡ followed_by told (propose f)
+told_answer told f a answer is =
+    told_twice told (lines_only (promise_lines f a.promised)) (due_answer f answer) ∙ ap (λ (e : rules.Effects). followed_by told e) (sym is)

@@ -1,0 +1,21 @@
+use Rattle.std.proofs.Common.{◌≡◌, Bool, false, IfOk, sym, subst, ◌∙◌}
+use Rattle.std.specs.FinMap as finite
+use Rattle.wire_messages.specs.Versions.{IsOptionVersion}
+use Rattle.node_rules.specs.Messages.{ask_came}
+use Rattle.node_rules.specs.Notes.{in_view}
+use Rattle.node_core.specs.Spelled.{spelled}
+use Rattle.node_core.proofs.RangeLaws.{option_version}
+use Rattle.node_core.proofs.node.Node.on_ask.Goals as goal
+
+pub returns-then-is_none-clause-effects : goal.returns-then-is_none-clause-effects
+returns-then-is_none-clause-effects c =
+    let out : in_view c.args.self.now.now c.args.key ≡ false = sym c.view_of.ensures.some ∙ c.if-is_none.ensures in
+    subst (λ (b : Bool). IfOk c.stale.result (λ e. e ≡ spelled (ask_came c.args.self.now.now c.args.from c.args.key c.args.transaction c.args.digest.now b))) (sym out) c.stale.ensures.effects
+
+pub send-requires : goal.send-requires
+send-requires c =
+    let store = c.self.invariant.0.ranges.store in (
+      c.requires.proper.0,
+      c.requires.proper.1,
+      subst IsOptionVersion (sym (c.in_ok-copy_of.ensures ∙ c.get.ensures)) (option_version (finite.get c.self.inside.store.versions c.args.digest.now) (store.versions c.args.digest.now)),
+    )

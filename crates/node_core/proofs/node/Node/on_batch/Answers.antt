@@ -1,0 +1,70 @@
+use Rattle.std.proofs.Common.{◌≡◌, Bool, true, false, IfOk, sym, ap, subst, ◌∙◌}
+use Rattle.std.specs.Prelude.{IsSome}
+use Rattle.immigrate.specs.declared.merging.Merged.{Merged}
+use Rattle.node_rules.specs.Messages.{batch_came}
+use Rattle.node_rules.specs.Notes.{in_view}
+use Rattle.node_rules.specs.Steps.{Planning, planning}
+use Rattle.node_view.specs.declared.view_step.ViewStep.TheVariants as step
+use Rattle.node_core.specs.declared.planned.Planned.{Planned}
+use Rattle.node_core.specs.declared.planned.Planned.TheVariants as planned
+use Rattle.node_core.specs.Nodes.{facts_of}
+use Rattle.node_core.specs.Spelled.{spelled}
+use Rattle.node_core.proofs.BatchMessageLaws.{batch_effects_due, batch_fits, batch_is_after, batch_ranges}
+use Rattle.node_core.proofs.HandlerLaws.{in_one, still}
+use Rattle.node_core.proofs.NodeLaws.{has_no_plan}
+use Rattle.node_core.proofs.RoomLaws.{more_in_store, node_roomier_planned, node_roomier_still, on_err_if, seen_planned, seen_still}
+use Rattle.node_core.proofs.node.Node.on_batch.Goals as goal
+
+pub returns-then-is_none-clause-effects : goal.returns-then-is_none-clause-effects
+returns-then-is_none-clause-effects c =
+    let out : in_view c.args.self.now.now c.args.batch.now.key ≡ false = sym c.view_of.ensures.some ∙ c.if-is_none.ensures in
+    subst (λ (b : Bool). IfOk c.stale.result (λ e. e ≡ spelled (batch_came c.args.self.now.now c.args.from c.args.batch.now b))) (sym out) c.stale.ensures.effects
+
+pub invariant_of-self : goal.invariant_of-self
+invariant_of-self c =
+    let n = c.self.inside in
+    node_roomier_still n n.view c.plan_batch.new.store c.self.invariant.0 (has_no_plan n c.args.self.now c.self.view_is c.requires.unplanned) (more_in_store n c.plan_batch.new.store c.plan_batch.ensures.same)
+
+pub returns-in_err-merged-clause-err : goal.returns-in_err-merged-clause-err
+returns-in_err-merged-clause-err c =
+    let n = c.self.inside in
+    on_err_if c.from_residual.result _
+    (seen_still n n.view c.plan_batch.new.store c.args.self.now c.self.view_is (more_in_store n c.plan_batch.new.store c.plan_batch.ensures.same) ∙ still c.args.self.now c.requires.unplanned)
+
+pub invariant_of-self-in_err-out : goal.invariant_of-self-in_err-out
+invariant_of-self-in_err-out c =
+    let n = c.self.inside in
+    node_roomier_still n n.view c.plan_batch.new.store c.self.invariant.0 (has_no_plan n c.args.self.now c.self.view_is c.requires.unplanned) (more_in_store n c.plan_batch.new.store c.plan_batch.ensures.same)
+
+pub returns-in_err-out-clause-err : goal.returns-in_err-out-clause-err
+returns-in_err-out-clause-err c =
+    let n = c.self.inside in
+    on_err_if c.from_residual-in_err-out.result _
+    (seen_still n n.view c.plan_batch.new.store c.args.self.now c.self.view_is (more_in_store n c.plan_batch.new.store c.plan_batch.ensures.same) ∙ still c.args.self.now c.requires.unplanned)
+
+pub invariant_of-self-2 : goal.invariant_of-self-2
+invariant_of-self-2 c =
+    let n = c.self.inside in
+    let b = c.args.batch.now in
+    let m : Merged = c.in_ok-merged.merged in
+    let p : Planned = planned.View (step.Merged m) in
+    let of_view : in_view c.args.self.now.now b.key ≡ true = sym c.view_of.ensures.some ∙ c.if-is_none.ensures in
+    let inside_one : IsSome (facts_of n).exchange.view = subst (λ (q : Planning). IsSome q.now.exchange.view) (sym c.self.view_is) (in_one c.args.self.now.now b.key of_view) in
+    node_roomier_planned n n.view c.plan_batch.new.store p c.self.invariant.0 (more_in_store n c.plan_batch.new.store c.plan_batch.ensures.same)
+    (batch_fits (facts_of n) b m inside_one c.in_ok-merged.ensures.newer) (batch_ranges (facts_of n) b m c.requires.proper c.in_ok-merged.ensures.newer c.self.invariant.0.ranges)
+    (λ v e. c.in_ok-merged.ensures.room)
+
+pub returns-clause-effects : goal.returns-clause-effects
+returns-clause-effects c =
+    let b = c.args.batch.now in
+    let of_view : in_view c.args.self.now.now b.key ≡ true = sym c.view_of.ensures.some ∙ c.if-is_none.ensures in
+    c.in_ok-out.ensures ∙ batch_effects_due c.self.inside c.args.self.now c.args.from b c.in_ok-merged.merged.newer c.self.view_is of_view c.in_ok-merged.ensures.newer
+
+pub returns-clause-planned : goal.returns-clause-planned
+returns-clause-planned c =
+    let n = c.self.inside in
+    let b = c.args.batch.now in
+    let m : Merged = c.in_ok-merged.merged in
+    let of_view : in_view c.args.self.now.now b.key ≡ true = sym c.view_of.ensures.some ∙ c.if-is_none.ensures in
+    seen_planned n n.view c.plan_batch.new.store (planned.View (step.Merged m)) c.args.self.now c.self.view_is (more_in_store n c.plan_batch.new.store c.plan_batch.ensures.same)
+    ∙ ap (planning c.args.self.now.now) (batch_is_after n c.args.self.now c.args.from b m c.self.view_is of_view c.in_ok-merged.ensures.newer)

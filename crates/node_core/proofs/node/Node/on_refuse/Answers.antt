@@ -1,0 +1,56 @@
+use Rattle.std.proofs.Common.{◌≡◌, ℕ, [], ◌∷◌, Bool, true, false, sym, ap, ◌∙◌}
+use Rattle.journal_lines.specs.declared.line.Line.TheVariants as line
+use Rattle.clustering.specs.Answers.{refuse_of}
+use Rattle.node_rules.specs.Agreement.{Agreement, proposes, refusing}
+use Rattle.node_rules.specs.Messages.{unless_stale}
+use Rattle.node_rules.specs.Steps.{Planning, planning}
+use Rattle.node_rules.proofs.PartLaws.{refuse_is}
+use Rattle.node_core.specs.declared.effects.Effects.{Effects}
+use Rattle.node_core.specs.Spelled.{spelled}
+use Rattle.node_core.proofs.HandlerLaws.{is_stale, is_stopped}
+use Rattle.node_core.proofs.RangeLaws.{agreement_is, answer_is, ranges_after, refused_keys}
+use Rattle.node_core.proofs.node.Node.on_refuse.Goals as goal
+
+pub plan_agreed-requires-clause-ranges : goal.plan_agreed-requires-clause-ranges
+plan_agreed-requires-clause-ranges c =
+    let p = c.args.self.now in
+    let onward : Agreement → Agreement = λ (a : Agreement). refusing a c.args.refused c.args.promised in
+    let is : c.on_refuse-agree.result.0.agreement ≡ onward p.now.agreement = agreement_is c.self.inside p c.copy.result c.on_refuse-agree.result.0 onward c.self.view_is c.copy.ensures c.on_refuse-agree.ensures.agree in
+    ranges_after c.self.inside p c.on_refuse-agree.result.0.agreement onward c.self.view_is c.self.invariant.0.ranges is (refused_keys p.now.agreement c.args.refused c.args.promised)
+
+pub plan_agreed-requires-in-Stale-clause-ranges : goal.plan_agreed-requires-in-Stale-clause-ranges
+plan_agreed-requires-in-Stale-clause-ranges c =
+    let p = c.args.self.now in
+    let onward : Agreement → Agreement = λ (a : Agreement). refusing a c.args.refused c.args.promised in
+    let is : c.on_refuse-agree.result.0.agreement ≡ onward p.now.agreement = agreement_is c.self.inside p c.copy.result c.on_refuse-agree.result.0 onward c.self.view_is c.copy.ensures c.on_refuse-agree.ensures.agree in
+    ranges_after c.self.inside p c.on_refuse-agree.result.0.agreement onward c.self.view_is c.self.invariant.0.ranges is (refused_keys p.now.agreement c.args.refused c.args.promised)
+
+pub returns-in-Stopped-clause-effects : goal.returns-in-Stopped-clause-effects
+returns-in-Stopped-clause-effects c =
+    let p = c.args.self.now in
+    let told = answer_is c.self.inside p c.copy.result c.on_refuse-agree.result.1 (λ (a : Agreement). refuse_of a c.args.refused) c.self.view_is c.copy.ensures c.on_refuse-agree.ensures.answer in
+    let held : proposes p.now.agreement.proposal c.args.refused ≡ true = is_stopped _ (sym told ∙ c.in-Stopped.is) in
+    c.plan_agreed.ensures.same ∙ c.new.ensures ∙ ap (λ (b : Bool). spelled (unless_stale p.now b)) (sym held)
+
+pub returns-in-Stopped-clause-planned : goal.returns-in-Stopped-clause-planned
+returns-in-Stopped-clause-planned c =
+    let p = c.args.self.now in
+    let onward : Agreement → Agreement = λ (a : Agreement). refusing a c.args.refused c.args.promised in
+    let is : c.on_refuse-agree.result.0.agreement ≡ onward p.now.agreement = agreement_is c.self.inside p c.copy.result c.on_refuse-agree.result.0 onward c.self.view_is c.copy.ensures c.on_refuse-agree.ensures.agree in
+    c.plan_agreed.ensures.planned ∙ ap (λ (a : Agreement). planning p.now (record p.now { agreement = a })) is ∙ ap (planning p.now) (sym (refuse_is p.now 0 0 c.args.refused c.args.promised))
+
+pub returns-in_ok-out-in-Stale-clause-effects : goal.returns-in_ok-out-in-Stale-clause-effects
+returns-in_ok-out-in-Stale-clause-effects c =
+    let p = c.args.self.now in
+    let told = answer_is c.self.inside p c.copy.result c.on_refuse-agree.result.1 (λ (a : Agreement). refuse_of a c.args.refused) c.self.view_is c.copy.ensures c.on_refuse-agree.ensures.answer in
+    let none : proposes p.now.agreement.proposal c.args.refused ≡ false = is_stale _ (sym told ∙ c.in-Stale.is) in
+    let line_of : ℕ → Effects = λ (n : ℕ). record { lines = line.Stale n ∷ []; sends = [] } in
+    c.plan_agreed-in-Stale.ensures.same ∙ c.in_ok-out-in-Stale.ensures ∙ ap line_of c.number-endpoint.ensures.same ∙ ap (λ (q : Planning). line_of q.now.me) c.self.view_is
+    ∙ ap (λ (b : Bool). spelled (unless_stale p.now b)) (sym none)
+
+pub returns-in_ok-out-in-Stale-clause-planned : goal.returns-in_ok-out-in-Stale-clause-planned
+returns-in_ok-out-in-Stale-clause-planned c =
+    let p = c.args.self.now in
+    let onward : Agreement → Agreement = λ (a : Agreement). refusing a c.args.refused c.args.promised in
+    let is : c.on_refuse-agree.result.0.agreement ≡ onward p.now.agreement = agreement_is c.self.inside p c.copy.result c.on_refuse-agree.result.0 onward c.self.view_is c.copy.ensures c.on_refuse-agree.ensures.agree in
+    c.plan_agreed-in-Stale.ensures.planned ∙ ap (λ (a : Agreement). planning p.now (record p.now { agreement = a })) is ∙ ap (planning p.now) (sym (refuse_is p.now 0 0 c.args.refused c.args.promised))

@@ -1,0 +1,134 @@
+//! A tick, part by part.
+ghost use Rattle.std.specs.Prelude.{◌≡◌, IsTrue, IfOk, OnErr, OnOk};
+ghost use Rattle.std.specs.Option.{option_map};
+ghost use Rattle.cluster_types.specs.Partitions.{partition_count};
+ghost use Rattle.node_rules.specs.Steps.{after_tick, planning, unplanned};
+ghost use Rattle.node_rules.specs.Tick.{due_tick, in_order};
+ghost use Rattle.node_core.specs.Counts.{HaveNumbers};
+ghost use Rattle.node_core.specs.Fits.{FitsAgreed};
+ghost use Rattle.node_core.specs.Nodes.{IsGround, grounded, lent};
+ghost use Rattle.node_core.specs.Plans.{either};
+ghost use Rattle.node_core.specs.Ranges.{HasRanges};
+ghost use Rattle.node_core.specs.Spelled.{followed_by, spelled};
+ghost use Rattle.node_core.specs.Ticks.{TicksFrom, agreed, later_parts};
+
+mod batches;
+mod beat;
+mod progress_messages;
+mod propose;
+mod rows;
+mod settlings;
+mod transactions;
+
+use crate::effects::Effects;
+use crate::ground::Ground;
+use crate::node::Node;
+use crate::planned::{Planned, Ticked};
+use crate::tick::batches::batches;
+use crate::tick::beat::beat;
+use crate::tick::progress_messages::progress;
+use crate::tick::propose::is_candidate;
+use crate::tick::rows::rows;
+use crate::tick::settlings::settlings;
+use crate::tick::transactions::transactions;
+use cluster_types::NoMemory;
+use clustering::Agree;
+use heartbeat::Adjacency;
+use journal_lines::Line;
+use node_view::View;
+use std::alloc::Global;
+
+impl Node {
+    /// Plans a tick of a running node. Its clock plays no part.
+    pub fn tick(&mut self, alloc: Global, _clock: u64) -> Result<Effects, NoMemory>
+        requires up { IsTrue self.old.now.up }
+        requires counts { HaveNumbers self.old.now }
+        ensures effects { IfOk result (λ e. e ≡ spelled (due_tick self.old.now)) }
+        ensures planned { OnOk result (self.new ≡ planning self.old.now (after_tick self.old.now)) }
+        ensures err { OnErr result (self.new ≡ unplanned self.old.now) }
+    {
+        self.give_up();
+        let mut out = Effects::new(alloc);
+        out.lines.push(Line::Tick { node: self.me })?;
+
+        let mut hearing = self.hearing.copy();
+        hearing.tick();
+        let before = self.ground(&hearing, &self.agree, self.own_view());
+        beat(alloc, &before, &mut out)?;
+        let set = hearing.neighbours();
+        let candidate = is_candidate(&before, &set);
+
+        let (agree, proposal) = self.agree.copy().on_tick(set, candidate);
+        let entered = self.propose(alloc, &agree, &proposal, &mut out)?;
+        let ticked = self.plan_rest(alloc, hearing, agree, entered, &mut out)?;
+        Ok(self.plan(out, Planned::Tick(ticked)))
+    }
+
+    /// The parts of a tick after the agreement.
+    fn plan_rest(
+        &self,
+        alloc: Global,
+        hearing: Adjacency,
+        agree: Agree,
+        entered: Option<Box<View>>,
+        out: &mut Effects,
+    ) -> Result<Ticked, NoMemory>
+        requires up { IsTrue self.now.now.up }
+        requires counts { HaveNumbers (agreed self.now.now hearing agree entered) }
+        requires hearing { hearing.me ≡ self.now.now.me }
+        requires view { FitsAgreed self.now.now agree entered }
+        requires ranges { HasRanges (agreed self.now.now hearing agree entered) }
+        ensures lines { OnOk result (out.new ≡ followed_by out.old (in_order (later_parts partition_count) (agreed self.now.now hearing agree entered))) }
+        ensures ticked { IfOk result (λ t. TicksFrom self.now.now hearing agree entered t) }
+    {
+        let _ = &self.me;
+        let (batches, settlings) = {
+            let ground = self.ground(&hearing, &agree, newest(&entered, self.own_view()));
+            rows(alloc, &ground, out)?;
+            transactions(alloc, &ground, out)?;
+            let batches = batches(alloc, &ground, out)?;
+            let settlings = settlings(alloc, &ground, out)?;
+            progress(alloc, &ground, &settlings, out)?;
+            (batches, settlings)
+        };
+        Ok(Ticked {
+            hearing,
+            agree,
+            entered,
+            batches,
+            settlings,
+        })
+    }
+
+    /// The node with these parts in place of its own.
+    fn ground<'a>(
+        &'a self,
+        hearing: &'a Adjacency,
+        agree: &'a Agree,
+        view: Option<&'a View>,
+    ) -> Ground<'a>
+        requires { IsGround self.now.now hearing.now agree.now view }
+        ensures { result ≡ grounded self.now.now hearing.now agree.now view.entry }
+    {
+        Ground {
+            me: self.me,
+            peers: &self.peers,
+            factor: self.factor,
+            role: self.role,
+            hearing,
+            agree,
+            view,
+            store: &self.store,
+        }
+    }
+}
+
+/// The view that was entered, and else the one before.
+fn newest<'a>(entered: &'a Option<Box<View>>, before: Option<&'a View>) -> Option<&'a View>
+    ensures { lent result ≡ either (option_map (λ v. v.value) entered.now) (lent before.entry) }
+{
+    match entered {
+        Some(view) => Some(view),
+        None => before,
+    }
+}
