@@ -5,7 +5,6 @@ use Rattle.partition_lists.proofs.InOrderLaws.{from_equal}
 use Rattle.cluster_types.specs.declared.cluster_key.ClusterKey.{ClusterKey}
 use Rattle.journal_lines.specs.declared.line.Line.{Line}
 use Rattle.journal_lines.specs.declared.line.Line.TheVariants as line
-use Rattle.wire_messages.specs.declared.message.Batch.{Batch}
 use Rattle.wire_messages.specs.declared.message.Message.TheVariants as message
 use Rattle.dup_resolve.specs.declared.txn.Txn.{Txn}
 use Rattle.node_rules.specs.Batches.{has_number, out_to, acking}
@@ -15,7 +14,7 @@ use Rattle.node_rules.specs.Exchange.{View}
 use Rattle.node_rules.specs.Facts.{Facts, view_key}
 use Rattle.node_rules.specs.Keys.{same_key}
 use Rattle.node_rules.specs.Messages as due
-use Rattle.node_rules.specs.Notes.{closed, if_view, in_view}
+use Rattle.node_rules.specs.Notes.{if_view, in_view}
 use Rattle.node_rules.specs.Settling.{line_if}
 use Rattle.node_rules.specs.Steps.{after_message}
 use Rattle.node_rules.specs.Tables.{changed_if}
@@ -25,14 +24,6 @@ use Rattle.node_view.specs.Transactions.{kept_of}
 use Rattle.node_core.specs.Plans.{after_ack, only_if}
 
 -- ---- batches
-
-pub number_of : (o : Option Batch) (k number : ℕ) → Some k ≡ option_map (λ b. b.number) o → has_number o number ≡ (k == number)
-number_of None k number e = cc
-number_of (Some b) k number e = let same : k ≡ b.number = cc in ap (λ (n : ℕ). n == number) (sym same)
-
-pub no_number : (o : Option Batch) (number : ℕ) → None ≡ option_map (λ b. b.number) o → has_number o number ≡ false
-no_number None number e = refl
-no_number (Some b) number e = cc
 
 -- an acknowledgement of a batch in the view
 pub batch_ack_told : (f : Facts) (from : ℕ) (key : ClusterKey) (number : ℕ) (b : Bool) → in_view f key ≡ true → has_number (out_to f.batches from) number ≡ b

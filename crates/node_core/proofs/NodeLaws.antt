@@ -5,7 +5,7 @@ use Rattle.conflict_order.specs.declared.policy.Policy.{Policy}
 use Rattle.std.specs.Global.{Box}
 use Rattle.cluster_types.specs.declared.member.Role.{Role}
 use Rattle.record_store.specs.Store as held
-use Rattle.node_rules.specs.Notes.{started, stopped, with_role}
+use Rattle.node_rules.specs.Notes.{started, with_role}
 use Rattle.node_rules.specs.Steps.{Planning, unplanned}
 use Rattle.node_view.specs.declared.view.View.{View}
 use Rattle.node_rules.specs.Copies.{Content, Stamps, Store}
@@ -25,26 +25,18 @@ use Rattle.node_core.specs.declared.node.Node.TheInside.{Inside}
 use Rattle.node_core.specs.declared.planned.Planned.{Planned}
 use Rattle.node_core.specs.declared.planned.Planned.TheVariants as planned
 use Rattle.std.specs.Prelude.{Contains, option_map}
-use Rattle.std.proofs.lemmas.List.Elements.{All-nil}
 use Rattle.clustering.specs.Agreeing.{Agreeing}
 use Rattle.node_rules.specs.Agreement.{agreement_of, seeing}
 use Rattle.node_rules.specs.Hearing.{beat_heard, deaf, without_quiet}
 use Rattle.node_rules.specs.declared.beat.Beat.{Beat}
 use Rattle.node_view.specs.Plans.{with_stamps}
 use Rattle.node_core.specs.Fits.{Fits, FitsAgreed, IsNewView}
-use Rattle.node_core.specs.Nodes.{Agrees, FitsPlan, IsPlannedFrom, facts_of, of_view, planning_of, with_view_fields}
+use Rattle.node_core.specs.Nodes.{Agrees, FitsPlan, IsPlannedFrom, facts_of, of_view, planning_of}
 use Rattle.node_core.specs.Plans.{agreed, next_of, taken}
 use Rattle.node_core.specs.Ranges.{HasRanges}
 use Rattle.node_core.proofs.HeardLaws.{heard_put}
 use Rattle.node_core.proofs.RangeLaws.{role_ranges, started_ranges}
 use Rattle.node_core.specs.Rooms.{HasRoom, HasRoomIn, NeedsNoRoom}
-
--- ---- facts with a view
-
--- field by field they are the same
-pub fields_are : (f : Facts) (o : Option Viewed) → with_view f o ≡ with_view_fields f o
-fields_are f None = refl
-fields_are f (Some v) = refl
 
 -- ---- what no view sees
 
@@ -283,24 +275,6 @@ stopped_node n = record n {
   view = None;
 }
 
-pub that_is_stopped : (n : Inside) → Agrees n → n.planned ≡ None → HasRanges (stopped (facts_of n)) → IsNode (stopped_node n)
-that_is_stopped n h unplanned ranges = (
-  record {
-    peers = h.peers;
-    factor = h.factor;
-    hearing = h.hearing;
-    heard = All-nil (λ m. Contains n.peers m);
-    role = h.role;
-    agree = refl;
-    by = h.by;
-    view = λ v e. cc;
-    in_one = λ v e. cc;
-    ranges = ranges;
-  },
-  λ p e. cc,
-  λ p e. cc,
-)
-
 -- the agreement went on
 pub that_agreed : (n : Inside) (agree : Agreeing) → Agrees n → n.planned ≡ None → agree.me ≡ n.me → HasRanges (record (facts_of n) { agreement = agree.agreement }) → IsNode (record n { agree = agree })
 that_agreed n agree h unplanned own ranges = (
@@ -398,22 +372,6 @@ enters n agree v s lent seen entered h is none fits ranges some same stamp =
       unplanned_view (entered_node n agree v s) (agreed seen.now agree.agreement (option_map (λ (w : Box View). w.value) entered)) unplanned_now (entered_facts n agree v s node ∙ sym becomes),
     )
 
--- the agreement goes on, and no view is entered
-pub enters_none : (n : Inside) (agree : Agreeing) (seen : Planning) (entered : Option (Box View))
-    → Agrees n → planning_of n ≡ seen → seen.next ≡ None → FitsAgreed seen.now agree entered
-    → HasRanges (agreed seen.now agree.agreement (option_map (λ w. w.value) entered))
-    → entered ≡ None
-    → IsNode (record n { agree = agree }) × (planning_of (record n { agree = agree }) ≡ unplanned (agreed seen.now agree.agreement (option_map (λ w. w.value) entered)))
-enters_none n agree seen entered h is none fits ranges nobody =
-    let now : seen.now ≡ facts_of n = ap (λ (p : Planning). p.now) (sym is) in
-    let unplanned_now : n.planned ≡ None = has_no_plan n seen is none in
-    let becomes : agreed seen.now agree.agreement (option_map (λ (w : Box View). w.value) entered) ≡ record (facts_of n) { agreement = agree.agreement } =
-    ap (λ (f : Facts). agreed f agree.agreement (option_map (λ (w : Box View). w.value) entered)) now
-    ∙ ap (λ (o : Option (Box View)). agreed (facts_of n) agree.agreement (option_map (λ (w : Box View). w.value) o)) nobody in (
-      that_agreed n agree h unplanned_now (fits.agree_of ∙ ap (λ (f : Facts). f.me) now) (subst HasRanges becomes ranges),
-      unplanned_view (record n { agree = agree }) (agreed seen.now agree.agreement (option_map (λ (w : Box View). w.value) entered)) unplanned_now (sym becomes),
-    )
-
 -- ---- a heartbeat
 
 abbrev pub hearing_node : Inside → ℕ → Beat → Inside
@@ -439,10 +397,6 @@ that_heard n from beat h unplanned peer ranges = (
   λ p e. cc,
   λ p e. cc,
 )
-
--- the plan that is taken out fits the node
-pub plan_taken : (n : Inside) (o : Option Planned) (p q : Planned) → FitsPlan n → o ≡ n.planned → o ≡ Some p → p ≡ q → IsPlannedFrom (facts_of n) q
-plan_taken n o p q h is some same = subst (IsPlannedFrom (facts_of n)) same (h p (sym is ∙ some))
 
 -- a node that is in no view isn't in one
 pub in_no_view : (n : Inside) → n.view ≡ None → IsSome (facts_of n).exchange.view → ⊥

@@ -116,10 +116,6 @@ pub key_to_others : (o : Option exchange.View) (me : ℕ) → (agreement.others 
 key_to_others None me some h = absurd (some refl)
 key_to_others (Some w) me some h = h w refl
 
-pub none_unfinished : (n : ℕ) (f : Facts) (ss : List Settling) → f.exchange.exchanged ≡ false → progress n (settled_by f ss) ≡ nothing
-none_unfinished n f ss h =
-    ap (λ (b : Bool). progress_if n (settled_by f ss) (b && not (knows_all_settled (settled_by f ss) n 0))) (ap (λ (x : Exchange). x.exchanged) (settled_view f ss) ∙ h)
-
 pub none_settled : (n : ℕ) (g : Facts) → knows_all_settled g n 0 ≡ true → progress n g ≡ nothing
 none_settled n g h = go g.exchange.exchanged
   where

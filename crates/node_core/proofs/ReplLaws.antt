@@ -20,7 +20,6 @@ use Rattle.node_rules.specs.Settling.{line_if}
 use Rattle.node_rules.specs.Steps.{after_message}
 use Rattle.node_rules.proofs.PartLaws.{repl_is}
 use Rattle.node_view.specs.declared.view_step.Counted.{Counted}
-use Rattle.node_view.specs.declared.view_step.Replicated.{Replicated}
 use Rattle.node_view.specs.Plans.{replicated, some_if, with_count, with_newer}
 use Rattle.node_core.specs.Plans.{only_if}
 use Rattle.std.specs.Global.{Box}

@@ -12,9 +12,6 @@ use Rattle.node_rules.specs.Standing.{has_nothing_to_learn_or_drop, is_at_rest, 
 
 -- ---- the map
 
-pub refused_down : (f : Facts) → f.up ≡ false → Some refusal.Down ≡ map_refusal f
-refused_down f down = sym (ap (up_refusal f) down)
-
 pub refused_outside : (f : Facts) → f.up ≡ true → is_some f.exchange.view ≡ false → Some refusal.NoView ≡ map_refusal f
 refused_outside f up none = sym (ap (up_refusal f) up ∙ go f.exchange.view none)
   where

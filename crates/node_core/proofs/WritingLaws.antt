@@ -137,9 +137,6 @@ asking_alike f clock t (n ∷ ns) = refl
 pub told_resolved : (f : Facts) (r : Resolving) (asked : List ℕ) → asked ≡ [] → due_outcome f r ≡ due_asking f r asked
 told_resolved f r asked none = ap (due_asking f r) (sym none)
 
-pub outcome_resolved : (v : Viewed) (r : Resolving) (asked : List ℕ) → asked ≡ [] → Some (outcome_of v r r.want) ≡ outcome_if_resolved v r asked
-outcome_resolved v r asked none = ap (outcome_if_resolved v r) (sym none)
-
 -- it asks somebody
 pub told_asked : (told : Effects) (f : Facts) (v : Viewed) (r : Resolving) (asked : List ℕ) → IsInView f v → (asked ≡ [] → ⊥)
     → with_sends told (map (λ n. (n, spelling (message.Ask (key_of v) r.transaction r.digest))) asked) ≡ followed_by told (due_asking f r asked)

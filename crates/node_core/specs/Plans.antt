@@ -1,8 +1,5 @@
 -- What a planned step makes of the facts.
 use Rattle.std.specs.Prelude.{ℕ, Bool, true, false, if◌then◌else◌, List, [], ◌∷◌, Option, Some, None, option_map}
-use Rattle.std.specs.FinMap as finite
-use Rattle.conflict_order.specs.declared.version.Version.{Version}
-use Rattle.conflict_order.specs.Order.{is_newer}
 use Rattle.wire_messages.specs.declared.message.Batch.{Batch}
 use Rattle.node_rules.specs.Agreement.{Agreement, seeing}
 use Rattle.node_rules.specs.ByParts.{exchanged_if, sending_all}
@@ -57,11 +54,7 @@ ticked f t =
     (settled_by (agreed (record f { hearing = t.hearing.hearing }) t.agree.agreement (option_map (λ v. v.value) t.entered)) t.settlings.items)
     t.batches.items
 
--- ---- writes of other nodes
-
--- the version, where it is newer than what is held
-abbrev pub only_if_newer : Facts → List ℕ → Version → Option Version
-only_if_newer f digest v = some_if (is_newer f.store.by v (finite.get f.store.content digest)) v
+-- ---- acknowledgements of writes
 
 -- an acknowledgement came that was awaited: with the last one the transaction is closed
 abbrev pub after_ack : Facts → ℕ → ℕ → Bool → Facts

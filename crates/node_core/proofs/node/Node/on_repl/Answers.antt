@@ -14,7 +14,6 @@ use Rattle.node_rules.specs.Messages.{repl_came}
 use Rattle.node_rules.specs.Notes.{in_view}
 use Rattle.node_rules.specs.Steps.{Planning, planning}
 use Rattle.node_view.specs.declared.view.View.{View}
-use Rattle.node_view.specs.declared.view_step.Replicated.{Replicated}
 use Rattle.node_view.specs.declared.view_step.ViewStep.TheVariants as step
 use Rattle.node_view.specs.Plans.{some_if}
 use Rattle.node_view.specs.Rooms.{HasRoomToCount}

@@ -1,4 +1,4 @@
-use Rattle.std.proofs.Common.{◌≡◌, ◌<◌, ◌≤◌, Bool, ℕ, true, false, length, ap, sym, ◌∙◌, arith}
+use Rattle.std.proofs.Common.{◌≡◌, ◌<◌, ◌≤◌, Bool, ℕ, length, ap, sym, ◌∙◌, arith}
 use Rattle.cluster_types.specs.NodeLists.{IsNodeList}
 use Rattle.node_rules.specs.Agreement.{others}
 use Rattle.node_rules.specs.Exchange.{members_of}
