@@ -1,0 +1,44 @@
+-- What a command makes of a run.
+use Rattle.std.specs.Prelude.{◌≡◌, ℕ, ◌<◌, ◌++◌, List, length}
+use Rattle.cluster_types.specs.Partitions.{partition_count}
+use Rattle.journal_text.specs.Journals.{IsWithin}
+use Rattle.script_lang.specs.declared.script.Command.{Command}
+use Rattle.cluster_rules.specs.Begun.{IsBegun}
+use Rattle.cluster_rules.specs.FrontRuns.{IsFrontOf}
+use Rattle.cluster_rules.specs.Runs.{Plays, ComesToCalm, calming}
+use Rattle.cluster_rules.specs.Steps.{Step, Played}
+use Rattle.world.specs.Steps.{Run, standing, written}
+
+-- the run with more steps
+abbrev pub followed : Run → List Step → Run
+followed r steps = record r { steps = r.steps ++ steps }
+
+-- the command was played whole
+pub record PlaysOn (old new : Run) (c : Command) : Type 0 where
+  pub played : Played
+  pub plays : Plays partition_count (standing old) c played
+  pub steps : new ≡ followed old played.steps
+
+-- so many rounds were played, of which the world was calm after the last and not before, and their number told
+pub record ComesToRest (old new : Run) (rounds : ℕ) : Type 0 where
+  pub least : ComesToCalm partition_count (standing old) rounds
+  pub steps : new ≡ followed old (calming partition_count rounds (standing old)).steps
+
+-- the command was begun; the lines of the step that comes next don't fit behind those of the steps that were taken
+pub record StopsIn (old new : Run) (c : Command) : Type 0 where
+  pub taken : List Step
+  pub next : Step
+  pub begun : IsBegun partition_count (standing old) c taken next
+  pub steps : new ≡ followed old taken
+  pub passes : ¬ IsWithin (written new ++ next.lines)
+
+-- some first steps of the command were taken
+pub record StandsIn (old new : Run) (c : Command) : Type 0 where
+  pub taken : List Step
+  pub front : IsFrontOf partition_count (standing old) c taken
+  pub steps : new ≡ followed old taken
+
+-- lines were added, and the journal still fits: so rounds of a world that isn't calm come to an end
+pub record WritesMore (old new : Run) : Type 0 where
+  pub more : length (written old) < length (written new)
+  pub within : IsWithin (written new)

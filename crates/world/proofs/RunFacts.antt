@@ -1,0 +1,74 @@
+-- What holds of the world after a run's steps, which are taken.
+use Rattle.std.proofs.Common.{◌≡◌, ℕ, ◌+◌, ◌<◌, length-append, List, length, refl, sym, ap, ◌∙◌, arith}
+use Rattle.wire_messages.specs.declared.message.Message.{Message}
+use Rattle.wire_messages.specs.declared.message.Message.TheVariants as message
+use Rattle.node_core.specs.Counts.{HaveNumbers}
+use Rattle.node_core.specs.Peers.{ComesFrom, key_in}
+use Rattle.cluster_rules.specs.Steps.{all_lines}
+use Rattle.run_laws.specs.Taken.{Taken, line_bound}
+use Rattle.run_laws.specs.Worlds.{AsksDeclared, ComesFromPeer, CountsBelow, HaveReceivers, KnowsNodes, MessagesCome, SendsAreRead, view_key_of}
+use Rattle.run_laws.proofs.Worlds.{asks_declared, counts_few, have_receivers, knows_nodes, messages_come}
+use Rattle.run_laws.proofs.WorldSends.{sends_are_read}
+use Rattle.cluster_rules.specs.Opening.{header_lines}
+use Rattle.journal_lines.specs.declared.line.Line.{Line}
+use Rattle.journal_text.specs.Journals.{IsWithin}
+use Rattle.node_rules.specs.Facts.{Facts}
+use Rattle.world.specs.Fits.{Fits}
+use Rattle.world.specs.Steps.{Run, standing, written}
+
+-- ---- of a run
+
+pub known : (r : Run) → Taken r.header r.steps → KnowsNodes r.header (standing r)
+unfolding standing
+known r t = knows_nodes r.header r.steps t
+
+pub come : (r : Run) → Taken r.header r.steps → MessagesCome r.header (standing r)
+unfolding standing
+come r t = messages_come r.header r.steps t
+
+pub receivers : (r : Run) → Taken r.header r.steps → HaveReceivers r.header (standing r)
+unfolding standing
+receivers r t = have_receivers r.header r.steps t
+
+pub asks : (r : Run) → Taken r.header r.steps → AsksDeclared r.header (standing r)
+unfolding standing
+asks r t = asks_declared r.header r.steps t
+
+-- the journal has a line more at most than a number can count
+few_lines : (r : Run) (ls : List Line) → ls ≡ written r → IsWithin ls → length (all_lines r.steps) + 1 < line_bound
+unfolding written
+few_lines r ls is within =
+    let count : length ls ≡ length (header_lines r.header) + length (all_lines r.steps) = ap length is ∙ length-append (header_lines r.header) (all_lines r.steps) in
+    omega (arith, within.lines_fit, count)
+
+pub are_read : (r : Run) (sent : ℕ) (ls : List Line) → Fits r sent ls → SendsAreRead (standing r)
+unfolding standing
+are_read r sent ls fits = sends_are_read r.header r.steps fits.taken fits.nodes (few_lines r ls fits.journal fits.within)
+
+same_key : (m : Message) → key_in m ≡ view_key_of m
+same_key (message.State k wants row) = refl
+same_key (message.Batch b) = refl
+same_key (message.BatchAck k number) = refl
+same_key (message.Progress k wants done handed settled) = refl
+same_key (message.Repl k t nth d v) = refl
+same_key (message.ReplAck k t) = refl
+same_key (message.Ask k t d) = refl
+same_key (message.Answer k t v) = refl
+same_key _ = refl
+
+pub comes_from : (f : Facts) (from : ℕ) (m : Message) → ComesFromPeer f from m → ComesFrom f from m
+comes_from f from m h = record { sender = h.sender; member = λ key e i. h.member key (sym (same_key m) ∙ e) i }
+
+-- the last number of a count
+abbrev last_count : ℕ
+last_count = 4294967295
+
+have_numbers : (f : Facts) → CountsBelow last_count f → HaveNumbers f
+have_numbers f h = record { transactions = h.transactions; batches = h.batches; applies = h.applies }
+
+-- no node has counted so far, since each count has a line
+pub numbers : (r : Run) (sent : ℕ) (ls : List Line) → Fits r sent ls → (n : ℕ) → HaveNumbers ((standing r).facts n)
+unfolding standing written
+numbers r sent ls fits n =
+    let count : length ls ≡ length (header_lines r.header) + length (all_lines r.steps) = ap length fits.journal ∙ length-append (header_lines r.header) (all_lines r.steps) in
+    have_numbers ((standing r).facts n) (counts_few r.header r.steps fits.taken last_count (omega (arith, fits.within.lines_fit, count)) n)

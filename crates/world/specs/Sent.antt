@@ -1,0 +1,38 @@
+-- Messages that are sent as bytes, one after another.
+use Rattle.std.specs.Prelude.{◌≡◌, ℕ, ◌+◌, true, List, [], ◌∷◌, ◌++◌, Option, Some, None, is_some}
+use Rattle.journal_lines.specs.declared.line.Line.{Line}
+use Rattle.journal_lines.specs.declared.line.Line.TheVariants as line
+use Rattle.net_script.specs.declared.net.Flying.{Flying}
+use Rattle.net_script.specs.Network as nets
+use Rattle.cluster_rules.specs.DueEvents.{full_unless, one_more_if}
+use Rattle.cluster_rules.specs.Network.{has_place}
+
+-- receivers and bytes
+abbrev pub Sends : Type 0
+Sends = List (ℕ × List ℕ)
+
+-- their lines, where so many messages were sent before and so many are in flight
+abbrev pub posted_lines : ℕ → ℕ → ℕ → Sends → List Line
+posted_lines from sent flying [] = []
+posted_lines from sent flying (m ∷ ms) =
+    line.Sent (sent + 1) from m.0 m.1
+    ∷ (full_unless (sent + 1) (has_place flying) ++ posted_lines from (sent + 1) (one_more_if flying (has_place flying)) ms)
+
+-- the network after one was sent
+abbrev pub posted_in : nets.Network → ℕ → ℕ × List ℕ → nets.Network
+posted_in net from m = record net { flying = nets.with_next net (record { from = from; to = m.0; bytes = m.1 }); sent = net.sent + 1 }
+
+-- and after all of them
+abbrev pub all_posted_in : nets.Network → ℕ → Sends → nets.Network
+all_posted_in net from [] = net
+all_posted_in net from (m ∷ ms) = all_posted_in (posted_in net from m) from ms
+
+-- the message that leaves is in flight, if there is one
+abbrev pub IsInFlight : List (ℕ × Flying) → Option ℕ → Type 0
+IsInFlight flying None = Unit {0}
+IsInFlight flying (Some i) = is_some (nets.message_of i flying) ≡ true
+
+-- the network without the message that leaves it, if one does
+abbrev pub landing_from : nets.Network → Option ℕ → nets.Network
+landing_from net None = net
+landing_from net (Some i) = record net { flying = nets.without i net.flying }

@@ -1,0 +1,206 @@
+//! Messages that are lost, or arrive.
+ghost use Rattle.std.specs.Prelude.{◌≡◌, ◌∷◌, [], ◌&&◌, ◌||◌, ◌⊎◌, ◌==◌, not, Contains, IfSome};
+ghost use Rattle.std.specs.Option.{option_copied, option_map};
+ghost use Rattle.cluster_rules.specs.DueEvents.{losing};
+ghost use Rattle.cluster_rules.specs.declared.event.Event.TheVariants as events;
+ghost use Rattle.cluster_rules.specs.Network.{are_apart, client, flying_at};
+ghost use Rattle.cluster_rules.specs.Opening.{declared_nodes};
+ghost use Rattle.cluster_rules.specs.World.{is_up};
+ghost use Rattle.run_laws.specs.Taken.{IsProperEvent};
+ghost use Rattle.world.specs.Arriving.{Arrives, OnlyLands, delivering};
+ghost use Rattle.world.specs.Stands.{posting_of};
+ghost use Rattle.world.specs.Steps.{MayCome, StandsAt, TakesStep, next_lines, standing};
+
+use crate::delivery::{Arrival, Delivery};
+use crate::fault::StepFault;
+use crate::lines::{add_lines, one_line};
+use crate::sending::{CLIENT, land};
+use crate::taking::EndStep;
+use crate::world::World;
+use cluster_rules::Event;
+use journal_text::{Line, LineList};
+use net_script::Flying;
+use node_core::Effects;
+use std::alloc::Global;
+use wire_codec::Message;
+
+/// A message that arrives.
+#[derive(Drop)]
+struct Arriving {
+    event: Event,
+    /// The line of the delivery.
+    lines: LineList,
+    /// The number of the message, where it leaves the network.
+    landing: Option<u64>,
+    from: u16,
+    to: u16,
+    message: Message,
+}
+
+impl World {
+    pub(crate) fn lose(
+        &mut self,
+        alloc: Global,
+        message: u64,
+        event: Event,
+    ) -> Result<(), StepFault>
+        requires is { event ≡ events.Lose message }
+        requires comes { MayCome self.old event }
+        ensures { TakesStep self.old self.new event result }
+    {
+        let lines = one_line(alloc, self.loss_line(message))?;
+        self.pass_over(lines, Some(message), event)
+    }
+
+    /// The line of a loss of the message.
+    fn loss_line(&self, message: u64) -> Line
+        ensures { result ∷ [] ≡ losing message (flying_at (standing self.now).network message) }
+    {
+        match self.net.get(message) {
+            Some(_) => Line::Lost { message },
+            None => Line::NoMessage { message },
+        }
+    }
+
+    /// The message of that number, if it is in flight.
+    fn flying(&self, message: u64) -> Option<&Flying>
+        ensures value { option_map posting_of (option_copied result) ≡ flying_at (standing self.now).network message }
+        ensures receiver { IfSome result (λ m. (m.now.to ≡ client) ⊎ Contains (declared_nodes self.now.header) m.now.to) }
+    {
+        self.net.get(message)
+    }
+
+    /// The message is delivered, repeated or cut.
+    pub(crate) fn deliver(
+        &mut self,
+        alloc: Global,
+        message: u64,
+        delivery: Delivery,
+        event: Event,
+    ) -> Result<(), StepFault>
+        requires is { event ≡ delivering message delivery }
+        requires comes { MayCome self.old event }
+        ensures { TakesStep self.old self.new event result }
+    {
+        let landing = delivery.landing(message);
+        let Some(flying) = self.flying(message) else {
+            let lines = one_line(alloc, Line::NoMessage { message })?;
+            return self.pass_over(lines, landing, event);
+        };
+        let (from, to) = (flying.from, flying.to);
+        if self.is_blocked(from, to) {
+            let lines = one_line(alloc, Line::Blocked { message })?;
+            return self.pass_over(lines, landing, event);
+        }
+        let arrival = delivery.arrival(alloc, flying)?;
+        let mut lines = one_line(alloc, delivery.line(message, from, to))?;
+        match arrival {
+            Arrival::Unread => self.pass_over(lines, landing, event),
+            Arrival::Short => {
+                lines.push(Line::Short { endpoint: to })?;
+                self.pass_over(lines, landing, event)
+            }
+            Arrival::Message(message) => {
+                let arriving = Arriving {
+                    event,
+                    lines,
+                    landing,
+                    from,
+                    to,
+                    message,
+                };
+                match self.find(to) {
+                    None => self.arrive_at_client(arriving),
+                    Some(place) => self.arrive_at_node(alloc, place, arriving),
+                }
+            }
+        }
+    }
+
+    /// Whether no message gets from one end to the other: they are nodes of different groups, or the
+    /// receiver is a stopped node.
+    fn is_blocked(&self, from: u16, to: u16) -> bool
+        ensures { result ≡ (are_apart (standing self.now).network from to || (not (to == client) && not (is_up (standing self.now) to))) }
+    {
+        self.net.apart(from, to) || (to != CLIENT && !self.is_up(to))
+    }
+
+    /// Ends a delivery that makes nobody do anything.
+    fn pass_over(
+        &mut self,
+        lines: LineList,
+        landing: Option<u64>,
+        event: Event,
+    ) -> Result<(), StepFault>
+        requires comes { MayCome self.old event }
+        requires proper { IsProperEvent event }
+        requires due { lines ≡ next_lines self.old event }
+        requires lands { OnlyLands self.old event landing }
+        ensures { TakesStep self.old self.new event result }
+    {
+        self.ledger.tell_all(lines, event)?;
+        land(&mut self.net, landing);
+        Ok(())
+    }
+
+    /// The client takes tables and nothing else.
+    fn arrive_at_client(&mut self, arriving: Arriving) -> Result<(), StepFault>
+        requires comes { MayCome self.old arriving.event }
+        requires arrives { Arrives self.old arriving }
+        requires end { arriving.to ≡ client }
+        ensures { TakesStep self.old self.new arriving.event result }
+    {
+        let Arriving {
+            event,
+            mut lines,
+            landing,
+            message,
+            ..
+        } = arriving;
+        let Message::MapTable(table) = &message else {
+            lines.push(Line::Stale { endpoint: CLIENT })?;
+            return self.pass_over(lines, landing, event);
+        };
+        lines.push(Line::Table { key: table.key })?;
+        self.ledger.tell_all(lines, event)?;
+        land(&mut self.net, landing);
+        self.client.refresh(table);
+        Ok(())
+    }
+
+    fn arrive_at_node(
+        &mut self,
+        alloc: Global,
+        place: usize,
+        arriving: Arriving,
+    ) -> Result<(), StepFault>
+        requires comes { MayCome self.old arriving.event }
+        requires arrives { Arrives self.old arriving }
+        requires end { StandsAt self.old place arriving.to }
+        ensures { TakesStep self.old self.new arriving.event result }
+    {
+        let Arriving {
+            event,
+            mut lines,
+            landing,
+            from,
+            to,
+            message,
+        } = arriving;
+        let effects = self.nodes[place].receive(alloc, from, &message, self.clocks[place])?;
+        let Effects { lines: own, sends } = effects;
+        add_lines(&mut lines, own)?;
+        let step = EndStep {
+            event,
+            from: to,
+            landing,
+            effects: Effects { lines, sends },
+        };
+        step.take_of(
+            alloc,
+            &mut self.nodes[place],
+            &mut self.net,
+            &mut self.ledger,
+        )
+    }
+}

@@ -1,0 +1,96 @@
+//! What is written of a world's steps.
+ghost use Rattle.std.specs.Prelude.{◌≡◌, ◌++◌, ◌∷◌, [], ◌<◌, ◌≤◌, length, vec_len, vec_capacity, OnOk, OnErr, IsErrOf};
+ghost use Rattle.journal_text.specs.Journals.{IsWithin};
+ghost use Rattle.world.specs.Ledgers.{HasRoom, IsSameLedger, Wrote};
+
+use crate::fault::StepFault;
+use crate::lines::one_line;
+use cluster_rules::Event;
+use journal_text::{Journal, Line, LineList};
+use std::alloc::Global;
+
+/// The journal, and the event of each step.
+#[derive(Drop)]
+pub(crate) struct Ledger {
+    pub journal: Journal,
+    pub events: Vec<Event>,
+}
+
+impl Ledger {
+    /// Nothing yet.
+    pub fn new(alloc: Global) -> Ledger
+        ensures lines { result.journal.lines ≡ [] }
+        ensures events { result.events.items ≡ [] }
+    {
+        Ledger {
+            journal: Journal::new(alloc),
+            events: Vec::new(alloc),
+        }
+    }
+
+    /// The journal, which is all that is left.
+    pub fn into_journal(self) -> Journal
+        ensures { result ≡ self.journal }
+    {
+        let Ledger { journal, .. } = self;
+        journal
+    }
+
+    /// Makes room for the lines and one more event, where the journal has a place for them.
+    pub fn make_room(&mut self, lines: &LineList) -> Result<(), StepFault>
+        ensures same { IsSameLedger self.old self.new }
+        ensures within { OnOk result (IsWithin (self.old.journal.lines ++ lines.now)) }
+        ensures room { OnOk result (HasRoom self.new lines.now) }
+        ensures too_long { IsErrOf result StepFault.RunTooLong → ¬ IsWithin (self.old.journal.lines ++ lines.now) }
+    {
+        if !self.journal.fits(lines) {
+            return Err(StepFault::RunTooLong);
+        }
+        self.journal.reserve(lines.len())?;
+        self.events.reserve(1)?;
+        Ok(())
+    }
+
+    /// Writes the lines. They fit, and there is room for them.
+    pub fn append(&mut self, mut lines: LineList)
+        requires within { IsWithin (self.old.journal.lines ++ lines) }
+        requires room { length lines ≤ self.old.journal.spare }
+        ensures lines { self.new.journal.lines ≡ self.old.journal.lines ++ lines }
+        ensures events { self.new.events ≡ self.old.events }
+    {
+        self.journal.append(&mut lines);
+    }
+
+    /// Writes the lines of a step and keeps its event. They fit, and there is room for both.
+    pub fn write(&mut self, lines: LineList, event: Event)
+        requires within { IsWithin (self.old.journal.lines ++ lines) }
+        requires room { HasRoom self.old lines }
+        ensures { Wrote self.old self.new lines event }
+    {
+        self.append(lines);
+        let _ = self.events.push(event);
+    }
+
+    /// Writes the lines of a step and keeps its event, where the journal has a place for them.
+    pub fn tell_all(&mut self, lines: LineList, event: Event) -> Result<(), StepFault>
+        ensures ok { OnOk result (Wrote self.old self.new lines event) }
+        ensures within { OnOk result (IsWithin (self.old.journal.lines ++ lines)) }
+        ensures too_long { IsErrOf result StepFault.RunTooLong → ¬ IsWithin (self.old.journal.lines ++ lines) }
+        ensures err { OnErr result (IsSameLedger self.old self.new) }
+    {
+        self.make_room(&lines)?;
+        self.write(lines, event);
+        Ok(())
+    }
+
+    /// The same of a step of one line.
+    pub fn tell(&mut self, alloc: Global, line: Line, event: Event) -> Result<(), StepFault>
+        ensures ok { OnOk result (Wrote self.old self.new (line ∷ []) event) }
+        ensures within { OnOk result (IsWithin (self.old.journal.lines ++ line ∷ [])) }
+        ensures too_long { IsErrOf result StepFault.RunTooLong → ¬ IsWithin (self.old.journal.lines ++ line ∷ []) }
+        ensures err { OnErr result (IsSameLedger self.old self.new) }
+    {
+        let lines = one_line(alloc, line)?;
+        self.tell_all(lines, event)
+    }
+}

@@ -1,0 +1,35 @@
+//! Short lists of lines.
+ghost use Rattle.std.specs.Prelude.{◌≡◌, ◌++◌, ◌∷◌, [], IfOk, OnOk};
+
+use cluster_types::NoMemory;
+use journal_text::{Line, LineList};
+use std::alloc::Global;
+
+/// That line alone.
+pub(crate) fn one_line(alloc: Global, line: Line) -> Result<LineList, NoMemory>
+    ensures { IfOk result (λ lines. lines ≡ line ∷ []) }
+{
+    let mut lines = LineList::new(alloc);
+    lines.push(line)?;
+    Ok(lines)
+}
+
+/// The line, and behind it the others.
+pub(crate) fn line_before(alloc: Global, line: Line, others: LineList) -> Result<LineList, NoMemory>
+    ensures { IfOk result (λ lines. lines ≡ line ∷ others) }
+{
+    let mut lines = one_line(alloc, line)?;
+    add_lines(&mut lines, others)?;
+    Ok(lines)
+}
+
+/// Adds the lines at the end.
+pub(crate) fn add_lines(lines: &mut LineList, others: LineList) -> Result<(), NoMemory>
+    ensures { OnOk result (lines.new ≡ lines.old ++ others) }
+{
+    let mut left = others;
+    while let Some(line) = left.take_first() {
+        lines.push(line)?;
+    }
+    Ok(())
+}

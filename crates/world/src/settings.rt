@@ -1,0 +1,158 @@
+//! Steps that show something of the world, or set something in it.
+ghost use Rattle.std.specs.Prelude.{◌≡◌};
+ghost use Rattle.cluster_rules.specs.declared.event.Event.TheVariants as events;
+ghost use Rattle.world.specs.Steps.{MayCome, TakesStep, mark_line, marking};
+
+use crate::fault::StepFault;
+use crate::showing::{holds_line, map_lines};
+use crate::world::World;
+use cluster_rules::Event;
+use cluster_types::{BoxedGroups, Digest, NodeId, PartitionId, Role, partition_of};
+use journal_text::Line;
+use std::alloc::Global;
+
+impl World {
+    // ---- what is shown
+
+    pub(crate) fn show_map(
+        &mut self,
+        alloc: Global,
+        node: NodeId,
+        from: PartitionId,
+        to: PartitionId,
+        event: Event,
+    ) -> Result<(), StepFault>
+        requires is { event ≡ events.Map node from to }
+        requires comes { MayCome self.old event }
+        ensures { TakesStep self.old self.new event result }
+    {
+        let lines = map_lines(alloc, node, self.node(node), from, to)?;
+        self.ledger.tell_all(lines, event)
+    }
+
+    pub(crate) fn show_place(
+        &mut self,
+        alloc: Global,
+        partition: PartitionId,
+        event: Event,
+    ) -> Result<(), StepFault>
+        requires is { event ≡ events.Place partition }
+        requires comes { MayCome self.old event }
+        ensures { TakesStep self.old self.new event result }
+    {
+        let line = self.place_line(alloc, partition)?;
+        self.ledger.tell(alloc, line, event)
+    }
+
+    pub(crate) fn show_hash(
+        &mut self,
+        alloc: Global,
+        digest: Digest,
+        event: Event,
+    ) -> Result<(), StepFault>
+        requires is { event ≡ events.Hash digest }
+        requires comes { MayCome self.old event }
+        ensures { TakesStep self.old self.new event result }
+    {
+        let partition = partition_of(&digest);
+        self.ledger
+            .tell(alloc, Line::Hash { digest, partition }, event)
+    }
+
+    pub(crate) fn show_store(
+        &mut self,
+        alloc: Global,
+        node: NodeId,
+        digest: Digest,
+        event: Event,
+    ) -> Result<(), StepFault>
+        requires is { event ≡ events.Show node digest }
+        requires comes { MayCome self.old event }
+        ensures { TakesStep self.old self.new event result }
+    {
+        let line = holds_line(alloc, node, self.node(node), &digest)?;
+        self.ledger.tell(alloc, line, event)
+    }
+
+    pub(crate) fn tell_calm(
+        &mut self,
+        alloc: Global,
+        rounds: u64,
+        event: Event,
+    ) -> Result<(), StepFault>
+        requires is { event ≡ events.Calmed rounds }
+        requires comes { MayCome self.old event }
+        ensures { TakesStep self.old self.new event result }
+    {
+        self.ledger.tell(alloc, Line::Calm { rounds }, event)
+    }
+
+    // ---- what is set
+
+    pub(crate) fn set_clock(
+        &mut self,
+        alloc: Global,
+        node: NodeId,
+        time: u64,
+        event: Event,
+    ) -> Result<(), StepFault>
+        requires is { event ≡ events.Clock node time }
+        requires comes { MayCome self.old event }
+        ensures { TakesStep self.old self.new event result }
+    {
+        let place = self.place_of(node);
+        self.ledger.tell(alloc, Line::Clock { node, time }, event)?;
+        self.clocks[place] = time;
+        Ok(())
+    }
+
+    pub(crate) fn set_groups(
+        &mut self,
+        alloc: Global,
+        groups: &BoxedGroups,
+        event: Event,
+    ) -> Result<(), StepFault>
+        requires is { event ≡ events.Groups groups.now }
+        requires comes { MayCome self.old event }
+        ensures { TakesStep self.old self.new event result }
+    {
+        let parts = *groups.groups();
+        let groups = BoxedGroups::new(alloc, parts)?;
+        self.ledger.tell(alloc, Line::Groups { groups }, event)?;
+        self.net.set_groups(parts);
+        Ok(())
+    }
+
+    /// Marks the node as one that is about to leave, or takes the mark away.
+    pub(crate) fn set_mark(
+        &mut self,
+        alloc: Global,
+        node: NodeId,
+        quiesced: bool,
+        event: Event,
+    ) -> Result<(), StepFault>
+        requires is { event ≡ marking node quiesced }
+        requires comes { MayCome self.old event }
+        ensures { TakesStep self.old self.new event result }
+    {
+        let place = self.place_of(node);
+        self.ledger.tell(alloc, mark_line(node, quiesced), event)?;
+        let role = Role {
+            quiesced,
+            ..self.nodes[place].role()
+        };
+        self.nodes[place].set_role(role);
+        Ok(())
+    }
+}
+
+/// The line of a mark that is set or taken away.
+fn mark_line(node: NodeId, quiesced: bool) -> Line
+    ensures { result ≡ mark_line node quiesced }
+{
+    if quiesced {
+        Line::Quiesce { node }
+    } else {
+        Line::Unquiesce { node }
+    }
+}
