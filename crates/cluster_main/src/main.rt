@@ -3,7 +3,7 @@
 
 use byte_ends::{StdSink, StdSource};
 use cluster_top::{Status, code, fault_text, run};
-use std::io::Write;
+use std::io::{ErrorKind, Write};
 use std::process::ExitCode;
 use std::{env, io};
 
@@ -16,14 +16,17 @@ fn words(rt: &HostRuntime) -> io::Result<Vec<String>> {
     Ok(words)
 }
 
-/// Runs over the standard streams. Words that can't be read are no words that it takes.
+/// Runs over the standard streams. Words that aren't text are no words that it takes.
 fn status(rt: &HostRuntime) -> Status {
-    let Ok(words) = words(rt) else {
-        return Status::BadWords;
-    };
-    let mut source = StdSource::new(rt.reader());
-    let mut sink = StdSink::new(io::writer(rt));
-    run(rt.alloc(), words.as_slice(), &mut source, &mut sink).status
+    match words(rt) {
+        Ok(words) => {
+            let mut source = StdSource::new(rt.reader());
+            let mut sink = StdSink::new(io::writer(rt));
+            run(rt.alloc(), words.as_slice(), &mut source, &mut sink).status
+        }
+        Err(error) if error.kind() == ErrorKind::OutOfMemory => Status::NoMemory,
+        Err(_) => Status::BadWords,
+    }
 }
 
 /// Writes the fault's text and a line feed, as far as memory and standard error let it.

@@ -1,197 +1,167 @@
--- Without a fault of either end, the bytes decide how a run ends.
-use Rattle.std.proofs.Common.{◌≡◌, ◌≢◌, ℕ, ◌<◌, ◌≤◌, nat_lt, Bool, true, false, cond, List, [], ◌∷◌, ◌++◌, length, Option, Some, None, IfSome, Result, Ok, Err, zero, suc, refl, sym, ap, subst, ◌∙◌, arith, inl, inr, append_assoc}
+-- How a run ended says what decides it, and what holds of its journal.
+use Rattle.std.proofs.Common.{◌≡◌, ◌≢◌, ℕ, ◌<◌, ◌≤◌, inl, inr, nat_lt, Bool, true, false, List, [], ◌++◌, length, Option, Some, None, IsSome, IfSome, Result, Ok, Err, refl, sym, ap, subst, arith, length-append}
 use Rattle.std.proofs.lemmas.Bool.Decides.{nat_tests}
-use Rattle.std.proofs.lemmas.List.{append-nil}
+use Rattle.std.proofs.lemmas.Grind.{flat_map-append}
 use Rattle.byte_ends.specs.Faults.{Rose}
+use Rattle.cluster_types.specs.Partitions.{partition_count}
 use Rattle.journal_lines.specs.declared.line.Line.{Line}
 use Rattle.journal_text.specs.Journals.{IsWithin}
-use Rattle.journal_text.specs.Text.{text}
-use Rattle.script_lang.specs.declared.script.Command.{Command}
+use Rattle.journal_text.specs.Text.{text, line_text}
+use Rattle.script_lang.specs.declared.fault.Cause.{Cause}
 use Rattle.script_lang.specs.declared.script.Script.{Script}
 use Rattle.script_lang.specs.Grammar.{Fault, script_of}
+use Rattle.script_lang.specs.Proper.{IsProper}
+use Rattle.cluster_rules.specs.Opening.{header_lines}
+use Rattle.cluster_rules.specs.Steps.{all_lines}
+use Rattle.cluster_rules.specs.Runs.{Run}
 use Rattle.cluster_top.specs.declared.status.Status.{Status}
 use Rattle.cluster_top.specs.declared.status.Status.TheVariants as status
-use Rattle.cluster_top.specs.declared.world.World.{World}
-use Rattle.cluster_top.specs.Claims.{NoLoss, ReadJoin}
-use Rattle.cluster_top.specs.Run.{run, play, due, after, reached}
-use Rattle.cluster_top.specs.Streams.{HadAll, Wrote, WroteFront}
-use Rattle.cluster_top.specs.Outcome.{CutOff, Ended, EndedRun, IsCut, IsDecided, IsWritten, StopsBefore, ending, is_within, of_script, script_limit, Replayed, Misread, Outgrown, Overlong}
-use Rattle.cluster_top.proofs.PlayLaws.{begins_within, play_append}
-use Rattle.cluster_top.proofs.NoLossLaws.{no_loss_of_run}
-use Rattle.cluster_top.proofs.ReadJoinLaws.{read_join_of_run}
+use Rattle.cluster_top.specs.declared.words.Words.{Words}
+use Rattle.cluster_top.specs.Generating.{generated}
+use Rattle.cluster_top.specs.Outcome.{Ended, EndsBy, EndsBytes, EndsScript, FitsWhole, HadScript, IsCut, IsDecided, IsWritten, Misread, Outgrown, Replayed}
+use Rattle.cluster_top.specs.Streams.{HadAll, Overlong, script_limit}
+use Rattle.cluster_top.specs.Transcripts.{transcript}
+use Rattle.cluster_top.specs.Words.{Asks}
+use Rattle.cluster_top.proofs.WordLaws.{asks_one}
+use Rattle.cluster_top.proofs.RunsOnce.{BeginsWith, run_begins}
 
-ends_within : (bytes : List ℕ) (b : Bool) → nat_lt script_limit (length bytes) ≡ b → length bytes ≤ script_limit → cond b status.ScriptTooLong (of_script (script_of bytes)) ≡ of_script (script_of bytes)
-ends_within bytes true e fits = absurd (grind (arith, nat_tests))
-ends_within bytes false e fits = refl
+-- ---- a run that is cut doesn't fit
 
-ends_beyond : (bytes : List ℕ) (b : Bool) → nat_lt script_limit (length bytes) ≡ b → script_limit < length bytes → cond b status.ScriptTooLong (of_script (script_of bytes)) ≡ status.ScriptTooLong
+text_append : (xs ys : List Line) → text (xs ++ ys) ≡ text xs ++ text ys
+text_append xs ys = flat_map-append line_text xs ys
+
+-- what is within the limits begins with lines that are
+begins_within : (xs ys : List Line) → IsWithin (xs ++ ys) → IsWithin xs
+begins_within xs ys h = record {
+  lines_fit = omega (arith, length-append xs ys, h.lines_fit);
+  text_fits = omega (arith, ap length (text_append xs ys), length-append (text xs) (text ys), h.text_fits);
+}
+
+cut_passes : (script : Script) (j : List Line) → IsCut script j → ¬ FitsWhole script
+cut_passes script j (inl at_once) fits =
+    at_once.passes (begins_within (header_lines script.header) (all_lines fits.played.played.steps) (subst IsWithin fits.played.written fits.within))
+cut_passes script j (inr stop) fits =
+    let b : BeginsWith fits.journal (j ++ stop.next) = run_begins partition_count script fits.journal j stop.next fits.played stop.begun in
+    stop.passes (begins_within (j ++ stop.next) b.others (subst IsWithin b.parts fits.within))
+
+-- ---- what decides
+
+ends_script : (bytes : List ℕ) (read : Result Script Fault) (st : Status) → script_of bytes ≡ read → EndsScript read st → EndsScript (script_of bytes) st
+ends_script bytes read st e h = subst (λ (r : Result Script Fault). EndsScript r st) (sym e) h
+
+ends_within : (bytes : List ℕ) (st : Status) (b : Bool) → nat_lt script_limit (length bytes) ≡ b → length bytes ≤ script_limit → EndsScript (script_of bytes) st → EndsBytes b bytes st
+ends_within bytes st true e fits h = absurd (grind (arith, nat_tests))
+ends_within bytes st false e fits h = h
+
+ends_beyond : (bytes : List ℕ) (b : Bool) → nat_lt script_limit (length bytes) ≡ b → script_limit < length bytes → EndsBytes b bytes status.ScriptTooLong
 ends_beyond bytes true e longer = refl
 ends_beyond bytes false e longer = absurd (grind (arith, nat_tests))
 
--- ---- a run fits, or is cut
+-- the script that was read decides
+by_script : (g : Option ℕ) (had left : Option (List ℕ)) (bytes : List ℕ) (st : Status) → HadScript g had left bytes → EndsScript (script_of bytes) st → EndsBy g had st
+by_script (Some n) had left bytes st h e = subst (λ (bs : List ℕ). EndsScript (script_of bs) st) h.0 e
+by_script None None left bytes st h e = tt
+by_script None (Some all) left bytes st h e =
+    subst (λ (bs : List ℕ). EndsBytes (nat_lt script_limit (length bs)) bs st) (sym h.0.0) (ends_within bytes st _ refl h.1 e)
 
-within_passes : (ls : List Line) → IsWithin ls → is_within ls ≡ true
-within_passes ls h = let lines = h.lines_fit in let bytes = h.text_fits in grind (arith, nat_tests)
+done : (words : Words) (had left : Option (List ℕ)) (j : List Line) → Replayed words had left j → EndsBy words.generate had status.Done
+done words had left j r =
+    by_script words.generate had left r.bytes status.Done r.read (ends_script r.bytes (Ok r.script) status.Done r.parsed (record { journal = j; played = r.played; within = r.within }))
 
-passes_within : (ls : List Line) → is_within ls ≡ true → IsWithin ls
-passes_within ls e = record { lines_fit = grind (arith, nat_tests); text_fits = grind (arith, nat_tests) }
+outgrown : (words : Words) (had left : Option (List ℕ)) (j : List Line) → Outgrown words had left j → EndsBy words.generate had status.RunTooLong
+outgrown words had left j o =
+    by_script words.generate had left o.bytes status.RunTooLong o.read (ends_script o.bytes (Ok o.script) status.RunTooLong o.parsed (cut_passes o.script j o.cut))
 
-run_in_parts : (begun : List Line) (w : World) (played left : List Command) (next : Command) → begun ++ play w (played ++ next ∷ left) ≡ ((begun ++ play w played) ++ due (reached w played) next) ++ play (after (reached w played) (due (reached w played) next)) left
-run_in_parts begun w played left next =
-    ap (λ ls. begun ++ ls) (play_append w played (next ∷ left))
-    ∙ sym (append_assoc begun (play w played) (play (reached w played) (next ∷ left)))
-    ∙ sym (append_assoc (begun ++ play w played) (due (reached w played) next) _)
+bad : (words : Words) (had left : Option (List ℕ)) (line : ℕ) (cause : _) → Misread words had left line cause → EndsBy words.generate had (status.BadScript line cause)
+bad words had left line cause m =
+    by_script words.generate had left m.bytes (status.BadScript line cause) m.read (ends_script m.bytes (Err (record { line = line; cause = cause })) (status.BadScript line cause) m.bad refl)
 
-stopped_passes : (begun : List Line) (w : World) (cs : List Command) (j : List Line) → StopsBefore begun w cs j → ¬ IsWithin (begun ++ play w cs)
-stopped_passes begun w cs j stop within =
-    let parts = subst (λ ds. IsWithin (begun ++ play w ds)) stop.whole within in
-    stop.passes (subst (λ ls. IsWithin (ls ++ due (reached w stop.played) stop.next)) (sym stop.lines) (begins_within _ _ (subst IsWithin (run_in_parts begun w stop.played stop.left stop.next) parts)))
-
-cut_passes : (script : Script) (j : List Line) → IsCut script j → ¬ IsWithin (run script)
-cut_passes script j (inl at_once) within = at_once.passes (begins_within _ _ within)
-cut_passes script j (inr stop) within = stopped_passes _ _ script.commands j stop within
-
-ends_fitting : (script : Script) (j : List Line) → j ≡ run script → IsWithin j → of_script (Ok script) ≡ status.Done
-ends_fitting script j is within = ap (λ b. cond b status.Done status.RunTooLong) (within_passes (run script) (subst IsWithin is within))
-
-ends_cut : (script : Script) (j : List Line) → IsCut script j → of_script (Ok script) ≡ status.RunTooLong
-ends_cut script j cut = either (is_within (run script)) refl
+too_long : (g : Option ℕ) (had left : Option (List ℕ)) → IfSome had (λ bytes. Overlong bytes left) → g ≡ None → EndsBy g had status.ScriptTooLong
+too_long None None left o e = tt
+too_long None (Some bytes) left o e = ends_beyond bytes _ refl o.longer
+too_long (Some n) had left o e = absurd (no e)
   where
-    either : (b : Bool) → is_within (run script) ≡ b → cond b status.Done status.RunTooLong ≡ status.RunTooLong
-    either true e = absurd (cut_passes script j cut (passes_within (run script) e))
-    either false e = refl
+    no : Some n ≡ None → ⊥
+    no i = cc
 
--- ---- each status
+pub decided : (words : Words) (st : Status) (j : List Line) (had left old new : Option (List ℕ)) (a b c d : ℕ) → Ended words st j had left old new
+    → (st ≡ status.ReadFault → Rose a b) → (st ≡ status.WriteFault → Rose c d) → ¬ Rose a b → ¬ Rose c d → IsDecided words had st
+decided words status.Done j had left old new a b c d e r k p q = inl (done words had left j e.0)
+decided words status.NoMemory j had left old new a b c d e r k p q = inr refl
+decided words status.BadWords j had left old new a b c d e r k p q = absurd e
+decided words (status.BadScript line cause) j had left old new a b c d e r k p q = inl (bad words had left line cause e.1)
+decided words status.ReadFault j had left old new a b c d e r k p q = absurd (p (r refl))
+decided words status.WriteFault j had left old new a b c d e r k p q = absurd (q (k refl))
+decided words status.ScriptTooLong j had left old new a b c d e r k p q = inl (too_long words.generate had left e.1 e.2)
+decided words status.RunTooLong j had left old new a b c d e r k p q = inl (outgrown words had left j e.1)
 
-done : (bytes : List ℕ) (left : Option (List ℕ)) (j : List Line) → Replayed bytes left j → status.Done ≡ ending bytes
-done bytes left j r = sym (ends_within bytes _ refl r.fits ∙ ap of_script r.is_run.parsed ∙ ends_fitting r.is_run.script j r.is_run.played r.within)
+-- ---- how a run ended
 
-outgrown : (bytes : List ℕ) (left : Option (List ℕ)) (j : List Line) → Outgrown bytes left j → status.RunTooLong ≡ ending bytes
-outgrown bytes left j o = sym (ends_within bytes _ refl o.fits ∙ ap of_script o.parsed ∙ ends_cut o.script j o.cut)
+pub refused_at_once : (words : Words) (st : Status) (j : List Line) (had left old : Option (List ℕ)) → st ≡ status.NoMemory → j ≡ [] → Ended words st j had left old old
+refused_at_once words st j had left old s e = subst (λ (x : Status). Ended words x j had left old old) (sym s) (e, inl refl)
 
-bad : (bytes : List ℕ) (left : Option (List ℕ)) (line : ℕ) (cause : _) → Misread bytes left line cause → status.BadScript line cause ≡ ending bytes
-bad bytes left line cause m = sym (ends_within bytes _ refl m.fits ∙ ap of_script m.bad)
+pub read_failed : (words : Words) (st : Status) (j : List Line) (had left old : Option (List ℕ)) → st ≡ status.ReadFault → j ≡ [] → Ended words st j had left old old
+read_failed words st j had left old s e = subst (λ (x : Status). Ended words x j had left old old) (sym s) (record { empty = e; unwritten = refl })
 
-too_long : (bytes : List ℕ) (left : Option (List ℕ)) → Overlong bytes left → status.ScriptTooLong ≡ ending bytes
-too_long bytes left o = sym (ends_beyond bytes _ refl o.longer)
+pub was_overlong : (words : Words) (st : Status) (j : List Line) (had left old : Option (List ℕ)) → words.generate ≡ None → st ≡ status.ScriptTooLong → j ≡ [] → IfSome had (λ bytes. Overlong bytes left)
+    → Ended words st j had left old old
+was_overlong words st j had left old none s e long =
+    subst (λ (x : Status). Ended words x j had left old old) (sym s) (record { empty = e; unwritten = refl }, long, none)
 
-decides : (st : Status) (j : List Line) (bytes : List ℕ) (left old new : Option (List ℕ)) (words a b c d : ℕ) → Ended st j (Some bytes) left old new → (st ≡ status.BadWords → 0 < words) → (st ≡ status.ReadFault → Rose a b) → (st ≡ status.WriteFault → Rose c d) → words ≡ 0 → ¬ Rose a b → ¬ Rose c d → IsDecided bytes st
-decides status.Done j bytes left old new words a b c d e w r k none p q = inl (done bytes left j e.0)
-decides status.NoMemory j bytes left old new words a b c d e w r k none p q = inr refl
-decides status.BadWords j bytes left old new words a b c d e w r k none p q = let h = w refl in absurd (omega arith)
-decides (status.BadScript line cause) j bytes left old new words a b c d e w r k none p q = inl (bad bytes left line cause e.1)
-decides status.ReadFault j bytes left old new words a b c d e w r k none p q = absurd (p (r refl))
-decides status.WriteFault j bytes left old new words a b c d e w r k none p q = absurd (q (k refl))
-decides status.ScriptTooLong j bytes left old new words a b c d e w r k none p q = inl (too_long bytes left e.1)
-decides status.RunTooLong j bytes left old new words a b c d e w r k none p q = inl (outgrown bytes left j e.1)
+pub was_bad : (words : Words) (st : Status) (j : List Line) (had left old : Option (List ℕ)) (bytes : List ℕ) (line : ℕ) (cause : Cause) → st ≡ status.BadScript line cause → j ≡ []
+    → script_of bytes ≡ Err (record { line = line; cause = cause }) → HadScript words.generate had left bytes → Ended words st j had left old old
+was_bad words st j had left old bytes line cause s e bad read =
+    subst (λ (x : Status). Ended words x j had left old old) (sym s) (record { empty = e; unwritten = refl }, record { bytes = bytes; read = read; bad = bad })
 
-pub decided : (st : Status) (j : List Line) (had left old new : Option (List ℕ)) (words a b c d : ℕ) → Ended st j had left old new → (st ≡ status.BadWords → 0 < words) → (st ≡ status.ReadFault → Rose a b) → (st ≡ status.WriteFault → Rose c d) → words ≡ 0 → ¬ Rose a b → ¬ Rose c d → IfSome had (λ bytes. IsDecided bytes st)
-decided st j None left old new words a b c d e w r k none p q = tt
-decided st j (Some bytes) left old new words a b c d e w r k none p q = decides st j bytes left old new words a b c d e w r k none p q
+pub was_cut : (words : Words) (script : Script) (j : List Line) (had left old : Option (List ℕ)) (bytes : List ℕ) → IsCut script j → IsWithin j → IsProper script
+    → HadScript words.generate had left bytes → script_of bytes ≡ Ok script → Ended words status.RunTooLong j had left old old
+was_cut words script j had left old bytes cut within proper read parsed =
+    (refl, record { bytes = bytes; script = script; read = read; parsed = parsed; proper = proper; cut = cut; within = within })
 
--- ---- nothing is a front of every text
+pub was_written : (words : Words) (script : Script) (st : Status) (j kept : List Line) (had left old new : Option (List ℕ)) (bytes : List ℕ) → Run script j → IsWithin j → IsProper script
+    → IsWritten st old new (transcript words j) → (st ≢ status.NoMemory → kept ≡ j) → (st ≡ status.NoMemory → kept ≡ [])
+    → HadScript words.generate had left bytes → script_of bytes ≡ Ok script → Ended words st kept had left old new
+was_written words script status.Done j kept had left old new bytes played within proper w same none read parsed =
+    subst (λ (x : List Line). Ended words status.Done x had left old new) (sym (same (λ e. cc)))
+    (record { bytes = bytes; script = script; read = read; parsed = parsed; proper = proper; played = played; within = within }, w)
+was_written words script status.NoMemory j kept had left old new bytes played within proper w same none read parsed = (
+  none refl,
+  inr (record {
+    journal = j;
+    replayed = record { bytes = bytes; script = script; read = read; parsed = parsed; proper = proper; played = played; within = within };
+    front = w;
+  }),
+)
+was_written words script status.WriteFault j kept had left old new bytes played within proper w same none read parsed =
+    subst (λ (x : List Line). Ended words status.WriteFault x had left old new) (sym (same (λ e. cc)))
+    (record { bytes = bytes; script = script; read = read; parsed = parsed; proper = proper; played = played; within = within }, w)
+was_written words script status.BadWords j kept had left old new bytes played within proper w same none read parsed = absurd w
+was_written words script (status.BadScript line cause) j kept had left old new bytes played within proper w same none read parsed = absurd w
+was_written words script status.ReadFault j kept had left old new bytes played within proper w same none read parsed = absurd w
+was_written words script status.ScriptTooLong j kept had left old new bytes played within proper w same none read parsed = absurd w
+was_written words script status.RunTooLong j kept had left old new bytes played within proper w same none read parsed = absurd w
 
-front_of_nothing : (old : Option (List ℕ)) (bytes : List ℕ) → WroteFront old old bytes
-front_of_nothing None bytes = tt
-front_of_nothing (Some taken) bytes = record { front = []; rest = bytes; whole = refl; now = ap Some (sym (append-nil taken)) }
+pub no_read_fault : (st : Status) (old new : Option (List ℕ)) (bytes : List ℕ) → IsWritten st old new bytes → st ≡ status.ReadFault → ⊥
+no_read_fault st old new bytes w e = subst (λ (x : Status). IsWritten x old new bytes) e w
 
-pub cut_off_at_once : (read : Result Script Fault) (old : Option (List ℕ)) → CutOff read old old
-cut_off_at_once (Ok script) old = front_of_nothing old (text (run script))
-cut_off_at_once (Err fault) old = refl
+pub no_bad_words : (words : Words) (st : Status) (j : List Line) (had left old new : Option (List ℕ)) → Ended words st j had left old new → st ≡ status.BadWords → ⊥
+no_bad_words words st j had left old new h e = subst (λ (x : Status). Ended words x j had left old new) e h
 
-pub cut_off_unread : (had old : Option (List ℕ)) → IfSome had (λ bytes. CutOff (script_of bytes) old old)
-cut_off_unread None old = tt
-cut_off_unread (Some bytes) old = cut_off_at_once (script_of bytes) old
+-- ---- where the script came from
 
--- ---- what holds of the bytes that were read holds of the source
+pub from_source : (words : Words) (had left : Option (List ℕ)) (bytes piece : List ℕ) → words.generate ≡ None → HadAll had left bytes → length bytes ≤ script_limit → piece ≡ bytes
+    → HadScript words.generate had left piece
+from_source words had left bytes piece none all fits same =
+    subst (λ (b : List ℕ). HadScript words.generate had left b) (sym same) (subst (λ (g : Option ℕ). HadScript g had left bytes) (sym none) (all, fits))
 
-untold : (st : Status) (j : List Line) (bytes : List ℕ) (left old new : Option (List ℕ)) → Ended st j (Some bytes) (Some []) old new → Ended st j None left old new
-untold status.Done j bytes left old new e = (tt, e.1)
-untold status.NoMemory j bytes left old new e = (e.0, tt)
-untold status.BadWords j bytes left old new e = e
-untold (status.BadScript line cause) j bytes left old new e = (e.0, tt)
-untold status.ReadFault j bytes left old new e = e
-untold status.WriteFault j bytes left old new e = (tt, e.1)
-untold status.ScriptTooLong j bytes left old new e = (e.0, tt)
-untold status.RunTooLong j bytes left old new e = (e.0, tt)
+pub from_number : (words : Words) (n : ℕ) (had : Option (List ℕ)) (bytes : List ℕ) → words.generate ≡ Some n → bytes ≡ generated n → HadScript words.generate had had bytes
+from_number words n had bytes some is = subst (λ (g : Option ℕ). HadScript g had had bytes) (sym some) (is, refl)
 
-pub ended_over : (st : Status) (j : List Line) (had left : Option (List ℕ)) (bytes : List ℕ) (old new : Option (List ℕ)) → HadAll had left bytes → Ended st j (Some bytes) (Some []) old new → Ended st j had left old new
-ended_over st j None left bytes old new h e = untold st j bytes left old new e
-ended_over st j (Some all) left bytes old new h e =
-    subst (λ b. Ended st j (Some b) left old new) (sym h.0) (subst (λ l. Ended st j (Some bytes) l old new) (sym h.1) e)
+-- ---- by what the words ask for
 
--- ---- how the run of a script ended is how the run of its bytes did
+pub asked_ended : (ws : List (List ℕ)) (words asked : Words) (st : Status) (j : List Line) (had left old new : Option (List ℕ)) → Asks ws words → Asks ws asked
+    → Ended words st j had left old new → Ended asked st j had left old new
+asked_ended ws words asked st j had left old new a b h = subst (λ (w : Words). Ended w st j had left old new) (asks_one ws words asked a b) h
 
-pub ended_run : (bytes : List ℕ) (script : Script) (st : Status) (j : List Line) (old new : Option (List ℕ)) → script_of bytes ≡ Ok script → length bytes ≤ script_limit → EndedRun script st j old new → Ended st j (Some bytes) (Some []) old new
-ended_run bytes script status.Done j old new parsed fits e =
-    (record { fits = fits; read = refl; is_run = record { script = script; parsed = parsed; played = e.0 }; within = e.1 }, e.2)
-ended_run bytes script status.NoMemory j old new parsed fits e = (e.0, subst (λ read. CutOff read old new) (sym parsed) e.1)
-ended_run bytes script status.WriteFault j old new parsed fits e =
-    (record { fits = fits; read = refl; is_run = record { script = script; parsed = parsed; played = e.0 }; within = e.1 }, e.2)
-ended_run bytes script status.RunTooLong j old new parsed fits e = (e.0, record { fits = fits; read = refl; script = script; parsed = parsed; cut = e.1 })
-ended_run bytes script status.BadWords j old new parsed fits e = absurd e
-ended_run bytes script (status.BadScript line cause) j old new parsed fits e = absurd e
-ended_run bytes script status.ReadFault j old new parsed fits e = absurd e
-ended_run bytes script status.ScriptTooLong j old new parsed fits e = absurd e
-
--- memory was refused before anything was written
-pub refused_at_once : (st : Status) (j : List Line) (had left old : Option (List ℕ)) → st ≡ status.NoMemory → j ≡ [] → Ended st j had left old old
-refused_at_once st j had left old refused empty = subst (λ s. Ended s j had left old old) (sym refused) (empty, cut_off_unread had old)
-
-pub run_refused_at_once : (script : Script) (st : Status) (j : List Line) (old : Option (List ℕ)) → st ≡ status.NoMemory → j ≡ [] → EndedRun script st j old old
-run_refused_at_once script st j old refused empty = subst (λ s. EndedRun script s j old old) (sym refused) (empty, front_of_nothing old (text (run script)))
-
--- what was written of the text of a run that fits
-pub run_written : (script : Script) (st : Status) (made j : List Line) (old new : Option (List ℕ)) → j ≡ run script → IsWithin j → IsWritten st old new (text j) → (st ≢ status.NoMemory → made ≡ j) → (st ≡ status.NoMemory → made ≡ []) → EndedRun script st made old new
-run_written script status.Done made j old new is within w kept empty =
-    let same = kept (λ e. cc) in (same ∙ is, subst IsWithin (sym same) within, subst (λ ls. Wrote old new (text ls)) (sym same) w)
-run_written script status.NoMemory made j old new is within w kept empty = (empty refl, subst (λ ls. WroteFront old new (text ls)) is w)
-run_written script status.WriteFault made j old new is within w kept empty =
-    let same = kept (λ e. cc) in (same ∙ is, subst IsWithin (sym same) within, subst (λ ls. WroteFront old new (text ls)) (sym same) w)
-run_written script status.BadWords made j old new is within w kept empty = absurd w
-run_written script (status.BadScript line cause) made j old new is within w kept empty = absurd w
-run_written script status.ReadFault made j old new is within w kept empty = absurd w
-run_written script status.ScriptTooLong made j old new is within w kept empty = absurd w
-run_written script status.RunTooLong made j old new is within w kept empty = absurd w
-
--- ---- the claims about the journal
-
-no_loss_of_nothing : NoLoss []
-no_loss_of_nothing zero d = refl
-no_loss_of_nothing (suc i) d = refl
-
-no_loss_of_cut : (script : Script) (j : List Line) → IsCut script j → NoLoss j
-no_loss_of_cut script j (inl at_once) = subst NoLoss (sym at_once.lines) no_loss_of_nothing
-no_loss_of_cut script j (inr stop) = subst NoLoss (sym stop.lines) (no_loss_of_run script.header stop.played)
-
-read_join_of_cut : (script : Script) (j : List Line) → IsCut script j → ReadJoin j
-read_join_of_cut script j (inl at_once) = subst ReadJoin (sym at_once.lines) tt
-read_join_of_cut script j (inr stop) = subst ReadJoin (sym stop.lines) (read_join_of_run script.header stop.played)
-
-pub no_loss_of_ended : (script : Script) (st : Status) (j : List Line) (old new : Option (List ℕ)) → EndedRun script st j old new → NoLoss j
-no_loss_of_ended script status.Done j old new e = subst NoLoss (sym e.0) (no_loss_of_run script.header script.commands)
-no_loss_of_ended script status.NoMemory j old new e = subst NoLoss (sym e.0) no_loss_of_nothing
-no_loss_of_ended script status.WriteFault j old new e = subst NoLoss (sym e.0) (no_loss_of_run script.header script.commands)
-no_loss_of_ended script status.RunTooLong j old new e = no_loss_of_cut script j e.1
-no_loss_of_ended script status.BadWords j old new e = absurd e
-no_loss_of_ended script (status.BadScript line cause) j old new e = absurd e
-no_loss_of_ended script status.ReadFault j old new e = absurd e
-no_loss_of_ended script status.ScriptTooLong j old new e = absurd e
-
-pub read_join_of_ended : (script : Script) (st : Status) (j : List Line) (old new : Option (List ℕ)) → EndedRun script st j old new → ReadJoin j
-read_join_of_ended script status.Done j old new e = subst ReadJoin (sym e.0) (read_join_of_run script.header script.commands)
-read_join_of_ended script status.NoMemory j old new e = subst ReadJoin (sym e.0) tt
-read_join_of_ended script status.WriteFault j old new e = subst ReadJoin (sym e.0) (read_join_of_run script.header script.commands)
-read_join_of_ended script status.RunTooLong j old new e = read_join_of_cut script j e.1
-read_join_of_ended script status.BadWords j old new e = absurd e
-read_join_of_ended script (status.BadScript line cause) j old new e = absurd e
-read_join_of_ended script status.ReadFault j old new e = absurd e
-read_join_of_ended script status.ScriptTooLong j old new e = absurd e
-
--- ---- a script that is read has neither bad words nor a fault of the source
-
-pub no_bad_words : (script : Script) (st : Status) (j : List Line) (old new : Option (List ℕ)) → EndedRun script st j old new → st ≢ status.BadWords
-no_bad_words script st j old new e is = subst (λ s. EndedRun script s j old new) is e
-
-pub no_read_fault : (script : Script) (st : Status) (j : List Line) (old new : Option (List ℕ)) → EndedRun script st j old new → st ≢ status.ReadFault
-no_read_fault script st j old new e is = subst (λ s. EndedRun script s j old new) is e
+pub asked_number : (ws : List (List ℕ)) (words asked : Words) → Asks ws words → Asks ws asked → IsSome asked.generate → IsSome words.generate
+asked_number ws words asked a b s = subst (λ (w : Words). IsSome w.generate) (sym (asks_one ws words asked a b)) s

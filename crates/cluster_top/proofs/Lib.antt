@@ -1,10 +1,10 @@
-pub mod Digests
-pub mod Members
-pub mod HeaderLaws
-pub mod PlayLaws
-pub mod StampLaws
 pub mod StreamLaws
 pub mod TextLaws
-pub mod NoLossLaws
-pub mod ReadJoinLaws
+pub mod RunsOnce
+pub mod EmptyClaims
+pub mod GeneratingLaws
+pub mod NumberLaws
+pub mod WordWalks
+pub mod WordLaws
+pub mod PlayLaws
 pub mod Endings

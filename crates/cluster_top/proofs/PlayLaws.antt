@@ -1,68 +1,196 @@
--- Commands one after another, and journals within their limits.
-use Rattle.std.proofs.Common.{◌≡◌, ℕ, ◌+◌, ◌<◌, List, [], ◌∷◌, ◌++◌, length, take, drop, get_or, refl, sym, ap, subst, ◌∙◌, arith, append_assoc, length-append}
-use Rattle.std.proofs.lemmas.List.{append-nil, take_more, take-append-drop}
-use Rattle.std.proofs.lemmas.List.Concat.{flat_map-append}
+-- Commands that are played one after another.
+use Rattle.std.proofs.Common.{◌≡◌, ℕ, ◌+◌, ◌<◌, ◌≤◌, true, List, [], ◌∷◌, ◌++◌, length, take, drop, get_or, inl, inr, refl, sym, ap, subst, ◌∙◌, arith, append_assoc, IsTrue, All, Result, Ok, Err, OnErr}
+use Rattle.std.proofs.lemmas.Bool.{and_parts}
+use Rattle.std.proofs.lemmas.List.{append-nil, take_all, take_more, take-append-drop}
+use Rattle.std.proofs.lemmas.List.Elements.{All-nil, All-cons}
+use Rattle.std.proofs.lemmas.Grind.{flat_map-append}
+use Rattle.std.specs.List.{list_all}
+use Rattle.cluster_types.specs.NodeLists.{IsNodeList}
+use Rattle.cluster_types.specs.Partitions.{partition_count}
+use Rattle.script_lang.specs.declared.script.Command.{Command}
+use Rattle.script_lang.specs.declared.script.Script.{Script}
+use Rattle.script_lang.specs.Proper.{IsProper}
 use Rattle.journal_lines.specs.declared.line.Line.{Line}
 use Rattle.journal_text.specs.Journals.{IsWithin}
-use Rattle.journal_text.specs.Text.{text, line_text}
-use Rattle.script_lang.specs.declared.script.Command.{Command}
-use Rattle.cluster_top.specs.declared.world.World.{World}
-use Rattle.cluster_top.specs.Outcome.{StopsBefore}
-use Rattle.cluster_top.specs.Run.{due, after, reached, play}
+use Rattle.cluster_rules.specs.Allowed.{is_playable}
+use Rattle.cluster_rules.specs.Begun.{AllBegun, IsBegun}
+use Rattle.cluster_rules.specs.FrontRuns.{AreFrontOf, IsFrontOf}
+use Rattle.cluster_rules.specs.Marks.{after_all}
+use Rattle.cluster_rules.specs.Opening.{declared_nodes, header_lines}
+use Rattle.cluster_rules.specs.Runs.{Plays, PlaysAll}
+use Rattle.cluster_rules.specs.Runs as runs
+use Rattle.cluster_rules.specs.Steps.{Played, Step, all_marks, and_then, marks_of}
+use Rattle.cluster_rules.specs.World.{World, opened}
+use Rattle.cluster_rules.proofs.MarkLaws.{after_all-append}
+use Rattle.cluster_rules.proofs.RunLaws.{commands_follow}
+use Rattle.world.specs.Claims.{HasClaims}
+use Rattle.world.specs.Steps.{Run, begun, standing, written}
+use Rattle.calm_run.specs.Playing.{PlaysOn, StandsIn, StopsIn, followed}
+use Rattle.cluster_top.specs.Outcome.{IsCut}
+use Rattle.cluster_top.specs.Playing.{ArePlayable, PlaysAllOn, StandsAmong, StopsAmong}
+use Rattle.cluster_top.proofs.EmptyClaims.{no_claims_fail}
+use Rattle.run_laws.proofs.Named.{all_playable, same_nodes}
 
--- ---- commands
+-- ---- one command more
 
-pub reached_append : (w : World) (cs ds : List Command) → reached w (cs ++ ds) ≡ reached (reached w cs) ds
-reached_append w [] ds = refl
-reached_append w (c ∷ cs) ds = reached_append (after w (due w c)) cs ds
-
-pub play_append : (w : World) (cs ds : List Command) → play w (cs ++ ds) ≡ play w cs ++ play (reached w cs) ds
-play_append w [] ds = refl
-play_append w (c ∷ cs) ds =
-    ap (λ ls. due w c ++ ls) (play_append (after w (due w c)) cs ds)
-    ∙ sym (append_assoc (due w c) (play (after w (due w c)) cs) (play (reached (after w (due w c)) cs) ds))
-
-pub play_more : (w : World) (cs : List Command) (c : Command) → play w (cs ++ c ∷ []) ≡ play w cs ++ due (reached w cs) c
-play_more w cs c = play_append w cs (c ∷ []) ∙ ap (λ ls. play w cs ++ ls) (append-nil (due (reached w cs) c))
-
-pub lines_more : (begun now new old_due new_due : List Line) (w v : World) (cs ds : List Command) (c : Command) → ds ≡ cs ++ c ∷ [] → now ≡ begun ++ play w cs → v ≡ reached w cs → old_due ≡ [] → new_due ≡ old_due ++ due v c → new ≡ now ++ new_due → new ≡ begun ++ play w ds
-lines_more begun now new old_due new_due w v cs ds c whole lines world none is_due is =
-    is
-    ∙ (λ i. lines i ++ (is_due ∙ (λ j. none j ++ due (world j) c)) i)
-    ∙ append_assoc begun (play w cs) (due (reached w cs) c)
-    ∙ ap (λ ls. begun ++ ls) (sym (play_more w cs c) ∙ ap (play w) (sym whole))
-
-pub reached_more : (w v new : World) (cs ds : List Command) (c : Command) → ds ≡ cs ++ c ∷ [] → v ≡ reached w cs → new ≡ after v (due v c) → new ≡ reached w ds
-reached_more w v new cs ds c whole world is =
-    is ∙ ap (λ u. after u (due u c)) world ∙ sym (reached_append w cs (c ∷ [])) ∙ ap (reached w) (sym whole)
-
-pub taken_more : (cs : List Command) (i : ℕ) (c : Command) → i < length cs → c ≡ get_or cs i c → take (i + 1) cs ≡ take i cs ++ c ∷ []
-taken_more cs i c within is = take_more cs i c within ∙ ap (λ x. take i cs ++ x ∷ []) (sym is)
-
-pub stops_here : (begun now new old_due new_due : List Line) (w v : World) (cs : List Command) (i : ℕ) (c : Command) → i < length cs → c ≡ get_or cs i c → now ≡ begun ++ play w (take i cs) → v ≡ reached w (take i cs) → old_due ≡ [] → new_due ≡ old_due ++ due v c → new ≡ now → ¬ IsWithin (now ++ new_due) → StopsBefore begun w cs new
-stops_here begun now new old_due new_due w v cs i c within is lines world none is_due kept full = record {
-  played = take i cs;
-  next = c;
-  left = drop (i + 1) cs;
-  whole =
-      sym (take-append-drop (i + 1) cs)
-      ∙ ap (λ xs. xs ++ drop (i + 1) cs) (taken_more cs i c within is)
-      ∙ append_assoc (take i cs) (c ∷ []) (drop (i + 1) cs);
-  lines = kept ∙ lines;
-  passes = λ fits. full (subst IsWithin (λ j. kept j ++ sym (is_due ∙ (λ k. none k ++ due (world k) c)) j) fits);
+plays_more : (n : ℕ) (cs : List Command) (w : World) (x : Played) (c : Command) (y : Played) → PlaysAll n w cs x → Plays n x.world c y → PlaysAll n w (cs ++ c ∷ []) (and_then x (λ v. y))
+plays_more n [] w x c y h p = record {
+  first = y;
+  plays = subst (λ (z : Played). Plays n z.world c y) h p;
+  others = record { steps = []; world = y.world };
+  follows = refl;
+  whole = ap (λ (z : Played). and_then z (λ v. y)) h ∙ ap (λ (ss : List Step). record { steps = ss; world = y.world }) (sym (append-nil y.steps));
+}
+plays_more n (d ∷ cs) w x c y h p = record {
+  first = h.first;
+  plays = h.plays;
+  others = and_then h.others (λ v. y);
+  follows = plays_more n cs h.first.world h.others c y h.follows (subst (λ (z : Played). Plays n z.world c y) h.whole p);
+  whole = ap (λ (z : Played). and_then z (λ v. y)) h.whole ∙ ap (λ (ss : List Step). record { steps = ss; world = y.world }) (append_assoc h.first.steps h.others.steps y.steps);
 }
 
--- ---- limits
+begun_after : (n : ℕ) (cs : List Command) (w : World) (x : Played) (c : Command) (rest : List Command) (taken : List Step) (next : Step) → PlaysAll n w cs x → IsBegun n x.world c taken next
+    → AllBegun n w (cs ++ c ∷ rest) (x.steps ++ taken) next
+begun_after n [] w x c rest taken next h b =
+    subst (λ (z : Played). AllBegun n w (c ∷ rest) (z.steps ++ taken) next) (sym h) (inl (subst (λ (z : Played). IsBegun n z.world c taken next) h b))
+begun_after n (d ∷ cs) w x c rest taken next h b = inr (record {
+  first = h.first;
+  plays = h.plays;
+  others = h.others.steps ++ taken;
+  begun = begun_after n cs h.first.world h.others c rest taken next h.follows (subst (λ (z : Played). IsBegun n z.world c taken next) h.whole b);
+  whole = ap (λ (z : Played). z.steps ++ taken) h.whole ∙ append_assoc h.first.steps h.others.steps taken;
+})
 
-text_append : (xs ys : List Line) → text (xs ++ ys) ≡ text xs ++ text ys
-text_append xs ys = flat_map-append line_text xs ys
+front_after : (n : ℕ) (cs : List Command) (w : World) (x : Played) (c : Command) (rest : List Command) (taken : List Step) → PlaysAll n w cs x → IsFrontOf n x.world c taken
+    → AreFrontOf n w (cs ++ c ∷ rest) (x.steps ++ taken)
+front_after n [] w x c rest taken h b =
+    subst (λ (z : Played). AreFrontOf n w (c ∷ rest) (z.steps ++ taken)) (sym h) (inl (subst (λ (z : Played). IsFrontOf n z.world c taken) h b))
+front_after n (d ∷ cs) w x c rest taken h b = inr (record {
+  first = h.first;
+  plays = h.plays;
+  others = h.others.steps ++ taken;
+  begun = front_after n cs h.first.world h.others c rest taken h.follows (subst (λ (z : Played). IsFrontOf n z.world c taken) h.whole b);
+  whole = ap (λ (z : Played). z.steps ++ taken) h.whole ∙ append_assoc h.first.steps h.others.steps taken;
+})
 
--- what is within the limits begins with lines that are
-pub begins_within : (xs ys : List Line) → IsWithin (xs ++ ys) → IsWithin xs
-begins_within xs ys h = record {
-  lines_fit = omega (arith, length-append xs ys, h.lines_fit);
-  text_fits = omega (arith, ap length (text_append xs ys), length-append (text xs) (text ys), h.text_fits);
+-- ---- in a world
+
+-- the world after the steps that were taken is the one that is played
+stands_after : (old mid : Run) (cs : List Command) (p : PlaysAllOn old mid cs) → standing mid ≡ p.played.world
+unfolding standing
+stands_after old mid cs p =
+    ap standing p.steps
+    ∙ ap (λ ms. after_all (opened old.header) ms) (flat_map-append marks_of old.steps p.played.steps)
+    ∙ after_all-append (opened old.header) (all_marks old.steps) (all_marks p.played.steps)
+    ∙ (commands_follow partition_count cs (standing old) p.played p.plays).leads
+
+followed_again : (old mid new : Run) (first second : List Step) → mid ≡ followed old first → new ≡ followed mid second → new ≡ followed old (first ++ second)
+followed_again old mid new first second a b =
+    b ∙ ap (λ (r : Run). followed r second) a ∙ ap (λ ss. record { header = old.header; steps = ss }) (append_assoc old.steps first second)
+
+taken_more : (cs : List Command) (i : ℕ) (c : Command) → i < length cs → c ≡ get_or cs i c → take (i + 1) cs ≡ take i cs ++ c ∷ []
+taken_more cs i c below is = take_more cs i c below ∙ ap (λ x. take i cs ++ x ∷ []) (sym is)
+
+pub played_none : (world : Run) → PlaysAllOn world world []
+played_none world = record {
+  played = record { steps = []; world = standing world };
+  plays = refl;
+  steps = ap (λ ss. record { header = world.header; steps = ss }) (sym (append-nil world.steps));
 }
 
-pub next_within : (xs ys : List Line) (l : Line) → IsWithin (xs ++ l ∷ ys) → IsWithin (xs ++ l ∷ [])
-next_within xs ys l h = begins_within (xs ++ l ∷ []) ys (subst IsWithin (sym (append_assoc xs (l ∷ []) ys)) h)
+pub played_more : (old mid new : Run) (cs : List Command) (i : ℕ) (c : Command) → i < length cs → c ≡ get_or cs i c → PlaysAllOn old mid (take i cs) → PlaysOn mid new c
+    → PlaysAllOn old new (take (i + 1) cs)
+played_more old mid new cs i c below is p q =
+    let here : Plays partition_count p.played.world c q.played = subst (λ (w : World). Plays partition_count w c q.played) (stands_after old mid (take i cs) p) q.plays in
+    subst (PlaysAllOn old new) (sym (taken_more cs i c below is)) (record {
+      played = and_then p.played (λ v. q.played);
+      plays = plays_more partition_count (take i cs) (standing old) p.played c q.played p.plays here;
+      steps = followed_again old mid new p.played.steps q.played.steps p.steps q.steps;
+    })
+
+in_parts : (cs : List Command) (i : ℕ) (c : Command) → i < length cs → c ≡ get_or cs i c → take i cs ++ c ∷ drop (i + 1) cs ≡ cs
+in_parts cs i c below is =
+    sym (append_assoc (take i cs) (c ∷ []) (drop (i + 1) cs)) ∙ ap (λ xs. xs ++ drop (i + 1) cs) (sym (taken_more cs i c below is)) ∙ take-append-drop (i + 1) cs
+
+pub stops_among : (old mid new : Run) (cs : List Command) (i : ℕ) (c : Command) → i < length cs → c ≡ get_or cs i c → PlaysAllOn old mid (take i cs) → StopsIn mid new c → StopsAmong old new cs
+stops_among old mid new cs i c below is p q =
+    let here : IsBegun partition_count p.played.world c q.taken q.next = subst (λ (w : World). IsBegun partition_count w c q.taken q.next) (stands_after old mid (take i cs) p) q.begun in
+    record {
+      taken = p.played.steps ++ q.taken;
+      next = q.next;
+      begun = subst (λ (ds : List Command). AllBegun partition_count (standing old) ds (p.played.steps ++ q.taken) q.next) (in_parts cs i c below is)
+          (begun_after partition_count (take i cs) (standing old) p.played c (drop (i + 1) cs) q.taken q.next p.plays here);
+      steps = followed_again old mid new p.played.steps q.taken p.steps q.steps;
+      passes = q.passes;
+    }
+
+pub on_err : {T E : Type 0} (r : Result T E) (P : Type 0) → P → OnErr r P
+on_err (Ok x) P p = tt
+on_err (Err e) P p = p
+
+pub stands_among : (old mid new : Run) (cs : List Command) (i : ℕ) (c : Command) → i < length cs → c ≡ get_or cs i c → PlaysAllOn old mid (take i cs) → StandsIn mid new c → StandsAmong old new cs
+stands_among old mid new cs i c below is p q =
+    let here : IsFrontOf partition_count p.played.world c q.taken = subst (λ (w : World). IsFrontOf partition_count w c q.taken) (stands_after old mid (take i cs) p) q.front in
+    record {
+      taken = p.played.steps ++ q.taken;
+      front = subst (λ (ds : List Command). AreFrontOf partition_count (standing old) ds (p.played.steps ++ q.taken)) (in_parts cs i c below is)
+          (front_after partition_count (take i cs) (standing old) p.played c (drop (i + 1) cs) q.taken p.plays here);
+      steps = followed_again old mid new p.played.steps q.taken p.steps q.steps;
+    }
+
+pub all_played : (old new : Run) (cs : List Command) (i : ℕ) → length cs ≤ i → PlaysAllOn old new (take i cs) → PlaysAllOn old new cs
+all_played old new cs i past p = subst (PlaysAllOn old new) (take_all i cs past) p
+
+-- each command may be played where it comes
+pub may_play : (old mid : Run) (cs : List Command) (i : ℕ) (c : Command) → i < length cs → c ≡ get_or cs i c → ArePlayable old.header cs → PlaysAllOn old mid (take i cs)
+    → IsTrue (is_playable (declared_nodes mid.header) c)
+may_play old mid cs i c below is all p =
+    subst (λ (r : Run). IsTrue (is_playable (declared_nodes r.header) c)) (sym p.steps)
+    (subst (λ (d : Command). IsTrue (is_playable (declared_nodes old.header) d)) (sym is) (all i c below))
+
+-- ---- from the beginning
+
+pub playable : (nodes : List ℕ) (cs : List Command) → list_all (is_playable nodes) cs ≡ true → All (λ c. IsTrue (is_playable nodes c)) cs
+playable nodes [] e = All-nil (λ (c : Command). IsTrue (is_playable nodes c))
+playable nodes (c ∷ cs) e =
+    let parts = and_parts (is_playable nodes c) (list_all (is_playable nodes) cs) e in
+    All-cons (λ (d : Command). IsTrue (is_playable nodes d)) c cs parts.0 (playable nodes cs parts.1)
+
+pub playable_at_first : (world : Run) (s : Script) (commands : List Command) → world ≡ begun s.header → commands ≡ s.commands → IsProper s → ArePlayable world.header commands
+playable_at_first world s commands is same p =
+    subst (λ (cs : List Command). ArePlayable world.header cs) (sym same)
+    (subst (λ (r : Run). ArePlayable r.header s.commands) (sym is) (playable (declared_nodes s.header) s.commands (all_playable s p)))
+
+pub declares_nodes : (s : Script) → IsProper s → IsNodeList (declared_nodes s.header)
+declares_nodes s p = subst IsNodeList (same_nodes s.header) p.nodes
+
+run_of_first : (s : Script) (last : Run) (lines : List Line) → PlaysAllOn (begun s.header) last s.commands → lines ≡ written last → runs.Run s lines
+unfolding standing written
+run_of_first s last lines p w = record { played = p.played; plays = p.plays; written = w ∙ ap written p.steps }
+
+pub run_of : (s : Script) (first last : Run) (commands : List Command) (lines : List Line) → first ≡ begun s.header → commands ≡ s.commands → PlaysAllOn first last commands → lines ≡ written last → runs.Run s lines
+run_of s first last commands lines is same p w =
+    run_of_first s last lines (subst (λ (cs : List Command). PlaysAllOn (begun s.header) last cs) same (subst (λ (r : Run). PlaysAllOn r last commands) is p)) w
+
+cut_of_first : (s : Script) (last : Run) (lines : List Line) → StopsAmong (begun s.header) last s.commands → lines ≡ written last → IsCut s lines
+unfolding standing written
+cut_of_first s last lines p w = inr (record {
+  next = p.next.lines;
+  begun = record { taken = p.taken; step = p.next; begun = p.begun; written = w ∙ ap written p.steps; following = refl };
+  passes = λ h. p.passes (subst (λ ls. IsWithin (ls ++ p.next.lines)) w h);
+})
+
+pub cut_of : (s : Script) (first last : Run) (commands : List Command) (lines : List Line) → first ≡ begun s.header → commands ≡ s.commands → StopsAmong first last commands → lines ≡ written last → IsCut s lines
+cut_of s first last commands lines is same p w =
+    cut_of_first s last lines (subst (λ (cs : List Command). StopsAmong (begun s.header) last cs) same (subst (λ (r : Run). StopsAmong r last commands) is p)) w
+
+-- ---- no line at all
+
+pub cut_at_once : (s : Script) (j : List Line) → j ≡ [] → ¬ IsWithin (header_lines s.header) → IsCut s j
+cut_at_once s j none passes = inl (record { lines = none; passes = passes })
+
+pub nothing_within : (j : List Line) → j ≡ [] → IsWithin j
+nothing_within j none = subst IsWithin (sym none) (record { lines_fit = omega arith; text_fits = omega arith })
+
+pub nothing_claimed : (j : List Line) → j ≡ [] → HasClaims j
+nothing_claimed j none = subst HasClaims (sym none) no_claims_fail

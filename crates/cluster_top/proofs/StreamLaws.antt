@@ -7,8 +7,7 @@ use Rattle.byte_ends.specs.declared.sink.Pushed.TheVariants.{Took, Failed}
 use Rattle.byte_ends.specs.declared.source.Pulled.TheVariants.{Got, End}
 use Rattle.byte_ends.specs.Source.{Pulls}
 use Rattle.byte_ends.specs.Sink.{Pushes}
-use Rattle.cluster_top.specs.Streams.{Gave, HadAll, Wrote, WroteFront}
-use Rattle.cluster_top.specs.Outcome.{Overlong}
+use Rattle.cluster_top.specs.Streams.{Gave, HadAll, Overlong, Wrote, WroteFront}
 
 -- ---- a sink
 
@@ -20,10 +19,6 @@ take_take (suc n) (suc m) (x ∷ xs) h = ap (λ ys. x ∷ ys) (take_take n m xs 
 
 take_on : (at count end : ℕ) (xs : List ℕ) → count ≤ end - at → take at xs ++ take count (slice_range xs at end) ≡ take (at + count) xs
 take_on at count end xs h = ap (λ y. take at xs ++ y) (take_take count (end - at) (drop at xs) h) ∙ sym (take-add at count xs)
-
-pub wrote_nothing : (old : Option (List ℕ)) → Wrote old old []
-wrote_nothing None = tt
-wrote_nothing (Some taken) = ap Some (sym (append-nil taken))
 
 pub wrote_more : (old mid new : Option (List ℕ)) (bytes : List ℕ) (at count end : ℕ) → Wrote old mid (take at bytes) → Pushes mid new (Took count) (slice_range bytes at end) → count ≤ end - at → Wrote old new (take (at + count) bytes)
 wrote_more None mid new bytes at count end w p h = tt
@@ -41,10 +36,6 @@ wrote_front (Some t) mid new bytes piece at w p =
       now = q ∙ ap Some (append-nil (t ++ take at bytes));
     }
 
-pub front_of_all : (old new : Option (List ℕ)) (bytes : List ℕ) → Wrote old new bytes → WroteFront old new bytes
-front_of_all None new bytes w = tt
-front_of_all (Some t) new bytes w = record { front = bytes; rest = []; whole = append-nil bytes; now = w }
-
 -- ---- a sink behind a buffer
 
 -- the sink took all of the bytes but those that stand in the buffer
@@ -56,24 +47,12 @@ pub record HasTaken (taken : List ℕ) (new : Option (List ℕ)) (bytes buffer :
 abbrev pub Buffered : Option (List ℕ) → Option (List ℕ) → List ℕ → List ℕ → Type 0
 Buffered old new bytes buffer = IfSome old (λ taken. HasTaken taken new bytes buffer)
 
-pub buffered_nothing : (old : Option (List ℕ)) → Buffered old old [] []
-buffered_nothing None = tt
-buffered_nothing (Some t) = record { front = []; whole = refl; now = ap Some (sym (append-nil t)) }
-
 pub buffered_more : (old new : Option (List ℕ)) (bytes buffer more : List ℕ) → Buffered old new bytes buffer → Buffered old new (bytes ++ more) (buffer ++ more)
 buffered_more None new bytes buffer more h = tt
 buffered_more (Some t) new bytes buffer more h = record {
   front = h.front;
   whole = sym (append_assoc h.front buffer more) ∙ ap (λ y. y ++ more) h.whole;
   now = h.now;
-}
-
-pub buffered_written : (old mid new : Option (List ℕ)) (bytes buffer : List ℕ) → Buffered old mid bytes buffer → Wrote mid new buffer → Buffered old new bytes []
-buffered_written None mid new bytes buffer h w = tt
-buffered_written (Some t) mid new bytes buffer h w = record {
-  front = bytes;
-  whole = append-nil bytes;
-  now = subst (λ m. Wrote m new buffer) h.now w ∙ ap Some (append_assoc t h.front buffer ∙ ap (λ y. t ++ y) h.whole);
 }
 
 pub all_written : (old mid new : Option (List ℕ)) (bytes buffer : List ℕ) → Buffered old mid bytes buffer → Wrote mid new buffer → Wrote old new bytes
@@ -102,10 +81,6 @@ front_written (Some t) mid new bytes buffer more h w =
 
 -- ---- a source
 
-pub gave_nothing : (old : Option (List ℕ)) → Gave old old []
-gave_nothing None = tt
-gave_nothing (Some all) = record { rest = all; was = refl; now = refl }
-
 pub gave_more : (old mid new : Option (List ℕ)) (bytes piece after : List ℕ) (count : ℕ) → Gave old mid bytes → Pulls mid new (Got count) piece → after ≡ bytes ++ take count piece → Gave old new after
 gave_more None mid new bytes piece after count g p is = tt
 gave_more (Some all) mid new bytes piece after count g p is =
@@ -132,4 +107,16 @@ gave_too_much (Some all) new bytes g size =
     let counted : length all ≡ length bytes + length g.rest = ap length g.was ∙ length-append bytes g.rest in record {
       longer = omega arith;
       read = g.now ∙ ap Some (sym (ap (drop 16777217) g.was ∙ behind bytes g.rest 16777217 size));
+    }
+
+-- ---- one text and then another
+
+pub front_of_both : (old mid new : Option (List ℕ)) (first second : List ℕ) → Wrote old mid first → WroteFront mid new second → WroteFront old new (first ++ second)
+front_of_both None mid new first second a h = tt
+front_of_both (Some t) mid new first second a h =
+    let q = subst (λ m. WroteFront m new second) a h in record {
+      front = first ++ q.front;
+      rest = q.rest;
+      whole = append_assoc first q.front q.rest ∙ ap (λ y. first ++ y) q.whole;
+      now = q.now ∙ ap Some (append_assoc t first q.front);
     }

@@ -1,8 +1,7 @@
-pub mod Facts
-pub mod Due
-pub mod Header
-pub mod Run
-pub mod Reading
-pub mod Claims
 pub mod Streams
+pub mod Words
+pub mod Generating
+pub mod Transcripts
+pub mod Playing
 pub mod Outcome
+pub mod Endings

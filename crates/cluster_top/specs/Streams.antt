@@ -1,5 +1,5 @@
 -- What a run took from its source, and gave to its sink, where these tell.
-use Rattle.std.specs.Prelude.{◌≡◌, ℕ, List, [], ◌++◌, Option, Some, IfSome}
+use Rattle.std.specs.Prelude.{◌≡◌, ℕ, ◌+◌, ◌<◌, List, [], ◌++◌, length, drop, Option, Some, IfSome}
 
 -- the source gave these bytes
 pub record GaveBytes (all : List ℕ) (left : Option (List ℕ)) (bytes : List ℕ) : Type 0 where
@@ -13,6 +13,15 @@ Gave old new bytes = IfSome old (λ all. GaveBytes all new bytes)
 -- these bytes were all that the source had left, and it gave them
 abbrev pub HadAll : Option (List ℕ) → Option (List ℕ) → List ℕ → Type 0
 HadAll old new bytes = IfSome old (λ all. (all ≡ bytes) × (new ≡ Some []))
+
+-- the most bytes that a script has
+abbrev pub script_limit : ℕ
+script_limit = 16777216
+
+-- the source gave as much as a script has, and one byte more
+pub record Overlong (bytes : List ℕ) (left : Option (List ℕ)) : Type 0 where
+  pub longer : script_limit < length bytes
+  pub read : left ≡ Some (drop (script_limit + 1) bytes)
 
 -- the sink took these bytes
 abbrev pub Wrote : Option (List ℕ) → Option (List ℕ) → List ℕ → Type 0

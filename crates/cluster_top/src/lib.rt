@@ -1,18 +1,22 @@
-//! Replays a script, and writes what happened.
+//! Replays a script on many nodes, and writes what happened.
 //!
-//! `run` reads the whole script, plays it on its nodes and writes the journal's text. Its contract
-//! says what every run ends with, and what holds of the journal however it ended.
+//! `run` reads the words and the whole script, plays it in a world and writes the journal's text,
+//! its summary or both. Its contract says what every run ends with, and what holds of the journal
+//! however it ended.
 #![tactic(auto)]
 
-mod header;
-mod node;
+mod counting;
+mod generating;
 mod play;
 mod reading;
 mod replay;
 mod status;
-mod world;
+mod transcript;
+mod words;
 mod writing;
 
+pub use counting::summary;
+pub use generating::generated;
 pub use replay::{Outcome, run};
 pub use status::{Status, code, fault_text};
 

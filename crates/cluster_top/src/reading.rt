@@ -1,8 +1,7 @@
 //! Reads a script from its source.
 ghost use Rattle.std.specs.Prelude.{◌≡◌, ◌<◌, ◌≤◌, ◌+◌, [], length, vec_len, drop, Some, IfSome, IfOk, IsErrOf};
 ghost use Rattle.byte_ends.specs.Faults.{Rose};
-ghost use Rattle.cluster_top.specs.Outcome.{Overlong, script_limit};
-ghost use Rattle.cluster_top.specs.Streams.{HadAll};
+ghost use Rattle.cluster_top.specs.Streams.{HadAll, Overlong, script_limit};
 
 use byte_ends::{Pulled, Source};
 use std::alloc::{AllocError, Global};

@@ -1,20 +1,27 @@
 //! The whole program, over the ends that it is given.
-ghost use Rattle.std.specs.Prelude.{◌≡◌, ◌≢◌, ◌<◌, ◌≤◌, ◌↔◌, ◌⊎◌, [], length, IfSome, Some};
+ghost use Rattle.std.specs.Prelude.{◌≡◌, ◌≢◌, ◌<◌, ◌^◌, [], ℕ, List, Option, None, Some, Ok, length, map, string_bytes, IsSome};
 ghost use Rattle.byte_ends.specs.Faults.{Rose};
+ghost use Rattle.journal_readings.specs.CalmEnd.{CalmEnd};
+ghost use Rattle.journal_readings.specs.Claims.{NoLoss, ReadJoin, SettledJoin, EqualClasses, OneMap, KeysRise};
+ghost use Rattle.script_lang.specs.Grammar.{script_of};
 ghost use Rattle.script_lang.specs.Proper.{IsProper};
-ghost use Rattle.cluster_top.specs.Claims.{NoLoss, ReadJoin};
-ghost use Rattle.cluster_top.specs.Outcome.{Ended, EndedRun, IsDecided, IsWritten, script_limit};
-ghost use Rattle.journal_text.specs.Journals.{IsWithin};
-ghost use Rattle.journal_text.specs.Text.{text};
+ghost use Rattle.world.specs.Claims.{HasClaims};
+ghost use Rattle.cluster_top.specs.Outcome.{Ended, HadScript, IsDecided, IsRefusal, IsWritten};
+ghost use Rattle.cluster_top.specs.Transcripts as transcripts;
+ghost use Rattle.cluster_top.specs.Words.{AreBad, Asks};
 
-use crate::play::play;
+use crate::generating::generated;
+use crate::play::play_script;
 use crate::reading::{ReadFault, read_all};
 use crate::status::Status;
-use crate::writing::{WriteFault, write_lines};
+use crate::transcript::write_transcript;
+use crate::words::{Words, WordsFault, read_words};
+use crate::writing::WriteFault;
 use byte_ends::{Sink, Source};
-use journal_text::{Journal, PushFault};
+use journal_text::Journal;
 use script_lang::{Script, ScriptFault, parse};
 use std::alloc::Global;
+use world::StepFault;
 
 /// How a run ended, and its journal.
 ///
@@ -28,7 +35,9 @@ pub struct Outcome {
 
 /// Replays the script that the source has left, and writes the transcript to the sink.
 ///
-/// `words` are those after the program's name, of which it takes none.
+/// `words` are those after the program's name. With `--summary` the transcript's summary follows it.
+/// With `--generate NUMBER` the script is the generated one of that number, nothing is pulled from
+/// the source, and the summary alone is written.
 pub fn run<S: Source, K: Sink>(
     alloc: Global,
     words: &[String],
@@ -36,46 +45,34 @@ pub fn run<S: Source, K: Sink>(
     out: &mut K,
 ) -> Outcome
     // What each status says of the journal, the source and the sink.
-    ensures ended { Ended result.status result.journal.lines (S.left script.old) (S.left script.new) (K.taken out.old) (K.taken out.new) }
+    ensures ended { (asked : Words) → Asks (map string_bytes words.now) asked → Ended asked result.status result.journal.lines (S.left script.old) (S.left script.new) (K.taken out.old) (K.taken out.new) }
 
     // What holds of the journal, however the run ended.
     ensures no_loss { NoLoss result.journal.lines }
     ensures read_join { ReadJoin result.journal.lines }
+    ensures settled_join { SettledJoin result.journal.lines }
+    ensures one_map { OneMap result.journal.lines }
+    ensures equal_classes { EqualClasses result.journal.lines }
+    ensures keys_rise { KeysRise result.journal.lines }
+    ensures calm_end { CalmEnd result.journal.lines }
 
-    // The cause of each status.
-    ensures bad_words { (result.status ≡ Status.BadWords) ↔ (0 < length words.now) }
-    ensures untouched { result.status ≡ Status.BadWords → (script.new ≡ script.old) × (out.new ≡ out.old) }
+    // The cause of each status. Bad words are refused before anything is pulled or written, also for want of memory.
+    ensures bad_words { result.status ≡ Status.BadWords → AreBad (map string_bytes words.now) }
+    ensures refused { AreBad (map string_bytes words.now) → IsRefusal result.status × (result.journal.lines ≡ []) }
+    ensures untouched { AreBad (map string_bytes words.now) → (script.new ≡ script.old) × (out.new ≡ out.old) }
     ensures read_fault { result.status ≡ Status.ReadFault → Rose (S.faults script.old) (S.faults script.new) }
     ensures write_fault { result.status ≡ Status.WriteFault → Rose (K.faults out.old) (K.faults out.new) }
 
-    // Without a fault of either end, the bytes decide how the run ends, unless memory is refused.
-    ensures decided { length words.now ≡ 0 → ¬ Rose (S.faults script.old) (S.faults script.new) → ¬ Rose (K.faults out.old) (K.faults out.new) → IfSome (S.left script.old) (λ bytes. IsDecided bytes result.status) }
-{
-    replay(alloc, words, script, out)
-}
+    // Nothing is pulled where a number stands for the script.
+    ensures unread { (asked : Words) → Asks (map string_bytes words.now) asked → IsSome asked.generate → script.new ≡ script.old }
 
-fn replay<S: Source, K: Sink>(
-    alloc: Global,
-    words: &[String],
-    script: &mut S,
-    out: &mut K,
-) -> Outcome
-    ensures ended { Ended result.status result.journal.lines (S.left script.old) (S.left script.new) (K.taken out.old) (K.taken out.new) }
-    ensures no_loss { NoLoss result.journal.lines }
-    ensures read_join { ReadJoin result.journal.lines }
-    ensures bad_words { (result.status ≡ Status.BadWords) ↔ (0 < length words.now) }
-    ensures untouched { result.status ≡ Status.BadWords → (script.new ≡ script.old) × (out.new ≡ out.old) }
-    ensures read_fault { result.status ≡ Status.ReadFault → Rose (S.faults script.old) (S.faults script.new) }
-    ensures write_fault { result.status ≡ Status.WriteFault → Rose (K.faults out.old) (K.faults out.new) }
+    // Without a fault of either end, the words and the bytes decide how the run ends, unless memory is refused.
+    ensures decided { (asked : Words) → Asks (map string_bytes words.now) asked → ¬ Rose (S.faults script.old) (S.faults script.new) → ¬ Rose (K.faults out.old) (K.faults out.new) → IsDecided asked (S.left script.old) result.status }
 {
-    if !words.is_empty() {
-        return unplayed(alloc, Status::BadWords);
-    }
-    match read_all(alloc, script) {
-        Err(ReadFault::NoMemory) => unplayed(alloc, Status::NoMemory),
-        Err(ReadFault::Source) => unplayed(alloc, Status::ReadFault),
-        Err(ReadFault::TooLong) => unplayed(alloc, Status::ScriptTooLong),
-        Ok(bytes) => replay_bytes(alloc, bytes.as_slice(), out),
+    match read_words(alloc, words) {
+        Err(WordsFault::Bad) => unplayed(alloc, Status::BadWords),
+        Err(WordsFault::NoMemory) => unplayed(alloc, Status::NoMemory),
+        Ok(words) => replay(alloc, words, script, out),
     }
 }
 
@@ -83,6 +80,7 @@ fn replay<S: Source, K: Sink>(
 fn unplayed(alloc: Global, status: Status) -> Outcome
     ensures status { result.status ≡ status }
     ensures empty { result.journal.lines ≡ [] }
+    ensures claims { HasClaims result.journal.lines }
 {
     Outcome {
         status,
@@ -90,50 +88,99 @@ fn unplayed(alloc: Global, status: Status) -> Outcome
     }
 }
 
+/// Replays what the words ask for.
+fn replay<S: Source, K: Sink>(alloc: Global, words: Words, source: &mut S, out: &mut K) -> Outcome
+    ensures ended { Ended words result.status result.journal.lines (S.left source.old) (S.left source.new) (K.taken out.old) (K.taken out.new) }
+    ensures claims { HasClaims result.journal.lines }
+    ensures read_fault { result.status ≡ Status.ReadFault → Rose (S.faults source.old) (S.faults source.new) }
+    ensures write_fault { result.status ≡ Status.WriteFault → Rose (K.faults out.old) (K.faults out.new) }
+    ensures unread { IsSome words.generate → source.new ≡ source.old }
+{
+    match words.generate {
+        None => replay_source(alloc, words, source, out),
+        Some(number) => replay_generated(alloc, words, number, out),
+    }
+}
+
+/// Replays the script that the source has left.
+fn replay_source<S: Source, K: Sink>(
+    alloc: Global,
+    words: Words,
+    source: &mut S,
+    out: &mut K,
+) -> Outcome
+    requires { words.generate ≡ None }
+    ensures ended { Ended words result.status result.journal.lines (S.left source.old) (S.left source.new) (K.taken out.old) (K.taken out.new) }
+    ensures claims { HasClaims result.journal.lines }
+    ensures read_fault { result.status ≡ Status.ReadFault → Rose (S.faults source.old) (S.faults source.new) }
+    ensures write_fault { result.status ≡ Status.WriteFault → Rose (K.faults out.old) (K.faults out.new) }
+{
+    match read_all(alloc, source) {
+        Err(ReadFault::NoMemory) => unplayed(alloc, Status::NoMemory),
+        Err(ReadFault::Source) => unplayed(alloc, Status::ReadFault),
+        Err(ReadFault::TooLong) => unplayed(alloc, Status::ScriptTooLong),
+        Ok(bytes) => replay_bytes(alloc, words, bytes.as_slice(), out),
+    }
+}
+
+/// Replays the script that the number stands for.
+fn replay_generated<K: Sink>(alloc: Global, words: Words, number: u64, out: &mut K) -> Outcome
+    requires { words.generate ≡ Some number }
+    ensures ended { (had : Option (List ℕ)) → Ended words result.status result.journal.lines had had (K.taken out.old) (K.taken out.new) }
+    ensures claims { HasClaims result.journal.lines }
+    ensures read_fault { result.status ≢ Status.ReadFault }
+    ensures write_fault { result.status ≡ Status.WriteFault → Rose (K.faults out.old) (K.faults out.new) }
+{
+    match generated(alloc, number) {
+        Err(_) => unplayed(alloc, Status::NoMemory),
+        Ok(script) => replay_bytes(alloc, words, script.as_slice(), out),
+    }
+}
+
 /// Replays the script that the bytes are.
-fn replay_bytes<K: Sink>(alloc: Global, bytes: &[u8], out: &mut K) -> Outcome
-    requires { length bytes.now ≤ script_limit }
-    ensures ended { Ended result.status result.journal.lines (Some bytes.now) (Some []) (K.taken out.old) (K.taken out.new) }
-    ensures no_loss { NoLoss result.journal.lines }
-    ensures read_join { ReadJoin result.journal.lines }
-    ensures words { result.status ≢ Status.BadWords }
+fn replay_bytes<K: Sink>(alloc: Global, words: Words, bytes: &[u8], out: &mut K) -> Outcome
+    requires { length bytes.now < 2 ^ 60 }
+    ensures ended { (had left : Option (List ℕ)) → HadScript words.generate had left bytes.now → Ended words result.status result.journal.lines had left (K.taken out.old) (K.taken out.new) }
+    ensures claims { HasClaims result.journal.lines }
     ensures read_fault { result.status ≢ Status.ReadFault }
     ensures write_fault { result.status ≡ Status.WriteFault → Rose (K.faults out.old) (K.faults out.new) }
 {
     match parse(alloc, bytes) {
         Err(ScriptFault::NoMemory) => unplayed(alloc, Status::NoMemory),
         Err(ScriptFault::At { line, cause }) => unplayed(alloc, Status::BadScript { line, cause }),
-        Ok(script) => replay_script(alloc, &script, out),
+        Ok(script) => replay_script(alloc, words, &script, out),
     }
 }
 
-/// Plays the script, and writes its journal's text.
-fn replay_script<K: Sink>(alloc: Global, script: &Script, out: &mut K) -> Outcome
-    requires proper { IsProper script.now }
-    requires few { length script.now.commands < 4294967295 }
-    ensures ended { EndedRun script.now result.status result.journal.lines (K.taken out.old) (K.taken out.new) }
+/// Plays the script, and writes what the words ask for.
+fn replay_script<K: Sink>(alloc: Global, words: Words, script: &Script, out: &mut K) -> Outcome
+    requires { IsProper script.now }
+    ensures ended { (had left : Option (List ℕ)) (bytes : List ℕ) → HadScript words.generate had left bytes → script_of bytes ≡ Ok script.now → Ended words result.status result.journal.lines had left (K.taken out.old) (K.taken out.new) }
+    ensures claims { HasClaims result.journal.lines }
+    ensures read_fault { result.status ≢ Status.ReadFault }
     ensures write_fault { result.status ≡ Status.WriteFault → Rose (K.faults out.old) (K.faults out.new) }
 {
     let mut journal = Journal::new(alloc);
-    match play(alloc, script, &mut journal) {
-        Ok(()) => transcribe(alloc, journal, out),
-        Err(PushFault::NoMemory) => unplayed(alloc, Status::NoMemory),
-        Err(PushFault::Full) => Outcome {
+    match play_script(alloc, script, &mut journal) {
+        Ok(()) => transcribe(alloc, words, journal, out),
+        Err(StepFault::NoMemory) => unplayed(alloc, Status::NoMemory),
+        Err(StepFault::RunTooLong) => Outcome {
             status: Status::RunTooLong,
             journal,
         },
     }
 }
 
-/// Writes the journal's text.
-fn transcribe<K: Sink>(alloc: Global, journal: Journal, out: &mut K) -> Outcome
-    ensures written { IsWritten result.status (K.taken out.old) (K.taken out.new) (text journal.lines) }
+/// Writes what the words ask for of the journal.
+fn transcribe<K: Sink>(alloc: Global, words: Words, journal: Journal, out: &mut K) -> Outcome
+    requires { HasClaims journal.lines }
+    ensures written { IsWritten result.status (K.taken out.old) (K.taken out.new) (transcripts.transcript words journal.lines) }
     ensures kept { result.status ≢ Status.NoMemory → result.journal.lines ≡ journal.lines }
     ensures empty { result.status ≡ Status.NoMemory → result.journal.lines ≡ [] }
-    ensures within { IsWithin journal.lines }
+    ensures claims { HasClaims result.journal.lines }
     ensures write_fault { result.status ≡ Status.WriteFault → Rose (K.faults out.old) (K.faults out.new) }
 {
-    match write_lines(alloc, journal.as_slice(), out) {
+    match write_transcript(alloc, words, &journal, out) {
         Ok(()) => Outcome {
             status: Status::Done,
             journal,

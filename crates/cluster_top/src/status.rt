@@ -1,6 +1,6 @@
 //! How a run ended.
 ghost use Rattle.std.specs.Prelude.{◌≡◌, IfOk, Some};
-ghost use Rattle.cluster_top.specs.Outcome.{code_of, fault_of};
+ghost use Rattle.cluster_top.specs.Endings.{code_of, fault_of};
 
 use cluster_types::{Bytes, NoMemory};
 use script_lang::Cause;
@@ -14,7 +14,7 @@ pub enum Status {
     Done,
     /// Memory was refused.
     NoMemory,
-    /// There were words after the program's name, of which it takes none.
+    /// The words after the program's name aren't those that it takes.
     BadWords,
     /// The script has a bad line: the first one, counted from 1, and its cause.
     BadScript { line: u64, cause: Cause },

@@ -1,5 +1,5 @@
 //! Writes a journal's text to its sink.
-ghost use Rattle.std.specs.Prelude.{◌≢◌, ◌<◌, ◌≤◌, ◌^◌, length, OnOk, IsErrOf, Err};
+ghost use Rattle.std.specs.Prelude.{◌≢◌, ◌≤◌, OnOk, IsErrOf, Err};
 ghost use Rattle.byte_ends.specs.Faults.{Rose};
 ghost use Rattle.cluster_top.specs.Streams.{Wrote, WroteFront};
 ghost use Rattle.journal_text.specs.Text as texts;
@@ -51,8 +51,7 @@ pub fn write_lines<K: Sink>(alloc: Global, lines: &[Line], out: &mut K) -> Resul
 }
 
 /// Writes all of the bytes, or fails at a fault of the sink.
-fn write_all<K: Sink>(out: &mut K, bytes: &[u8]) -> Result<(), WriteFault>
-    requires { length bytes.now < 2 ^ 63 }
+pub fn write_all<K: Sink>(out: &mut K, bytes: &[u8]) -> Result<(), WriteFault>
     ensures ok { OnOk result (Wrote (K.taken out.old) (K.taken out.new) bytes.now) }
     ensures front { WroteFront (K.taken out.old) (K.taken out.new) bytes.now }
 
@@ -62,8 +61,8 @@ fn write_all<K: Sink>(out: &mut K, bytes: &[u8]) -> Result<(), WriteFault>
 {
     let mut at = 0;
     while at < bytes.len() {
-        let end = bytes.len().min(at + PIECE);
-        match out.push(&bytes[at..end]) {
+        let size = PIECE.min(bytes.len() - at);
+        match out.push(&bytes[at..at + size]) {
             Pushed::Took(count) => at += count,
             Pushed::Failed => return Err(WriteFault::Sink),
         }

@@ -9,6 +9,8 @@ mod Parts
 mod Ranges
 mod Runs
 mod Said
+mod Ids
+mod SpelledGroups
 mod Spelled
 mod Texts
 mod Whole

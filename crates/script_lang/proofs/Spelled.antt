@@ -1,17 +1,18 @@
 -- A spelling is read back.
-use Rattle.std.proofs.Common.{◌≡◌, ℕ, ◌+◌, ◌<◌, ◌≤◌, ◌^◌, ◌⊎◌, inl, inr, Bool, true, false, cond, not, ◌&&◌, ◌||◌, nat_le, nat_lt, List, [], ◌∷◌, ◌++◌, map, length, Option, Some, None, Result, Ok, Err, refl, sym, ap, ◌∙◌, arith, ◌==◌, append_assoc}
+use Rattle.std.proofs.Common.{◌≡◌, ℕ, ◌+◌, ◌<◌, ◌≤◌, ◌^◌, ◌⊎◌, inl, inr, Bool, true, false, cond, not, ◌&&◌, ◌||◌, nat_le, nat_lt, List, [], ◌∷◌, ◌++◌, map, length, Option, Some, None, Result, Ok, Err, refl, sym, ap, subst, ◌∙◌, arith, ◌==◌, append_assoc, true≢false}
 use Rattle.std.specs.Prelude.{All, Contains, codes}
 use Rattle.std.specs.List.{flat_map, join_with_byte}
 use Rattle.std.specs.Fmt.{decimal}
 use Rattle.std.proofs.lemmas.Bool.{eq-eqb, le-leb, lt-ltb, and_from}
 use Rattle.std.proofs.lemmas.List.{append-nil}
-use Rattle.std.proofs.lemmas.List.Elements.{All-head, All-tail}
+use Rattle.std.proofs.lemmas.List.Concat.{flat_map-cons}
+use Rattle.std.proofs.lemmas.List.Elements.{All-nil, All-cons, All-append, All-head, All-tail}
 use Rattle.conflict_order.specs.declared.policy.Policy.{Policy}
 use Rattle.conflict_order.specs.declared.policy.Policy.TheVariants.{Time, Generation}
 use Rattle.cluster_types.specs.Partitions.{partition_count}
 use Rattle.script_lang.specs.declared.before.Before.{Before}
 use Rattle.script_lang.specs.declared.fault.Cause.{Cause}
-use Rattle.script_lang.specs.declared.fault.Cause.TheVariants.{BadNumber, BadFactor, UnknownNode, RepeatedNode, TooManyNodes, TooLongValue, VersionLate, HeaderLate, NotBuilt}
+use Rattle.script_lang.specs.declared.fault.Cause.TheVariants.{BadNumber, BadFactor, RepeatedNode, TooManyNodes, TooLongValue, VersionLate, HeaderLate, NotBuilt}
 use Rattle.script_lang.specs.declared.lines.Line.{Line}
 use Rattle.script_lang.specs.declared.lines.Line.TheVariants as line
 use Rattle.script_lang.specs.declared.script.Command.{Command}
@@ -25,38 +26,23 @@ use Rattle.script_lang.specs.declared.words.HeaderWord.{HeaderWord}
 use Rattle.script_lang.specs.declared.words.HeaderWord.TheVariants as header_word
 use Rattle.script_lang.specs.declared.words.CommandWord.{CommandWord}
 use Rattle.script_lang.specs.declared.words.CommandWord.TheVariants as command_word
-use Rattle.script_lang.specs.Before.{before_of}
+use Rattle.script_lang.specs.Before.{before_of, declared_by, nodes_of}
 use Rattle.script_lang.specs.Forms as form
 use Rattle.script_lang.specs.Grammar.{Fault, known_word, line_of, line_of_word, script_from, script_of, standing, with_line}
 use Rattle.script_lang.specs.Layout.{lines_of, is_comment}
 use Rattle.script_lang.specs.Outcomes.{and_then, map_ok, ok_if}
-use Rattle.script_lang.specs.Proper.{IsNode, IsDigest, IsAnyValue, IsProper, IsProperCommand, IsProperHeaderLine, IsServed, IsInOrder, MayFollow, MayAllFollow, NamesNodesOf}
-use Rattle.script_lang.specs.Spelling.{HasWrittenValue, IsSpelled, command_fields, header_fields, key, policy_name, spelling}
+use Rattle.script_lang.specs.Proper.{IsNode, IsDigest, IsAnyValue, IsProper, IsProperCommand, IsProperHeaderLine, IsServed, IsInOrder, IsOfVersion, MayFollow, MayAllFollow, NamesNodesOf}
+use Rattle.script_lang.specs.Spelling.{HasWrittenValue, IsSpelled, command_fields, group_fields, header_fields, key, policy_name, spelling}
 use Rattle.script_lang.specs.Spelling as spell
 use Rattle.script_lang.specs.Values as value
 use Rattle.script_lang.specs.Words.{is_command_served, word_of, added_word}
 use Rattle.script_lang.specs.WordsOf.{word_of_command}
-use Rattle.script_lang.proofs.Ranges.{contained}
+use Rattle.script_lang.proofs.Ids.{declared_back, node_back, node_fits, within_back}
+use Rattle.script_lang.proofs.SpelledGroups.{groups_back, groups_clean}
 use Rattle.script_lang.proofs.Texts.{good_text}
 use Rattle.script_lang.proofs.Written.{AreClean, IsClean, fields_back, joined_text, key_back, key_is_clean, line_back, number_back, number_is_clean, value_is_clean, word_is_clean}
 
 -- ---- fields
-
-within_back : (low high n : ℕ) → low ≤ n → n ≤ high → n < 2 ^ 64 → value.number_within low high (decimal n) ≡ Ok n
-within_back low high n above below fits =
-    ap (λ r. and_then r (λ k. ok_if (nat_le low k && nat_le k high) k BadNumber)) (number_back n fits)
-    ∙ ap (λ t. ok_if t n BadNumber) (and_from _ _ (le-leb _ _ above) (le-leb _ _ below))
-
-node_back : (n : ℕ) → IsNode n → value.node (decimal n) ≡ Ok n
-node_back n i = let p = i.positive in let f = i.fits in within_back 1 65535 n (omega arith) (omega arith) (omega arith)
-
-node_fits : (n : ℕ) → IsNode n → n < 2 ^ 64
-node_fits n i = let f = i.fits in omega arith
-
-declared_back : (before : Before) (n : ℕ) → IsNode n → Contains before.nodes n → value.declared_node before (decimal n) ≡ Ok n
-declared_back before n i c =
-    ap (λ r. and_then r (λ id. ok_if (value.is_among id before.nodes) id UnknownNode)) (node_back n i)
-    ∙ ap (λ t. ok_if t n UnknownNode) (contained n before.nodes c)
 
 new_back : (before : Before) (n : ℕ) → IsNode n → value.is_among n before.nodes ≡ false → length before.nodes < 16 → value.new_node before (decimal n) ≡ Ok n
 new_back before n i fresh few =
@@ -167,9 +153,11 @@ header_back before (header.Policy by) first p m =
 
 -- a command is read back where its nodes are declared and its word is served
 pub record IsDue (before : Before) (c : Command) : Type 0 where
+  pub nodes : (n : ℕ) → Contains before.nodes n → IsNode n
   pub ranges : IsProperCommand c
   pub named : NamesNodesOf before.nodes c
   pub served : is_command_served (word_of_command c) (length before.nodes) ≡ true
+  pub of_version : IsOfVersion before.version c
   pub written : HasWrittenValue c
 
 said_command : (before : Before) (first : List ℕ) (rest : List (List ℕ)) (w : CommandWord) (c : Command) → AreClean (first ∷ rest) → is_comment first ≡ false
@@ -195,41 +183,158 @@ node_key_and_value_back before n d v i c k a =
     ∙ ap (λ r. and_then r (λ digest. map_ok (λ bytes. (n, digest, bytes)) (value.value v))) (key_back d k)
     ∙ ap (map_ok (λ bytes. (n, d, bytes))) (value_back v a)
 
+cut_back : (i size : ℕ) → i < 2 ^ 64 → size < 2 ^ 64 → form.cut (decimal i ∷ decimal size ∷ []) ≡ Ok (command.Cut i size)
+cut_back i size fits short =
+    ap (λ r. and_then r (λ message. map_ok (λ s. command.Cut message s) (value.number (decimal size)))) (number_back i fits)
+    ∙ ap (map_ok (λ s. command.Cut i s)) (number_back size short)
+
+partition_from_back : (from to : ℕ) → from ≤ to → to < partition_count → value.partition_from from (decimal to) ≡ Ok to
+partition_from_back from to rises fits =
+    ap (λ r. and_then r (λ n. ok_if (nat_le from n) n BadNumber)) (partition_back to fits)
+    ∙ ap (λ t. ok_if t to BadNumber) (le-leb _ _ rises)
+
+map_back : (before : Before) (n from to : ℕ) → IsNode n → Contains before.nodes n → to < partition_count → from ≤ to
+    → form.map before (decimal n ∷ decimal from ∷ decimal to ∷ []) ≡ Ok (command.Map n from to)
+map_back before n from to i c fits rises =
+    ap (λ r. and_then r (λ id. and_then (value.partition (decimal from)) (λ first. map_ok (λ last. command.Map id first last) (value.partition_from first (decimal to))))) (declared_back before n i c)
+    ∙ ap (λ r. and_then r (λ first. map_ok (λ last. command.Map n first last) (value.partition_from first (decimal to)))) (partition_back from (omega (arith, fits, rises)))
+    ∙ ap (map_ok (λ last. command.Map n from last)) (partition_from_back from to rises fits)
+
+key_and_value_back : (d v : List ℕ) → IsDigest d → IsAnyValue v → form.key_and_value (key d ∷ v ∷ []) ≡ Ok (d, v)
+key_and_value_back d v k a =
+    ap (λ r. and_then r (λ digest. map_ok (λ bytes. (digest, bytes)) (value.value v))) (key_back d k)
+    ∙ ap (map_ok (λ bytes. (d, bytes))) (value_back v a)
+
 command_clean : (before : Before) (c : Command) → IsDue before c → AreClean (command_fields c)
 command_clean before (command.Clock n t) d =
     (word_is_clean (codes "clock") refl refl, (number_is_clean n (node_fits n d.ranges.0), number_is_clean t d.ranges.1))
+command_clean before (command.Groups gs) d = groups_clean before gs d.nodes d.named
 command_clean before (command.Tick n) d = (word_is_clean (codes "tick") refl refl, number_is_clean n (node_fits n d.ranges))
+command_clean before (command.Stop n) d = (word_is_clean (codes "stop") refl refl, number_is_clean n (node_fits n d.ranges))
+command_clean before (command.Start n) d = (word_is_clean (codes "start") refl refl, number_is_clean n (node_fits n d.ranges))
+command_clean before (command.Ask n) d = (word_is_clean (codes "ask") refl refl, number_is_clean n (node_fits n d.ranges))
+command_clean before (command.Quiesce n) d = (word_is_clean (codes "quiesce") refl refl, number_is_clean n (node_fits n d.ranges))
+command_clean before (command.Unquiesce n) d = (word_is_clean (codes "unquiesce") refl refl, number_is_clean n (node_fits n d.ranges))
 command_clean before (command.Put n k v) d =
     (word_is_clean (codes "put") refl refl, (number_is_clean n (node_fits n d.ranges.0), (key_is_clean k d.ranges.1, value_is_clean v d.written)))
 command_clean before (command.Get n k) d = (word_is_clean (codes "get") refl refl, (number_is_clean n (node_fits n d.ranges.0), key_is_clean k d.ranges.1))
-command_clean before (command.Place p) d = let fits = d.ranges in (word_is_clean (codes "place") refl refl, number_is_clean p (omega (arith, fits)))
-command_clean before (command.Hash k) d = (word_is_clean (codes "hash") refl refl, key_is_clean k d.ranges)
+command_clean before (command.Del n k) d = (word_is_clean (codes "del") refl refl, (number_is_clean n (node_fits n d.ranges.0), key_is_clean k d.ranges.1))
 command_clean before (command.Show n k) d = (word_is_clean (codes "show") refl refl, (number_is_clean n (node_fits n d.ranges.0), key_is_clean k d.ranges.1))
-command_clean before _ d = let s = d.served in cc
+command_clean before (command.ClientPut k v) d = (word_is_clean (codes "cput") refl refl, (key_is_clean k d.ranges.0, value_is_clean v d.written))
+command_clean before (command.ClientGet k) d = (word_is_clean (codes "cget") refl refl, key_is_clean k d.ranges)
+command_clean before (command.ClientDel k) d = (word_is_clean (codes "cdel") refl refl, key_is_clean k d.ranges)
+command_clean before (command.Hash k) d = (word_is_clean (codes "hash") refl refl, key_is_clean k d.ranges)
+command_clean before (command.Deliver i) d = (word_is_clean (codes "deliver") refl refl, number_is_clean i d.ranges)
+command_clean before (command.Repeat i) d = (word_is_clean (codes "repeat") refl refl, number_is_clean i d.ranges)
+command_clean before (command.Lose i) d = (word_is_clean (codes "lose") refl refl, number_is_clean i d.ranges)
+command_clean before (command.Cut i size) d = (word_is_clean (codes "cut") refl refl, (number_is_clean i d.ranges.0, number_is_clean size d.ranges.1))
+command_clean before command.Flow d = word_is_clean (codes "flow") refl refl
+command_clean before command.Round d = word_is_clean (codes "round") refl refl
+command_clean before command.Calm d = word_is_clean (codes "calm") refl refl
+command_clean before (command.Map n from to) d =
+    let fits = d.ranges.1 in
+    let rises = d.ranges.2 in
+    (word_is_clean (codes "map") refl refl, (number_is_clean n (node_fits n d.ranges.0), (number_is_clean from (omega (arith, fits, rises)), number_is_clean to (omega (arith, fits)))))
+command_clean before (command.Place p) d = let fits = d.ranges in (word_is_clean (codes "place") refl refl, number_is_clean p (omega (arith, fits)))
+command_clean before (command.ProxyGet a b) d = let s = d.served in absurd (true≢false (sym s))
+command_clean before (command.ProxyPut a b c) d = let s = d.served in absurd (true≢false (sym s))
+command_clean before (command.ProxyDel a b) d = let s = d.served in absurd (true≢false (sym s))
+command_clean before (command.ProxyAgain a) d = let s = d.served in absurd (true≢false (sym s))
+command_clean before (command.CallGet a) d = let s = d.served in absurd (true≢false (sym s))
+command_clean before (command.CallPut a b) d = let s = d.served in absurd (true≢false (sym s))
+command_clean before (command.CallDel a) d = let s = d.served in absurd (true≢false (sym s))
+command_clean before (command.CallAgain a) d = let s = d.served in absurd (true≢false (sym s))
+command_clean before (command.Scan a) d = let s = d.served in absurd (true≢false (sym s))
+command_clean before (command.ScanNext a) d = let s = d.served in absurd (true≢false (sym s))
 
 pub command_back : (before : Before) (c : Command) → IsDue before c → line_of before (join_with_byte 32 (command_fields c)) ≡ Ok (line.Command c)
 command_back before (command.Clock n t) d =
     said_command before (codes "clock") (decimal n ∷ decimal t ∷ []) command_word.Clock (command.Clock n t) (command_clean before (command.Clock n t) d) refl d.served refl
     (clock_back before n t d.ranges.0 d.named d.ranges.1)
+command_back before (command.Groups gs) d =
+    said_command before (codes "groups") (group_fields gs) command_word.Groups (command.Groups gs) (command_clean before (command.Groups gs) d) refl d.served refl
+    (groups_back before gs d.nodes d.ranges d.named)
 command_back before (command.Tick n) d =
     said_command before (codes "tick") (decimal n ∷ []) command_word.Tick (command.Tick n) (command_clean before (command.Tick n) d) refl d.served refl
     (ap (map_ok (λ id. command.Tick id)) (declared_back before n d.ranges d.named))
+command_back before (command.Stop n) d =
+    said_command before (codes "stop") (decimal n ∷ []) command_word.Stop (command.Stop n) (command_clean before (command.Stop n) d) refl d.served refl
+    (ap (map_ok (λ id. command.Stop id)) (declared_back before n d.ranges d.named))
+command_back before (command.Start n) d =
+    said_command before (codes "start") (decimal n ∷ []) command_word.Start (command.Start n) (command_clean before (command.Start n) d) refl d.served refl
+    (ap (map_ok (λ id. command.Start id)) (declared_back before n d.ranges d.named))
+command_back before (command.Ask n) d =
+    said_command before (codes "ask") (decimal n ∷ []) command_word.Ask (command.Ask n) (command_clean before (command.Ask n) d) refl d.served refl
+    (ap (map_ok (λ id. command.Ask id)) (declared_back before n d.ranges d.named))
+command_back before (command.Quiesce n) d =
+    said_command before (codes "quiesce") (decimal n ∷ []) command_word.Quiesce (command.Quiesce n) (command_clean before (command.Quiesce n) d) refl d.served
+    (ap (λ t. cond t (added_word (codes "quiesce")) None) (eq-eqb _ _ (d.of_version refl)))
+    (ap (map_ok (λ id. command.Quiesce id)) (declared_back before n d.ranges d.named))
+command_back before (command.Unquiesce n) d =
+    said_command before (codes "unquiesce") (decimal n ∷ []) command_word.Unquiesce (command.Unquiesce n) (command_clean before (command.Unquiesce n) d) refl d.served
+    (ap (λ t. cond t (added_word (codes "unquiesce")) None) (eq-eqb _ _ (d.of_version refl)))
+    (ap (map_ok (λ id. command.Unquiesce id)) (declared_back before n d.ranges d.named))
 command_back before (command.Put n k v) d =
     said_command before (codes "put") (decimal n ∷ key k ∷ v ∷ []) command_word.Put (command.Put n k v) (command_clean before (command.Put n k v) d) refl d.served refl
     (ap (map_ok (λ (p : ℕ × List ℕ × List ℕ). command.Put p.0 p.1 p.2)) (node_key_and_value_back before n k v d.ranges.0 d.named d.ranges.1 d.ranges.2))
 command_back before (command.Get n k) d =
     said_command before (codes "get") (decimal n ∷ key k ∷ []) command_word.Get (command.Get n k) (command_clean before (command.Get n k) d) refl d.served refl
     (ap (map_ok (λ (p : ℕ × List ℕ). command.Get p.0 p.1)) (node_and_key_back before n k d.ranges.0 d.named d.ranges.1))
-command_back before (command.Place p) d =
-    said_command before (codes "place") (decimal p ∷ []) command_word.Place (command.Place p) (command_clean before (command.Place p) d) refl d.served refl
-    (ap (map_ok (λ x. command.Place x)) (partition_back p d.ranges))
-command_back before (command.Hash k) d =
-    said_command before (codes "hash") (key k ∷ []) command_word.Hash (command.Hash k) (command_clean before (command.Hash k) d) refl d.served refl
-    (ap (map_ok (λ x. command.Hash x)) (key_back k d.ranges))
+command_back before (command.Del n k) d =
+    said_command before (codes "del") (decimal n ∷ key k ∷ []) command_word.Del (command.Del n k) (command_clean before (command.Del n k) d) refl d.served refl
+    (ap (map_ok (λ (p : ℕ × List ℕ). command.Del p.0 p.1)) (node_and_key_back before n k d.ranges.0 d.named d.ranges.1))
 command_back before (command.Show n k) d =
     said_command before (codes "show") (decimal n ∷ key k ∷ []) command_word.Show (command.Show n k) (command_clean before (command.Show n k) d) refl d.served refl
     (ap (map_ok (λ (p : ℕ × List ℕ). command.Show p.0 p.1)) (node_and_key_back before n k d.ranges.0 d.named d.ranges.1))
-command_back before _ d = let s = d.served in cc
+command_back before (command.ClientPut k v) d =
+    said_command before (codes "cput") (key k ∷ v ∷ []) command_word.ClientPut (command.ClientPut k v) (command_clean before (command.ClientPut k v) d) refl d.served refl
+    (ap (map_ok (λ (p : List ℕ × List ℕ). command.ClientPut p.0 p.1)) (key_and_value_back k v d.ranges.0 d.ranges.1))
+command_back before (command.ClientGet k) d =
+    said_command before (codes "cget") (key k ∷ []) command_word.ClientGet (command.ClientGet k) (command_clean before (command.ClientGet k) d) refl d.served refl
+    (ap (map_ok (λ x. command.ClientGet x)) (key_back k d.ranges))
+command_back before (command.ClientDel k) d =
+    said_command before (codes "cdel") (key k ∷ []) command_word.ClientDel (command.ClientDel k) (command_clean before (command.ClientDel k) d) refl d.served refl
+    (ap (map_ok (λ x. command.ClientDel x)) (key_back k d.ranges))
+command_back before (command.Hash k) d =
+    said_command before (codes "hash") (key k ∷ []) command_word.Hash (command.Hash k) (command_clean before (command.Hash k) d) refl d.served refl
+    (ap (map_ok (λ x. command.Hash x)) (key_back k d.ranges))
+command_back before (command.Deliver i) d =
+    said_command before (codes "deliver") (decimal i ∷ []) command_word.Deliver (command.Deliver i) (command_clean before (command.Deliver i) d) refl d.served refl
+    (ap (map_ok (λ x. command.Deliver x)) (number_back i d.ranges))
+command_back before (command.Repeat i) d =
+    said_command before (codes "repeat") (decimal i ∷ []) command_word.Repeat (command.Repeat i) (command_clean before (command.Repeat i) d) refl d.served refl
+    (ap (map_ok (λ x. command.Repeat x)) (number_back i d.ranges))
+command_back before (command.Lose i) d =
+    said_command before (codes "lose") (decimal i ∷ []) command_word.Lose (command.Lose i) (command_clean before (command.Lose i) d) refl d.served refl
+    (ap (map_ok (λ x. command.Lose x)) (number_back i d.ranges))
+command_back before (command.Cut i size) d =
+    said_command before (codes "cut") (decimal i ∷ decimal size ∷ []) command_word.Cut (command.Cut i size) (command_clean before (command.Cut i size) d) refl d.served refl
+    (cut_back i size d.ranges.0 d.ranges.1)
+command_back before command.Flow d =
+    said_command before (codes "flow") ([]) command_word.Flow command.Flow (command_clean before command.Flow d) refl d.served refl
+    (refl)
+command_back before command.Round d =
+    said_command before (codes "round") ([]) command_word.Round command.Round (command_clean before command.Round d) refl d.served refl
+    (refl)
+command_back before command.Calm d =
+    said_command before (codes "calm") ([]) command_word.Calm command.Calm (command_clean before command.Calm d) refl d.served refl
+    (refl)
+command_back before (command.Map n from to) d =
+    said_command before (codes "map") (decimal n ∷ decimal from ∷ decimal to ∷ []) command_word.Map (command.Map n from to) (command_clean before (command.Map n from to) d) refl d.served refl
+    (map_back before n from to d.ranges.0 d.named d.ranges.1 d.ranges.2)
+command_back before (command.Place p) d =
+    said_command before (codes "place") (decimal p ∷ []) command_word.Place (command.Place p) (command_clean before (command.Place p) d) refl d.served refl
+    (ap (map_ok (λ x. command.Place x)) (partition_back p d.ranges))
+command_back before (command.ProxyGet a b) d = let s = d.served in absurd (true≢false (sym s))
+command_back before (command.ProxyPut a b c) d = let s = d.served in absurd (true≢false (sym s))
+command_back before (command.ProxyDel a b) d = let s = d.served in absurd (true≢false (sym s))
+command_back before (command.ProxyAgain a) d = let s = d.served in absurd (true≢false (sym s))
+command_back before (command.CallGet a) d = let s = d.served in absurd (true≢false (sym s))
+command_back before (command.CallPut a b) d = let s = d.served in absurd (true≢false (sym s))
+command_back before (command.CallDel a) d = let s = d.served in absurd (true≢false (sym s))
+command_back before (command.CallAgain a) d = let s = d.served in absurd (true≢false (sym s))
+command_back before (command.Scan a) d = let s = d.served in absurd (true≢false (sym s))
+command_back before (command.ScanNext a) d = let s = d.served in absurd (true≢false (sym s))
 
 -- ---- the script
 
@@ -264,22 +369,41 @@ commands_back : (number : ℕ) (header : List HeaderLine) (done commands : List 
 commands_back number header done [] due = ap (λ (cs : List Command). Ok (record { header = header; commands = cs })) (sym (append-nil done))
 commands_back number header done (c ∷ commands) due =
     let d = All-head (IsDue (before_of header [])) c commands due in
-    let here : IsDue (before_of header done) c = record { ranges = d.ranges; named = d.named; served = d.served; written = d.written } in
+    let here : IsDue (before_of header done) c = record { nodes = d.nodes; ranges = d.ranges; named = d.named; served = d.served; of_version = d.of_version; written = d.written } in
     one_line number (record { header = header; commands = done }) (command_fields c) (flat_map spell.line (map command_fields commands)) (line.Command c)
     (command_clean (before_of header done) c here) (command_back (before_of header done) c here)
     ∙ commands_back (number + 1) header (done ++ c ∷ []) commands (All-tail (IsDue (before_of header [])) c commands due)
     ∙ ap (λ (cs : List Command). Ok (record { header = header; commands = cs })) (append_assoc done (c ∷ []) commands)
 
-all_due : (before : Before) (commands : List Command) → All IsProperCommand commands → All (NamesNodesOf before.nodes) commands
-    → All (λ c. is_command_served (word_of_command c) (length before.nodes) ≡ true) commands → All HasWrittenValue commands → All (IsDue before) commands
-all_due before commands ranges named served written = λ k d below. record {
+-- each node that a proper header declares is one
+declared_nodes : (lines : List HeaderLine) → All IsProperHeaderLine lines → All IsNode (nodes_of lines)
+declared_nodes [] proper = All-nil IsNode
+declared_nodes (h ∷ lines) proper =
+    subst (All IsNode) (sym (flat_map-cons declared_by h lines))
+    (All-append IsNode (declared_by h) (nodes_of lines) (declared_node h (All-head IsProperHeaderLine h lines proper)) (declared_nodes lines (All-tail IsProperHeaderLine h lines proper)))
+  where
+    declared_node : (l : HeaderLine) → IsProperHeaderLine l → All IsNode (declared_by l)
+    declared_node (header.Script version) p = All-nil IsNode
+    declared_node (header.Factor factor) p = All-nil IsNode
+    declared_node (header.Node node rack) p = All-cons IsNode node [] p.0 (All-nil IsNode)
+    declared_node (header.Policy policy) p = All-nil IsNode
+
+contained_node : (nodes : List ℕ) → All IsNode nodes → (n : ℕ) → Contains nodes n → IsNode n
+contained_node nodes all n (k, below, same) = subst IsNode same (all k n below)
+
+all_due : (before : Before) (commands : List Command) → ((n : ℕ) → Contains before.nodes n → IsNode n) → All IsProperCommand commands → All (NamesNodesOf before.nodes) commands
+    → All (λ c. is_command_served (word_of_command c) (length before.nodes) ≡ true) commands → All (IsOfVersion before.version) commands → All HasWrittenValue commands → All (IsDue before) commands
+all_due before commands nodes ranges named served versions written = λ k d below. record {
+  nodes = nodes;
   ranges = ranges k d below;
   named = named k d below;
   served = served k d below;
+  of_version = versions k d below;
   written = written k d below;
 }
 
 pub read_back : (script : Script) → IsProper script → IsServed script → IsInOrder script → IsSpelled script → script_of (spelling script) ≡ Ok script
 read_back script p s o w =
     let h = headers_back 1 [] script.header (flat_map spell.line (map command_fields script.commands)) p.header o.order in
-    h.1 ∙ commands_back h.0 script.header [] script.commands (all_due (before_of script.header []) script.commands p.commands p.named s.commands w.values)
+    let nodes = contained_node (nodes_of script.header) (declared_nodes script.header p.header) in
+    h.1 ∙ commands_back h.0 script.header [] script.commands (all_due (before_of script.header []) script.commands nodes p.commands p.named s.commands o.versions w.values)

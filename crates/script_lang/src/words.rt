@@ -97,9 +97,17 @@ fn is_command_served(word: CommandWord, nodes: usize) -> bool
     ensures { result ≡ words.is_command_served word nodes }
 {
     match word {
-        CommandWord::Clock | CommandWord::Hash | CommandWord::Show | CommandWord::Place => true,
-        CommandWord::Tick | CommandWord::Put | CommandWord::Get => nodes < 2,
-        _ => false,
+        CommandWord::ProxyGet
+        | CommandWord::ProxyPut
+        | CommandWord::ProxyDel
+        | CommandWord::ProxyAgain
+        | CommandWord::CallGet
+        | CommandWord::CallPut
+        | CommandWord::CallDel
+        | CommandWord::CallAgain
+        | CommandWord::Scan
+        | CommandWord::ScanNext => false,
+        _ => true,
     }
 }
 

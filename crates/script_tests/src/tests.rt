@@ -4,7 +4,7 @@ use script_lang::{Cause, Command, HeaderLine, ScriptFault, parse};
 use std::test::Fail;
 
 /// A script, and the line and cause for which it is refused.
-const REFUSED: [(&str, u64, Cause); 60] = [
+const REFUSED: [(&str, u64, Cause); 59] = [
     // The first bad line counts.
     (
         "node 1\ntick 1\ntack 1\ntick 1\nnode x\n",
@@ -89,13 +89,12 @@ const REFUSED: [(&str, u64, Cause); 60] = [
     ("node 1\nput 1 a\n", 2, Cause::MissingField),
     ("node 1\nput 1 a v w\n", 2, Cause::ExtraField),
     // What isn't served, before what else is wrong.
-    ("node 1\nstop\n", 2, Cause::NotBuilt),
-    ("groups\n", 1, Cause::NotBuilt),
-    ("node 1\nnode 2\ntick 1\n", 3, Cause::NotBuilt),
-    ("node 1\nnode 2\nput 3\n", 3, Cause::NotBuilt),
+    ("script 2\nnode 1\npagain\n", 3, Cause::NotBuilt),
+    ("script 2\nagain\n", 2, Cause::NotBuilt),
+    ("script 2\noput 3\n", 2, Cause::NotBuilt),
     ("script 2\nnode 1\npget 1 a\n", 3, Cause::NotBuilt),
     ("script 2\nscan 1\n", 2, Cause::NotBuilt),
-    ("node 1\ncalm\nnode 1\n", 2, Cause::NotBuilt),
+    ("script 2\nnode 1\nscannext 1\nnode 1\n", 3, Cause::NotBuilt),
     ("script 2\nscript 1\nquiesce 1\n", 3, Cause::UnknownWord),
     ("\nput 1 a v", 2, Cause::UnknownNode),
 ];

@@ -1,21 +1,19 @@
-use Rattle.std.proofs.Common.{[], Some}
-use Rattle.cluster_top.proofs.Endings.{ended_run, refused_at_once, no_loss_of_ended, read_join_of_ended, no_bad_words, no_read_fault}
+use Rattle.std.proofs.Common.{◌≡◌, Err, subst}
+use Rattle.script_lang.specs.Grammar.{script_of}
+use Rattle.script_lang.specs.Reading.{Refuses}
+use Rattle.cluster_top.specs.declared.status.Status.TheVariants as status
+use Rattle.cluster_top.proofs.Endings.{refused_at_once, was_bad}
 use Rattle.cluster_top.proofs.replay.replay_bytes.Goals as goal
 
 pub returns-in-Err-NoMemory-clause-ended : goal.returns-in-Err-NoMemory-clause-ended
-returns-in-Err-NoMemory-clause-ended g c = refused_at_once _ _ (Some c.args.bytes.now) (Some []) _ c.unplayed.ensures.status c.unplayed.ensures.empty
+returns-in-Err-NoMemory-clause-ended g c = λ had left h. refused_at_once c.args.words _ _ had left _ c.unplayed.ensures.status c.unplayed.ensures.empty
+
+pub returns-in-Err-At-clause-ended : goal.returns-in-Err-At-clause-ended
+returns-in-Err-At-clause-ended g c = λ had left h.
+    let bad : script_of c.args.bytes.now ≡ Err (record { line = c.in-Err-At.line; cause = c.in-Err-At.cause }) =
+    subst (λ f. Refuses (script_of c.args.bytes.now) f) c.in-Err-At.field-0-is c.in-Err-At.ensures.err in
+    let told : c.unplayed-in-Err-At.result.status ≡ status.BadScript c.in-Err-At.line c.in-Err-At.cause = cc in
+    was_bad c.args.words _ _ had left _ c.args.bytes.now c.in-Err-At.line c.in-Err-At.cause told c.unplayed-in-Err-At.ensures.empty bad h
 
 pub returns-in-Ok-clause-ended : goal.returns-in-Ok-clause-ended
-returns-in-Ok-clause-ended g c = ended_run c.args.bytes.now c.in-Ok.script _ _ _ _ c.in-Ok.ensures.ok c.requires c.replay_script.ensures.ended
-
-pub returns-in-Ok-clause-no_loss : goal.returns-in-Ok-clause-no_loss
-returns-in-Ok-clause-no_loss g c = no_loss_of_ended c.in-Ok.script c.replay_script.result.status c.replay_script.result.journal.lines (g.K.Sink.taken c.args.out.now) (g.K.Sink.taken c.replay_script.new.out) c.replay_script.ensures.ended
-
-pub returns-in-Ok-clause-read_join : goal.returns-in-Ok-clause-read_join
-returns-in-Ok-clause-read_join g c = read_join_of_ended c.in-Ok.script c.replay_script.result.status c.replay_script.result.journal.lines (g.K.Sink.taken c.args.out.now) (g.K.Sink.taken c.replay_script.new.out) c.replay_script.ensures.ended
-
-pub returns-in-Ok-clause-words : goal.returns-in-Ok-clause-words
-returns-in-Ok-clause-words g c = no_bad_words c.in-Ok.script c.replay_script.result.status c.replay_script.result.journal.lines (g.K.Sink.taken c.args.out.now) (g.K.Sink.taken c.replay_script.new.out) c.replay_script.ensures.ended
-
-pub returns-in-Ok-clause-read_fault : goal.returns-in-Ok-clause-read_fault
-returns-in-Ok-clause-read_fault g c = no_read_fault c.in-Ok.script c.replay_script.result.status c.replay_script.result.journal.lines (g.K.Sink.taken c.args.out.now) (g.K.Sink.taken c.replay_script.new.out) c.replay_script.ensures.ended
+returns-in-Ok-clause-ended g c = λ had left h. c.replay_script.ensures.ended had left c.args.bytes.now h c.in-Ok.ensures.ok

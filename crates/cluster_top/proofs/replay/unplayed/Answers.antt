@@ -1,0 +1,5 @@
+use Rattle.cluster_top.proofs.PlayLaws.{nothing_claimed}
+use Rattle.cluster_top.proofs.replay.unplayed.Goals as goal
+
+pub returns-clause-claims : goal.returns-clause-claims
+returns-clause-claims c = nothing_claimed _ c.new.ensures.lines
