@@ -4,4 +4,6 @@ pub mod FilledLaws
 pub mod GroupLaws
 pub mod MemberLaws
 pub mod RowLaws
+pub mod RowPairs
+pub mod RowPlaces
 pub mod StateRowLaws

@@ -6,6 +6,7 @@ pub mod Members
 pub mod MembersEqual
 pub mod NodeLists
 pub mod Partitions
+pub mod RowBytes
 pub mod Rows
 pub mod StateRows
 pub mod Texts

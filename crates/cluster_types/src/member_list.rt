@@ -17,7 +17,7 @@ use std::marker::Model;
 #[derive(Clone, Copy)]
 pub struct MemberList {
     places: [Member; 16],
-    len: usize,
+    len: u8,
 }
 
 impl Model for MemberList {
@@ -74,7 +74,7 @@ impl MemberList {
         places[..list.len()].copy_from_slice(list);
         MemberList {
             places,
-            len: list.len(),
+            len: list.len() as u8,
         }
     }
 
@@ -83,7 +83,7 @@ impl MemberList {
         ensures value { result ≡ length self.now }
         ensures limit { result ≤ 16 }
     {
-        self.len
+        usize::from(self.len)
     }
 
     /// Whether there are none.
@@ -98,7 +98,7 @@ impl MemberList {
         ensures same { result.now ≡ self.now }
         ensures valid { AreDistinctMembers self.now }
     {
-        &self.places[..self.len]
+        &self.places[..usize::from(self.len)]
     }
 
     /// The member at that place, and `None` from the length on.

@@ -4,6 +4,7 @@ use crate::made::{key, node, partition};
 use cluster_types::{
     CopyState, MapEntry, MapView, NodeId, NodeList, PartitionId, Row4096, StateRow,
 };
+use std::process::Abort;
 use std::test::Fail;
 
 #[test]
@@ -17,6 +18,59 @@ fn joins_bits(rt: HostRuntime) {
         assert_eq!(rt; row.get(partition(&rt, p)), wanted);
     }
     assert!(rt; !other.get(partition(&rt, 0)));
+}
+
+/// A row with these bits alone.
+fn row_of(rt: &impl Abort, numbers: &[u16]) -> Row4096 {
+    let mut row = Row4096::new();
+    for number in numbers {
+        row.put(partition(rt, *number));
+    }
+    row
+}
+
+/// The number of the first partition from that one on whose bit is set.
+fn next(row: &Row4096, from: u16) -> Option<u16> {
+    Some(row.next_set(from)?.number())
+}
+
+#[test]
+fn finds_the_next_bit(rt: HostRuntime) {
+    let row = row_of(&rt, &[3, 5, 64, 4095]);
+    for (from, wanted) in [
+        (0, Some(3)),
+        (3, Some(3)),
+        (4, Some(5)),
+        (6, Some(64)),
+        (65, Some(4095)),
+        (4096, None),
+    ] {
+        assert_eq!(rt; next(&row, from), wanted);
+    }
+    assert_eq!(rt; next(&row.complement(), 3), Some(4));
+    assert_eq!(rt; next(&Row4096::new(), 0), None);
+}
+
+#[test]
+fn tells_two_rows_apart(rt: HostRuntime) {
+    let a = row_of(&rt, &[3, 5, 64]);
+    let b = row_of(&rt, &[5, 64, 4095]);
+    assert!(rt; a.lacks(&b) && b.lacks(&a) && !a.lacks(&a));
+    assert!(rt; !a.lacks(&row_of(&rt, &[64])));
+    assert!(rt; a.difference(&b) == row_of(&rt, &[3]));
+    assert!(rt; b.difference(&a) == row_of(&rt, &[4095]));
+    assert!(rt; a.symmetric_difference(&b) == row_of(&rt, &[3, 4095]));
+    assert!(rt; a.complement().complement() == a);
+}
+
+#[test]
+fn a_row_is_made_of_its_bytes(rt: HostRuntime) {
+    let row = row_of(&rt, &[3, 8, 4095]);
+    let bytes = row.as_bytes();
+    for (place, wanted) in [(0, 8), (1, 1), (2, 0), (511, 128)] {
+        assert_eq!(rt; bytes[place], wanted);
+    }
+    assert!(rt; Row4096::from_bytes(bytes) == row);
 }
 
 #[test]

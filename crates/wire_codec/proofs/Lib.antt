@@ -3,4 +3,4 @@ pub mod Highest
 pub mod Loops
 pub mod Lowest
 pub mod Orders
-pub mod RowPairs
+pub mod SameRows

@@ -3,12 +3,10 @@ ghost use Rattle.std.specs.Prelude.{◌≡◌, ◌≢◌, ◌<◌, ◌+◌, ◌*
 ghost use Rattle.std.specs.Int.{w16};
 ghost use Rattle.cluster_types.specs.declared.copy_state.CopyState.TheVariants.{Empty};
 ghost use Rattle.cluster_types.specs.Partitions.{partition_count};
-ghost use Rattle.cluster_types.specs.Rows.{bit};
 ghost use Rattle.wire_messages.specs.Fields.{items_at};
 ghost use Rattle.wire_messages.specs.Nodes.{any_id_at, with_any_id, table_at};
 ghost use Rattle.wire_messages.specs.Numbers.{between, number_at};
 ghost use Rattle.wire_codec.specs.Reading.{Reads, Fills};
-ghost use Rattle.wire_messages.specs.RowFronts.{HasFront, second};
 ghost use Rattle.wire_messages.specs.Rows as rows;
 ghost use Rattle.wire_messages.specs.Rows.{is_above, row_at, state_at, entry_at, with_entry, state_row_at};
 
@@ -28,51 +26,12 @@ fn least_ids() -> [NodeId; 4096]
     [NodeId::MIN; 4096]
 }
 
-/// Sets the partition's bit in the second row where `set` says so, and otherwise in the first one,
-/// which nobody reads: a branch for each bit of a row would often be guessed wrong.
-fn put_if(pair: &mut [Row4096; 2], p: u16, set: bool)
-    requires partition { p < 4096 }
-    requires size { length (second pair.old) ≡ 4096 }
-    ensures each { (q : ℕ) → bit (second pair.new) q ≡ (bit (second pair.old) q || ((q == p) && set)) }
-    ensures size { length (second pair.new) ≡ 4096 }
-{
-    if let Some(partition) = PartitionId::new(p) {
-        pair[usize::from(set)].put(partition);
-    }
-}
-
-/// Whether the partition's bit is set in a row of which these are the bytes.
-fn is_set(bytes: &[u8], p: u16) -> bool
-    requires size { length bytes.now ≡ 512 }
-    requires partition { p < 4096 }
-    ensures { result ≡ rows.row_bit bytes.now p }
-{
-    (bytes[usize::from(p / 8)] >> (p % 8)) % 2 == 1
-}
-
-/// Sets the bits that the byte at place `i` has in the second row, behind those of the bytes before
-/// it.
-fn put_bits(pair: &mut [Row4096; 2], bytes: &[u8], i: u16)
-    requires size { length bytes.now ≡ 512 }
-    requires place { i < 512 }
-    requires before { HasFront (second pair.old) bytes.now (8 * i) }
-    ensures { HasFront (second pair.new) bytes.now (8 * i + 8) }
-{
-    for p in 8 * i..8 * i + 8 {
-        put_if(pair, p, is_set(bytes, p));
-    }
-}
-
 /// The row of which these are the bytes.
 fn row_of(bytes: &[u8]) -> Row4096
     requires { length bytes.now ≡ 512 }
     ensures { result ≡ rows.row_of bytes.now }
 {
-    let mut pair = [Row4096::new(); 2];
-    for i in 0..512 {
-        put_bits(&mut pair, bytes, i);
-    }
-    pair[1]
+    Row4096::from_bytes(bytes)
 }
 
 impl<'a> Reader<'a> {

@@ -2,50 +2,17 @@
 ghost use Rattle.std.specs.Prelude.{◌≡◌, ◌≢◌, ◌++◌, ◌+◌, ◌*◌, ◌<◌, ◌≤◌, ◌^◌, All, length, map, OnOk};
 ghost use Rattle.std.specs.List.{flat_map, range_with_len};
 ghost use Rattle.cluster_types.specs.declared.copy_state.CopyState.TheVariants.{Empty};
-ghost use Rattle.cluster_types.specs.Rows.{bit};
-ghost use Rattle.wire_messages.specs.Rows as rows;
-ghost use Rattle.wire_messages.specs.Rows.{bit_number, row_field, state_field, entry_field, state_row_field, FitsState};
+ghost use Rattle.wire_messages.specs.Rows.{row_field, state_field, entry_field, state_row_field, FitsState};
 
 use crate::writing::keys::put_key;
 use crate::writing::numbers::{put_byte, put_u16, put_u32};
 use cluster_types::{CopyState, NoMemory, PartitionId, Row4096, StateRow};
 
-/// 1 where the partition's bit is set, and otherwise 0.
-fn bit_of(row: &Row4096, p: u16) -> u8
-    requires { p < 4096 }
-    ensures value { result ≡ bit_number (bit row.now p) }
-    ensures limit { result < 2 }
-{
-    match PartitionId::new(p) {
-        Some(partition) if row.get(partition) => 1,
-        _ => 0,
-    }
-}
-
-/// The byte that has the bits of the partitions from `8 * i` on.
-fn row_byte(row: &Row4096, i: u16) -> u8
-    requires { i < 512 }
-    ensures { result ≡ rows.row_byte row.now i }
-{
-    let p = 8 * i;
-    bit_of(row, p)
-        + 2 * bit_of(row, p + 1)
-        + 4 * bit_of(row, p + 2)
-        + 8 * bit_of(row, p + 3)
-        + 16 * bit_of(row, p + 4)
-        + 32 * bit_of(row, p + 5)
-        + 64 * bit_of(row, p + 6)
-        + 128 * bit_of(row, p + 7)
-}
-
 /// A bit row.
-#[tactic(auto, unfolding(wire_messages::specs::Rows::row_field))]
 pub(crate) fn put_row(out: &mut Vec<u8>, row: &Row4096) -> Result<(), NoMemory>
     ensures { OnOk result (out.new.items ≡ out.old.items ++ row_field row.now) }
 {
-    for i in 0..512 {
-        out.push(row_byte(row, i))?;
-    }
+    out.extend_from_slice(row.as_bytes())?;
     Ok(())
 }
 

@@ -1,9 +1,9 @@
-use Rattle.std.proofs.Common.{◌≡◌, ◌<◌, ◌≤◌, ◌||◌, ℕ}
-use Rattle.cluster_types.specs.Rows.{bit}
+use Rattle.std.proofs.Common.{◌≡◌, ◌<◌, ◌≤◌, ℕ, get_or}
+use Rattle.std.specs.Prelude.{bit_or}
 use Rattle.cluster_types.proofs.row.or_into.Given as goal
 
 abbrev pub invariant-loop-i : goal.invariant-loop-i
 invariant-loop-i l = record {
-  done : (p : ℕ) → p < l.i → bit l.bits p ≡ (bit l.fn.bits p || bit l.other p);
-  rest : (p : ℕ) → l.i ≤ p → bit l.bits p ≡ bit l.fn.bits p;
+  done : (k : ℕ) → k < l.i → get_or l.bytes k 0 ≡ bit_or (get_or l.fn.bytes k 0) (get_or l.other k 0);
+  rest : (k : ℕ) → l.i ≤ k → get_or l.bytes k 0 ≡ get_or l.fn.bytes k 0;
 }
