@@ -3,7 +3,7 @@ use crate::refusal::Refusal;
 use cluster_types::{
     BoxedGroups, Bytes, ClusterKey, Digest, MemberList, Members, NodeId, PartitionId,
 };
-use conflict_order::{Action, Policy, Version};
+use conflict_order::{Action, BestVersion, Policy, Version};
 use wire_messages::{ReplyBody, ScanRefusal};
 
 /// One line of the journal. It is written as docs/FORMATS.md says, without its line feed.
@@ -156,7 +156,7 @@ pub enum Line {
         key: ClusterKey,
         transaction: u32,
         digest: Digest,
-        version: Option<Version>,
+        version: BestVersion,
     },
     /// A write was applied, with the version that it made.
     Apply {

@@ -252,7 +252,7 @@ fn request_fields(line: &Line) -> Option<[Field<'_>; 7]>
             Key(*key),
             Count(*transaction),
             Digest(digest),
-            Found(version)
+            Found(version.version())
         ),
         Line::Apply {
             node,

@@ -2,7 +2,7 @@
 ghost use Rattle.std.specs.Prelude.{◌≡◌, IfOk};
 
 use cluster_types::{BoxedGroups, NoMemory};
-use conflict_order::Version;
+use conflict_order::{BestVersion, Version};
 use journal_lines::Line;
 use std::alloc::Global;
 
@@ -123,7 +123,7 @@ pub fn copy_line(alloc: Global, line: &Line) -> Result<Line, NoMemory>
             key: *key,
             transaction: *transaction,
             digest: *digest,
-            version: copy_version(alloc, version)?,
+            version: BestVersion::new(alloc, copy_version(alloc, version.version())?)?,
         }),
         Line::Apply {
             node,

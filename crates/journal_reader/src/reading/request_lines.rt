@@ -8,6 +8,7 @@ ghost use Rattle.journal_reader.specs.declared.reading.word.Word.TheVariants as 
 use crate::reading::causes::cause_of;
 use crate::reading::parts::Parts;
 use crate::reading::unread::Unread;
+use conflict_order::BestVersion;
 use journal_lines::Line;
 use std::alloc::Global;
 
@@ -49,8 +50,9 @@ pub fn value_line(alloc: Global, mut fields: Parts) -> Result<Line, Unread>
     let key = fields.key()?;
     let transaction = fields.number()?;
     let digest = fields.digest()?;
-    let version = fields.optional_version(alloc)?;
+    let found = fields.optional_version(alloc)?;
     fields.end()?;
+    let version = BestVersion::new(alloc, found)?;
     Ok(Line::Value {
         node,
         key,
