@@ -12,6 +12,3 @@ pub use cluster_types::NoMemory;
 pub use joined::Joined;
 pub use stamp::Stamp;
 pub use store::RecordStore;
-
-#[cfg(test)]
-mod tests;

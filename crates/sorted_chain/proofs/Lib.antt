@@ -1,1 +1,6 @@
-mod PlaceLaws
+pub mod BoxesLaws
+pub mod BoxesSteps
+pub mod LinkLaws
+pub mod NodeLaws
+pub mod PlaceLaws
+pub mod RawBoxSteps

@@ -1,7 +1,6 @@
 -- What stands at the place of a key among entries, and what a change at that place makes of them.
-use Rattle.std.proofs.Common.{◌≡◌, ℕ, zero, suc, ◌+◌, ◌<◌, ◌≤◌, Bool, true, false, cond, ◌&&◌, List, [], ◌∷◌, length, get_or, set, drop, Some, None, Result, Ok, Err, MatchResult, refl, sym, ap, subst, ◌∙◌, arith, add-one}
+use Rattle.std.proofs.Common.{◌≡◌, ℕ, zero, suc, ◌+◌, ◌<◌, ◌≤◌, Bool, true, false, cond, ◌&&◌, List, [], ◌∷◌, length, get_or, slice_get, set, drop, Some, None, ⊎_elim, refl, sym, ap, subst, ◌∙◌, arith, add-one}
 use Rattle.std.specs.List.{insert}
-use Rattle.std.specs.List.Sorted.{IsSearchInRange, IsBinarySearchResult, IsSortedBy}
 use Rattle.std.specs.Cmp.{IsTotalOrder}
 use Rattle.std.specs.Ordering.{is_lt, is_eq, ordering_reverse}
 use Rattle.std.specs.declared.cmp.Ordering.{Ordering}
@@ -10,9 +9,10 @@ use Rattle.std.specs.FinMap.{find, put, nat_cmp-IsAntisymmetric, slice_cmp-IsAnt
 use Rattle.std.specs.FinMap.Entries.{by_order, below_all, is_sorted-put}
 use lib.Dec.{T}
 use Rattle.std.proofs.lemmas.Cmp.{nat_list_cmp_total}
-use Rattle.std.proofs.lemmas.List.Sorted.{searchable_from_sorted}
-use Rattle.std.proofs.lemmas.Bool.{false≢true}
+use Rattle.std.proofs.lemmas.Bool.{cases_lt, false≢true}
+use Rattle.std.proofs.lemmas.Option.{get_or_from_slice_get, slice_get_within}
 use Rattle.sorted_chain.specs.Chain.{key_cmp, above, IsAscending}
+use Rattle.sorted_chain.specs.Nodes.{HasPassed}
 use Rattle.sorted_chain.specs.Places.{IsHere, IsGap}
 
 total : IsTotalOrder key_cmp
@@ -54,19 +54,49 @@ module _ {V : Type 0} where
   rises (e ∷ es) zero (suc j) d h lower within = all_above e.0 es j d (both _ _ h).one (omega (arith, within))
   rises (e ∷ es) (suc i) (suc j) d h lower within = rises es i j d (both _ _ h).other (omega (arith, lower)) (omega (arith, within))
 
-  sorted : (es : List (List ℕ × V)) → IsAscending es → IsSortedBy (λ a b. is_lt (key_cmp a.0 b.0)) es
-  sorted es h i d low high = ap is_lt (flipped (get_or es i d).0 (get_or es (i + 1) d).0 Less (rises es i (i + 1) d h (omega arith) high))
+  -- the entries from one above the key on are above it
+  above_at : (k : List ℕ) (es : List (List ℕ × V)) (i j : ℕ) (d e : List ℕ × V) → IsAscending es → slice_get es i ≡ Some e → key_cmp k e.0 ≡ Less → i ≤ j → j < length es → key_cmp k (get_or es j d).0 ≡ Less
+  above_at k [] i j d e h at less upto within = absurd (omega arith)
+  above_at k (x ∷ es) zero zero d e h at less upto within = let same : x ≡ e = cc in ap (λ (y : List ℕ × V). key_cmp k y.0) same ∙ less
+  above_at k (x ∷ es) zero (suc j) d e h at less upto within =
+      let same : x ≡ e = cc in
+      total.trans k x.0 (get_or es j d).0 (ap (λ (y : List ℕ × V). key_cmp k y.0) same ∙ less) (all_above x.0 es j d (both _ _ h).one (omega (arith, within)))
+  above_at k (x ∷ es) (suc i) zero d e h at less upto within = absurd (omega arith)
+  above_at k (x ∷ es) (suc i) (suc j) d e h at less upto within = above_at k es i j d e (both _ _ h).other at less (omega (arith, upto)) (omega (arith, within))
 
-  -- what a binary search answers
-  pub searched : (k : List ℕ) (es : List (List ℕ × V)) (r : Result ℕ ℕ) → IsAscending es → IsSearchInRange r (length es) → IsBinarySearchResult (λ e. key_cmp e.0 k) es r → MatchResult r (IsHere k es) (IsGap k es)
-  searched k es (Ok i) h within equal = record { within = within; same = equal }
-  searched k es (Err i) h within split =
-      let point = split (searchable_from_sorted total (λ (e : List ℕ × V). e.0) es k (sorted es h)) in
-      record {
-        within = within;
-        below = λ j d before inside. point.0 j d (omega arith) before;
-        above = λ j d upto inside. point.1 j d upto inside;
-      }
+-- a walk along entries that has come to a place, past keys below its own
+module _ {V : Type 0} (k : List ℕ) (es : List (List ℕ × V)) (i : ℕ) where
+  module _ (e : List ℕ × V) (at : slice_get es i ≡ Some e) where
+    pub stops_before : IsAscending es → key_cmp k e.0 ≡ Less → HasPassed k es i → IsGap k es i
+    stops_before h less passed =
+        let within : i < length es = slice_get_within es i e at in
+        record {
+          within = omega (arith, within);
+          below = passed;
+          above = λ j d upto inside. flipped k _ Less (above_at k es i j d e h at less upto inside);
+        }
+
+    pub stops_at : key_cmp k e.0 ≡ Equal → IsHere k es i
+    stops_at equal = record {
+      within = slice_get_within es i e at;
+      same = λ d. ap (λ (y : List ℕ × V). key_cmp y.0 k) (get_or_from_slice_get es i e d at) ∙ flipped k _ Equal equal;
+    }
+
+    pub goes_past : key_cmp k e.0 ≡ Greater → HasPassed k es i → HasPassed k es (i + 1)
+    goes_past greater passed j d before inside =
+        ⊎_elim
+        (λ earlier. passed j d earlier inside)
+        (λ upto.
+        let last : j ≡ i = omega (arith, before, upto) in
+        ap (λ (n : ℕ). key_cmp (get_or es n d).0 k) last ∙ ap (λ (y : List ℕ × V). key_cmp y.0 k) (get_or_from_slice_get es i e d at) ∙ flipped k _ Greater greater)
+        (cases_lt j i)
+
+  pub stops_past : i ≡ length es → HasPassed k es i → IsGap k es i
+  stops_past end passed = record {
+    within = omega (arith, end);
+    below = passed;
+    above = λ j d upto inside. absurd (omega (arith, end, upto, inside));
+  }
 
 module _ {V : Type 0} (k : List ℕ) where
   -- the entries before the place are below the key, those from it on above

@@ -1,2 +1,5 @@
 pub mod Chain
+pub mod Lends
+pub mod Nodes
+pub mod Ownership
 pub mod Places

@@ -1,35 +1,48 @@
 //! The chain: entries in the order of their keys, and room for more.
-ghost use Rattle.std.specs.Prelude.{◌≡◌, ◌-◌, ◌≤◌, ◌<◌, ◌↔◌, [], length, if◌then◌else◌, IsTrue, IfOk, IfErr, OnOk, OnErr, IsOk, MatchResult, Some, codes, slice_get, drop};
+ghost use Rattle.std.specs.Prelude.{min, ◌≡◌, ◌+◌, ◌-◌, ◌≤◌, ◌<◌, ◌^◌, ◌↔◌, [], length, if◌then◌else◌, IsTrue, IfOk, IfErr, IfSome, IfNone, OnOk, OnErr, IsOk, MatchResult, Some, codes, slice_get};
 ghost use Rattle.std.specs.Option.{option_copied, option_map};
+ghost use Rattle.std.specs.Box.{box_allocator};
 ghost use Rattle.std.specs.FinMap.{find, put as put_entry};
 ghost use Rattle.sorted_chain.specs.Chain.{key_cmp, has_key, above, shown, IsAscending};
-ghost use Rattle.sorted_chain.specs.Places.{IsHere, IsGap};
 
 use crate::NoMemory;
 use crate::iter::Iter;
+use crate::linked_list::{LinkedList, Node};
 use std::alloc::Global;
 use std::error::Error;
+use std::fmt;
 use std::marker::Model;
-use std::{fmt, mem};
+
+/// One more than the most nodes that a chain has.
+const LIMIT: usize = 0x4000_0000_0000_0000;
 
 /// A map from keys to values in the order of the keys, and how many new keys fit without memory.
-#[derive(Debug, Drop)]
 pub struct SortedChain<V> {
-    entries: Vec<([u8; 20], V)>,
-    spare: usize,
+    alloc: Global,
+    records: LinkedList<V>,
+    spares: LinkedList<V>,
 }
 
 impl<V> Model for SortedChain<V> {
-    ghost use Rattle.std.specs.Prelude.{◌+◌, ◌≤◌, vec_len, vec_capacity};
+    ghost use Rattle.std.specs.Prelude.{◌≡◌, ◌+◌, ◌<◌, ◌^◌};
     ghost use Rattle.sorted_chain.specs.Chain.{Chain, chain_code, IsAscending};
+    ghost use Rattle.sorted_chain.specs.Nodes.{pays, entries, IsFull};
 
     ghost Value = { Chain V };
 
     ghost coded = { chain_code V.code };
 
-    ghost view = { λ c. record { items = c.entries.items; spare = c.spare } };
+    ghost view = { λ c. record { items = entries (pays c.records.boxes.items); spare = c.spares.len } };
 
-    ghost invariant = { λ c. IsAscending c.entries.items × (vec_len c.entries + c.spare ≤ vec_capacity c.entries) };
+    ghost invariant = { λ c. IsFull (pays c.records.boxes.items) × IsAscending (entries (pays c.records.boxes.items)) × (c.records.boxes.alloc ≡ c.alloc) × (c.spares.boxes.alloc ≡ c.alloc) × (c.records.len + c.spares.len < 2 ^ 62) };
+}
+
+impl<V> fmt::Debug for SortedChain<V> {
+    fn fmt<W: fmt::Write>(&self, f: &mut fmt::Formatter<W>) -> fmt::Result {
+        let entries = self.records.len;
+        let spare = self.spares.len;
+        write!(f, "SortedChain {{ entries: {entries}, spare: {spare} }}")
+    }
 }
 
 /// The allocator refused memory for an entry of this value.
@@ -59,8 +72,9 @@ impl<V> SortedChain<V> {
         ensures spare { result.spare ≡ 0 }
     {
         SortedChain {
-            entries: Vec::new(alloc),
-            spare: 0,
+            alloc,
+            records: LinkedList::new(alloc),
+            spares: LinkedList::new(alloc),
         }
     }
 
@@ -69,22 +83,22 @@ impl<V> SortedChain<V> {
         ensures len { result ≡ length self.now.items }
         ensures ascending { IsAscending self.now.items }
     {
-        self.entries.len()
+        self.records.len
     }
 
     /// Whether there are none.
     pub fn is_empty(&self) -> bool
         ensures { IsTrue result ↔ (self.now.items ≡ []) }
     {
-        self.entries.is_empty()
+        self.len() == 0
     }
 
     /// The value at the key.
     pub fn find(&self, k: &[u8; 20]) -> Option<&V>
         ensures { option_copied result ≡ find key_cmp k.now self.now.items }
     {
-        match place_of(k, &self.entries) {
-            Ok(i) => Some(&self.entries[i].1),
+        match self.records.seek(k) {
+            Ok(here) => self.records.node(here.index, here.at).value.as_ref(),
             Err(_) => None,
         }
     }
@@ -100,9 +114,11 @@ impl<V> SortedChain<V> {
     pub fn iter_after(&self, k: Option<&[u8; 20]>) -> Iter<'_, V>
         ensures { result ≡ above (option_copied k.entry) self.now.items }
     {
-        let from = place_above(k, &self.entries);
+        let (index, at) = self.records.seek_above(k);
         Iter {
-            rest: &self.entries[from..],
+            records: &self.records,
+            index,
+            at,
         }
     }
 }
@@ -113,7 +129,7 @@ impl<V: Drop> SortedChain<V> {
         ensures items { self.new.items ≡ [] }
         ensures spare { self.new.spare ≡ self.old.spare }
     {
-        self.entries.clear();
+        shrink(&mut self.records, self.alloc, 0);
     }
 
     /// Makes room for `n` new keys.
@@ -123,9 +139,7 @@ impl<V: Drop> SortedChain<V> {
         ensures kept { OnOk result (self.old.spare ≤ self.new.spare) }
         ensures unchanged { OnErr result (self.new.spare ≡ self.old.spare) }
     {
-        self.entries.reserve(n)?;
-        self.spare = self.spare.max(n);
-        Ok(())
+        grow(&mut self.spares, self.alloc, self.records.len, n)
     }
 
     /// Puts the value at the key, and returns the one that it replaced. A new key uses up room for
@@ -140,38 +154,103 @@ impl<V: Drop> SortedChain<V> {
         ensures present { IsTrue (has_key k self.old.items) → IsOk result }
         ensures spared { 0 < self.old.spare → IsOk result }
     {
-        match place_of(&k, &self.entries) {
-            Ok(i) => Ok(Some(mem::replace(&mut self.entries[i].1, v))),
-            Err(i) => match self.entries.insert(i, (k, v)) {
-                Ok(()) => {
-                    self.spare = self.spare.saturating_sub(1);
+        match self.records.seek(&k) {
+            Ok(here) => Ok(self.records.replace(here.index, here.at, v)),
+            Err(gap) => match take_node(&mut self.spares, self.alloc, self.records.len) {
+                None => Err(PutFault(v)),
+                Some(mut node) => {
+                    let filled = Node {
+                        key: k,
+                        value: Some(v),
+                        next: None,
+                    };
+                    drop(Box::replace(&mut node, filled));
+                    self.records.link(gap, node);
                     Ok(None)
                 }
-                Err(fault) => Err(PutFault(fault.value.1)),
             },
         }
     }
 }
 
-/// The place of the key's entry, or else the place at which it would stand.
-fn place_of<V>(k: &[u8; 20], entries: &[([u8; 20], V)]) -> Result<usize, usize>
-    requires { IsAscending entries.now }
-    ensures { MatchResult result (IsHere k.now entries.now) (IsGap k.now entries.now) }
-{
-    entries.binary_search_by(|entry| entry.0.cmp(k))
+impl<V: Drop> Drop for SortedChain<V> {
+    fn drop(mut self) {
+        self.take_all();
+        let SortedChain {
+            alloc,
+            records,
+            mut spares,
+        } = self;
+        shrink(&mut spares, alloc, 0);
+        records.end();
+        spares.end();
+    }
 }
 
-/// The place of the first entry, or of the first above a key.
-fn place_above<V>(k: Option<&[u8; 20]>, entries: &[([u8; 20], V)]) -> usize
-    requires { IsAscending entries.now }
-    ensures within { result ≤ length entries.now }
-    ensures rest { drop result entries.now ≡ above (option_copied k.entry) entries.now }
+/// A node without a value, for a chain that has `len`.
+fn fresh<V: Drop>(alloc: Global, len: usize) -> Option<Box<Node<V>>>
+    ensures { IfSome result (λ b. (box_allocator b ≡ alloc) × (b.value.value ≡ None) × (len + 1 < 2 ^ 62)) }
 {
-    let Some(k) = k else {
-        return 0;
-    };
-    match place_of(k, entries) {
-        Ok(i) => i + 1,
-        Err(i) => i,
+    if LIMIT - 1 <= len {
+        return None;
     }
+    let blank = Node {
+        key: [0; 20],
+        value: None,
+        next: None,
+    };
+    Box::new(alloc, blank).ok()
+}
+
+/// A spare node, or else a fresh one, for a chain with `len` entries.
+fn take_node<V: Drop>(spares: &mut LinkedList<V>, alloc: Global, len: usize) -> Option<Box<Node<V>>>
+    requires alloc { alloc ≡ spares.old.boxes.alloc }
+    requires few { len + spares.old.len < 2 ^ 62 }
+    ensures some { IfSome result (λ b. (box_allocator b ≡ alloc) × (len + spares.new.len + 1 < 2 ^ 62)) }
+    ensures spare { spares.new.len ≡ spares.old.len - 1 }
+    ensures none { IfNone result (spares.old.len ≡ 0) }
+    ensures alloc { spares.new.boxes.alloc ≡ spares.old.boxes.alloc }
+{
+    match spares.pop(alloc) {
+        Some(node) => Some(node),
+        None => fresh(alloc, len),
+    }
+}
+
+/// Frees nodes until at most `keep` are left.
+fn shrink<V: Drop>(nodes: &mut LinkedList<V>, alloc: Global, keep: usize)
+    requires { alloc ≡ nodes.old.boxes.alloc }
+    ensures len { nodes.new.len ≡ min keep nodes.old.len }
+    ensures alloc { nodes.new.boxes.alloc ≡ nodes.old.boxes.alloc }
+{
+    while keep < nodes.len {
+        drop(nodes.pop(alloc));
+    }
+}
+
+/// Makes spare nodes until there are `n`, for a chain with `others` entries.
+fn grow<V: Drop>(
+    spares: &mut LinkedList<V>,
+    alloc: Global,
+    others: usize,
+    n: usize,
+) -> Result<(), NoMemory>
+    requires alloc { alloc ≡ spares.old.boxes.alloc }
+    requires few { others + spares.old.len < 2 ^ 62 }
+    ensures enough { OnOk result ((n ≤ spares.new.len) × (spares.old.len ≤ spares.new.len)) }
+    ensures unchanged { OnErr result (spares.new.len ≡ spares.old.len) }
+    ensures few { others + spares.new.len < 2 ^ 62 }
+    ensures alloc { spares.new.boxes.alloc ≡ spares.old.boxes.alloc }
+{
+    let had = spares.len;
+    while spares.len < n {
+        match fresh(alloc, others + spares.len) {
+            Some(node) => spares.push(node),
+            None => {
+                shrink(spares, alloc, had);
+                return Err(NoMemory);
+            }
+        }
+    }
+    Ok(())
 }

@@ -1,77 +1,79 @@
-use Rattle.std.proofs.Common.{◌≡◌, ◌-◌, true, false, is_some, Some, slice_set, if◌then◌else◌, sym, ap, subst, ◌∙◌, arith}
+use Rattle.std.proofs.Common.{◌≡◌, ◌∙◌, ◌-◌, sym, ap, subst, arith, is_some, true, false, if◌then◌else◌}
+use Rattle.std.specs.List.{insert}
 use Rattle.std.specs.FinMap.{find, put as put_entry}
 use Rattle.sorted_chain.specs.Chain.{key_cmp, has_key, IsAscending}
-use Rattle.sorted_chain.specs.Places.{IsHere, IsGap}
-use Rattle.sorted_chain.proofs.PlaceLaws.{find_here, find_gap, put_here, put_gap, put_ascends}
+use Rattle.sorted_chain.specs.Nodes.{pays, pay, entries}
+use Rattle.sorted_chain.proofs.NodeLaws.{full_of, is_full_of, replaced, found, linked_in}
+use Rattle.sorted_chain.proofs.PlaceLaws.{find_gap, put_ascends}
 use Rattle.sorted_chain.proofs.chain.SortedChain.put.Goals as goal
 
 pub invariant_of-self : goal.invariant_of-self
 invariant_of-self g c =
+    let b = c.self.inside.records.boxes in
     let k = c.args.k in
     let v = c.args.v in
-    let es = c.self.inside.entries.items in
-    let x = c.index_mut.result.now in
-    let here = subst (λ fs. IsHere k fs c.in-Ok.i) c.deref.ensures.value c.in-Ok.ensures in
-    let made = put_here k v es _ x c.self.invariant.0 here c.index_mut.ensures.value in
-    (subst IsAscending (made ∙ ap (λ w. slice_set es c.in-Ok.i (x.0, w)) (sym c.replace.ensures.after)) (put_ascends k v es c.self.invariant.0), c.self.invariant.1)
+    let i = c.self.invariant in
+    let made = (replaced k (pays b.items) i.0 c.in-Ok.here.index v c.replace.result (pays c.replace.new.self.boxes.items) i.1 c.in-Ok.ensures.here c.replace.ensures.items).1 in
+    (is_full_of _ _ made, subst IsAscending (sym (full_of _ _ made)) (put_ascends k v (entries (pays b.items)) i.1), c.replace.ensures.alloc ∙ i.2, i.3, omega (arith, c.replace.ensures.len, i.4))
+
+pub invariant_of-self-in-Some : goal.invariant_of-self-in-Some
+invariant_of-self-in-Some g c =
+    let b = c.self.inside.records.boxes in
+    let k = c.args.k in
+    let v = c.args.v in
+    let i = c.self.invariant in
+    let gap = c.in-Err.gap in
+    let made = linked_in k (pays b.items) i.0 gap.index v (pays c.link.new.self.boxes.items) c.in-Err.ensures.gap (c.link.ensures.items ∙ ap (λ n. insert (pays b.items) gap.index (pay n)) c.replace-in-Some.ensures.after) in
+    (is_full_of _ _ made, subst IsAscending (sym (full_of _ _ made)) (put_ascends k v (entries (pays b.items)) i.1), c.link.ensures.alloc ∙ i.2, c.take_node.ensures.alloc ∙ i.3, omega (arith, c.link.ensures.len, c.in-Some.ensures.some))
 
 pub returns-in-Ok-clause-items : goal.returns-in-Ok-clause-items
 returns-in-Ok-clause-items g c =
+    let b = c.self.inside.records.boxes in
     let k = c.args.k in
     let v = c.args.v in
-    let es = c.self.inside.entries.items in
-    let x = c.index_mut.result.now in
-    let here = subst (λ fs. IsHere k fs c.in-Ok.i) c.deref.ensures.value c.in-Ok.ensures in
-    let made = put_here k v es _ x c.self.invariant.0 here c.index_mut.ensures.value in
-    ap (λ w. slice_set es c.in-Ok.i (x.0, w)) c.replace.ensures.after ∙ sym made ∙ ap (λ seen. put_entry key_cmp k v seen.items) c.self.view_is
+    let i = c.self.invariant in
+    full_of _ _ (replaced k (pays b.items) i.0 c.in-Ok.here.index v c.replace.result (pays c.replace.new.self.boxes.items) i.1 c.in-Ok.ensures.here c.replace.ensures.items).1
+    ∙ ap (λ seen. put_entry key_cmp k v seen.items) c.self.view_is
 
 pub returns-in-Ok-clause-replaced : goal.returns-in-Ok-clause-replaced
 returns-in-Ok-clause-replaced g c =
+    let b = c.self.inside.records.boxes in
     let k = c.args.k in
-    let here = subst (λ fs. IsHere k fs c.in-Ok.i) c.deref.ensures.value c.in-Ok.ensures in
-    ap Some c.replace.ensures.value ∙ sym (find_here k _ _ _ c.self.invariant.0 here c.index_mut.ensures.value) ∙ ap (λ seen. find key_cmp k seen.items) c.self.view_is
+    let i = c.self.invariant in
+    (replaced k (pays b.items) i.0 c.in-Ok.here.index c.args.v c.replace.result (pays c.replace.new.self.boxes.items) i.1 c.in-Ok.ensures.here c.replace.ensures.items).0
+    ∙ ap (λ seen. find key_cmp k seen.items) c.self.view_is
 
 pub returns-in-Ok-clause-spare : goal.returns-in-Ok-clause-spare
 returns-in-Ok-clause-spare g c =
+    let b = c.self.inside.records.boxes in
     let k = c.args.k in
     let s = c.args.self.now.spare in
-    let here = subst (λ fs. IsHere k fs c.in-Ok.i) c.deref.ensures.value c.in-Ok.ensures in
-    let has : has_key k c.args.self.now.items ≡ true = ap (λ seen. has_key k seen.items) (sym c.self.view_is) ∙ ap is_some (find_here k _ _ _ c.self.invariant.0 here c.index_mut.ensures.value) in
+    let has : has_key k c.args.self.now.items ≡ true = ap (λ seen. has_key k seen.items) (sym c.self.view_is) ∙ found k (entries (pays b.items)) c.in-Ok.here.index c.self.invariant.1 c.in-Ok.ensures.here in
     ap (λ seen. seen.spare) c.self.view_is ∙ sym (ap (λ b. if b then s else (s - 1)) has)
 
-pub invariant_of-self-in-Ok-insert : goal.invariant_of-self-in-Ok-insert
-invariant_of-self-in-Ok-insert g c =
+pub returns-in-None-clause-present : goal.returns-in-None-clause-present
+returns-in-None-clause-present g c =
+    let k = c.args.k in
+    let has : has_key k c.args.self.now.items ≡ false = ap (λ seen. has_key k seen.items) (sym c.self.view_is) ∙ ap is_some (find_gap k _ _ c.in-Err.ensures.gap) in
+    λ there. sym has ∙ there
+
+pub returns-in-Some-clause-items : goal.returns-in-Some-clause-items
+returns-in-Some-clause-items g c =
+    let b = c.self.inside.records.boxes in
     let k = c.args.k in
     let v = c.args.v in
-    let es = c.self.inside.entries.items in
-    let gap = subst (λ fs. IsGap k fs c.in-Err.i) c.deref.ensures.value c.in-Err.ensures in
-    let e = c.in-Ok-insert.ensures in
-    (subst IsAscending (put_gap k v es _ gap ∙ sym e.items) (put_ascends k v es c.self.invariant.0), omega (arith, c.self.invariant.1, e.len, e.capacity, c.saturating_sub-self-inside.ensures, c.insert.new.self.ok))
+    let gap = c.in-Err.gap in
+    full_of _ _ (linked_in k (pays b.items) c.self.invariant.0 gap.index v (pays c.link.new.self.boxes.items) c.in-Err.ensures.gap (c.link.ensures.items ∙ ap (λ n. insert (pays b.items) gap.index (pay n)) c.replace-in-Some.ensures.after))
+    ∙ ap (λ seen. put_entry key_cmp k v seen.items) c.self.view_is
 
-pub returns-in-Ok-insert-clause-items : goal.returns-in-Ok-insert-clause-items
-returns-in-Ok-insert-clause-items g c =
+pub returns-in-Some-clause-replaced : goal.returns-in-Some-clause-replaced
+returns-in-Some-clause-replaced g c =
     let k = c.args.k in
-    let v = c.args.v in
-    let gap = subst (λ fs. IsGap k fs c.in-Err.i) c.deref.ensures.value c.in-Err.ensures in
-    c.in-Ok-insert.ensures.items ∙ sym (put_gap k v _ _ gap) ∙ ap (λ seen. put_entry key_cmp k v seen.items) c.self.view_is
+    sym (find_gap k _ _ c.in-Err.ensures.gap) ∙ ap (λ seen. find key_cmp k seen.items) c.self.view_is
 
-pub returns-in-Ok-insert-clause-replaced : goal.returns-in-Ok-insert-clause-replaced
-returns-in-Ok-insert-clause-replaced g c =
-    let k = c.args.k in
-    let gap = subst (λ fs. IsGap k fs c.in-Err.i) c.deref.ensures.value c.in-Err.ensures in
-    sym (find_gap k _ _ gap) ∙ ap (λ seen. find key_cmp k seen.items) c.self.view_is
-
-pub returns-in-Ok-insert-clause-spare : goal.returns-in-Ok-insert-clause-spare
-returns-in-Ok-insert-clause-spare g c =
+pub returns-in-Some-clause-spare : goal.returns-in-Some-clause-spare
+returns-in-Some-clause-spare g c =
     let k = c.args.k in
     let s = c.args.self.now.spare in
-    let gap = subst (λ fs. IsGap k fs c.in-Err.i) c.deref.ensures.value c.in-Err.ensures in
-    let has : has_key k c.args.self.now.items ≡ false = ap (λ seen. has_key k seen.items) (sym c.self.view_is) ∙ ap is_some (find_gap k _ _ gap) in
-    c.saturating_sub-self-inside.ensures ∙ ap (λ seen. seen.spare - 1) c.self.view_is ∙ sym (ap (λ b. if b then s else (s - 1)) has)
-
-pub returns-in-Err-insert-clause-present : goal.returns-in-Err-insert-clause-present
-returns-in-Err-insert-clause-present g c =
-    let k = c.args.k in
-    let gap = subst (λ fs. IsGap k fs c.in-Err.i) c.deref.ensures.value c.in-Err.ensures in
-    let has : has_key k c.args.self.now.items ≡ false = ap (λ seen. has_key k seen.items) (sym c.self.view_is) ∙ ap is_some (find_gap k _ _ gap) in
-    λ there. sym has ∙ there
+    let has : has_key k c.args.self.now.items ≡ false = ap (λ seen. has_key k seen.items) (sym c.self.view_is) ∙ ap is_some (find_gap k _ _ c.in-Err.ensures.gap) in
+    c.take_node.ensures.spare ∙ ap (λ seen. seen.spare - 1) c.self.view_is ∙ sym (ap (λ b. if b then s else (s - 1)) has)

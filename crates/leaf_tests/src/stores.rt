@@ -1,6 +1,7 @@
-use super::*;
+//! Tests of `record_store` by its public calls.
 use cluster_types::{ClusterKey, CopyState, Digest, DigestList, PartitionId};
 use conflict_order::{Body, Policy, ValueBytes, ValueFault, Version};
+use record_store::{Joined, RecordStore, Stamp};
 use std::alloc::Global;
 use std::test::Fail;
 

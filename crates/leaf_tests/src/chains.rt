@@ -1,4 +1,6 @@
-use crate::chain::SortedChain;
+//! Tests of `sorted_chain` by its public calls.
+use sorted_chain::SortedChain;
+use std::rc::Rc;
 use std::test::*;
 
 fn key(last: u8) -> [u8; 20] {
@@ -32,5 +34,27 @@ fn keeps_entries_in_the_order_of_their_keys(rt: HostRuntime) -> Result<(), Fail>
 
     chain.take_all();
     assert!(rt; chain.after(None).is_none());
+    Ok(())
+}
+
+#[test]
+fn drops_each_value_once(rt: HostRuntime) -> Result<(), Fail> {
+    let shared = Rc::new(rt.alloc(), 7u8)?;
+    let mut chain = SortedChain::new(rt.alloc());
+    chain.reserve(2)?;
+    for last in [2, 1, 3] {
+        let value = shared.clone()?;
+        assert!(rt; chain.put(key(last), value).is_ok());
+    }
+    let again = shared.clone()?;
+    drop(chain.put(key(1), again));
+    assert_eq!(rt; Rc::strong_count(&shared), 4);
+
+    chain.take_all();
+    assert_eq!(rt; Rc::strong_count(&shared), 1);
+    let last = shared.clone()?;
+    drop(chain.put(key(5), last));
+    drop(chain);
+    assert_eq!(rt; Rc::strong_count(&shared), 1);
     Ok(())
 }
