@@ -8,6 +8,3 @@
 pub mod client_map;
 
 pub use client_map::ClientMap;
-
-#[cfg(test)]
-mod tests;

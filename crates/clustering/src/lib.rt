@@ -11,6 +11,3 @@ pub mod steps;
 
 pub use agree::Agree;
 pub use steps::{AcceptStep, CommitStep, Proposal, RefuseStep, Vote};
-
-#[cfg(test)]
-mod tests;

@@ -14,6 +14,3 @@ pub use cluster_types::NoMemory;
 pub use txn::Txn;
 pub use txns::{AckedStep, AnswerStep, BeginFault, Txns};
 pub use walk::OpenTxns;
-
-#[cfg(test)]
-mod tests;

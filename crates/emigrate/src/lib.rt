@@ -13,6 +13,3 @@ pub use cluster_types::NoMemory;
 pub use emigration::{AckStep, Emigration};
 pub use permit::{DropPermit, drop_copy};
 pub use target::{AfterAck, BATCH_LIMIT, Finished, Ready, Sent, Target};
-
-#[cfg(test)]
-mod tests;

@@ -1,15 +1,15 @@
 -- Rows that are read from partition to partition.
-use Rattle.std.proofs.Common.{◌≡◌, ◌≢◌, ℕ, zero, suc, ◌+◌, ◌<◌, ◌≤◌, ◌==◌, nat_lt, Bool, true, false, cond, List, [], ◌∷◌, length, get_or, take, replicate, Some, None, unwrap_or, refl, sym, ap, ◌∙◌, arith}
-use Rattle.std.specs.Prelude.{All, AllPairs, slice_get, slice_index_or}
+use Rattle.std.proofs.Common.{◌≡◌, ◌≢◌, ℕ, zero, suc, ◌+◌, ◌<◌, ◌≤◌, ◌==◌, nat_lt, Bool, true, false, cond, List, [], ◌∷◌, length, get_or, take, replicate, Some, None, unwrap_or, refl, sym, ap, subst, ◌∙◌, arith}
+use Rattle.std.specs.Prelude.{All, AllPairs, slice_get, slice_index, slice_index_or}
 use Rattle.std.proofs.lemmas.Bool.Decides.{nat_tests}
-use Rattle.std.proofs.lemmas.List.{length-take-le}
+use Rattle.std.proofs.lemmas.List.{get_or_read_under, length-take-le}
 use Rattle.std.proofs.lemmas.Option.{slice_get_read, slice_get_within}
 use Rattle.std.proofs.lemmas.List.Elements.{All-head, All-tail, All-weaker}
 use Rattle.cluster_types.specs.declared.copy_state.CopyState.{CopyState}
 use Rattle.cluster_types.specs.declared.copy_state.CopyState.TheVariants.{Empty}
 use Rattle.cluster_types.specs.StateRows.{IsStateRow, state_of}
 use Rattle.node_rules.specs.declared.member_row.MemberRow.{MemberRow}
-use Rattle.exchange.specs.Rows.{ArePlaces, place_in}
+use Rattle.exchange.specs.Rows.{ArePlaces, IsNext, IsNextIn, place_in}
 
 abbrev pub Entry : Type 0
 Entry = ℕ × CopyState
@@ -195,3 +195,59 @@ read_state_past row p place h at past = sym (miss_state row p h (no_entry row p 
 
 pub read_next_past : (row : List Entry) (p place : ℕ) → IsStateRow row → place ≡ place_in p row → false ≡ nat_lt place (length row) → place ≡ place_in (p + 1) row
 read_next_past row p place h at past = at ∙ sym (miss_next row p h (no_entry row p place at past))
+
+-- ---- partitions below the next one of which a row has an entry
+
+none_below : (row : List Entry) (p next : ℕ) → p < next → IsNextIn next row (place_in p row) → (e : Entry) → slice_get row (place_in p row) ≡ Some e → e.0 ≢ p
+none_below row p next below above e found same = let high = above e found in let no_way : ⊥ = omega (arith, below, high, same) in no_way
+
+none_there : (rows : List MemberRow) (places : List ℕ) (p next k : ℕ) (d : MemberRow) → p < next → ArePlaces p rows places → IsNext next rows places → k < length rows
+    → (e : Entry) → slice_get (slice_index_or rows k d).row (place_in p (slice_index_or rows k d).row) ≡ Some e → e.0 ≢ p
+none_there rows places p next k d below read told within =
+    none_below (slice_index_or rows k d).row p next below (subst (λ (place : ℕ). IsNextIn next (slice_index_or rows k d).row place) (read.at k d within) (told.next_in k d within))
+
+-- the next partition stands at the same places
+pub places_stay : (rows : List MemberRow) (places : List ℕ) (p next : ℕ) → p < next → ArePlaces p rows places → IsNext next rows places → ArePlaces (p + 1) rows places
+places_stay rows places p next below read told = record {
+  size = read.size;
+  at = λ k d within.
+      let row = (slice_index_or rows k d).row in
+      read.at k d within ∙ sym (miss_next row p (told.rising k d within) (none_there rows places p next k d below read told within));
+}
+
+-- and the copy of each row is empty
+pub untold_state : (rows : List MemberRow) (places : List ℕ) (p next k : ℕ) (d : MemberRow) → p < next → ArePlaces p rows places → IsNext next rows places → k < length rows
+    → state_of (slice_index_or rows k d).row p ≡ Empty
+untold_state rows places p next k d below read told within =
+    miss_state (slice_index_or rows k d).row p (told.rising k d within) (none_there rows places p next k d below read told within)
+
+-- ---- the next partition of which a row has an entry, row by row
+
+-- what holds of each below a number, and of that one
+one_more : (P : ℕ → Type 0) (i : ℕ) → ((k : ℕ) → k < i → P k) → P i → (k : ℕ) → k < i + 1 → P k
+one_more P i below here k within = go (k == i) refl
+  where
+    go : (b : Bool) → (k == i) ≡ b → P k
+    go true e = subst P (sym (same_from k i (sym e))) here
+    go false e = below k (grind (arith, nat_tests, e, within))
+
+row_at : (rows : List MemberRow) (i : ℕ) (r d : MemberRow) → i < length rows → r ≡ get_or rows i r → get_or rows i d ≡ r
+row_at rows i r d within is = sym (get_or_read_under rows i (length rows) r d is within refl)
+
+pub rising_more : (rows : List MemberRow) (i : ℕ) (r : MemberRow) → i < length rows → r ≡ get_or rows i r → IsStateRow r.row
+    → ((k : ℕ) (d : MemberRow) → k < i → k < length rows → IsStateRow (slice_index_or rows k d).row) → (k : ℕ) (d : MemberRow) → k < i + 1 → k < length rows → IsStateRow (slice_index_or rows k d).row
+rising_more rows i r inside is rising below k d within =
+    one_more (λ (j : ℕ). j < length rows → IsStateRow (slice_index_or rows j d).row) i (λ j under. below j d under)
+    (λ fits. subst (λ (x : MemberRow). IsStateRow x.row) (sym (row_at rows i r d inside is)) rising) k within
+
+pub next_more : (rows : List MemberRow) (places : List ℕ) (i next own new : ℕ) (r : MemberRow) (entries : List Entry) → i < length rows → r ≡ get_or rows i r → entries ≡ r.row → new ≤ next → new ≤ own
+    → IsNextIn own entries (slice_index places i)
+    → ((k : ℕ) (d : MemberRow) → k < i → k < length rows → IsNextIn next (slice_index_or rows k d).row (slice_index places k))
+    → (k : ℕ) (d : MemberRow) → k < i + 1 → k < length rows → IsNextIn new (slice_index_or rows k d).row (slice_index places k)
+next_more rows places i next own new r entries inside is same low lower here below k d within =
+    one_more (λ (j : ℕ). j < length rows → IsNextIn new (slice_index_or rows j d).row (slice_index places j)) i
+    (λ j under fits e found. let above = below j d under fits e found in omega (arith, above, low))
+    (λ fits e found.
+    let read : slice_get entries (slice_index places i) ≡ Some e = ap (λ (row : List Entry). slice_get row (slice_index places i)) (same ∙ sym (ap (λ (x : MemberRow). x.row) (row_at rows i r d inside is))) ∙ found in
+    let above = here e read in
+    omega (arith, above, lower)) k within

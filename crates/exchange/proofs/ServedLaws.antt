@@ -25,8 +25,9 @@ use Rattle.partition_state.proofs.CopyLaws.{states_are}
 use Rattle.exchange.specs.declared.served.Served.{Served}
 use Rattle.exchange.specs.Met as view
 use Rattle.exchange.specs.Met.{Met, met}
-use Rattle.exchange.specs.Rows.{AreRowsOf, nodes_of}
+use Rattle.exchange.specs.Rows.{ArePlaces, AreRowsOf, IsNext, nodes_of}
 use Rattle.exchange.specs.Served.{AreServed, served_at, served_by}
+use Rattle.exchange.proofs.PlaceLaws.{untold_state}
 
 -- a node with the state of its copy
 abbrev pub Copy : Type 0
@@ -208,6 +209,17 @@ pub empty_served : (l : List ℕ) (copies told : List Copy) (m : ℕ) (b : Bool)
 empty_served l copies told m b is m_is empty b_is =
     let all : b ≡ list_all (λ (c : Copy). is_empty c.1) copies = b_is ∙ ap (λ (cs : List Copy). list_all (λ (c : Copy). is_empty c.1) cs) is in
     same_served m (acting_by l (state_of copies)) b (list_all (λ (c : Copy). is_empty c.1) copies) (m_is ∙ sym (acting_of_empty l copies (sym all ∙ empty))) all
+
+-- no row has an entry of the partition
+pub untold_served : (ms : List Member) (rows : List MemberRow) (places : List ℕ) (p next m : ℕ) → p < next → ArePlaces p rows places → IsNext next rows places → m ≡ master (list ms p)
+    → ◌≡◌ {A = Served} (record { acting = m; all_empty = true }) (served_by (list ms p) (copies_at rows p))
+untold_served ms rows places p next m below read told m_is =
+    empty_served (list ms p) (copies_at rows p) (copies_at rows p) m true refl m_is refl (sym (all_rows rows p empty))
+  where
+    empty : (r : MemberRow) → Has rows r → is_empty (state_of r.row p) ≡ true
+    empty r found =
+        let at = index_of rows r found in
+        ap is_empty (subst (λ (x : MemberRow). state_of x.row p ≡ Empty) (at.2 r) (untold_state rows places p next at.0 r below read told at.1))
 
 pub told_served : (ms : List Member) (rows : List MemberRow) (p i : ℕ) (copies : List Copy) (s : Served) → s ≡ served_by (list ms p) copies → copies ≡ copies_at rows p → p ≡ i → s ≡ served_by (list ms i) (copies_at rows i)
 told_served ms rows p i copies s said copies_are is =

@@ -7,7 +7,7 @@ use Rattle.partition_lists.specs.Lists.{list}
 use Rattle.node_rules.specs.declared.member_row.MemberRow.{MemberRow}
 use Rattle.node_rules.specs.Classes as classes
 use Rattle.node_rules.specs.Copies.{Row}
-use Rattle.node_rules.specs.Exchange.{Exchange, members_of, with_row}
+use Rattle.node_rules.specs.Exchange.{Exchange, finished, members_of, with_row}
 use Rattle.node_rules.specs.Map as map
 
 -- a node with the number of replicas of a partition, and what it knows of its view
@@ -47,6 +47,10 @@ asked_by x p by = classes.asked_by (list_at x p) x.exchange.rows p by
 -- the exchange once that row of a member came
 abbrev pub with_row_of : Met → ℕ → Row → Met
 with_row_of x from row = record x { exchange = record x.exchange { rows = with_row x.exchange.rows from row } }
+
+-- the finished exchange, once that row came as the last one
+abbrev pub finished_with : Met → ℕ → Row → Met
+finished_with x from row = record (with_row_of x from row) { exchange = finished (with_row_of x from row).exchange }
 
 -- the exchange without the row of that member
 abbrev pub without_row_of : Met → ℕ → Met

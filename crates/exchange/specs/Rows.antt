@@ -4,6 +4,7 @@ use Rattle.cluster_types.specs.declared.copy_state.CopyState.{CopyState}
 use Rattle.cluster_types.specs.declared.member.Member.{Member}
 use Rattle.cluster_types.specs.Distinct.{AreDistinct}
 use Rattle.cluster_types.specs.Members.{AreMembers, ids_of}
+use Rattle.cluster_types.specs.StateRows.{IsStateRow}
 use Rattle.node_rules.specs.declared.member_row.MemberRow.{MemberRow}
 
 -- whose rows they are
@@ -27,3 +28,12 @@ place_in p (e ∷ row) = cond (nat_lt e.0 p) (suc (place_in p row)) 0
 pub record ArePlaces (p : ℕ) (rows : List MemberRow) (places : List ℕ) : Type 0 where
   pub size : length places ≡ length rows
   pub at : (k : ℕ) (d : MemberRow) → k < length rows → slice_index places k ≡ place_in p (slice_index_or rows k d).row
+
+-- the row has no entry below the partition from that place on: the one that stands there, if any, isn't below it
+abbrev pub IsNextIn : ℕ → List (ℕ × CopyState) → ℕ → Type 0
+IsNextIn next row place = (e : ℕ × CopyState) → slice_get row place ≡ Some e → next ≤ e.0
+
+-- no row has an entry below the partition from the place on up to which it was read
+pub record IsNext (next : ℕ) (rows : List MemberRow) (places : List ℕ) : Type 0 where
+  pub rising : (k : ℕ) (d : MemberRow) → k < length rows → IsStateRow (slice_index_or rows k d).row
+  pub next_in : (k : ℕ) (d : MemberRow) → k < length rows → IsNextIn next (slice_index_or rows k d).row (slice_index places k)

@@ -2,8 +2,9 @@
 ghost use Rattle.std.specs.Prelude.{◌≡◌, ◌≤◌, ◌+◌, length};
 ghost use Rattle.cluster_types.specs.StateRows.{IsStateRow, state_of};
 ghost use Rattle.partition_state.specs.Copies.{copies_at};
-ghost use Rattle.exchange.specs.Rows.{ArePlaces, place_in};
+ghost use Rattle.exchange.specs.Rows.{ArePlaces, IsNext, IsNextIn, place_in};
 
+use cluster_types::partition::PARTITIONS;
 use cluster_types::{CopyState, PartitionId};
 use node_rules::MemberRow;
 use partition_state::States;
@@ -41,5 +42,28 @@ fn read_state(
         None => (CopyState::Empty, place),
         Some(entry) if entry.0 == p => (entry.1, place + 1),
         Some(_) => (CopyState::Empty, place),
+    }
+}
+
+/// The lowest partition of which a row has an entry that wasn't read yet, and the count of all
+/// partitions where no row has one.
+pub(crate) fn next_told(rows: &[MemberRow], places: &[usize]) -> u16
+    requires { length places.now ≡ length rows.now }
+    ensures { IsNext result rows.now places.now }
+{
+    let mut next = PARTITIONS;
+    for i in 0..rows.len() {
+        next = next.min(next_in(rows[i].row.entries(), places[i]));
+    }
+    next
+}
+
+/// The same of one row, which was read up to the place.
+fn next_in(entries: &[(PartitionId, CopyState)], place: usize) -> u16
+    ensures { IsNextIn result entries.now place }
+{
+    match entries.get(place) {
+        None => PARTITIONS,
+        Some(entry) => entry.0.number(),
     }
 }

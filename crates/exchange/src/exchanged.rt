@@ -1,5 +1,5 @@
 //! A finished exchange, and the map that it gives.
-ghost use Rattle.std.specs.Prelude.{◌≡◌, ◌≢◌, true, None, Some, Contains, vec_capacity};
+ghost use Rattle.std.specs.Prelude.{◌≡◌, ◌≢◌, true, None, Some, Contains, IfOk, vec_capacity};
 ghost use Rattle.cluster_types.specs.Members.{ids_of};
 ghost use Rattle.node_rules.specs.Exchange.{first_missing, key_of};
 ghost use Rattle.node_rules.specs.Map as rules;
@@ -9,14 +9,15 @@ ghost use Rattle.exchange.specs.Rows.{AreRowsOf};
 ghost use Rattle.exchange.specs.Served.{AreServed, served_at};
 
 use crate::exchanging::Exchanging;
-use crate::served::Served;
+use crate::served::{Served, ServedTable};
 use crate::view_rows::{ViewRows, take_row};
 use cluster_types::{
-    ClusterKey, MapEntry, MapView, Members, NodeId, NodeList, PartitionId, StateRow,
+    ClusterKey, MapEntry, MapView, Members, NoMemory, NodeId, NodeList, PartitionId, StateRow,
 };
 use node_rules::MemberRow;
 use partition_lists::Lists;
 use partition_state::States;
+use std::alloc::Global;
 use std::marker::Model;
 
 /// A view of which the rows of all members are there.
@@ -77,6 +78,13 @@ impl Exchanged {
         ensures { result ≡ rules.all_empty (list_at self.now p) self.now.exchange.rows p }
     {
         self.at(p).all_empty
+    }
+
+    /// A copy of who serves each partition, with which the exchange can be finished later.
+    pub fn served(&self, alloc: Global) -> Result<ServedTable, NoMemory>
+        ensures { IfOk result (λ t. AreServed (members self.now) self.now.exchange.rows t) }
+    {
+        ServedTable::of(alloc, &self.served)
     }
 
     /// The state before the row of `from`, another member, came, and that row.

@@ -1,15 +1,16 @@
 //! An exchange in which rows are missing.
-ghost use Rattle.std.specs.Prelude.{◌≡◌, false, Some, Contains, IfOk, IsSome, length, vec_capacity};
+ghost use Rattle.std.specs.Prelude.{◌≡◌, true, false, None, Some, Contains, IfOk, IsSome, length, vec_capacity};
 ghost use Rattle.cluster_types.specs.Members.{ids_of};
 ghost use Rattle.cluster_types.specs.Partitions.{partition_count};
-ghost use Rattle.node_rules.specs.Exchange.{begun, first_missing, key_of};
+ghost use Rattle.node_rules.specs.Exchange.{begun, first_missing, key_of, with_row};
 ghost use Rattle.node_rules.specs.Map as rules;
-ghost use Rattle.exchange.specs.Met.{Met, members, met, with_row_of};
+ghost use Rattle.exchange.specs.Met.{Met, finished_with, members, met, with_row_of};
 ghost use Rattle.exchange.specs.Rows.{AreRowsOf};
+ghost use Rattle.exchange.specs.Served.{AreServed};
 ghost use Rattle.exchange.specs.Steps.{step_of};
 
 use crate::exchanged::Exchanged;
-use crate::served::{Served, fill, room};
+use crate::served::{Served, ServedTable, fill, room};
 use crate::view_rows::{ViewRows, add_row, lacks};
 use cluster_types::{ClusterKey, Members, NoMemory, NodeId, StateRow};
 use node_rules::MemberRow;
@@ -112,6 +113,19 @@ impl Exchanging {
         let Exchanging { mut view, room } = self;
         add_row(&mut view.rows, from, row);
         step(view, room)
+    }
+
+    /// The row of the last member came, and with it the partitions are served as the table says.
+    pub fn finish(self, last: NodeId, row: StateRow, table: ServedTable) -> Exchanged
+        requires member { Contains (ids_of (members self)) last }
+        requires lacking { rules.lacks self.exchange.rows last ≡ true }
+        requires whole { first_missing (with_row self.exchange.rows last row) (members self) ≡ None }
+        requires served { AreServed (members self) (with_row self.exchange.rows last row) table }
+        ensures { result ≡ finished_with self last row }
+    {
+        let Exchanging { mut view, room: _ } = self;
+        add_row(&mut view.rows, last, row);
+        Exchanged::of(view, table.into_served())
     }
 
     /// The first member, in member order, whose row isn't there.

@@ -1,16 +1,16 @@
 //! Who acts on each partition, as the rows tell.
-ghost use Rattle.std.specs.Prelude.{◌≡◌, ◌<◌, ◌≤◌, ℕ, IfOk, length, slice_index_or, vec_capacity};
+ghost use Rattle.std.specs.Prelude.{◌≡◌, ◌+◌, ◌<◌, ◌≤◌, ℕ, IfOk, length, slice_index_or, vec_capacity};
 ghost use Rattle.std.specs.List.{list_all};
 ghost use Rattle.cluster_types.specs.Members.{AreMembers};
 ghost use Rattle.cluster_types.specs.Partitions.{partition_count};
 ghost use Rattle.partition_lists.specs.Acting.{is_empty};
 ghost use Rattle.partition_lists.specs.Lists.{list};
-ghost use Rattle.exchange.specs.Rows.{AreRowsOf, ArePlaces};
+ghost use Rattle.exchange.specs.Rows.{AreRowsOf, ArePlaces, IsNext};
 ghost use Rattle.partition_state.specs.Copies.{copies_at};
 ghost use Rattle.exchange.specs.declared.served.Served.{Served};
 ghost use Rattle.exchange.specs.Served.{AreServed, served_by};
 
-use crate::cursors::read;
+use crate::cursors::{next_told, read};
 use crate::view_rows::ViewRows;
 use cluster_types::partition::PARTITIONS;
 use cluster_types::{CopyState, NoMemory, NodeId, PartitionId};
@@ -18,6 +18,7 @@ use node_rules::MemberRow;
 use partition_lists::Lists;
 use partition_state::States;
 use std::alloc::Global;
+use std::marker::Model;
 
 /// How many rows there may be.
 const LIMIT: usize = 16;
@@ -36,6 +37,39 @@ impl Served {
         acting: NodeId::MIN,
         all_empty: false,
     };
+}
+
+/// What the rows of all members tell of each partition, apart from an exchange. `Exchanged::served`
+/// copies it, and `Exchanging::finish` goes by it.
+#[derive(Drop)]
+pub struct ServedTable {
+    served: Vec<Served>,
+}
+
+impl Model for ServedTable {
+    ghost use Rattle.std.specs.Prelude.{List};
+    ghost use Rattle.exchange.specs.declared.served.Served.{Served};
+
+    ghost Value = { List Served };
+
+    ghost view = { λ t. t.served.items };
+}
+
+impl ServedTable {
+    /// A copy of what stands there of each partition.
+    pub(crate) fn of(alloc: Global, served: &[Served]) -> Result<ServedTable, NoMemory>
+        ensures { IfOk result (λ t. t ≡ served.now) }
+    {
+        let served = Vec::from_slice(alloc, served)?;
+        Ok(ServedTable { served })
+    }
+
+    /// What stands there of each partition.
+    pub(crate) fn into_served(self) -> Vec<Served>
+        ensures { result.items ≡ self }
+    {
+        self.served
+    }
 }
 
 /// Room for what is told of all partitions.
@@ -68,12 +102,40 @@ fn fill_from(room: &mut [Served], lists: &Lists, rows: &[MemberRow], places: &mu
     requires places { ArePlaces 0 rows.now places.old }
     ensures { (p : ℕ) (d : Served) → p < partition_count → slice_index_or room.new p d ≡ served_by (list lists.now p) (copies_at rows.now p) }
 {
+    let mut next = next_told(rows, places);
     for number in 0..PARTITIONS {
         if let Some(p) = PartitionId::new(number) {
-            let states = read(rows, places, p);
-            room[usize::from(number)] = who_serves(lists, &states, p);
+            room[usize::from(number)] = serve(lists, rows, places, &mut next, p);
         }
     }
+}
+
+/// What the rows tell of a partition, up to which each was read. Below the next one of which a row
+/// has an entry all copies are empty.
+fn serve(
+    lists: &Lists,
+    rows: &[MemberRow],
+    places: &mut [usize],
+    next: &mut u16,
+    p: PartitionId,
+) -> Served
+    requires members { AreMembers lists.now }
+    requires limit { length rows.now ≤ 16 }
+    requires places { ArePlaces p rows.now places.old }
+    requires next { IsNext next.old rows.now places.old }
+    ensures served { result ≡ served_by (list lists.now p) (copies_at rows.now p) }
+    ensures places { ArePlaces (p + 1) rows.now places.new }
+    ensures next { IsNext next.new rows.now places.new }
+{
+    if p.number() < *next {
+        return Served {
+            acting: lists.master(p),
+            all_empty: true,
+        };
+    }
+    let states = read(rows, places, p);
+    *next = next_told(rows, places);
+    who_serves(lists, &states, p)
 }
 
 fn who_serves(lists: &Lists, states: &States, p: PartitionId) -> Served

@@ -9,6 +9,3 @@ mod entries;
 mod room;
 
 pub use adjacency::Adjacency;
-
-#[cfg(test)]
-mod tests;

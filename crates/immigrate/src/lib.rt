@@ -5,6 +5,3 @@ mod merging;
 
 pub use cluster_types::NoMemory;
 pub use merging::{Merged, merge_planned, on_batch, plan_batch};
-
-#[cfg(test)]
-mod tests;

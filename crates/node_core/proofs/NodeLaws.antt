@@ -105,7 +105,7 @@ outcome_seen f g t (outcome.Write w) h = writing_seen f g t w h
 
 step_seen : (f g : Facts) (p : ViewStep) → FitsStep (with_unseen f g) p → FitsStep g p
 step_seen f g (step.Row from row) h = record { absent = lacking_seen f g from h.absent; more = h.more }
-step_seen f g (step.LastRow l) h = record { absent = lacking_seen f g l.from h.absent; none_missing = h.none_missing; key = h.key; targets = h.targets }
+step_seen f g (step.LastRow l) h = record { absent = lacking_seen f g l.from h.absent; none_missing = h.none_missing; served = h.served; key = h.key; targets = h.targets }
 step_seen f g (step.Merged m) h = record { newer = h.newer }
 step_seen f g (step.BatchAcked from number) h = tt
 step_seen f g (step.Progressed p) h = h

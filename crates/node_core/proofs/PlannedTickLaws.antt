@@ -1,5 +1,5 @@
 -- A planned tick: what it tells and what it changes is what the rules say.
-use Rattle.std.proofs.Common.{◌≡◌, ◌≢◌, ◌<◌, ◌&&◌, ◌^◌, ℕ, ◌+◌, nat_lt, Bool, true, false, List, [], ◌∷◌, Option, Some, None, is_none, is_some, IsSome, All, Contains, cond, map, reverse, inr, refl, sym, ap, ap₂, subst, ◌∙◌, arith}
+use Rattle.std.proofs.Common.{◌≡◌, ◌≢◌, ◌<◌, ◌&&◌, ◌^◌, ℕ, ◌+◌, nat_lt, Bool, true, false, List, [], ◌∷◌, Option, Some, None, is_none, is_some, IsSome, All, Contains, cond, map, reverse, inr, refl, sym, ap, ap₂, subst, ◌∙◌, arith, Result, Ok, Err, OnErr}
 use Rattle.std.specs.Borrow.{Bor}
 use Rattle.std.specs.Global.{Box}
 use Rattle.std.specs.Option.{ForSome}
@@ -375,7 +375,7 @@ settled_agreement f (s ∷ ss) =
 -- what the plan changes is what the tick does
 pub ticked_is : (f : Facts) (hearing : Adjacent) (agree : Agreeing) (answer : answers.Proposal) (entered : Option (Box View)) (t : Ticked)
     → f.up ≡ true → IsTicking f hearing agree answer entered → TicksFrom f hearing agree entered t → HasRanges f
-    → taken f (planned.Tick t) ≡ after_tick f
+    → plans.ticked f t ≡ after_tick f
 ticked_is f hearing agree answer entered t up h from r =
     let g : Facts = agreed f hearing agree entered in
     let s : Facts = settled_by g t.settlings.items in
@@ -438,7 +438,7 @@ batches_fit f (StandsIn.outside is) held numbers r =
 
 pub taken_fits : (f : Facts) (hearing : Adjacent) (agree : Agreeing) (answer : answers.Proposal) (entered : Option (Box View)) (t : Ticked)
     → IsTicking f hearing agree answer entered → TicksFrom f hearing agree entered t → StandsIn f → HoldsPending f → HaveNumbers f → HasRanges f
-    → HasRanges (taken f (planned.Tick t))
+    → HasRanges (plans.ticked f t)
 taken_fits f hearing agree answer entered t h from stands held numbers r =
     let g : Facts = agreed f hearing agree entered in
     let fit : HasRanges g = later_fit f hearing agree answer entered h r in
@@ -499,3 +499,8 @@ pub pending_so : (f : Facts) (own : Option (Bor View)) → (own ≡ None → wit
 pending_so f None none views =
     subst (λ (ts : Targets). AreHeld f.store.content ts) (ap (λ (g : Facts). g.batches) (none refl)) (record { held = λ k d within. absurd (omega (arith, within)) })
 pending_so f (Some v) none views = subst (λ (ts : Targets). AreHeld f.store.content ts) (ap (λ (g : Facts). g.batches) views.viewed.view) views.pending
+
+-- what is so however a call ends is so where it fails
+pub on_err : {X E : Type 0} (r : Result X E) (P : Type 0) → P → OnErr r P
+on_err (Ok x) P p = tt
+on_err (Err e) P p = p

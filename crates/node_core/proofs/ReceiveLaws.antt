@@ -9,7 +9,7 @@ use Rattle.wire_messages.specs.Nodes.{IsId}
 use Rattle.node_rules.specs.Facts.{Facts}
 use Rattle.node_rules.specs.Steps.{after_message}
 use Rattle.node_rules.proofs.PartLaws.{repl_is}
-use Rattle.node_core.specs.Peers.{ComesFrom}
+use Rattle.node_rules.specs.Senders.{ComesFrom}
 use Rattle.node_core.specs.Ranges.{HasRanges}
 
 -- what doesn't ask for a table comes from a peer

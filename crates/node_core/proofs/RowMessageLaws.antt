@@ -39,6 +39,7 @@ use Rattle.node_view.specs.declared.view_step.LastRow.{LastRow}
 use Rattle.node_view.specs.Fits.{FitsLastRow, FitsRow, IsLacking}
 use Rattle.node_view.specs.Plans.{with_row_of}
 use Rattle.node_view.specs.Views.{IsHandedOn, IsInView, IsNodeOf, IsOtherMember, Viewed, facts_seen, key_of, with_settled_bits}
+use Rattle.exchange.specs.Served.{AreServed}
 use Rattle.exchange.proofs.RowsLaws.{full_is_there, lacks_fresh}
 use Rattle.node_core.specs.declared.effects.Effects.{Effects}
 use Rattle.node_core.specs.Plans.{after_row, only_if}
@@ -203,13 +204,17 @@ more_fits f v from row h member more = record {
 }
 
 pub last_fits : (f : Facts) (v : Viewed) (s : held.Store) (from : ℕ) (row : Row) (l : LastRow) → IsNodeOf f v s → Contains (agreement.others v.me (members_of v.exchange.view)) from
-    → l.from ≡ from → l.row ≡ row → l.emigration.key ≡ key_of v → IsHandedOn v s from row l.emigration.targets → IsLast v from row → FitsLastRow f l
-last_fits f v s from row l h member of_member with_it keyed handed last =
+    → l.from ≡ from → l.row ≡ row → AreServed (members_of v.exchange.view) (with_row v.exchange.rows from row) l.served → l.emigration.key ≡ key_of v → IsHandedOn v s from row l.emigration.targets → IsLast v from row
+    → FitsLastRow f l
+last_fits f v s from row l h member of_member with_it served keyed handed last =
     let same : v.exchange ≡ f.exchange = exchange_is f v h.view.viewed in record {
       absent = subst (IsLacking f) (sym of_member) (lacking_of f v from h.view.viewed member last.lacking);
       none_missing =
           ap₂ (λ (n : ℕ) (r : Row). first_missing (with_row f.exchange.rows n r) (members f)) of_member with_it
           ∙ ap (λ (x : Exchange). first_missing (with_row x.rows from row) (members_of x.view)) (sym same) ∙ none_of _ last.none;
+      served =
+          subst (λ (rows : List MemberRow). AreServed (members f) rows l.served) (ap₂ (λ (n : ℕ) (r : Row). with_row f.exchange.rows n r) (sym of_member) (sym with_it))
+          (subst (λ (x : Exchange). AreServed (members_of x.view) (with_row x.rows from row) l.served) same served);
       key = keyed ∙ ap (λ (x : Exchange). exchange.key_of x.view) same;
       targets =
           handed.pending (with_row_of f from row) h.view.viewed.me h.view.viewed.factor h.stored.content (ap (λ (x : Exchange). record x { rows = with_row x.rows from row }) (sym same))

@@ -63,7 +63,7 @@ pub record FitsView (f : Facts) (s : ViewStep) : Type 0 where
 
 -- the step was planned from these facts
 abbrev pub Fits : Facts → Planned → Type 0
-Fits f (planned.Tick t) = FitsTick f t
+Fits f (planned.Tick t) = FitsTick f t.value
 Fits f (planned.Agreed agree entered) = FitsAgreed f agree entered
 Fits f (planned.Heard from beat) = FitsBeat f from
 Fits f (planned.View s) = FitsView f s

@@ -66,7 +66,7 @@ after_ack f from number is_last =
 -- the facts after the step
 abbrev pub taken : Facts → Planned → Facts
 taken f planned.Nothing = f
-taken f (planned.Tick t) = ticked f t
+taken f (planned.Tick t) = ticked f t.value
 taken f (planned.Agreed agree entered) = agreed f agree.agreement (option_map (λ v. v.value) entered)
 taken f (planned.Heard from beat) = record f { hearing = beat_heard f.hearing from beat; agreement = seeing f.agreement beat.promised }
 taken f (planned.View s) = view.taken f s

@@ -28,7 +28,7 @@ impl Node {
         };
         match planned {
             Planned::Nothing => {}
-            Planned::Tick(tick) => self.take_tick(tick),
+            Planned::Tick(tick) => self.take_tick(Box::into_inner(tick)),
             Planned::Agreed { agree, entered } => self.take_agreed(agree, entered),
             Planned::Heard { from, beat } => self.take_heard(from, &beat),
             Planned::Stopped => self.take_stop(),

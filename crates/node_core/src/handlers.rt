@@ -6,7 +6,7 @@ ghost use Rattle.node_rules.specs.Messages.{due_message, spent, stale, unless_sp
 ghost use Rattle.node_rules.specs.Notes.{in_view};
 ghost use Rattle.node_rules.specs.Steps.{after_message, planning, unplanned};
 ghost use Rattle.node_core.specs.Counts.{HaveNumbers};
-ghost use Rattle.node_core.specs.Peers.{ComesFrom};
+ghost use Rattle.node_rules.specs.Senders.{ComesFrom};
 ghost use Rattle.node_core.specs.Spelled.{spelled};
 ghost use Rattle.node_core.specs.Fits.{FitsView};
 ghost use Rattle.node_core.specs.Ranges.{HasRanges};

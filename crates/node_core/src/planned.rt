@@ -11,7 +11,8 @@ use wire_messages::Batch;
 pub(crate) enum Planned {
     /// Nothing changes.
     Nothing,
-    Tick(Ticked),
+    /// A tick. It is the largest by far, and boxed so that the others move cheaply.
+    Tick(Box<Ticked>),
     /// The agreement goes on.
     Agreed {
         agree: Agree,

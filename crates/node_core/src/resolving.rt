@@ -17,7 +17,7 @@ ghost use Rattle.node_core.specs.Viewing.{HasNumbers};
 
 use crate::effects::Effects;
 use cluster_types::{Digest, NoMemory, NodeList, partition_of};
-use conflict_order::{Body, Version, Want};
+use conflict_order::{BestVersion, Body, Version, Want};
 use journal_lines::Line;
 use node_view::{Outcome, View, ViewStep, Writing};
 use record_store::RecordStore;
@@ -167,7 +167,7 @@ pub(crate) fn plan_outcome(
                 key: view.key(),
                 transaction,
                 digest,
-                version: best,
+                version: BestVersion::new(alloc, best)?,
             })?;
             return Ok(Outcome::Read);
         }

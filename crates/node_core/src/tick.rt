@@ -61,7 +61,8 @@ impl Node {
         let (agree, proposal) = self.agree.copy().on_tick(set, candidate);
         let entered = self.propose(alloc, &agree, &proposal, &mut out)?;
         let ticked = self.plan_rest(alloc, hearing, agree, entered, &mut out)?;
-        Ok(self.plan(out, Planned::Tick(ticked)))
+        let tick = Box::new(alloc, ticked)?;
+        Ok(self.plan(out, Planned::Tick(tick)))
     }
 
     /// The parts of a tick after the agreement.

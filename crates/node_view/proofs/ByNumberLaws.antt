@@ -1,6 +1,7 @@
 -- Partitions that are looked at, or counted, one by one.
-use Rattle.std.proofs.Common.{◌≡◌, ◌≢◌, ◌==◌, ◌<◌, ◌+◌, ℕ, zero, suc, Bool, true, false, not, cond, List, [], ◌∷◌, ◌++◌, count_by, refl, sym, ap, subst, ◌∙◌, arith}
+use Rattle.std.proofs.Common.{◌≡◌, ◌≢◌, ◌==◌, ◌<◌, ◌≤◌, ◌+◌, nat_lt, ℕ, zero, suc, Bool, true, false, not, cond, List, [], ◌∷◌, ◌++◌, count_by, refl, sym, ap, subst, ◌∙◌, arith}
 use Rattle.std.specs.List.{range_with_len}
+use Rattle.std.proofs.lemmas.Bool.Decides.{nat_tests}
 use Rattle.std.proofs.lemmas.List.Sums.{sum_by_push}
 use Rattle.cluster_types.specs.Partitions.{partition_count}
 use Rattle.cluster_types.specs.Rows.{bit}
@@ -22,6 +23,18 @@ below_more P n p is here below q within = at (q == n) refl
     at false e =
         let other : q ≢ n = λ (i : q ≡ n). let wrong : true ≡ false = sym (equal q n i) ∙ e in cc in
         below q (omega (arith, within, other))
+
+-- what holds of each below a number, and from there on below another
+pub below_until : (P : ℕ → Type 0) (n m : ℕ) → ((q : ℕ) → q < n → P q) → ((q : ℕ) → n ≤ q → q < m → P q) → (q : ℕ) → q < m → P q
+below_until P n m below between q within = at (nat_lt q n) refl
+  where
+    at : (b : Bool) → nat_lt q n ≡ b → P q
+    at true e = let low : q < n = grind (arith, nat_tests, e) in below q low
+    at false e = let high : n ≤ q = grind (arith, nat_tests, e) in between q high within
+
+-- what holds of each below a number, from there on below the next one, and of that
+pub below_next : (P : ℕ → Type 0) (from n p : ℕ) → n ≡ p → P p → ((q : ℕ) → q < from → P q) → ((q : ℕ) → from ≤ q → q < p → P q) → (q : ℕ) → q < n + 1 → P q
+below_next P from n p same here below between = below_more P n p (sym same) here (below_until P from n below (λ q over under. between q over (omega (arith, under, same))))
 
 -- one more is seen to
 pub seen_below : (f : Facts) (n : ℕ) (old new : List Bool) → IsSeenTo n f old new → ((p : ℕ) → p < n → f.exchange.exchanged ≡ true → bit old p ≡ false → IsQuiet f p)

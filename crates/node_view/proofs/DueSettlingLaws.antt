@@ -1,5 +1,5 @@
 -- What is due of the partitions of a view.
-use Rattle.std.proofs.Common.{◌≡◌, ◌<◌, ◌+◌, ℕ, zero, suc, Bool, true, false, List, [], ◌∷◌, ◌++◌, get_or, All, AllPairs, Option, Some, None, refl, sym, ap, ap₂, subst, ◌∙◌, append_assoc, arith}
+use Rattle.std.proofs.Common.{◌≡◌, ◌<◌, ◌≤◌, ◌+◌, ◌-◌, ℕ, zero, suc, Bool, true, false, List, [], ◌∷◌, ◌++◌, get_or, All, AllPairs, Option, Some, None, refl, sym, ap, ap₂, subst, ◌∙◌, append_assoc, arith}
 use Rattle.std.specs.Option.{option_to_list}
 use Rattle.std.proofs.lemmas.Grind.{flat_map-append}
 use Rattle.std.proofs.lemmas.List.{append-nil}
@@ -104,6 +104,30 @@ lines_more f xs us r n is so_far one =
     ∙ ap₂ (λ (a b : List Line). a ++ b) so_far (one ∙ ap (part_lines f) plain)
     ∙ sym (lines_last n 0 f)
     ∙ ap (λ (k : ℕ). lines_from k 0 f) next
+
+-- no lines come of those up to another one
+lines_gap : (f : Facts) (n k : ℕ) → ((q : ℕ) → n ≤ q → q < n + k → part_lines f q ≡ []) → lines_from (n + k) 0 f ≡ lines_from n 0 f
+lines_gap f n zero none = let same : n + 0 ≡ n = omega arith in ap (λ (j : ℕ). lines_from j 0 f) same
+lines_gap f n (suc k) none =
+    let next : n + suc k ≡ suc (n + k) = omega arith in
+    let plain : 0 + (n + k) ≡ n + k = omega arith in
+    ap (λ (j : ℕ). lines_from j 0 f) next
+    ∙ lines_last (n + k) 0 f
+    ∙ ap (λ (ls : List Line). lines_from (n + k) 0 f ++ ls) (ap (part_lines f) plain ∙ none (n + k) (omega arith) (omega arith))
+    ∙ append-nil (lines_from (n + k) 0 f)
+    ∙ lines_gap f n k (λ q over under. none q over (omega (arith, under)))
+
+pub lines_until : (f : Facts) (n m : ℕ) → n ≤ m → ((q : ℕ) → n ≤ q → q < m → part_lines f q ≡ []) → lines_from n 0 f ≡ lines_from m 0 f
+lines_until f n m up none =
+    let whole : n + (m - n) ≡ m = omega (arith, up) in
+    sym (lines_gap f n (m - n) (λ q over under. none q over (omega (arith, under, up)))) ∙ ap (λ (j : ℕ). lines_from j 0 f) whole
+
+-- nor of those up to another one where none of them is live
+pub lines_to : (f : Facts) (v : Viewed) (m : Moving) (a b : ℕ) → IsMoving v m → IsViewOf f v → a ≤ b → b ≤ partition_count → ((q : ℕ) → a ≤ q → q < b → bit m.live q ≡ false) → lines_from a 0 f ≡ lines_from b 0 f
+lines_to f v m a b h k up low off = lines_until f a b up (λ q over under. not_live f v m q h k (omega (arith, under, low)) (off q over under))
+
+pub below_wider : (ss : List Settling) (n m : ℕ) → n ≤ m → All (λ (s : Settling). s.partition < n) ss → All (λ (s : Settling). s.partition < m) ss
+below_wider ss n m up below = λ k d within. let low : (get_or ss k d).partition < n = below k d within in omega (arith, low, up)
 
 -- ---- all partitions
 

@@ -8,16 +8,16 @@ use Rattle.record_store.specs.Store as held
 use Rattle.node_rules.specs.Agreement.{others}
 use Rattle.node_rules.specs.Bits.{Bits, or_rows, progressing}
 use Rattle.node_rules.specs.Exchange.{members_of}
+use Rattle.node_rules.specs.Copies.{Content, holds_of}
 use Rattle.node_rules.specs.Facts.{Facts}
 use Rattle.node_rules.specs.Standing.{knows_settled_by}
 use Rattle.node_rules.specs.Standing as standing
-use Rattle.node_view.specs.Views.{AreLive, IsInView, IsNodeOf, IsOtherMember, Viewed, facts_in, unsettled_count, with_bits, with_live, with_unsettled}
+use Rattle.node_view.specs.Views.{AreLive, IsInView, IsNodeOf, IsOtherMember, Viewed, facts_in, facts_seen, unsettled_count, with_bits, with_live, with_settled_row, with_unsettled}
 use Rattle.node_view.proofs.RowLaws.{or_bits}
 use Rattle.node_view.proofs.SightLaws.{in_view, sees}
 use Rattle.node_view.proofs.StageLaws.{is_other, other_from}
 use Rattle.node_view.proofs.StepLaws.{is_node, node_of}
-use Rattle.node_view.proofs.UnsettledLaws.{alike_within}
-use Rattle.node_view.proofs.WatchLaws.{StandsAlike, quiet_alike}
+use Rattle.node_view.proofs.WatchLaws.{count_alike, live_alike}
 
 -- one of the others is another member, and the other way round
 pub other_member : (v : Viewed) (s : held.Store) (n : ℕ) → Contains (standing.others (facts_in v s)) n → IsOtherMember v n
@@ -28,44 +28,39 @@ other_member v s n found =
 pub contained : (v : Viewed) (n : ℕ) → IsOtherMember v n → Contains (others v.me (members_of v.exchange.view)) n
 contained v n o = (any_is_contained n (others v.me (members_of v.exchange.view))).0 (is_other v.me n (members_of v.exchange.view) o.member o.other)
 
--- no bit of the row is new
-pub none_new : (a b : List Bool) (p : ℕ) → (bit b p ≡ true → bit a p ≡ true) → bit (or_rows a b) p ≡ bit a p
-none_new a b p known = or_bits a b p ∙ go (bit a p) (bit b p) known
-  where
-    go : (x y : Bool) → (y ≡ true → x ≡ true) → (x || y) ≡ x
-    go true y h = refl
-    go false true h = sym (h refl)
-    go false false h = refl
+-- no bit is lost
+pub bits_kept : (a b : List Bool) (p : ℕ) → bit a p ≡ true → bit (or_rows a b) p ≡ true
+bits_kept a b p set = or_bits a b p ∙ rw set refl
 
--- where no settled bit is new, the partitions stand as before
-pub heard_nothing : (f : Facts) (v : Viewed) (s : held.Store) (bs : Bits) → ((p : ℕ) → p < partition_count → bit bs.settled p ≡ bit v.bits.settled p) → bs.own_handed ≡ v.bits.own_handed → bs.learnt ≡ v.bits.learnt
-    → IsNodeOf f v s → IsNodeOf (record f { bits = bs }) (with_bits v bs) s
-heard_nothing f v s bs settled own learnt h =
+-- so many weren't known settled with the bits before
+pub counted_before : (v : Viewed) (s : held.Store) (bs : Bits) (before : List Bool) → IsNodeOf (facts_in v s) v s → before ≡ v.bits.settled
+    → v.watch.unsettled ≡ unsettled_count (with_settled_row (facts_seen (with_bits v bs)) before)
+counted_before v s bs before h is =
+    h.view.watch.unsettled
+    ∙ sym (count_alike (facts_in v s) (with_settled_row (facts_seen (with_bits v bs)) before)
+    (λ p. ap (λ (row : List Bool). knows_settled_by (bit row p) v.exchange.exchanged (standing.is_all_empty (facts_seen v) p)) is))
+
+-- and the partitions that aren't live were quiet with them
+pub quiet_before : (f g : Facts) (v : Viewed) (s : held.Store) (bs : Bits) (before : List Bool) → IsNodeOf f v s → IsInView g (with_bits v bs) → g.store.content ≡ s.versions → before ≡ v.bits.settled
+    → bs.own_handed ≡ v.bits.own_handed → bs.learnt ≡ v.bits.learnt → AreLive (with_settled_row g before) v.watch.live
+quiet_before f g v s bs before h i content is own learnt =
     let n = is_node f v s h in
-    let same : (p : ℕ) → p < partition_count → bit bs.settled p ≡ bit f.bits.settled p = λ p within. settled p within ∙ ap (λ (b : Bits). bit b.settled p) (sym n.sight.bits) in
-    let alike : (p : ℕ) → p < partition_count → StandsAlike p f (record f { bits = bs }) = λ p within. record {
-      me = refl;
-      factor = refl;
-      exchange = refl;
-      own_handed = ap (λ (r : List Bool). bit r p) own ∙ ap (λ (b : Bits). bit b.own_handed p) (sym n.sight.bits);
-      settled = same p within;
-      learnt = ap (λ (r : List Bool). bit r p) learnt ∙ ap (λ (b : Bits). bit b.learnt p) (sym n.sight.bits);
-      holds = refl;
-    } in
-    node_of (record f { bits = bs }) (with_bits v bs) s (record {
-      sight = record { me = n.sight.me; factor = n.sight.factor; exchange = n.sight.exchange; writes = n.sight.writes; transactions = n.sight.transactions; batches = n.sight.batches; bits = refl };
-      policy = n.policy;
-      pending = n.pending;
-      watch = record {
-        unsettled = n.watch.unsettled ∙ sym (alike_within f (record f { bits = bs }) (λ p within. ap (λ (b : Bool). knows_settled_by b f.exchange.exchanged (standing.is_all_empty f p)) (same p within)));
-        live = record { quiet = λ p within done off. quiet_alike p f (record f { bits = bs }) (alike p within) (n.watch.live.quiet p within done off) };
-      };
-      content = n.content;
-      stamps = n.stamps;
-      by = n.by;
-    })
+    let t = sees g (with_bits v bs) i in
+    live_alike f (with_settled_row g before) v.watch.live (λ p. record {
+      me = t.me ∙ sym n.sight.me;
+      factor = t.factor ∙ sym n.sight.factor;
+      exchange = t.exchange ∙ sym n.sight.exchange;
+      own_handed = ap (λ (b : Bits). bit b.own_handed p) t.bits ∙ ap (λ (row : List Bool). bit row p) own ∙ ap (λ (b : Bits). bit b.own_handed p) (sym n.sight.bits);
+      settled = ap (λ (row : List Bool). bit row p) is ∙ ap (λ (b : Bits). bit b.settled p) (sym n.sight.bits);
+      learnt = ap (λ (b : Bits). bit b.learnt p) t.bits ∙ ap (λ (row : List Bool). bit row p) learnt ∙ ap (λ (b : Bits). bit b.learnt p) (sym n.sight.bits);
+      holds = ap (λ (c : Content). holds_of c p) (content ∙ sym n.content);
+    }) n.watch.live
 
--- all is counted and looked at anew
+-- what is kept of the partitions plays no part
+pub in_view_uncounted : (f : Facts) (v : Viewed) (count : ℕ) → IsInView f (with_unsettled v count) → IsInView f v
+in_view_uncounted f v count h = record { me = h.me; factor = h.factor; view = h.view }
+
+-- all partitions are counted and looked at
 pub heard_anew : (f : Facts) (v : Viewed) (s : held.Store) (bs : Bits) (count : ℕ) (live : List Bool) → IsNodeOf f v s
     → ((g : Facts) → IsInView g (with_bits v bs) → count ≡ unsettled_count g)
     → ((g : Facts) → IsInView g (with_unsettled (with_bits v bs) count) → g.store.content ≡ s.versions → AreLive g live)

@@ -21,6 +21,7 @@ mod PlanLaws
 mod ReadyLaws
 mod ResolveLaws
 pub mod RowLaws
+mod SeenLaws
 mod SendLaws
 pub mod SettleLaws
 pub mod SettledLaws

@@ -11,7 +11,7 @@ use Rattle.node_rules.specs.Here.{Here, here}
 use Rattle.node_rules.specs.Standing.{has_nothing_to_learn_or_drop, has_settled_bit, is_all_empty, is_done, is_to_drop, is_to_learn, knows_all_settled, knows_settled}
 use Rattle.node_rules.proofs.Partitions.{rest_tells, settled_tells}
 use Rattle.node_view.specs.Settlings.{is_to_learn_or_drop}
-use Rattle.node_view.specs.Views.{AreLive, IsInView, IsQuiet, IsViewOf, Viewed, facts_seen, with_settled_bits}
+use Rattle.node_view.specs.Views.{AreLive, IsInView, IsQuiet, IsViewOf, Viewed, facts_seen, is_known_empty, with_settled_bits}
 use Rattle.node_view.proofs.RowLaws.{or_bits}
 use Rattle.node_view.proofs.SightLaws.{sees}
 
@@ -69,6 +69,28 @@ one_without f v s q h within unset unknown =
     false_from_ne_true (knows_all_settled (with_settled_bits f s) partition_count 0)
     (λ all. let wrong : true ≡ (false || false) = sym ((settled_tells (with_settled_bits f s) partition_count).0 all q within) ∙ settled_with f v s q h.viewed ∙ rw (unset, unknown) refl in let w : true ≡ false = wrong in cc)
 
+both_known : (a b c : Bool) → (not (a || b) ≡ true → c ≡ true) → (a || (b || c)) ≡ true
+both_known true b c h = refl
+both_known false true c h = refl
+both_known false false c h = h refl
+
+neither_set : (a b : Bool) → not (a || b) ≡ true → (a ≡ false) × (b ≡ false)
+neither_set true b e = absurd (let wrong : false ≡ true = e in cc)
+neither_set false true e = absurd (let wrong : false ≡ true = e in cc)
+neither_set false false e = (refl, refl)
+
+-- all are where those are known empty whose bits are in neither row
+pub known_or_empty : (f : Facts) (v : Viewed) (s rest : List Bool) (r : Bool) → IsViewOf f v → ((q : ℕ) → q < partition_count → bit rest q ≡ not (bit s q || bit v.bits.settled q))
+    → (r ≡ true → (q : ℕ) → bit rest q ≡ true → is_known_empty v q ≡ true) → (r ≡ false → (q : ℕ) × (q < partition_count) × (bit rest q ≡ true) × (is_known_empty v q ≡ false))
+    → r ≡ knows_all_settled (with_settled_bits f s) partition_count 0
+known_or_empty f v s rest true h is all one =
+    sym (each_with f v s partition_count h refl (λ q within. both_known (bit s q) (bit v.bits.settled q) (is_known_empty v q) (λ unset. all refl q (is q within ∙ unset))))
+known_or_empty f v s rest false h is all one =
+    let found = one refl in
+    let q = found.0 in
+    let unset = neither_set (bit s q) (bit v.bits.settled q) (sym (is q found.1) ∙ found.2) in
+    sym (one_without f v s q h found.1 unset.0 (ap (λ (b : Bool). b || is_known_empty v q) unset.1 ∙ found.3))
+
 -- ---- what is to be learnt or dropped
 
 -- nothing of the partition is
@@ -82,6 +104,9 @@ quiet_rests f p (IsQuiet.over o) = record {
   learnt = and_right (has_settled_bit f p) _ o.learnt;
   dropped = and_right (has_settled_bit f p) _ (and_right (is_done f p) _ o.dropped);
 }
+
+pub rests_off : (f : Facts) (live : List Bool) (p : ℕ) → AreLive f live → p < partition_count → f.exchange.exchanged ≡ true → bit live p ≡ false → Rests f p
+rests_off f live p h within finished off = quiet_rests f p (h.quiet p within finished off)
 
 neither : (s l d : Bool) → (s && (l || d)) ≡ false → ((s && l) ≡ false) × ((s && d) ≡ false)
 neither false l d e = (refl, refl)

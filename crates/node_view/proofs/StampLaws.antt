@@ -1,5 +1,5 @@
 -- Copies that are stamped one after another.
-use Rattle.std.proofs.Common.{◌≡◌, ◌≤◌, ◌+◌, ◌&&◌, ℕ, zero, suc, Bool, true, false, refl, sym, ap, ap₂, ◌∙◌, arith}
+use Rattle.std.proofs.Common.{◌≡◌, ◌≤◌, ◌+◌, ◌&&◌, ℕ, zero, suc, Bool, true, false, refl, sym, ap, ap₂, subst, ◌∙◌, arith}
 use Rattle.cluster_types.specs.declared.cluster_key.ClusterKey.{ClusterKey}
 use Rattle.cluster_types.specs.Partitions.{partition_count}
 use Rattle.record_store.specs.Store as held
@@ -107,3 +107,9 @@ pub stamped_alike : (f : Facts) (ts : Targets) (key : ClusterKey) (stamps : Stam
 unfolding stamped_from
 stamped_alike f ts key stamps zero p = refl
 stamped_alike f ts key stamps (suc n) p = stamped_alike f ts key (stamped_at f key (list_at f p) p stamps) n (p + 1)
+
+-- no copy is before the exchange is finished
+pub unstamped : (f : Facts) (v : Viewed) (s : held.Store) → v.exchange.exchanged ≡ false → IsNodeOf f v s → IsNodeOf (with_stamps f f.exchange.exchanged) v s
+unstamped f v s waits h =
+    let off : f.exchange.exchanged ≡ false = ap (λ (x : Exchange). x.exchanged) (is_node f v s h).sight.exchange ∙ waits in
+    subst (λ (b : Bool). IsNodeOf (with_stamps f b) v s) (sym off) h

@@ -12,7 +12,7 @@ counted : (test : ℕ → Bool) (a n : ℕ) → count_by test (range_with_len a 
 counted test a n = sum_by-cons (λ q. cond (test q) 1 0) a (range_with_len (a + 1) n)
 
 -- tests that answer alike within count the same
-alike_counted : (s t : ℕ → Bool) (a n : ℕ) → ((q : ℕ) → a ≤ q → q < a + n → t q ≡ s q) → count_by t (range_with_len a n) ≡ count_by s (range_with_len a n)
+pub alike_counted : (s t : ℕ → Bool) (a n : ℕ) → ((q : ℕ) → a ≤ q → q < a + n → t q ≡ s q) → count_by t (range_with_len a n) ≡ count_by s (range_with_len a n)
 alike_counted s t a zero same = refl
 alike_counted s t a (suc n) same =
     counted t a n
@@ -58,23 +58,27 @@ one_settled f g p within before after same =
     fewer (unsettled_count g) (unsettled_count f)
     (one_fewer (λ q. not (knows_settled f q)) (λ q. not (knows_settled g q)) p 0 partition_count (ap not before) (ap not after) (λ q other. ap not (same q other)) (omega arith) (omega (arith, within)))
 
--- one that isn't known settled is counted
-pub is_counted : (f : Facts) (p : ℕ) → p < partition_count → knows_settled f p ≡ false → 0 < unsettled_count f
-is_counted f p within before = some (count_by without (range_with_len 0 partition_count)) (unsettled_count f)
-    (one_fewer (λ q. not (knows_settled f q)) without p 0 partition_count (ap not before) (off p (p == p) refl) other (omega arith) (omega (arith, within)))
+-- where one passes some are counted
+pub counts_one : (s : ℕ → Bool) (p : ℕ) → s p ≡ true → p < partition_count → 0 < count_by s (range_with_len 0 partition_count)
+counts_one s p passes within = some (count_by without (range_with_len 0 partition_count)) (count_by s (range_with_len 0 partition_count))
+    (one_fewer s without p 0 partition_count passes (off p (p == p) refl) other (omega arith) (omega (arith, within)))
   where
     without : ℕ → Bool
-    without q = cond (q == p) false (not (knows_settled f q))
+    without q = cond (q == p) false (s q)
 
     off : (q : ℕ) (b : Bool) → (q == p) ≡ b → without p ≡ false
     off q b e = rw (equal p p refl) refl
 
-    other : (q : ℕ) → q ≢ p → without q ≡ not (knows_settled f q)
+    other : (q : ℕ) → q ≢ p → without q ≡ s q
     other q apart = go (q == p) refl
       where
-        go : (b : Bool) → (q == p) ≡ b → without q ≡ not (knows_settled f q)
+        go : (b : Bool) → (q == p) ≡ b → without q ≡ s q
         go true e = absurd (apart (from_equal q p e))
         go false e = rw e refl
+
+-- one that isn't known settled is counted
+pub is_counted : (f : Facts) (p : ℕ) → p < partition_count → knows_settled f p ≡ false → 0 < unsettled_count f
+is_counted f p within before = counts_one (λ q. not (knows_settled f q)) p (ap not before) within
 
 pub alike_within : (f g : Facts) → ((p : ℕ) → p < partition_count → knows_settled g p ≡ knows_settled f p) → unsettled_count g ≡ unsettled_count f
 alike_within f g same = alike_counted (λ q. not (knows_settled f q)) (λ q. not (knows_settled g q)) 0 partition_count (λ q above below. ap not (same q (omega (arith, below))))

@@ -1,5 +1,6 @@
 -- Partitions that ticks look at from now on.
-use Rattle.std.proofs.Common.{◌≡◌, ◌⊎◌, inl, inr, ℕ, Bool, true, false, set, sym, ap, subst, ◌∙◌}
+use Rattle.std.proofs.Common.{◌≡◌, ◌⊎◌, inl, inr, ℕ, Bool, true, false, set, refl, sym, ap, subst, ◌∙◌}
+use Rattle.std.proofs.lemmas.Bool.{and_right}
 use Rattle.std.proofs.lemmas.List.{get_or-set_other}
 use Rattle.cluster_types.specs.Rows.{bit}
 use Rattle.node_rules.specs.Exchange.{Exchange}
@@ -26,3 +27,14 @@ unfinished f v h finished not_yet = let wrong : false ≡ true = not_yet ∙ (ap
 
 pub finished_in : (f : Facts) (v : Viewed) → IsInView f v → v.exchange.exchanged ≡ true → f.exchange.exchanged ≡ true
 finished_in f v h finished = ap (λ (x : Exchange). x.exchanged) (sees f v h).exchange ∙ finished
+
+-- ---- partitions that sleep
+
+pub master_asleep : (h : Here) → h.settled ≡ false → h.master ≡ true → h.empty ≡ true → IsAsleep h
+master_asleep h unset master empty = record { unsettled = unset; kept = rw master (and_right h.acting false refl); quiet = rw (master, empty) refl }
+
+pub other_asleep : (h : Here) → h.settled ≡ false → h.master ≡ false → h.acting ≡ false → IsAsleep h
+other_asleep h unset master idle = record { unsettled = unset; kept = rw idle refl; quiet = rw master refl }
+
+pub handed_asleep : (h : Here) → h.settled ≡ false → h.master ≡ false → h.own_handed ≡ true → IsAsleep h
+handed_asleep h unset master handed = record { unsettled = unset; kept = rw (master, handed) (and_right h.acting false refl); quiet = rw master refl }

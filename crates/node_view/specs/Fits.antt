@@ -9,6 +9,7 @@ use Rattle.cluster_types.specs.Partitions.{partition_of}
 use Rattle.wire_messages.specs.declared.message.Batch.{Batch}
 use Rattle.record_store.specs.Store as held
 use Rattle.emigrate.specs.Going.{IsNext}
+use Rattle.exchange.specs.Served.{AreServed}
 use Rattle.write_path.specs.Writes.{IsWrite, body_of}
 use Rattle.node_rules.specs.Batches.{Targets, target}
 use Rattle.node_rules.specs.Copies.{Row}
@@ -62,10 +63,11 @@ pub record FitsRow (f : Facts) (from : ℕ) (row : Row) : Type 0 where
   pub absent : IsLacking f from
   pub more : IsSome (first_missing (with_row f.exchange.rows from row) (members f))
 
--- the row is the last one, and with it these records are handed on
+-- the row is the last one, and with it the partitions are served so and these records are handed on
 pub record FitsLastRow (f : Facts) (l : LastRow) : Type 0 where
   pub absent : IsLacking f l.from
   pub none_missing : first_missing (with_row f.exchange.rows l.from l.row) (members f) ≡ None
+  pub served : AreServed (members f) (with_row f.exchange.rows l.from l.row) l.served
   pub key : l.emigration.key ≡ view_key f
   pub targets : l.emigration.targets ≡ targets_of (with_row_of f l.from l.row)
 

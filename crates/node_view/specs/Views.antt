@@ -1,5 +1,5 @@
 -- What lasts for a view, as the rules know it.
-use Rattle.std.specs.Prelude.{◌≡◌, ◌≢◌, ℕ, ◌<◌, Bool, true, false, not, List, [], IsSome, Option, Some, None, ◌-◌, ◌&&◌, map, min, option_map, unwrap_or}
+use Rattle.std.specs.Prelude.{◌≡◌, ◌≢◌, ℕ, ◌<◌, Bool, true, false, not, List, [], IsSome, Option, Some, None, ◌-◌, ◌&&◌, if◌then◌else◌, map, min, option_map, unwrap_or}
 use Rattle.std.specs.FinMap as finite
 use Rattle.std.specs.List.{count_by, range_with_len}
 use Rattle.conflict_order.specs.declared.policy.Policy.{Policy}
@@ -214,6 +214,22 @@ with_settled_bits f settled = record f { bits = record f.bits { settled = or_row
 -- the view with these bits
 abbrev pub with_bits : Viewed → Bits → Viewed
 with_bits v bits = record v { bits = bits }
+
+-- the view with this kept of the partitions
+abbrev pub with_watch : Viewed → Watch → Viewed
+with_watch v watch = record v { watch = watch }
+
+-- whether the node knows that no member's copy of the partition had a record
+abbrev pub is_known_empty : Viewed → ℕ → Bool
+is_known_empty v p = v.exchange.exchanged && is_all_empty (facts_seen v) p
+
+-- the view where the partition, which had no settled bit, counts as settled, as it did before where it is known empty
+abbrev pub without_unsettled : Viewed → ℕ → Viewed
+without_unsettled v p = if is_known_empty v p then v else with_unsettled v (v.watch.unsettled - 1)
+
+-- the facts with these settled bits
+abbrev pub with_settled_row : Facts → List Bool → Facts
+with_settled_row f settled = record f { bits = record f.bits { settled = settled } }
 
 -- the view where one partition more is settled by the node
 abbrev pub one_more_settled : Viewed → ℕ → Viewed

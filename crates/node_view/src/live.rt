@@ -1,10 +1,10 @@
 //! The partitions that a tick looks at.
-ghost use Rattle.std.specs.Prelude.{◌≡◌, ◌↔◌, ℕ, false, IsTrue, IfOk, slice_set};
-ghost use Rattle.cluster_types.specs.Rows.{bit};
+ghost use Rattle.std.specs.Prelude.{◌≡◌, ◌↔◌, ℕ, false, IsTrue, IfOk, MatchOption, length, slice_set};
+ghost use Rattle.cluster_types.specs.Partitions.{partition_count};
+ghost use Rattle.cluster_types.specs.Rows.{bit, IsClearFrom, IsNextSet};
 ghost use Rattle.node_rules.specs.Bits.{clear_row};
 
-use cluster_types::partition::PARTITIONS;
-use cluster_types::{NoMemory, PartitionId};
+use cluster_types::{NoMemory, PartitionId, Row4096};
 use std::alloc::Global;
 use std::marker::Model;
 
@@ -12,7 +12,7 @@ use std::marker::Model;
 /// looks at these alone.
 #[derive(Debug, Drop)]
 pub(crate) struct Live {
-    marks: Vec<bool>,
+    marks: Box<Row4096>,
     count: usize,
 }
 
@@ -23,9 +23,9 @@ impl Model for Live {
 
     ghost Value = { List Bool };
 
-    ghost view = { λ l. l.marks.items };
+    ghost view = { λ l. l.marks.value };
 
-    ghost invariant = { λ l. (length l.marks.items ≡ partition_count) × (l.count ≡ count_by (λ b. b) l.marks.items) };
+    ghost invariant = { λ l. (length l.marks.value ≡ partition_count) × (l.count ≡ count_by (λ b. b) l.marks.value) };
 }
 
 impl Live {
@@ -33,8 +33,7 @@ impl Live {
     pub fn new(alloc: Global) -> Result<Live, NoMemory>
         ensures { IfOk result (λ l. l ≡ clear_row) }
     {
-        let mut marks = Vec::new(alloc);
-        marks.resize(usize::from(PARTITIONS), false)?;
+        let marks = Box::new(alloc, Row4096::new())?;
         Ok(Live { marks, count: 0 })
     }
 
@@ -45,11 +44,11 @@ impl Live {
         self.count == 0
     }
 
-    /// Whether the partition is one of them.
-    pub fn contains(&self, p: PartitionId) -> bool
-        ensures { result ≡ bit self.now p }
+    /// The first of them from that number on.
+    pub fn next(&self, from: u16) -> Option<PartitionId>
+        ensures { MatchOption result (IsClearFrom self.now from) (λ p. IsNextSet self.now from p) }
     {
-        self.marks[usize::from(p.number())]
+        self.marks.next_set(from)
     }
 
     /// The partition is one of them from now on, or isn't.
@@ -57,13 +56,25 @@ impl Live {
         ensures row { self.new ≡ slice_set self.old p is_live }
         ensures set { bit self.new p ≡ is_live }
     {
-        let place = usize::from(p.number());
-        if self.marks[place] && !is_live {
+        let was_live = self.marks.get(p);
+        if was_live && !is_live {
             self.count -= 1;
+            *self.marks = without(&self.marks, p);
         }
-        if !self.marks[place] && is_live {
+        if !was_live && is_live {
             self.count += 1;
+            self.marks.put(p);
         }
-        self.marks[place] = is_live;
     }
+}
+
+/// The row without the partition's bit.
+fn without(row: &Row4096, p: PartitionId) -> Row4096
+    requires { length row.now ≡ partition_count }
+    ensures row { result ≡ slice_set row.now p false }
+    ensures size { length result ≡ partition_count }
+{
+    let mut taken = Row4096::new();
+    taken.put(p);
+    row.difference(&taken)
 }

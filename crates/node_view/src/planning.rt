@@ -21,10 +21,8 @@ ghost use Rattle.node_view.specs.Settlings.{settling_lines, settling_of};
 ghost use Rattle.node_view.specs.Views.{IsInView, IsMoving, IsSame, IsViewOf, key_of};
 
 use crate::here::Settling;
-use crate::settling::partition_at;
 use crate::view::{Moving, View};
 use crate::view_step::Counted;
-use cluster_types::partition::PARTITIONS;
 use cluster_types::{Digest, NoMemory, NodeId, NodeList, PartitionId, partition_of};
 use journal_lines::Refusal;
 use record_store::RecordStore;
@@ -132,26 +130,21 @@ impl View {
         if moving.live.is_empty() {
             return Ok(due);
         }
-        for number in 0..PARTITIONS {
-            push_settling(
-                &mut due,
-                self.settling_at(moving, store, partition_at(number)),
-            )?;
+        let mut from = 0;
+        while let Some(p) = moving.live.next(from) {
+            push_settling(&mut due, self.settling_at(moving, store, p))?;
+            from = p.number() + 1;
         }
         Ok(due)
     }
 
-    /// What is due of the partition; nothing where it isn't live.
+    /// What is due of the partition.
     fn settling_at(&self, moving: &Moving, store: &RecordStore, p: PartitionId) -> Option<Settling>
-        requires moving { IsMoving self.now moving.now }
-        requires within { p < partition_count }
+        requires { IsMoving self.now moving.now }
         ensures partition { ForSome result (λ s. s.partition ≡ p) }
         ensures settling { (f : Facts) → IsViewOf f self.now → f.store.content ≡ store.now.versions → ForSome result (λ s. s ≡ settling_of p (here f (list_at f p) p)) }
         ensures lines { (f : Facts) → IsViewOf f self.now → f.store.content ≡ store.now.versions → settling_lines f.me (view_key f) (option_to_list result) ≡ part_lines f p }
     {
-        if !moving.live.contains(p) {
-            return None;
-        }
         Settling::of(p, &self.here(moving, store, p))
     }
 }

@@ -4,8 +4,9 @@ ghost use Rattle.cluster_types.specs.Partitions.{partition_count};
 ghost use Rattle.node_rules.specs.Copies.{holds_of};
 ghost use Rattle.node_rules.specs.Facts.{Facts, list_at};
 ghost use Rattle.node_rules.specs.Here as rules;
+ghost use Rattle.node_rules.specs.Here.{IsAsleep};
 ghost use Rattle.node_view.specs.Settlings.{here_of};
-ghost use Rattle.node_view.specs.Views.{AreLive, IsInView, IsMoving, IsQuiet, IsSeenTo, facts_seen, unsettled_count, with_live, with_unsettled};
+ghost use Rattle.node_view.specs.Views.{AreLive, IsInView, IsMoving, IsQuiet, IsSeenTo, facts_seen, is_known_empty, unsettled_count, with_live, with_unsettled, without_unsettled};
 
 use crate::here::Here;
 use crate::view::{Moving, View};
@@ -52,16 +53,49 @@ impl View {
         ensures { (f : Facts) → IsInView f self.now → f.store.content ≡ store.now.versions → f.exchange.exchanged ≡ true → result ≡ false → IsQuiet f p }
     {
         match self.moving() {
-            Some(moving) => self.here(moving, store, p).is_live(),
+            Some(moving) => self.is_live_in(moving, store, p),
             None => false,
         }
     }
 
-    /// Ticks look at the partitions of which a line may come.
+    /// The same once the exchange is finished. Most partitions sleep, which is seen without a look
+    /// at all that is known of them.
+    fn is_live_in(&self, moving: &Moving, store: &RecordStore, p: PartitionId) -> bool
+        requires { IsMoving self.now moving.now }
+        ensures { (f : Facts) → IsInView f self.now → f.store.content ≡ store.now.versions → result ≡ false → IsQuiet f p }
+    {
+        if self.is_asleep(moving, p) {
+            return false;
+        }
+        self.here(moving, store, p).is_live()
+    }
+
+    /// Whether the partition isn't settled and the node has nothing there to hand over or to settle.
+    fn is_asleep(&self, moving: &Moving, p: PartitionId) -> bool
+        requires { IsMoving self.now moving.now }
+        ensures { result ≡ true → (f : Facts) → IsInView f self.now → IsAsleep (rules.here f (list_at f p) p) }
+    {
+        if self.has_settled_bit(p) {
+            return false;
+        }
+        if self.is_master(p) {
+            return moving.map.is_all_empty(p);
+        }
+        let is_acting = moving.map.acting(p) == self.me;
+        if !is_acting {
+            return true;
+        }
+        self.progress.is_own_handed(p)
+    }
+
+    /// Ticks look at the partitions of which a line may come; at none before the exchange is finished.
     pub(crate) fn wake_all(&mut self, store: &RecordStore)
         ensures same { self.new ≡ with_live self.old self.new.watch.live }
         ensures live { (f : Facts) → IsInView f self.old → f.store.content ≡ store.now.versions → AreLive f self.new.watch.live }
     {
+        if !self.has_exchanged() {
+            return;
+        }
         for number in 0..PARTITIONS {
             self.refresh(partition_at(number), store);
         }
@@ -73,6 +107,18 @@ impl View {
         ensures count { (f : Facts) → IsInView f self.old → self.new.watch.unsettled ≡ unsettled_count f }
     {
         self.unsettled = self.number_unsettled();
+    }
+
+    /// The partition, which had no settled bit, is known settled now. It counted till then, unless
+    /// it is known empty.
+    pub(crate) fn count_settled(&mut self, p: PartitionId)
+        requires { is_known_empty self.old p ≡ false → 0 < self.old.watch.unsettled }
+        ensures { self.new ≡ without_unsettled self.old p }
+    {
+        if self.is_all_empty(p) {
+            return;
+        }
+        self.unsettled -= 1;
     }
 
     /// How many partitions aren't known settled.

@@ -1,7 +1,8 @@
 //! What a view shows of itself.
-ghost use Rattle.std.specs.Prelude.{◌≡◌, true, not, map, option_and_then, option_map, IfOk, IsSome};
+ghost use Rattle.std.specs.Prelude.{◌≡◌, ◌<◌, ℕ, true, false, not, map, option_and_then, option_map, IfOk, IsSome};
 ghost use Rattle.std.specs.Option.{option_copied};
 ghost use Rattle.cluster_types.specs.Partitions.{partition_count};
+ghost use Rattle.cluster_types.specs.Rows.{bit};
 ghost use Rattle.wire_messages.specs.declared.message.Message.TheVariants as message;
 ghost use Rattle.partition_lists.specs.Lists.{list};
 ghost use Rattle.node_rules.specs.Batches.{done_row, out_to};
@@ -13,12 +14,10 @@ ghost use Rattle.node_rules.specs.Standing.{acts, asked, has_moved, has_nothing_
 ghost use Rattle.node_rules.specs.Tick.{own_row_in};
 ghost use Rattle.node_rules.specs.Transactions as rules;
 ghost use Rattle.node_view.specs.Transactions.{kept_of, write_of};
-ghost use Rattle.node_view.specs.Views.{IsInView, IsOtherMember, IsViewOf, facts_seen, key_of, with_settled_bits};
+ghost use Rattle.node_view.specs.Views.{IsInView, IsOtherMember, IsViewOf, facts_seen, is_known_empty, key_of, with_settled_bits};
 
 use crate::notes::Write;
-use crate::settling::partition_at;
 use crate::view::View;
-use cluster_types::partition::PARTITIONS;
 use cluster_types::{MapEntry, MapView, NoMemory, NodeId, NodeList, PartitionId, Row4096};
 use dup_resolve::{Txn, Txns};
 use record_store::RecordStore;
@@ -149,9 +148,20 @@ impl View {
         if self.knows_all_settled() {
             return true;
         }
-        for number in 0..PARTITIONS {
-            let p = partition_at(number);
-            if !settled.get(p) && !self.knows_settled(p) {
+        let mut known = *settled;
+        known.or(self.settled_row());
+        self.are_all_empty(&known.complement())
+    }
+
+    /// Whether each of these partitions is known empty.
+    fn are_all_empty(&self, partitions: &Row4096) -> bool
+        ensures all { result ≡ true → (p : ℕ) → bit partitions.now p ≡ true → is_known_empty self.now p ≡ true }
+        ensures one { result ≡ false → (p : ℕ) × (p < partition_count) × (bit partitions.now p ≡ true) × (is_known_empty self.now p ≡ false) }
+    {
+        let mut from = 0;
+        while let Some(p) = partitions.next_set(from) {
+            from = p.number() + 1;
+            if !self.is_all_empty(p) {
                 return false;
             }
         }
@@ -170,9 +180,10 @@ impl View {
         if moving.live.is_empty() {
             return false;
         }
-        for number in 0..PARTITIONS {
-            let p = partition_at(number);
-            if moving.live.contains(p) && self.here(moving, store, p).is_to_learn_or_drop() {
+        let mut from = 0;
+        while let Some(p) = moving.live.next(from) {
+            from = p.number() + 1;
+            if self.here(moving, store, p).is_to_learn_or_drop() {
                 return true;
             }
         }

@@ -22,7 +22,7 @@ ghost use Rattle.node_view.specs.declared.view_step.ViewStep.TheVariants as step
 ghost use Rattle.node_view.specs.Fits.{IsReady, IsReadyToResolve, IsReadyToSend, IsReadyToSettle};
 ghost use Rattle.node_view.specs.Plans.{settled_at, settled_by, taken, with_count, with_newer, with_outcome, with_stamps, wrote};
 ghost use Rattle.node_view.specs.Rooms.{HasRoomToCount};
-ghost use Rattle.node_view.specs.Views.{BecomesNodeOf, IsOtherMember, count_seen, digest_in, facts_seen, key_of, learnt_copy, one_more_settled, with_bits, with_copy_stamped, with_live, without_copy_of};
+ghost use Rattle.node_view.specs.Views.{AreLive, BecomesNodeOf, IsInView, IsOtherMember, IsSeenTo, count_seen, digest_in, facts_seen, is_known_empty, key_of, learnt_copy, one_more_settled, unsettled_count, with_bits, with_copy_stamped, with_live, with_settled_row, with_watch, without_copy_of, without_unsettled};
 
 use crate::here::Settling;
 use crate::notes::Write;
@@ -126,12 +126,9 @@ impl View {
         requires { IsReady self.old store.now (step.Progressed progressed.now) }
         ensures { (f : Facts) → BecomesNodeOf f self.old store.now (taken f (step.Progressed progressed.now)) self.new store.now }
     {
-        let is_new = self.lacks_settled_bit(progressed.settled.row());
+        let before = *self.settled_row();
         self.hear_progress(progressed);
-        if is_new {
-            self.count_unsettled();
-            self.wake_all(store);
-        }
+        self.see_settled(store, &before);
     }
 
     fn hear_progress(&mut self, progressed: &Progressed)
@@ -146,17 +143,31 @@ impl View {
         );
     }
 
-    /// Whether some of these bits is new among the settled bits.
-    fn lacks_settled_bit(&self, settled: &Row4096) -> bool
-        ensures { result ≡ false → (p : ℕ) → p < partition_count → bit settled.now p ≡ true → bit self.now.bits.settled p ≡ true }
+    /// The partitions whose settled bits are new count as settled, and ticks look at those of which
+    /// a line may come. Before, the settled bits were these.
+    fn see_settled(&mut self, store: &RecordStore, before: &Row4096)
+        requires kept { (p : ℕ) → p < partition_count → bit before.now p ≡ true → bit self.old.bits.settled p ≡ true }
+        requires counted { self.old.watch.unsettled ≡ unsettled_count (with_settled_row (facts_seen self.old) before.now) }
+        ensures same { self.new ≡ with_watch self.old self.new.watch }
+        ensures count { self.new.watch.unsettled ≡ unsettled_count (facts_seen self.old) }
+        ensures live { (f : Facts) → IsInView f self.old → f.store.content ≡ store.now.versions → AreLive (with_settled_row f before.now) self.old.watch.live → AreLive f self.new.watch.live }
     {
-        for number in 0..PARTITIONS {
-            let p = partition_at(number);
-            if settled.get(p) && !self.has_settled_bit(p) {
-                return true;
-            }
+        let fresh = self.settled_row().difference(before);
+        let mut from = 0;
+        while let Some(p) = fresh.next_set(from) {
+            from = p.number() + 1;
+            self.see_settled_at(store, p);
         }
-        false
+    }
+
+    /// The partition's settled bit is new.
+    fn see_settled_at(&mut self, store: &RecordStore, p: PartitionId)
+        requires { is_known_empty self.old p ≡ false → 0 < self.old.watch.unsettled }
+        ensures same { self.new ≡ with_live (without_unsettled self.old p) self.new.watch.live }
+        ensures live { (f : Facts) → IsInView f self.old → f.store.content ≡ store.now.versions → IsSeenTo p f self.old.watch.live self.new.watch.live }
+    {
+        self.count_settled(p);
+        self.refresh(p, store);
     }
 
     fn replicate(&mut self, store: &mut RecordStore, write: Replicated)
@@ -454,6 +465,9 @@ impl View {
     pub fn stamp_empty_copies(&self, store: &mut RecordStore)
         ensures { (f : Facts) → BecomesNodeOf f self.now store.old (with_stamps f f.exchange.exchanged) self.now store.new }
     {
+        if !self.has_exchanged() {
+            return;
+        }
         for number in 0..PARTITIONS {
             self.stamp_empty_copy(store, partition_at(number));
         }

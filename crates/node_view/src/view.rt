@@ -6,6 +6,7 @@ ghost use Rattle.cluster_types.specs.Rows.{bit};
 ghost use Rattle.std.specs.Bool.{beq};
 ghost use Rattle.std.specs.List.{list_all};
 ghost use Rattle.emigrate.specs.Going.{IsNext};
+ghost use Rattle.exchange.specs.Served.{AreServed};
 ghost use Rattle.partition_lists.specs.Lists.{is_replica, list};
 ghost use Rattle.node_rules.specs.Agreement.{others};
 ghost use Rattle.node_rules.specs.Batches.{acking, done_row, sending, target};
@@ -266,7 +267,8 @@ impl View {
         }
     }
 
-    /// Plans that the last row comes: what is handed on then. The view is as before afterwards.
+    /// Plans that the last row comes: who serves each partition then, and what is handed on. The
+    /// view is as before afterwards.
     pub fn plan_last_row(
         &mut self,
         alloc: Global,
@@ -279,6 +281,7 @@ impl View {
         requires last { is_none (first_missing (with_row self.old.exchange.rows from row) (members_of self.old.exchange.view)) ≡ true }
         ensures key { IfOk result (λ l. l.emigration.key ≡ key_of self.old) }
         ensures row { IfOk result (λ l. (l.from ≡ from) × (l.row ≡ row)) }
+        ensures served { IfOk result (λ l. AreServed (members_of self.old.exchange.view) (with_row self.old.exchange.rows from row) l.served) }
         ensures targets { IfOk result (λ l. IsHandedOn self.old store.now from row l.emigration.targets) }
         ensures same { self.new ≡ self.old }
     {
@@ -289,12 +292,14 @@ impl View {
         let ExchangeStep::Complete(map) = waiting.on_state(from, row) else {
             unreachable!()
         };
+        let served = map.served(alloc);
         let begun = Emigration::begin(alloc, store, &map, &self.members, self.key, self.me);
         let (waiting, row) = map.without_last(from);
         self.stage = Stage::Exchanging(waiting);
         Ok(LastRow {
             from,
             row,
+            served: served?,
             emigration: begun?,
             live,
         })
@@ -320,6 +325,7 @@ impl View {
         requires member { IsOtherMember self.old last.from }
         requires lacking { lacks self.old.exchange.rows last.from ≡ true }
         requires last { is_none (first_missing (with_row self.old.exchange.rows last.from last.row) (members_of self.old.exchange.view)) ≡ true }
+        requires served { AreServed (members_of self.old.exchange.view) (with_row self.old.exchange.rows last.from last.row) last.served }
         requires key { last.emigration.key ≡ key_of self.old }
         requires targets { IsHandedOn self.old store.now last.from last.row last.emigration.targets }
         ensures alike { IsLike (record self.old { exchange = finished (record self.old.exchange { rows = with_row self.old.exchange.rows last.from last.row }); batches = last.emigration.targets }) self.new }
@@ -335,6 +341,7 @@ impl View {
         requires member { IsOtherMember self.old last.from }
         requires lacking { lacks self.old.exchange.rows last.from ≡ true }
         requires last { is_none (first_missing (with_row self.old.exchange.rows last.from last.row) (members_of self.old.exchange.view)) ≡ true }
+        requires served { AreServed (members_of self.old.exchange.view) (with_row self.old.exchange.rows last.from last.row) last.served }
         requires key { last.emigration.key ≡ key_of self.old }
         requires targeted { AreTargeted last.emigration.targets self.old.me (members_of self.old.exchange.view) }
         ensures { self.new ≡ record self.old { exchange = finished (record self.old.exchange { rows = with_row self.old.exchange.rows last.from last.row }); batches = last.emigration.targets; watch = record self.old.watch { live = last.live } } }
@@ -342,12 +349,9 @@ impl View {
         let Stage::Exchanging(waiting) = mem::replace(&mut self.stage, Stage::Taken) else {
             unreachable!()
         };
-        let ExchangeStep::Complete(map) = waiting.on_state(last.from, last.row) else {
-            unreachable!()
-        };
         self.progress.own_done(&done_of(&last.emigration));
         self.stage = Stage::Exchanged(Moving {
-            map,
+            map: waiting.finish(last.from, last.row, last.served),
             emigration: last.emigration,
             live: last.live,
         });

@@ -3,6 +3,7 @@ use crate::live::Live;
 use cluster_types::{Digest, NodeId, NodeList, StateRow};
 use conflict_order::{Version, Want};
 use emigrate::Emigration;
+use exchange::ServedTable;
 use immigrate::Merged;
 use wire_messages::BoxedRow;
 use write_path::Seen;
@@ -61,11 +62,13 @@ pub enum ViewStep {
     },
 }
 
-/// The last row of a view, and what is handed on once it is there. `View::plan_last_row` makes it.
+/// The last row of a view, and once it is there who serves each partition, and what is handed on.
+/// `View::plan_last_row` makes it.
 #[derive(Drop)]
 pub struct LastRow {
     pub(crate) from: NodeId,
     pub(crate) row: StateRow,
+    pub(crate) served: ServedTable,
     pub(crate) emigration: Emigration,
     /// Room for the live partitions.
     pub(crate) live: Live,

@@ -14,6 +14,3 @@ pub mod states;
 pub use node_rules::MemberRow;
 pub use rows::{acting, all_empty, class_first, same_class};
 pub use states::States;
-
-#[cfg(test)]
-mod tests;

@@ -1,9 +1,8 @@
 -- Rows of bits of one length are the same where each bit is.
-use Rattle.std.proofs.Common.{◌≡◌, ℕ, zero, suc, ◌<◌, ◌||◌, Bool, true, false, List, [], ◌∷◌, length, replicate, refl, sym, ap, ◌∙◌, arith}
+use Rattle.std.proofs.Common.{◌≡◌, ℕ, zero, suc, ◌||◌, Bool, true, false, List, [], ◌∷◌, length, replicate, refl, sym, ap, ◌∙◌, arith}
 use Rattle.std.proofs.lemmas.List.{ext_get_or, length-replicate}
 use Rattle.cluster_types.specs.Partitions.{partition_count}
 use Rattle.cluster_types.specs.Rows.{bit, IsClear}
-use Rattle.cluster_types.proofs.RowLaws as rows
 use Rattle.node_rules.specs.Bits.{clear_row, or_rows}
 
 same_rows : (a b : List Bool) → length a ≡ length b → ((p : ℕ) → bit a p ≡ bit b p) → a ≡ b
@@ -35,9 +34,14 @@ clear_length : length clear_row ≡ partition_count
 unfolding clear_row
 clear_length = length-replicate partition_count false
 
+none_set : (n p : ℕ) → bit (replicate n false) p ≡ false
+none_set zero p = refl
+none_set (suc n) zero = refl
+none_set (suc n) (suc p) = none_set n p
+
 pub clear_is_clear : IsClear clear_row
 unfolding clear_row
-clear_is_clear = rows.clear_row partition_count
+clear_is_clear = record { clear = none_set partition_count }
 
 -- a row in which no bit is set
 pub clear_is : (row : List Bool) → length row ≡ partition_count → IsClear row → row ≡ clear_row

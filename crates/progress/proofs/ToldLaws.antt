@@ -1,5 +1,5 @@
 -- What the other members told, as a table and as counts.
-use Rattle.std.proofs.Common.{◌≡◌, ◌≢◌, ℕ, zero, suc, ◌+◌, ◌<◌, ◌≤◌, ◌==◌, ◌&&◌, Bool, true, false, cond, List, [], ◌∷◌, ◌++◌, length, map, get_or, set, take, not, count_by, replicate, unwrap_or, Option, Some, None, is_some, Contains, refl, sym, ap, subst, ◌∙◌, arith, inl, inr, true≢false, lt-ltb}
+use Rattle.std.proofs.Common.{◌≡◌, ℕ, zero, suc, ◌+◌, ◌<◌, ◌≤◌, ◌==◌, ◌&&◌, Bool, true, false, cond, List, [], ◌∷◌, ◌++◌, length, map, get_or, set, take, not, count_by, replicate, unwrap_or, Some, None, is_some, Contains, refl, sym, ap, subst, ◌∙◌, arith, inl, inr, true≢false, lt-ltb}
 use Rattle.std.specs.Prelude.{All, slice_index}
 use Rattle.std.specs.List.{list_all, position, position_or_len}
 use Rattle.std.specs.Ordering.{nat_cmp}
@@ -19,7 +19,7 @@ use Rattle.node_rules.specs.Agreement.{others}
 use Rattle.cluster_types.specs.Partitions.{partition_count}
 use Rattle.cluster_types.specs.Rows.{bit, IsClear}
 use Rattle.node_rules.specs.Bits.{clear_row}
-use Rattle.node_rules.specs.Tables.{Table, at, with_entry}
+use Rattle.node_rules.specs.Tables.{at, with_entry}
 use Rattle.progress.specs.declared.told.Told.{Told}
 use Rattle.progress.specs.Known.{Known, nothing}
 use Rattle.progress.specs.Told.{AreTold, entry_of, is_done_at, nodes_of, one_if, silent, table_of, telling}

@@ -12,6 +12,3 @@ mod row;
 mod told;
 
 pub use progress::{Progress, SettledBit};
-
-#[cfg(test)]
-mod tests;

@@ -1,4 +1,5 @@
--- Numbers in decimal digits.
+-- Numbers in decimal digits: what `parse` tells of a text of 1 to 20 digits. Crates above that read
+-- numbers of the same form cite it.
 use Rattle.std.proofs.Common.{◌≡◌, ℕ, ◌+◌, ◌<◌, ◌≤◌, ◌^◌, true, cond, List, [], ◌∷◌, length, get_or, Result, Ok, Err, refl, sym, ap, ◌∙◌, arith}
 use Rattle.std.specs.List.{list_all}
 use Rattle.std.specs.Result.{OkIff}
@@ -12,10 +13,12 @@ use Rattle.std.proofs.lemmas.Str.Parse.{IsNumeralModel, numerals_by_value, tells
 use Rattle.script_lang.specs.declared.fault.Cause.TheVariants.{BadNumber}
 use Rattle.script_lang.specs.Values.{is_digit, is_number, number}
 
-own : IsNumeralModel (AllDigits 10) (digits_value 10)
+-- `parse` reads decimal digits by their values
+pub own : IsNumeralModel (AllDigits 10) (digits_value 10)
 own = numerals_by_value (AllDigits 10) tells_digits
 
-digit_below : (b : ℕ) → is_digit b ≡ true → digit_value b < 10
+-- the value of a digit is below ten
+pub digit_below : (b : ℕ) → is_digit b ≡ true → digit_value b < 10
 digit_below b t =
     let parts = and_parts _ _ t in
     let low : 48 ≤ b = leb-true _ _ parts.0 in
@@ -23,6 +26,7 @@ digit_below b t =
     let value : digit_value b + 48 ≡ b = digit_value_digit b (low, high) in
     omega (arith, value)
 
+-- bytes that are digits are decimal digits to `parse`
 pub all_digits : (text : List ℕ) → list_all is_digit text ≡ true → AllDigits 10 text
 all_digits [] t = tt
 all_digits (b ∷ text) t = let parts = and_parts _ _ t in (digit_below b parts.0, all_digits text parts.1)
@@ -36,14 +40,16 @@ pub record IsChecked (text : List ℕ) : Type 0 where
 pub no_text : (text : List ℕ) → IsChecked text → (IsUtf8 text → ⊥) → Err BadNumber ≡ number text
 no_text text ok bad = absurd (bad (IsUtf8-from_ascii text (IsAscii-from_digits text (all_digits text ok.digits))))
 
-no_plus : (text : List ℕ) → list_all is_digit text ≡ true → get_or text 0 0 ≡ 43 → ⊥
+-- a text of digits begins with no sign
+pub no_plus : (text : List ℕ) → list_all is_digit text ≡ true → get_or text 0 0 ≡ 43 → ⊥
 no_plus [] t plus = absurd (omega (arith, plus))
 no_plus (b ∷ text) t plus =
     let low : 48 ≤ b = leb-true _ _ (and_parts _ _ (and_parts _ _ t).0).0 in
     let is : b ≡ 43 = plus in
     absurd (omega (arith, low, is))
 
-plain : (text : List ℕ) (r : Result ℕ (Unit {0})) → IsChecked text → ParsesUnsigned 64 10 text r
+-- `parse` gives the value of 1 to 20 digits, where it is below 2 ^ 64
+pub plain : (text : List ℕ) (r : Result ℕ (Unit {0})) → IsChecked text → ParsesUnsigned 64 10 text r
     → OkIff r (AllDigits 10 text × (0 < length text) × (digits_value 10 text < 2 ^ 64)) (digits_value 10 text)
 plain text r ok parsed = parse_plain own 64 text r parsed (λ e. no_plus text ok.digits e)
 

@@ -1,5 +1,5 @@
 mod CommandRanges
-mod Digits
+pub mod Digits
 mod Grouped
 mod GroupRanges
 mod Groups

@@ -8,6 +8,3 @@ mod writes;
 pub use cluster_types::NoMemory;
 pub use seen::Seen;
 pub use writes::{apply, apply_planned, next_version, on_repl};
-
-#[cfg(test)]
-mod tests;

@@ -12,7 +12,7 @@ ghost use Rattle.node_rules.specs.Messages.{answer_progress, due_progress};
 ghost use Rattle.node_rules.specs.Notes.{progress_came, reached};
 ghost use Rattle.node_rules.specs.Standing.{knows_all_settled};
 ghost use Rattle.node_rules.specs.Steps.{after_message, planning, unplanned};
-ghost use Rattle.node_core.specs.Peers.{ComesFrom};
+ghost use Rattle.node_rules.specs.Senders.{ComesFrom};
 ghost use Rattle.node_core.specs.Spelled.{spelled};
 ghost use Rattle.node_view.specs.Views.{IsViewOf, key_of};
 

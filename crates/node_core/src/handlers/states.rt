@@ -12,7 +12,7 @@ ghost use Rattle.node_rules.specs.Notes.{reached};
 ghost use Rattle.node_rules.specs.Steps.{after_message, planning, unplanned};
 ghost use Rattle.node_rules.specs.Tick.{own_row_in};
 ghost use Rattle.node_core.specs.Fits.{Fits};
-ghost use Rattle.node_core.specs.Peers.{ComesFrom};
+ghost use Rattle.node_rules.specs.Senders.{ComesFrom};
 ghost use Rattle.node_core.specs.Plans.{after_row, only_if, taken};
 ghost use Rattle.node_core.specs.Rooms.{NeedsNoRoom};
 ghost use Rattle.node_core.specs.Spelled.{followed_by, spelled};

@@ -16,7 +16,7 @@ use Rattle.node_core.proofs.resolving.plan_outcome.Goals as goal
 
 pub returns-in-Get-clause-effects : goal.returns-in-Get-clause-effects
 returns-in-Get-clause-effects c = λ f h.
-    rw (c.in_ok-push-in-Get.ensures.ok, c.me.ensures, c.key.ensures)
+    rw (c.in_ok-push-in-Get.ensures.ok, c.me.ensures, c.key.ensures, c.in_ok-new-in-Get.ensures)
     (told_value c.args.out.now f c.args.view.now c.args.resolving h.view.viewed c.in-Get.is)
 
 pub plan_write-requires-clause-version : goal.plan_write-requires-clause-version

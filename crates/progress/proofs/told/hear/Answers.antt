@@ -1,4 +1,4 @@
-use Rattle.std.proofs.Common.{◌≡◌, ℕ, sym, ap, ◌∙◌}
+use Rattle.std.proofs.Common.{ℕ, sym, ap, ◌∙◌}
 use Rattle.node_rules.specs.Tables.{with_entry}
 use Rattle.progress.specs.Told.{table_of}
 use Rattle.progress.proofs.ToldLaws.{no_place, placed}

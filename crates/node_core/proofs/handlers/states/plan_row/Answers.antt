@@ -94,6 +94,6 @@ returns-clause-fits c = λ f h some.
     let lacking : lacks v.exchange.rows from ≡ true = ap (λ (x : Exchange). lacks x.rows from) (sym c.in-Some.ensures.exchange) ∙ sym c.lacks.ensures ∙ c.if-not-lacks.false in
     let last = is_last v from c.in_ok-row.row c.is_last_missing.result c.is_last_missing.ensures lacking c.if-not-is_last_missing.false (not_true v.exchange.exchanged c.in-Some.ensures.some) in
     record {
-      step = last_fits f v c.args.store.now from c.in_ok-row.row c.in_ok-last.last h c.requires.member c.in_ok-last.ensures.row.0 c.in_ok-last.ensures.row.1 c.in_ok-last.ensures.key c.in_ok-last.ensures.targets last;
+      step = last_fits f v c.args.store.now from c.in_ok-row.row c.in_ok-last.last h c.requires.member c.in_ok-last.ensures.row.0 c.in_ok-last.ensures.row.1 c.in_ok-last.ensures.served c.in_ok-last.ensures.key c.in_ok-last.ensures.targets last;
       in_one = some;
     }

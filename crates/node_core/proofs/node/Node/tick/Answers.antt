@@ -26,7 +26,7 @@ use Rattle.node_core.specs.Plans.{taken}
 use Rattle.node_core.specs.Ranges.{HasRanges}
 use Rattle.node_core.specs.Spelled.{followed_by, spelled}
 use Rattle.node_core.specs.Ticks.{IsProposed, TicksFrom, agreed, later_parts}
-use Rattle.node_core.proofs.PlannedTickLaws.{IsTicking, beats_so, candidate_so, entered_fits, heard_so, later_count, later_fit, pending_so, proposed_so, stands_so, taken_fits, tick_fits, tick_told, ticked_is}
+use Rattle.node_core.proofs.PlannedTickLaws.{IsTicking, beats_so, candidate_so, entered_fits, heard_so, later_count, later_fit, on_err, pending_so, proposed_so, stands_so, taken_fits, tick_fits, tick_told, ticked_is}
 use Rattle.node_core.proofs.ProposeLaws.{itself_among}
 use Rattle.node_core.proofs.RangeLaws.{keys_of, ranges_agreed}
 use Rattle.node_core.proofs.TickingLaws.{agreeing_with, ground_in_own, ground_own, lent_view}
@@ -190,8 +190,9 @@ plan-requires-clause-fits c =
       enters = c.in_ok-entered.ensures.view;
     } in
     let back : c.give_up.new.self ≡ c.propose.new.self = sym c.propose.ensures.same in
-    let t : Ticked = c.in_ok-ticked.ticked in
-    let from : TicksFrom f hearing agree entered t = subst (λ (p : Planning). TicksFrom p.now hearing agree entered t) c.propose.ensures.same c.in_ok-ticked.ensures.ticked in
+    let t : Ticked = c.in_ok-tick.tick.value in
+    let made : TicksFrom c.propose.new.self.now hearing agree entered t = subst (λ (x : Ticked). TicksFrom c.propose.new.self.now hearing agree entered x) (sym c.in_ok-tick.ensures.ok) c.in_ok-ticked.ensures.ticked in
+    let from : TicksFrom f hearing agree entered t = subst (λ (p : Planning). TicksFrom p.now hearing agree entered t) c.propose.ensures.same made in
     let peers : All (λ m. Contains f.peers m) (heard_ids f.hearing.heard) =
     subst (λ (p : Planning). All (λ m. Contains p.now.peers m) (heard_ids p.now.hearing.heard)) c.self.view_is c.self.invariant.0.heard in
     subst (λ (p : Planning). FitsTick p.now t) back (tick_fits f hearing agree answer entered t h from ranges peers)
@@ -223,10 +224,11 @@ plan-requires-clause-ranges c =
       enters = c.in_ok-entered.ensures.view;
     } in
     let back : c.give_up.new.self ≡ c.propose.new.self = sym c.propose.ensures.same in
-    let t : Ticked = c.in_ok-ticked.ticked in
-    let from : TicksFrom f hearing agree entered t = subst (λ (p : Planning). TicksFrom p.now hearing agree entered t) c.propose.ensures.same c.in_ok-ticked.ensures.ticked in
+    let t : Ticked = c.in_ok-tick.tick.value in
+    let made : TicksFrom c.propose.new.self.now hearing agree entered t = subst (λ (x : Ticked). TicksFrom c.propose.new.self.now hearing agree entered x) (sym c.in_ok-tick.ensures.ok) c.in_ok-ticked.ensures.ticked in
+    let from : TicksFrom f hearing agree entered t = subst (λ (p : Planning). TicksFrom p.now hearing agree entered t) c.propose.ensures.same made in
     let numbers : HaveNumbers f = subst (λ (p : Planning). HaveNumbers p.now) (sym c.give_up.ensures) c.requires.counts in
-    subst (λ (p : Planning). HasRanges (taken p.now (planned.Tick t))) back
+    subst (λ (p : Planning). HasRanges (taken p.now (planned.Tick c.in_ok-tick.tick))) back
     (taken_fits f hearing agree answer entered t h from (stands_so f c.own_view.result c.own_view.ensures.some c.own_view.ensures.none)
     (pending_so f c.own_view.result c.own_view.ensures.none c.own_view.ensures.view) numbers ranges)
 
@@ -300,10 +302,14 @@ returns-clause-planned c =
       enters = c.in_ok-entered.ensures.view;
     } in
     let back : c.give_up.new.self ≡ c.propose.new.self = sym c.propose.ensures.same in
-    let t : Ticked = c.in_ok-ticked.ticked in
-    let from : TicksFrom f hearing agree entered t = subst (λ (p : Planning). TicksFrom p.now hearing agree entered t) c.propose.ensures.same c.in_ok-ticked.ensures.ticked in
+    let t : Ticked = c.in_ok-tick.tick.value in
+    let made : TicksFrom c.propose.new.self.now hearing agree entered t = subst (λ (x : Ticked). TicksFrom c.propose.new.self.now hearing agree entered x) (sym c.in_ok-tick.ensures.ok) c.in_ok-ticked.ensures.ticked in
+    let from : TicksFrom f hearing agree entered t = subst (λ (p : Planning). TicksFrom p.now hearing agree entered t) c.propose.ensures.same made in
     let up : f.up ≡ true = ap (λ (p : Planning). p.now.up) c.give_up.ensures ∙ c.requires.up in
     c.plan.ensures.planned
-    ∙ ap (λ (p : Planning). planning p.now (taken p.now (planned.Tick t))) c.propose.ensures.same
+    ∙ ap (λ (p : Planning). planning p.now (taken p.now (planned.Tick c.in_ok-tick.tick))) c.propose.ensures.same
     ∙ ap (planning f) (ticked_is f hearing agree answer entered t up h from ranges)
     ∙ ap (λ (p : Planning). planning p.now (after_tick p.now)) c.give_up.ensures
+
+pub returns-in_err-tick-clause-err : goal.returns-in_err-tick-clause-err
+returns-in_err-tick-clause-err c = on_err c.from_residual-in_err-tick.result _ (c.propose.ensures.same ∙ c.give_up.ensures)

@@ -1,6 +1,7 @@
 use Rattle.std.proofs.Common.{◌≡◌, Contains, true, refl, sym, ap, subst, ◌∙◌}
 use Rattle.cluster_types.specs.Members.{ids_of}
 use Rattle.exchange.specs.Met.{Met, members}
+use Rattle.exchange.specs.Served.{AreServed}
 use Rattle.node_rules.specs.Exchange.{Exchange, is_member, members_of, with_row}
 use Rattle.node_rules.specs.Map.{lacks}
 use Rattle.node_view.specs.declared.view.Stage.{Stage}
@@ -44,6 +45,24 @@ invariant_of-self c =
     let back = stage_back v.stage x c.in-Complete.map c.without_last-waiting.result.0 c.args.from c.args.row at before c.without_last-waiting.ensures.exchanging in
     subst (λ (s : Stage). Agrees (record v { stage = s })) (sym back) c.self.invariant
 
+pub returns-in_err-served-clause-same : goal.returns-in_err-served-clause-same
+returns-in_err-served-clause-same c =
+    let v = c.self.inside in
+    let x = c.in-Exchanging.waiting in
+    let at = sym c.replace.ensures.value ∙ c.in-Exchanging.is in
+    let before = is_before v c.args.self.now x c.in-Complete.map c.args.from c.args.row c.self.view_is c.self.invariant at c.requires.lacking c.in-Complete.ensures in
+    let back = stage_back v.stage x c.in-Complete.map c.without_last-waiting.result.0 c.args.from c.args.row at before c.without_last-waiting.ensures.exchanging in
+    ap (λ (s : Stage). view_of (record v { stage = s })) back ∙ c.self.view_is
+
+pub invariant_of-self-in_err-begun : goal.invariant_of-self-in_err-begun
+invariant_of-self-in_err-begun c =
+    let v = c.self.inside in
+    let x = c.in-Exchanging.waiting in
+    let at = sym c.replace.ensures.value ∙ c.in-Exchanging.is in
+    let before = is_before v c.args.self.now x c.in-Complete.map c.args.from c.args.row c.self.view_is c.self.invariant at c.requires.lacking c.in-Complete.ensures in
+    let back = stage_back v.stage x c.in-Complete.map c.without_last-waiting.result.0 c.args.from c.args.row at before c.without_last-waiting.ensures.exchanging in
+    subst (λ (s : Stage). Agrees (record v { stage = s })) (sym back) c.self.invariant
+
 pub returns-in_err-begun-clause-same : goal.returns-in_err-begun-clause-same
 returns-in_err-begun-clause-same c =
     let v = c.self.inside in
@@ -69,6 +88,16 @@ returns-clause-row c =
     let at = sym c.replace.ensures.value ∙ c.in-Exchanging.is in
     let before = is_before v c.args.self.now x c.in-Complete.map c.args.from c.args.row c.self.view_is c.self.invariant at c.requires.lacking c.in-Complete.ensures in
     (refl, row_back x c.in-Complete.map c.args.from c.args.row c.without_last-waiting.result.1 before c.without_last-waiting.ensures.row)
+
+pub returns-clause-served : goal.returns-clause-served
+returns-clause-served c =
+    let v = c.self.inside in
+    let x = c.in-Exchanging.waiting in
+    let at = sym c.replace.ensures.value ∙ c.in-Exchanging.is in
+    let before = is_before v c.args.self.now x c.in-Complete.map c.args.from c.args.row c.self.view_is c.self.invariant at c.requires.lacking c.in-Complete.ensures in
+    let seen = sym (ap exchange_at at) ∙ ap (λ (w : Viewed). w.exchange) c.self.view_is in
+    subst (λ (y : Exchange). AreServed (members_of y.view) (with_row y.rows c.args.from c.args.row) c.in_ok-served.field-0) seen
+    (subst (λ (m : Met). AreServed (members m) m.exchange.rows c.in_ok-served.field-0) before.whole c.in_ok-served.ensures)
 
 pub returns-clause-targets : goal.returns-clause-targets
 returns-clause-targets c =

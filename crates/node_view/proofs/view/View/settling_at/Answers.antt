@@ -1,21 +1,10 @@
-use Rattle.std.proofs.Common.{sym, ap, ◌∙◌}
-use Rattle.std.proofs.lemmas.Option.{none-some}
+use Rattle.std.proofs.Common.{ap, ◌∙◌}
 use Rattle.node_rules.specs.Facts.{view_key}
 use Rattle.node_rules.specs.Here.{lines_here}
 use Rattle.node_view.specs.declared.here.Settling.{Settling}
 use Rattle.node_view.specs.Settlings.{here_of, settling_of}
-use Rattle.node_view.proofs.DueSettlingLaws.{lines_one, not_live}
+use Rattle.node_view.proofs.DueSettlingLaws.{lines_one}
 use Rattle.node_view.proofs.view.View.settling_at.Goals as goal
-
-pub returns-then-not-contains-clause-partition : goal.returns-then-not-contains-clause-partition
-returns-then-not-contains-clause-partition c s e = absurd (none-some s e)
-
-pub returns-then-not-contains-clause-settling : goal.returns-then-not-contains-clause-settling
-returns-then-not-contains-clause-settling c f h held s e = absurd (none-some s e)
-
-pub returns-then-not-contains-clause-lines : goal.returns-then-not-contains-clause-lines
-returns-then-not-contains-clause-lines c f h held =
-    sym (not_live f c.args.self.now c.args.moving.now c.args.p c.requires.moving h c.requires.within (sym c.contains.ensures ∙ c.if-not-contains.true))
 
 pub returns-clause-partition : goal.returns-clause-partition
 returns-clause-partition c s e = ap (λ (x : Settling). x.partition) (c.of.ensures.some s e)

@@ -3,8 +3,12 @@ use Rattle.record_store.specs.Store as held
 use Rattle.node_rules.specs.Copies.{Stamps}
 use Rattle.node_rules.specs.Stamps.{stamped_with}
 use Rattle.node_view.specs.Views.{count_seen, is_stamped, key_of}
-use Rattle.node_view.proofs.StampLaws.{all_come_to, no_more, one_stamped, stamped_node, stamps_of}
+use Rattle.node_view.proofs.StampLaws.{all_come_to, no_more, one_stamped, stamped_node, stamps_of, unstamped}
 use Rattle.node_view.proofs.view.View.stamp_empty_copies.Goals as goal
+
+pub returns-then-not-has_exchanged : goal.returns-then-not-has_exchanged
+returns-then-not-has_exchanged c f h =
+    unstamped f c.args.self.now c.args.store.now (sym c.has_exchanged.ensures ∙ c.if-not-has_exchanged.true) h
 
 pub loop-number-preserved : goal.loop-number-preserved
 loop-number-preserved c =

@@ -1,8 +1,13 @@
-use Rattle.std.proofs.Common.{◌≡◌, ℕ, subst, arith}
+use Rattle.std.proofs.Common.{◌≡◌, ℕ, sym, subst, ◌∙◌, arith}
 use Rattle.cluster_types.specs.Partitions.{partition_count}
 use Rattle.node_view.specs.Views.{IsSeenTo}
 use Rattle.node_view.proofs.ByNumberLaws.{all_live, in_view_live, live_again, seen_below}
+use Rattle.node_view.proofs.WakeLaws.{unfinished}
 use Rattle.node_view.proofs.view.View.wake_all.Goals as goal
+
+pub returns-then-not-has_exchanged-clause-live : goal.returns-then-not-has_exchanged-clause-live
+returns-then-not-has_exchanged-clause-live c f h held =
+    record { quiet = λ p within finished off. absurd (unfinished f c.args.self.now h finished (sym c.if-not-has_exchanged.true ∙ c.has_exchanged.ensures)) }
 
 pub loop-number-preserved : goal.loop-number-preserved
 loop-number-preserved c =

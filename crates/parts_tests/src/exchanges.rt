@@ -1,7 +1,8 @@
+//! Tests of `exchange` by its public calls.
 ghost use Rattle.std.specs.Prelude.{◌≡◌};
 
-use crate::{ExchangeStep, begin};
 use cluster_types::{ClusterKey, CopyState, MapView, Members, NodeId, PartitionId, StateRow};
+use exchange::{ExchangeStep, begin};
 use std::process::Abort;
 use std::test::Fail;
 

@@ -1,5 +1,6 @@
-use crate::{MemberRow, States, acting, all_empty, class_first, same_class};
+//! Tests of `partition_state` by its public calls.
 use cluster_types::{ClusterKey, CopyState, NoMemory, NodeId, NodeList, PartitionId, StateRow};
+use partition_state::{MemberRow, States, acting, all_empty, class_first, same_class};
 use std::alloc::Global;
 use std::process::Abort;
 use std::test::Fail;

@@ -1,8 +1,9 @@
+//! Tests of `dup_resolve` by its public calls.
 ghost use Rattle.std.specs.Prelude.{◌≡◌, ◌<◌, ◌+◌};
 
-use crate::{AckedStep, AnswerStep, BeginFault, Txns};
 use cluster_types::{Digest, NodeId, NodeList, partition_of};
 use conflict_order::{Body, ValueBytes, ValueFault, Version, Want};
+use dup_resolve::{AckedStep, AnswerStep, BeginFault, Txns};
 use std::alloc::Global;
 use std::process::Abort;
 use std::test::Fail;

@@ -1,7 +1,7 @@
+//! Tests of `write_path` by its public calls.
 ghost use Rattle.std.specs.Prelude.{◌≡◌, [], Some};
 ghost use Rattle.dup_resolve.specs.Open.{new_txn, transaction};
 
-use crate::{Seen, apply, apply_planned, next_version, on_repl};
 use cluster_types::{CopyState, Digest, NodeId, NodeList};
 use conflict_order::{Body, ValueBytes, ValueFault, Version, Want};
 use dup_resolve::{AckedStep, Txns};
@@ -9,6 +9,7 @@ use record_store::{Joined, RecordStore};
 use std::alloc::Global;
 use std::process::Abort;
 use std::test::Fail;
+use write_path::{Seen, apply, apply_planned, next_version, on_repl};
 
 fn version(alloc: Global, lut: u64, generation: u32, value: &[u8]) -> Result<Version, ValueFault> {
     let body = Body::Value(ValueBytes::from_slice(alloc, value)?);

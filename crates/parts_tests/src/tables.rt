@@ -1,4 +1,5 @@
-use crate::ClientMap;
+//! Tests of `client_map` by its public calls.
+use client_map::ClientMap;
 use cluster_types::{ClusterKey, NoMemory, NodeId, PartitionId, Row4096};
 use std::alloc::Global;
 use std::process::Abort;

@@ -9,7 +9,7 @@ use Rattle.node_rules.specs.Exchange.{begun, finished, first_missing}
 use Rattle.exchange.specs.declared.exchanging.ExchangeStep.TheVariants.{Complete, Waiting}
 use Rattle.exchange.specs.Met.{Met, members, with_row_of}
 use Rattle.exchange.specs.Steps.{step_if, step_of}
-use Rattle.exchange.proofs.tests.the_last_row_completes_the_map.Goals as goal
+use Rattle.parts_tests.proofs.exchanges.the_last_row_completes_the_map.Goals as goal
 
 waits : (x w : Met) → Waiting w ≡ step_of x → w ≡ x
 waits x w is = go (is_none (first_missing x.exchange.rows (members x))) is

@@ -1,5 +1,6 @@
-use crate::Progress;
+//! Tests of `progress` by its public calls.
 use cluster_types::{MapEntry, Members, NodeId, NodeList, PartitionId, Row4096};
+use progress::Progress;
 use std::alloc::Global;
 use std::process::Abort;
 use std::test::Fail;

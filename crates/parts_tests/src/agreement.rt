@@ -1,9 +1,10 @@
+//! Tests of `clustering` by its public calls.
 ghost use Rattle.std.specs.Prelude.{Contains};
 ghost use Rattle.cluster_types.specs.Members.{ids_of};
 ghost use Rattle.wire_messages.specs.Keys.{IsKeyField};
 
-use crate::{AcceptStep, Agree, CommitStep, Proposal, RefuseStep, Vote};
 use cluster_types::{ClusterKey, Members, NodeId};
+use clustering::{AcceptStep, Agree, CommitStep, Proposal, RefuseStep, Vote};
 use std::process::Abort;
 use std::test::Fail;
 

@@ -1,9 +1,10 @@
+//! Tests of `immigrate` by its public calls.
 ghost use Rattle.std.specs.Prelude.{IfOk};
 ghost use Rattle.immigrate.specs.Digests.{IsRising};
 
-use crate::{merge_planned, on_batch, plan_batch};
 use cluster_types::{ClusterKey, Digest, NoMemory};
 use conflict_order::{Body, ValueBytes, ValueFault, Version};
+use immigrate::{merge_planned, on_batch, plan_batch};
 use record_store::RecordStore;
 use std::alloc::Global;
 use std::test::Fail;

@@ -1,5 +1,6 @@
-use crate::Adjacency;
+//! Tests of `heartbeat` by its public calls.
 use cluster_types::{ClusterKey, Members, NodeId, NodeList, Role};
+use heartbeat::Adjacency;
 use node_rules::Beat;
 use std::process::Abort;
 use std::test::Fail;

@@ -1,13 +1,14 @@
+//! Tests of `emigrate` by its public calls.
 ghost use Rattle.std.specs.Prelude.{◌≡◌, ◌==◌, ◌&&◌, ◌<◌, ◌-◌, ◌^◌, ℕ, [], false, IfOk, IfSome};
 ghost use Rattle.node_rules.specs.Batches.{target};
 ghost use Rattle.emigrate.specs.Going.{AreHeld};
 
-use crate::{AckStep, Emigration, drop_copy};
 use cluster_types::{
     ClusterKey, CopyState, Digest, MapEntry, MapView, Members, NoMemory, NodeId, NodeList,
     PartitionId, Row4096, partition_of,
 };
 use conflict_order::{Body, ValueBytes, ValueFault, Version};
+use emigrate::{AckStep, Emigration, drop_copy};
 use progress::{Progress, SettledBit};
 use record_store::RecordStore;
 use std::alloc::Global;
