@@ -20,6 +20,7 @@ pub mod Messages
 pub mod Notes
 pub mod Requests
 pub mod Resolving
+pub mod Senders
 pub mod Settling
 pub mod Shows
 pub mod Stamps

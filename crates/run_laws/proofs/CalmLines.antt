@@ -44,7 +44,7 @@ all_taken test (l ∷ ls) zero e = refl
 all_taken test (l ∷ ls) (suc i) e = and_both (test l) _ (and_left (test l) _ e) (all_taken test ls i (and_right (test l) _ e))
 
 -- before the first step the one group has each declared node, and no others
-first_grouped : (h : Header) → Grouped (world_of (first h))
+pub first_grouped : (h : Header) → Grouped (world_of (first h))
 first_grouped h = and_both (list_all (has_node (declared_nodes h)) (concat (declared_nodes h ∷ []))) _
     (all_of _ (concat (declared_nodes h ∷ [])) (λ n e. subst (λ (ns : List ℕ). has_node ns n ≡ true) (append-nil (declared_nodes h)) e))
     (all_of _ (declared_nodes h) (λ n e. subst (λ (ns : List ℕ). has_node ns n ≡ true) (sym (append-nil (declared_nodes h))) e))

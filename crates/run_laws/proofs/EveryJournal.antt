@@ -36,7 +36,7 @@ no_more h ss lines written short = omega (arith, short, ap length written ∙ le
     lengths : (a b : List Line) → length (a ++ b) ≡ length a + length b
     lengths a b = Rattle.std.proofs.Common.length-append a b
 
-taken_of_front : (s : Script) (lines : List Line) (r : FrontRun s lines) → IsProper s → length lines < line_bound → Taken s.header r.taken
+pub taken_of_front : (s : Script) (lines : List Line) (r : FrontRun s lines) → IsProper s → length lines < line_bound → Taken s.header r.taken
 taken_of_front s lines r p short = record {
   header = p.header;
   declared = subst AreDistinct (same_nodes s.header) p.nodes.distinct;

@@ -66,11 +66,11 @@ line_groups w (line.Cut i a b size) e = came_groups w (option_and_then (arrived_
 line_groups w (line.Sent i a b bytes) e = sent_groups _ a b (message_of bytes)
 line_groups w _ e = refl
 
-grouped_line : (G : Ground) (z : Front) (l : Line) → LineOk G z l → Grouped (world_of z) → Grouped (world_of (after z (Writes l)))
+pub grouped_line : (G : Ground) (z : Front) (l : Line) → LineOk G z l → Grouped (world_of z) → Grouped (world_of (after z (Writes l)))
 grouped_line G z (line.Groups groups) ok h = ok.1
 grouped_line G z l ok h = subst₂ (λ (ns : List ℕ) (groups : List (List ℕ)). names_known ns (event.Groups groups) ≡ true) (sym (nodes_stay (Writes l ∷ []) (world_of z))) (sym (line_groups (world_of z) l refl)) h
 
-grouped_begun : (z : Front) (e : Event) → Grouped (world_of z) → Grouped (world_of (after z (Begins e)))
+pub grouped_begun : (z : Front) (e : Event) → Grouped (world_of z) → Grouped (world_of (after z (Begins e)))
 grouped_begun z e h = subst₂ (λ (ns : List ℕ) (groups : List (List ℕ)). names_known ns (event.Groups groups) ≡ true) refl (sym (taken_groups (world_of z).network e)) h
 
 -- ---- the front behind the lines before

@@ -48,16 +48,16 @@ use Rattle.cluster_types.specs.Partitions.{partition_count}
 -- ---- a front
 
 -- what is known of it: all laws, and that few nodes are declared
-record Knows (by : Policy) (factor : ℕ) (ns : List ℕ) (z : Front) : Type 0 where
-  lawful : Lawful by factor z
-  ends : Ended z
-  ranged : Ranged z
-  peopled : Peopled ns z.chronicle.traced
-  ids : AreIds ns
-  few : length ns ≤ 16
-  room : z.lines + 1 < 2 ^ 32
+pub record Knows (by : Policy) (factor : ℕ) (ns : List ℕ) (z : Front) : Type 0 where
+  pub lawful : Lawful by factor z
+  pub ends : Ended z
+  pub ranged : Ranged z
+  pub peopled : Peopled ns z.chronicle.traced
+  pub ids : AreIds ns
+  pub few : length ns ≤ 16
+  pub room : z.lines + 1 < 2 ^ 32
 
-proposal_fits : {by : Policy} {factor : ℕ} {ns : List ℕ} {z : Front} → Knows by factor ns z → (n : ℕ) (q : Proposal) → (facts_at z n).agreement.proposal ≡ Some q → ProposalFits q
+pub proposal_fits : {by : Policy} {factor : ℕ} {ns : List ℕ} {z : Front} → Knows by factor ns z → (n : ℕ) (q : Proposal) → (facts_at z n).agreement.proposal ≡ Some q → ProposalFits q
 proposal_fits {by} {factor} {ns} {z} k n q e = record {
   key = listed.key;
   members = members_proper ns q.key.principal q.members k.few listed.good (all_members (IsOneOf ns) q.members (λ m i. k.peopled.lists q.key q.members m list i)) (k.peopled.racks q.key q.members list);
@@ -72,7 +72,7 @@ proposal_fits {by} {factor} {ns} {z} k n q e = record {
     listed : Listed z.chronicle.traced q.key q.members
     listed = k.lawful.sound.lists q.key q.members list
 
-spells : {by : Policy} {factor : ℕ} {ns : List ℕ} {z : Front} → Knows by factor ns z → (n : ℕ) → Spells (facts_at z n)
+pub spells : {by : Policy} {factor : ℕ} {ns : List ℕ} {z : Front} → Knows by factor ns z → (n : ℕ) → Spells (facts_at z n)
 spells {by} {factor} {ns} {z} k n = record {
   promised = (k.lawful.sound.nodes n).agrees.promised.field;
   key = (stood k.lawful k.ends k.ranged n).key;
@@ -80,7 +80,7 @@ spells {by} {factor} {ns} {z} k n = record {
   table = table_proper z.chronicle.traced (facts_at z n) k.lawful.sound (own_keys z.chronicle.traced n k.lawful.sound);
 }
 
-ticks : {by : Policy} {factor : ℕ} {ns : List ℕ} {z : Front} → Knows by factor ns z → (n : ℕ) → IsOneOf ns n → TicksSpelled (after_ages (facts_at z n))
+pub ticks : {by : Policy} {factor : ℕ} {ns : List ℕ} {z : Front} → Knows by factor ns z → (n : ℕ) → IsOneOf ns n → TicksSpelled (after_ages (facts_at z n))
 ticks {by} {factor} {ns} {z} k n one = record {
   me = id;
   view = (view_known z.chronicle.traced f.me f (own_keys z.chronicle.traced n k.lawful.sound)).field;
@@ -119,11 +119,10 @@ reads {by} {factor} {ns} {z} k = record {
 
 -- ---- the world behind the steps
 
-pub sends_are_read : SendsRead
-sends_are_read h ss t nodes room =
-    let z : Front = after_all (first h) (all_marks ss) in
+pub knows : (h : Header) (ss : List Step) → Taken h ss → IsNodeList (declared_nodes h) → length (all_lines ss) + 1 < line_bound → Knows (declared_policy h) (declared_factor h) (declared_nodes h) (after_all (first h) (all_marks ss))
+knows h ss t nodes room =
     let w : Walked (declared_policy h) (declared_factor h) (first h) (all_marks ss) = taken_leads h ss t in
-    subst SendsAreRead (world_all (first h) (all_marks ss)) (reads {z = z} (record {
+    record {
       lawful = w.lawful;
       ends = w.ends;
       ranged = taken_ranged h ss t;
@@ -131,4 +130,7 @@ sends_are_read h ss t nodes room =
       ids = declared_ids h t.header;
       few = nodes.limit;
       room = subst (λ (c : ℕ). c + 1 < 2 ^ 32) (sym (lines_of_taken h ss)) room;
-    }))
+    }
+
+pub sends_are_read : SendsRead
+sends_are_read h ss t nodes room = subst SendsAreRead (world_all (first h) (all_marks ss)) (reads {z = after_all (first h) (all_marks ss)} (knows h ss t nodes room))

@@ -14,6 +14,7 @@ use Rattle.node_rules.specs.Batches.{Target, Targets}
 use Rattle.node_rules.specs.Client.{node_for}
 use Rattle.node_rules.specs.Facts.{Facts, members}
 use Rattle.node_rules.specs.Notes.{in_view}
+use Rattle.node_rules.specs.Senders.{view_key_of}
 use Rattle.node_rules.specs.Standing.{others}
 use Rattle.node_rules.specs.Tables.{contains}
 use Rattle.journal_readings.specs.Messages.{Posting}
@@ -36,7 +37,7 @@ use Rattle.run_laws.specs.Fronts as fronts
 use Rattle.run_laws.specs.Ranges.{Ranged, FitsFacts}
 use Rattle.run_laws.specs.Taken.{Taken, first}
 use Rattle.run_laws.specs.Tied.{Among}
-use Rattle.run_laws.specs.Worlds.{world_after, OfTakenWorlds, KnowsNodes, view_key_of, MessagesCome, HaveReceivers, AsksDeclared, CountsBelow, CountsFew}
+use Rattle.run_laws.specs.Worlds.{world_after, OfTakenWorlds, KnowsNodes, MessagesCome, HaveReceivers, AsksDeclared, CountsBelow, CountsFew}
 use Rattle.run_laws.proofs.Journal.{lines_of_taken, world_all}
 use Rattle.run_laws.proofs.Premised.{taken_ranged}
 

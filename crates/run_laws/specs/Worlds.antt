@@ -13,10 +13,9 @@ use Rattle.wire_messages.specs.Versions.{IsDigest}
 use Rattle.node_rules.specs.Client.{node_for}
 use Rattle.node_rules.specs.Facts.{Facts}
 use Rattle.node_rules.specs.Messages.{due_message}
-use Rattle.node_rules.specs.Notes.{in_view}
 use Rattle.node_rules.specs.Requests.{due_request}
+use Rattle.node_rules.specs.Senders.{ComesFrom}
 use Rattle.node_rules.specs.Stamps.{applies_at}
-use Rattle.node_rules.specs.Standing.{others}
 use Rattle.node_rules.specs.Tick.{due_tick}
 use Rattle.cluster_rules.specs.Marks as marks
 use Rattle.journal_readings.specs.Messages.{Posting}
@@ -47,26 +46,9 @@ pub record KnowsNodes (h : Header) (w : World) : Type 0 where
 
 -- ---- messages
 
--- the key of a message that is of a view
-abbrev pub view_key_of : Message → Option ClusterKey
-view_key_of (message.State key wants row) = Some key
-view_key_of (message.Batch b) = Some b.key
-view_key_of (message.BatchAck key number) = Some key
-view_key_of (message.Progress key wants done handed settled) = Some key
-view_key_of (message.Repl key t nth digest v) = Some key
-view_key_of (message.ReplAck key t) = Some key
-view_key_of (message.Ask key t digest) = Some key
-view_key_of (message.Answer key t v) = Some key
-view_key_of _ = None
-
--- it comes from a peer, or from the client where it asks for a table; and one of the node's view from another member of it
-pub record ComesFromPeer (f : Facts) (from : ℕ) (m : Message) : Type 0 where
-  pub sender : Contains f.peers from ⊎ ((from ≡ client) × (m ≡ message.MapAsk))
-  pub member : (key : ClusterKey) → view_key_of m ≡ Some key → in_view f key ≡ true → Contains (others f) from
-
 -- each message that was sent and is read as one comes so to its receiver
 abbrev pub MessagesCome : Header → World → Type 0
-MessagesCome h w = (i : ℕ) (p : Posting) (m : Message) → posting_at w.network i ≡ Some p → message_of p.bytes ≡ Some m → ComesFromPeer (w.facts p.to) p.from m
+MessagesCome h w = (i : ℕ) (p : Posting) (m : Message) → posting_at w.network i ≡ Some p → message_of p.bytes ≡ Some m → ComesFrom (w.facts p.to) p.from m
 
 -- each was sent to a declared node, or to the client
 abbrev pub HaveReceivers : Header → World → Type 0
