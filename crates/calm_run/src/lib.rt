@@ -6,6 +6,3 @@ mod event_of;
 mod rounds;
 
 pub use rounds::{calm, play};
-
-#[cfg(test)]
-mod tests;

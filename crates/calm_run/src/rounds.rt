@@ -5,7 +5,8 @@ ghost use Rattle.cluster_rules.specs.Allowed.{is_playable};
 ghost use Rattle.cluster_rules.specs.Calm.{is_calm};
 ghost use Rattle.cluster_rules.specs.Opening.{declared_nodes};
 ghost use Rattle.calm_run.specs.Playing.{PlaysOn, ComesToRest, StopsIn, StandsIn, WritesMore};
-ghost use Rattle.world.specs.Steps.{standing};
+ghost use Rattle.world.specs.Claims.{HasClaims};
+ghost use Rattle.world.specs.Steps.{standing, written};
 
 use crate::event_of::event_of;
 use cluster_rules::Event;
@@ -23,6 +24,20 @@ pub fn play(alloc: Global, world: &mut World, command: &Command) -> Result<(), S
     ensures played { OnOk result (PlaysOn world.old world.new command.now) }
     ensures too_long { IsErrOf result StepFault.RunTooLong → StopsIn world.old world.new command.now }
     ensures err { OnErr result (StandsIn world.old world.new command.now) }
+    ensures claims { HasClaims (written world.new) }
+{
+    let answer = play_command(alloc, world, command);
+    // What the journal ensures of its lines.
+    let _ = world.journal();
+    answer
+}
+
+/// The same, but for what holds of the journal.
+fn play_command(alloc: Global, world: &mut World, command: &Command) -> Result<(), StepFault>
+    requires { IsTrue (is_playable (declared_nodes world.old.header) command.now) }
+    ensures played { OnOk result (PlaysOn world.old world.new command.now) }
+    ensures too_long { IsErrOf result StepFault.RunTooLong → StopsIn world.old world.new command.now }
+    ensures err { OnErr result (StandsIn world.old world.new command.now) }
 {
     if let Some(event) = event_of(alloc, command)? {
         return world.step(alloc, &event);
@@ -31,7 +46,7 @@ pub fn play(alloc: Global, world: &mut World, command: &Command) -> Result<(), S
         Command::Flow => flow(alloc, world),
         Command::Round => round(alloc, world),
         _ => {
-            calm(alloc, world)?;
+            come_to_rest(alloc, world)?;
             Ok(())
         }
     }
@@ -40,6 +55,19 @@ pub fn play(alloc: Global, world: &mut World, command: &Command) -> Result<(), S
 /// Does rounds until the world is calm, and then the event that tells their number, which it
 /// answers. After a fault the events before it stand.
 pub fn calm(alloc: Global, world: &mut World) -> Result<u64, StepFault>
+    ensures calm { IfOk result (ComesToRest world.old world.new) }
+    ensures too_long { IsErrOf result StepFault.RunTooLong → StopsIn world.old world.new command_of.Calm }
+    ensures err { OnErr result (StandsIn world.old world.new command_of.Calm) }
+    ensures claims { HasClaims (written world.new) }
+{
+    let rounds = come_to_rest(alloc, world);
+    // What the journal ensures of its lines.
+    let _ = world.journal();
+    rounds
+}
+
+/// The same, but for what holds of the journal.
+fn come_to_rest(alloc: Global, world: &mut World) -> Result<u64, StepFault>
     ensures calm { IfOk result (ComesToRest world.old world.new) }
     ensures too_long { IsErrOf result StepFault.RunTooLong → StopsIn world.old world.new command_of.Calm }
     ensures err { OnErr result (StandsIn world.old world.new command_of.Calm) }

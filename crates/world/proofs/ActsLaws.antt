@@ -31,7 +31,7 @@ use Rattle.node_rules.specs.Steps.{Planning, after_message, after_request, after
 use Rattle.node_rules.specs.Tick.{due_tick}
 use Rattle.node_core.specs.declared.effects.Effects.{Effects}
 use Rattle.node_core.specs.Counts.{HaveNumbers}
-use Rattle.node_core.specs.Peers.{ComesFrom}
+use Rattle.node_rules.specs.Senders.{ComesFrom}
 use Rattle.node_core.specs.Spelled.{spelled}
 use Rattle.cluster_rules.specs.declared.event.Event.{Event}
 use Rattle.cluster_rules.specs.declared.event.Event.TheVariants as event
@@ -53,7 +53,6 @@ use Rattle.world.specs.declared.world.World.TheInside.{Inside}
 use Rattle.world.specs.Arriving.{Arrives, delivering, landing_of, line_of_delivery}
 use Rattle.world.specs.Kept.{Keeps, run_of}
 use Rattle.world.specs.Ledgers.{IsSameLedger, Wrote}
-use Rattle.world.specs.Requested.{IsProperRequest}
 use Rattle.world.specs.Sent.{IsInFlight, all_posted_in, landing_from}
 use Rattle.world.specs.Stands.{Stands, posting_of}
 use Rattle.world.specs.Steps.{Run, MayCome, StandsAt, TakesStep, client_requesting, next_lines, requesting, run_of_events, standing}
@@ -65,26 +64,26 @@ use Rattle.world.proofs.KeepLaws.{distinct_of, fits_of, id_at, keeps_after, keep
 use Rattle.world.proofs.KnownLaws.{placed_declared}
 use Rattle.world.proofs.NetLaws.{found}
 use Rattle.world.proofs.Places.{at_set, set_twice}
-use Rattle.world.proofs.RunFacts.{are_read, asks, come, comes_from, known, numbers, receivers}
+use Rattle.world.proofs.RunFacts.{are_read, asks, come, known, numbers, receivers}
 use Rattle.world.proofs.SendingLaws.{sent_few}
 
 abbrev step_of : Event → ℕ → Effects → EndStep
-step_of e n effects = record { event = e; from = n; landing = None; effects = effects }
+step_of e n effects = record { event = record { marker = record {}; value = e }; from = n; landing = None; effects = effects }
 
 -- the step of a node at that place writes what is due of its event, and leaves the parts as the world stands after it
 pub record Acts (w : Inside) (now : Run) (s : EndStep) (place : ℕ) (new : Facts) : Type 0 where
-  pub due : lines_of s w.net ≡ next_lines now s.event
+  pub due : lines_of s w.net ≡ next_lines now s.event.value
   pub stands : (node : Planning) (net : nets.Network) → nets.AreNumbers w.net.sent (nets.ids_of w.net.flying) → node.now ≡ new
       → nets.IsSameNetwork (all_posted_in (landing_from w.net s.landing) s.from s.effects.sends) net
-      → Stands (after_step (standing now) s.event) w.ids (set w.nodes.items place node) w.clocks.items net w.client
-  pub proper : IsProperEvent s.event
+      → Stands (after_step (standing now) s.event.value) w.ids (set w.nodes.items place node) w.clocks.items net w.client
+  pub proper : IsProperEvent s.event.value
 
 -- ---- its result
 
 pub acts_takes : (w : Inside) (now : Run) (s : EndStep) (place : ℕ) (facts : Facts) (new : Ledger) (r : Result (Unit {0}) StepFault) → run_of w ≡ now → Keeps w → Acts w now s place facts
-    → OnOk r (Wrote w.ledger new (lines_of s w.net) s.event) → OnOk r (IsWithin (w.ledger.journal.lines ++ lines_of s w.net)) → (IsErrOf r fault.RunTooLong → ¬ IsWithin (w.ledger.journal.lines ++ lines_of s w.net)) → OnErr r (IsSameLedger w.ledger new)
-    → TakesStep now (run_of_events w.header.items new.events.items) s.event r
-acts_takes w now s place facts new r seen k acts wrote within long same = step_taken w now new s.event (lines_of s w.net) r seen k acts.due wrote within long same
+    → OnOk r (Wrote w.ledger new (lines_of s w.net) s.event.value) → OnOk r (IsWithin (w.ledger.journal.lines ++ lines_of s w.net)) → (IsErrOf r fault.RunTooLong → ¬ IsWithin (w.ledger.journal.lines ++ lines_of s w.net)) → OnErr r (IsSameLedger w.ledger new)
+    → TakesStep now (run_of_events w.header.items new.events.items) s.event.value r
+acts_takes w now s place facts new r seen k acts wrote within long same = step_taken w now new s.event.value (lines_of s w.net) r seen k acts.due wrote within long same
 
 -- ---- events of a node
 
@@ -139,17 +138,17 @@ pub record Ranges (d : List ℕ) (q : Want) (e : Event) : Type 0 where
   pub want_fits : IsWant q
   pub proper : IsProperEvent e
 
-ranges_of : (n : ℕ) (d : List ℕ) (q : Want) → IsProperRequest (requesting n d q) → Ranges d q (requesting n d q)
+ranges_of : (n : ℕ) (d : List ℕ) (q : Want) → IsProperEvent (requesting n d q) → Ranges d q (requesting n d q)
 ranges_of n d want.Get h = record { digest = h; want_fits = tt; proper = h }
 ranges_of n d (want.Put v) h = record { digest = h.0; want_fits = h.1; proper = h }
 ranges_of n d want.Del h = record { digest = h; want_fits = tt; proper = h }
 
-client_ranges_of : (d : List ℕ) (q : Want) → IsProperRequest (client_requesting d q) → Ranges d q (client_requesting d q)
+client_ranges_of : (d : List ℕ) (q : Want) → IsProperEvent (client_requesting d q) → Ranges d q (client_requesting d q)
 client_ranges_of d want.Get h = record { digest = h; want_fits = tt; proper = h }
 client_ranges_of d (want.Put v) h = record { digest = h.0; want_fits = h.1; proper = h }
 client_ranges_of d want.Del h = record { digest = h; want_fits = tt; proper = h }
 
-request_there : (w : Inside) (now : Run) (n place : ℕ) (d : List ℕ) (q : Want) → run_of w ≡ now → Keeps w → StandsAt now place n → IsProperRequest (requesting n d q)
+request_there : (w : Inside) (now : Run) (n place : ℕ) (d : List ℕ) (q : Want) → run_of w ≡ now → Keeps w → StandsAt now place n → IsProperEvent (requesting n d q)
     → Acts w now (step_of (requesting n d q) n (spelled (due_request ((standing now).facts n) ((standing now).clocks n) d q))) place (after_request ((standing now).facts n) ((standing now).clocks n) d q)
 request_there w now n place d q seen k at proper =
     let stands = stands_of w now seen k in
@@ -164,14 +163,14 @@ request_there w now n place d q seen k at proper =
     }
 
 pub request_acts : (w : Inside) (now : Run) (e : Event) (n place clock : ℕ) (d : List ℕ) (q : Want) (f : Facts) (effects : Effects) → run_of w ≡ now → Keeps w → StandsAt now place n → f ≡ (standing now).facts n → clock ≡ (standing now).clocks n
-    → e ≡ requesting n d q → IsProperRequest e → effects ≡ spelled (due_request f clock d q) → Acts w now (step_of e n effects) place (after_request f clock d q)
+    → e ≡ requesting n d q → IsProperEvent e → effects ≡ spelled (due_request f clock d q) → Acts w now (step_of e n effects) place (after_request f clock d q)
 request_acts w now e n place clock d q f effects seen k at here time is proper made =
     subst (λ (x : Event). Acts w now (step_of x n effects) place (after_request f clock d q)) (sym is)
     (subst (λ (g : Facts). Acts w now (step_of (requesting n d q) n effects) place (after_request g clock d q)) (sym here)
     (subst (λ (t : ℕ). Acts w now (step_of (requesting n d q) n effects) place (after_request ((standing now).facts n) t d q)) (sym time)
     (subst (λ (x : Effects). Acts w now (step_of (requesting n d q) n x) place (after_request ((standing now).facts n) ((standing now).clocks n) d q))
     (sym (made ∙ ap₂ (λ (g : Facts) t. spelled (due_request g t d q)) here time))
-    (request_there w now n place d q seen k at (subst IsProperRequest is proper)))))
+    (request_there w now n place d q seen k at (subst IsProperEvent is proper)))))
 
 -- the node of a request is declared
 pub request_named : (now : Run) (e : Event) (n : ℕ) (d : List ℕ) (q : Want) → e ≡ requesting n d q → MayCome now e → Contains (declared_nodes now.header) n
@@ -180,20 +179,20 @@ request_named now e n d (want.Put v) is comes = named_declared now e (event.Put 
 request_named now e n d want.Del is comes = named_declared now e (event.Del n d) n is refl comes
 
 -- the client knows no node
-pub no_map_tells : (r : Run) (e : Event) (d : List ℕ) (q : Want) (p : ℕ) → e ≡ client_requesting d q → p ≡ partition_of d → IsProperRequest e → None ≡ node_for (standing r).tables p → TellsOnly r e (line.NoMap p ∷ [])
+pub no_map_tells : (r : Run) (e : Event) (d : List ℕ) (q : Want) (p : ℕ) → e ≡ client_requesting d q → p ≡ partition_of d → IsProperEvent e → None ≡ node_for (standing r).tables p → TellsOnly r e (line.NoMap p ∷ [])
 no_map_tells r e d q p is same proper none =
     let knows : KnowsNone r d q = knows_none r d q (ap (node_for (standing r).tables) (sym same) ∙ sym none) in
     subst (λ (x : Event). TellsOnly r x (line.NoMap p ∷ [])) (sym is) (record {
       due = ap (λ (n : ℕ). line.NoMap n ∷ []) same ∙ knows.due;
       only = knows.lands;
-      proper = (client_ranges_of d q (subst IsProperRequest is proper)).proper;
+      proper = (client_ranges_of d q (subst IsProperEvent is proper)).proper;
     })
 
 -- the effects with a line before them
 abbrev pub after_line_of : Line → Effects → Effects
 after_line_of l effects = record effects { lines = l ∷ effects.lines }
 
-client_there : (w : Inside) (now : Run) (n place : ℕ) (d : List ℕ) (q : Want) → run_of w ≡ now → Keeps w → StandsAt now place n → IsProperRequest (client_requesting d q) → node_for (standing now).tables (partition_of d) ≡ Some n
+client_there : (w : Inside) (now : Run) (n place : ℕ) (d : List ℕ) (q : Want) → run_of w ≡ now → Keeps w → StandsAt now place n → IsProperEvent (client_requesting d q) → node_for (standing now).tables (partition_of d) ≡ Some n
     → Acts w now (step_of (client_requesting d q) n (after_line_of (line.Client n d) (spelled (due_request ((standing now).facts n) ((standing now).clocks n) d q)))) place (after_request ((standing now).facts n) ((standing now).clocks n) d q)
 client_there w now n place d q seen k at proper named =
     let stands = stands_of w now seen k in
@@ -208,7 +207,7 @@ client_there w now n place d q seen k at proper named =
     }
 
 pub client_acts : (w : Inside) (now : Run) (e : Event) (n place clock : ℕ) (d : List ℕ) (q : Want) (f : Facts) (effects : Effects) → run_of w ≡ now → Keeps w → StandsAt now place n → f ≡ (standing now).facts n → clock ≡ (standing now).clocks n
-    → e ≡ client_requesting d q → IsProperRequest e → node_for (standing now).tables (partition_of d) ≡ Some n
+    → e ≡ client_requesting d q → IsProperEvent e → node_for (standing now).tables (partition_of d) ≡ Some n
     → effects ≡ after_line_of (line.Client n d) (spelled (due_request f clock d q)) → Acts w now (step_of e n effects) place (after_request f clock d q)
 client_acts w now e n place clock d q f effects seen k at here time is proper named made =
     subst (λ (x : Event). Acts w now (step_of x n effects) place (after_request f clock d q)) (sym is)
@@ -216,7 +215,7 @@ client_acts w now e n place clock d q f effects seen k at here time is proper na
     (subst (λ (t : ℕ). Acts w now (step_of (client_requesting d q) n effects) place (after_request ((standing now).facts n) t d q)) (sym time)
     (subst (λ (x : Effects). Acts w now (step_of (client_requesting d q) n x) place (after_request ((standing now).facts n) ((standing now).clocks n) d q))
     (sym (made ∙ ap₂ (λ (g : Facts) t. after_line_of (line.Client n d) (spelled (due_request g t d q))) here time))
-    (client_there w now n place d q seen k at (subst IsProperRequest is proper) named))))
+    (client_there w now n place d q seen k at (subst IsProperEvent is proper) named))))
 
 -- ---- a message arrives
 
@@ -263,12 +262,12 @@ may_receive w now a place f seen k x at here =
     subst (λ (g : Facts). MayReceive g a.from a.message) (sym facts) (subst (λ (n : ℕ). MayReceive ((standing now).facts x.posting.to) n a.message) (sym x.from) (record {
       up = up;
       proper = (what_is_read x.posting.bytes a.message x.read).0;
-      sender = comes_from ((standing now).facts x.posting.to) x.posting.from a.message (come now fits.taken x.number x.posting a.message (flying_sent (standing now).network x.number x.posting x.flying) x.read);
+      sender = come now fits.taken x.number x.posting a.message (flying_sent (standing now).network x.number x.posting x.flying) x.read;
       counts = numbers now w.net.sent w.ledger.journal.lines fits x.posting.to;
     }))
 
 abbrev arriving_step : Event → ℕ → Option ℕ → List Line → Effects → EndStep
-arriving_step e to landing ls own = record { event = e; from = to; landing = landing; effects = record { lines = ls ++ own.lines; sends = own.sends } }
+arriving_step e to landing ls own = record { event = record { marker = record {}; value = e }; from = to; landing = landing; effects = record { lines = ls ++ own.lines; sends = own.sends } }
 
 arrival_there : (w : Inside) (now : Run) (a : Arriving) (place : ℕ) → run_of w ≡ now → Keeps w → (x : Arrives now a) → StandsAt now place x.posting.to
     → Acts w now (arriving_step (delivering x.number x.how) x.posting.to (landing_of x.number x.how) (line_of_delivery x.number x.posting.from x.posting.to x.how ∷ [])
@@ -295,7 +294,7 @@ arrival_there w now a place seen k x at =
     }
 
 pub arrival_acts : (w : Inside) (now : Run) (a : Arriving) (place clock : ℕ) (f : Facts) (own : Effects) → run_of w ≡ now → Keeps w → Arrives now a → StandsAt now place a.to → f ≡ (standing now).facts a.to → clock ≡ (standing now).clocks a.to
-    → own ≡ spelled (due_message f clock a.from a.message) → Acts w now (arriving_step a.event a.to a.landing a.lines own) place (after_message f clock a.from a.message)
+    → own ≡ spelled (due_message f clock a.from a.message) → Acts w now (arriving_step a.event.value a.to a.landing a.lines own) place (after_message f clock a.from a.message)
 arrival_acts w now a place clock f own seen k x at here time made =
     let to : ℕ = x.posting.to in
     let facts : f ≡ (standing now).facts to = here ∙ ap (standing now).facts x.to_end in
@@ -328,10 +327,10 @@ arrival_flies w now a seen k x = subst (IsInFlight w.net.flying) (sym x.landing)
 
 -- the same of an endpoint that isn't a node
 pub record Sends (w : Inside) (now : Run) (s : EndStep) : Type 0 where
-  pub due : lines_of s w.net ≡ next_lines now s.event
+  pub due : lines_of s w.net ≡ next_lines now s.event.value
   pub stands : (net : nets.Network) → nets.AreNumbers w.net.sent (nets.ids_of w.net.flying) → nets.IsSameNetwork (all_posted_in (landing_from w.net s.landing) s.from s.effects.sends) net
-      → Stands (after_step (standing now) s.event) w.ids w.nodes.items w.clocks.items net w.client
-  pub proper : IsProperEvent s.event
+      → Stands (after_step (standing now) s.event.value) w.ids w.nodes.items w.clocks.items net w.client
+  pub proper : IsProperEvent s.event.value
 
 ask_there : (w : Inside) (now : Run) (n : ℕ) → run_of w ≡ now → Keeps w → Sends w now (step_of (event.Ask n) client (spelled (sends_only (to_one n message.MapAsk))))
 ask_there w now n seen k =
@@ -357,24 +356,24 @@ counts_of w now n f seen k here = subst HaveNumbers (sym here) (numbers now w.ne
 
 -- ---- what is kept after it
 
-pub acts_keeps : (w v : Inside) (now : Run) (s : EndStep) (place : ℕ) (facts : Facts) (node : Planning) (r : Result (Unit {0}) StepFault) → run_of w ≡ now → Keeps w → Acts w now s place facts → MayCome now s.event
+pub acts_keeps : (w v : Inside) (now : Run) (s : EndStep) (place : ℕ) (facts : Facts) (node : Planning) (r : Result (Unit {0}) StepFault) → run_of w ≡ now → Keeps w → Acts w now s place facts → MayCome now s.event.value
     → v.header.items ≡ w.header.items → v.ids ≡ w.ids → v.clocks.items ≡ w.clocks.items → v.client ≡ w.client → v.nodes.items ≡ set w.nodes.items place node
     → OnOk r (nets.AreNumbers w.net.sent (nets.ids_of w.net.flying)) → OnOk r (node.now ≡ facts) → OnOk r (nets.IsSameNetwork (all_posted_in (landing_from w.net s.landing) s.from s.effects.sends) v.net)
-    → OnOk r (Wrote w.ledger v.ledger (lines_of s w.net) s.event) → OnOk r (IsWithin (w.ledger.journal.lines ++ lines_of s w.net))
+    → OnOk r (Wrote w.ledger v.ledger (lines_of s w.net) s.event.value) → OnOk r (IsWithin (w.ledger.journal.lines ++ lines_of s w.net))
     → OnErr r (map (λ (x : Planning). x.now) v.nodes.items ≡ map (λ (x : Planning). x.now) w.nodes.items) → OnErr r (nets.IsSameNetwork w.net v.net) → OnErr r (IsSameLedger w.ledger v.ledger)
     → Keeps v
 acts_keeps w v now s place facts node (Ok u) seen k acts comes header ids clocks client nodes counted is same wrote within node_still net_still ledger_still =
-    keeps_after w v now s.event (lines_of s w.net) seen k header acts.due comes acts.proper wrote within
+    keeps_after w v now s.event.value (lines_of s w.net) seen k header acts.due comes acts.proper wrote within
     (sent_few w.net v.net s.landing s.from w.net.sent (length (landing_from w.net s.landing).flying) s.effects.lines s.effects.sends same)
     (parts ids nodes clocks client (acts.stands node v.net counted is same))
   where
     parts : v.ids ≡ w.ids → v.nodes.items ≡ set w.nodes.items place node → v.clocks.items ≡ w.clocks.items → v.client ≡ w.client
-        → Stands (after_step (standing now) s.event) w.ids (set w.nodes.items place node) w.clocks.items v.net w.client → Stands (after_step (standing now) s.event) v.ids v.nodes.items v.clocks.items v.net v.client
+        → Stands (after_step (standing now) s.event.value) w.ids (set w.nodes.items place node) w.clocks.items v.net w.client → Stands (after_step (standing now) s.event.value) v.ids v.nodes.items v.clocks.items v.net v.client
     parts a b c d h =
-        subst (λ (xs : List ℕ). Stands (after_step (standing now) s.event) xs v.nodes.items v.clocks.items v.net v.client) (sym a)
-        (subst (λ (xs : List Planning). Stands (after_step (standing now) s.event) w.ids xs v.clocks.items v.net v.client) (sym b)
-        (subst (λ (xs : List ℕ). Stands (after_step (standing now) s.event) w.ids (set w.nodes.items place node) xs v.net v.client) (sym c)
-        (subst (λ (es : List (Option Entry)). Stands (after_step (standing now) s.event) w.ids (set w.nodes.items place node) w.clocks.items v.net es) (sym d) h)))
+        subst (λ (xs : List ℕ). Stands (after_step (standing now) s.event.value) xs v.nodes.items v.clocks.items v.net v.client) (sym a)
+        (subst (λ (xs : List Planning). Stands (after_step (standing now) s.event.value) w.ids xs v.clocks.items v.net v.client) (sym b)
+        (subst (λ (xs : List ℕ). Stands (after_step (standing now) s.event.value) w.ids (set w.nodes.items place node) xs v.net v.client) (sym c)
+        (subst (λ (es : List (Option Entry)). Stands (after_step (standing now) s.event.value) w.ids (set w.nodes.items place node) w.clocks.items v.net es) (sym d) h)))
 acts_keeps w v now s place facts node (Err x) seen k acts comes header ids clocks client nodes counted is same wrote within node_still net_still ledger_still =
     keeps_same w v k header ids node_still clocks net_still client ledger_still
 
@@ -394,21 +393,21 @@ pub asked_if : (w : Inside) (now : Run) (p : ℕ) (o : Option ℕ) → run_of w 
 asked_if w now p None seen k within is = tt
 asked_if w now p (Some n) seen k within is = asks now (fits_of w now seen k).taken p n within (sym is)
 
-pub sends_takes : (w : Inside) (now : Run) (e : Event) (s : EndStep) (net : nets.Network) (new : Ledger) (r : Result (Unit {0}) StepFault) → run_of w ≡ now → Keeps w → Sends w now s → s.event ≡ e
-    → OnOk r (Wrote w.ledger new (lines_of s w.net) s.event) → OnOk r (IsWithin (w.ledger.journal.lines ++ lines_of s w.net)) → (IsErrOf r fault.RunTooLong → ¬ IsWithin (w.ledger.journal.lines ++ lines_of s w.net))
+pub sends_takes : (w : Inside) (now : Run) (e : Event) (s : EndStep) (net : nets.Network) (new : Ledger) (r : Result (Unit {0}) StepFault) → run_of w ≡ now → Keeps w → Sends w now s → s.event.value ≡ e
+    → OnOk r (Wrote w.ledger new (lines_of s w.net) s.event.value) → OnOk r (IsWithin (w.ledger.journal.lines ++ lines_of s w.net)) → (IsErrOf r fault.RunTooLong → ¬ IsWithin (w.ledger.journal.lines ++ lines_of s w.net))
     → OnErr r (nets.IsSameNetwork w.net net × IsSameLedger w.ledger new)
     → TakesStep now (run_of_events w.header.items new.events.items) e r
 sends_takes w now e s net new (Ok u) seen k h is wrote within long same =
-    subst (λ (x : Event). TakesStep now (run_of_events w.header.items new.events.items) x (Ok u)) is (step_taken w now new s.event (lines_of s w.net) (Ok u) seen k h.due wrote within long tt)
+    subst (λ (x : Event). TakesStep now (run_of_events w.header.items new.events.items) x (Ok u)) is (step_taken w now new s.event.value (lines_of s w.net) (Ok u) seen k h.due wrote within long tt)
 sends_takes w now e s net new (Err x) seen k h is wrote within long same =
-    subst (λ (y : Event). TakesStep now (run_of_events w.header.items new.events.items) y (Err x)) is (step_taken w now new s.event (lines_of s w.net) (Err x) seen k h.due tt tt long same.1)
+    subst (λ (y : Event). TakesStep now (run_of_events w.header.items new.events.items) y (Err x)) is (step_taken w now new s.event.value (lines_of s w.net) (Err x) seen k h.due tt tt long same.1)
 
-pub sends_keeps : (w : Inside) (now : Run) (e : Event) (s : EndStep) (net : nets.Network) (new : Ledger) (r : Result (Unit {0}) StepFault) → run_of w ≡ now → Keeps w → Sends w now s → s.event ≡ e → MayCome now e
+pub sends_keeps : (w : Inside) (now : Run) (e : Event) (s : EndStep) (net : nets.Network) (new : Ledger) (r : Result (Unit {0}) StepFault) → run_of w ≡ now → Keeps w → Sends w now s → s.event.value ≡ e → MayCome now e
     → OnOk r (nets.AreNumbers w.net.sent (nets.ids_of w.net.flying)) → OnOk r (nets.IsSameNetwork (all_posted_in (landing_from w.net s.landing) s.from s.effects.sends) net)
-    → OnOk r (Wrote w.ledger new (lines_of s w.net) s.event) → OnOk r (IsWithin (w.ledger.journal.lines ++ lines_of s w.net)) → OnErr r (nets.IsSameNetwork w.net net × IsSameLedger w.ledger new)
+    → OnOk r (Wrote w.ledger new (lines_of s w.net) s.event.value) → OnOk r (IsWithin (w.ledger.journal.lines ++ lines_of s w.net)) → OnErr r (nets.IsSameNetwork w.net net × IsSameLedger w.ledger new)
     → Keeps (record w { net = net; ledger = new })
 sends_keeps w now e s net new (Ok u) seen k h is comes counted sent wrote within same =
-    keeps_after w (record w { net = net; ledger = new }) now s.event (lines_of s w.net) seen k refl h.due (subst (MayCome now) (sym is) comes) h.proper wrote within
+    keeps_after w (record w { net = net; ledger = new }) now s.event.value (lines_of s w.net) seen k refl h.due (subst (MayCome now) (sym is) comes) h.proper wrote within
     (sent_few w.net net s.landing s.from w.net.sent (length (landing_from w.net s.landing).flying) s.effects.lines s.effects.sends sent)
     (h.stands net counted sent)
 sends_keeps w now e s net new (Err x) seen k h is comes counted sent wrote within same =
@@ -429,8 +428,8 @@ asks_so w now e n to ls before sends bytes s seen k is none empty pushed same sp
 -- ---- the step of a node, as it was taken
 
 -- the node's step of that event, as a caller sees it
-pub acts_returns : (w : Inside) (now : Run) (e : Event) (s : EndStep) (place : ℕ) (facts : Facts) (old node : Planning) (net : nets.Network) (new : Ledger) (r : Result (Unit {0}) StepFault) → run_of w ≡ now → Keeps w → Acts w now s place facts → s.event ≡ e
-    → OnOk r (Wrote w.ledger new (lines_of s w.net) s.event) → OnOk r (IsWithin (w.ledger.journal.lines ++ lines_of s w.net)) → (IsErrOf r fault.RunTooLong → ¬ IsWithin (w.ledger.journal.lines ++ lines_of s w.net))
+pub acts_returns : (w : Inside) (now : Run) (e : Event) (s : EndStep) (place : ℕ) (facts : Facts) (old node : Planning) (net : nets.Network) (new : Ledger) (r : Result (Unit {0}) StepFault) → run_of w ≡ now → Keeps w → Acts w now s place facts → s.event.value ≡ e
+    → OnOk r (Wrote w.ledger new (lines_of s w.net) s.event.value) → OnOk r (IsWithin (w.ledger.journal.lines ++ lines_of s w.net)) → (IsErrOf r fault.RunTooLong → ¬ IsWithin (w.ledger.journal.lines ++ lines_of s w.net))
     → OnErr r ((node ≡ old) × nets.IsSameNetwork w.net net × IsSameLedger w.ledger new) → TakesStep now (run_of_events w.header.items new.events.items) e r
 acts_returns w now e s place facts old node net new (Ok u) seen k acts is wrote within long same =
     subst (λ (x : Event). TakesStep now (run_of_events w.header.items new.events.items) x (Ok u)) is (acts_takes w now s place facts new (Ok u) seen k acts wrote within long tt)
@@ -438,11 +437,11 @@ acts_returns w now e s place facts old node net new (Err x) seen k acts is wrote
     subst (λ (y : Event). TakesStep now (run_of_events w.header.items new.events.items) y (Err x)) is (acts_takes w now s place facts new (Err x) seen k acts tt tt long same.2)
 
 -- and what is kept of it, where the node had planned to know those facts
-pub acts_kept : (w v : Inside) (now : Run) (e : Event) (s : EndStep) (place : ℕ) (facts : Facts) (first planned old node : Planning) (r : Result (Unit {0}) StepFault) → run_of w ≡ now → Keeps w → Acts w now s place facts → s.event ≡ e → MayCome now e
+pub acts_kept : (w v : Inside) (now : Run) (e : Event) (s : EndStep) (place : ℕ) (facts : Facts) (first planned old node : Planning) (r : Result (Unit {0}) StepFault) → run_of w ≡ now → Keeps w → Acts w now s place facts → s.event.value ≡ e → MayCome now e
     → v.header.items ≡ w.header.items → v.ids ≡ w.ids → v.clocks.items ≡ w.clocks.items → v.client ≡ w.client → v.nodes.items ≡ set (set w.nodes.items place planned) place node
     → place < length w.nodes.items → first ≡ get_or w.nodes.items place first → planned ≡ planning first.now facts → old ≡ get_or (set w.nodes.items place planned) place old
     → OnOk r (nets.AreNumbers w.net.sent (nets.ids_of w.net.flying)) → OnOk r (IfSome old.next (λ f. node ≡ unplanned f)) → OnOk r (nets.IsSameNetwork (all_posted_in (landing_from w.net s.landing) s.from s.effects.sends) v.net)
-    → OnOk r (Wrote w.ledger v.ledger (lines_of s w.net) s.event) → OnOk r (IsWithin (w.ledger.journal.lines ++ lines_of s w.net))
+    → OnOk r (Wrote w.ledger v.ledger (lines_of s w.net) s.event.value) → OnOk r (IsWithin (w.ledger.journal.lines ++ lines_of s w.net))
     → OnErr r ((node ≡ old) × nets.IsSameNetwork w.net v.net × IsSameLedger w.ledger v.ledger) → Keeps v
 acts_kept w v now e s place facts first planned old node (Ok u) seen k acts is comes header ids clocks client_same nodes within stood plan read counted taken sent wrote fits same =
     let known : old ≡ planning first.now facts = at_set w.nodes.items place planned old within read ∙ plan in

@@ -29,7 +29,7 @@ use Rattle.cluster_rules.specs.World.{World, at, new_if, is_up}
 use Rattle.run_laws.specs.Taken.{IsProperEvent}
 use Rattle.wire_messages.specs.Nodes.{IsId}
 use Rattle.world.specs.Arriving.{OnlyLands, landed_if}
-use Rattle.world.specs.Requested.{DoesNothing}
+use Rattle.world.specs.Idle.{DoesNothing}
 use Rattle.world.specs.Sent.{landing_from}
 use Rattle.world.specs.Stands.{Stands, IsNetwork, AreDivided, posting_of}
 use Rattle.world.specs.Steps.{Run, standing, next_lines, marking}

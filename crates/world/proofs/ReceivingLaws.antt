@@ -48,7 +48,7 @@ unread_passes r i how m l ls flies free none told made =
 -- a message arrives
 pub arrives_so : (r : Run) (e : Event) (i : ℕ) (how : Delivery) (m : Flying) (l : Line) (ls : List Line) (landing : Option ℕ) (x : Message) → e ≡ delivering i how → Some (posting_of m) ≡ flying_at (standing r).network i
     → is_blocked (standing r) (posting_of m) ≡ false → arrival.Message x ≡ arrival_of m.bytes how → l ≡ line_of_delivery i m.from m.to how → ls ≡ l ∷ [] → landing ≡ landing_of i how
-    → Arrives r (record { event = e; lines = ls; landing = landing; from = m.from; to = m.to; message = x })
+    → Arrives r (record { event = record { marker = record {}; value = e }; lines = ls; landing = landing; from = m.from; to = m.to; message = x })
 arrives_so r e i how m l ls landing x is flies free read told made lands =
     let whole : ReadWhole m.bytes how x = message_arrives m.bytes how x read in
     record {
@@ -85,15 +85,15 @@ table_arrives r a t ls x end is made =
     subst (TableComes r x.number x.how t) (sym (made ∙ ap (λ (xs : List Line). xs ++ line.Table t.key ∷ []) x.lines))
     (table_comes r x.number x.how x.posting t x.flying x.free x.whole (x.read ∙ ap Some is) (sym x.to_end ∙ end))
 
-pub table_due : (r : Run) (a : Arriving) (t : MapTable) (ls : List Line) → Arrives r a → a.to ≡ client → a.message ≡ message.MapTable t → ls ≡ a.lines ++ line.Table t.key ∷ [] → ls ≡ next_lines r a.event
+pub table_due : (r : Run) (a : Arriving) (t : MapTable) (ls : List Line) → Arrives r a → a.to ≡ client → a.message ≡ message.MapTable t → ls ≡ a.lines ++ line.Table t.key ∷ [] → ls ≡ next_lines r a.event.value
 table_due r a t ls x end is made = subst (λ (e : Event). ls ≡ next_lines r e) (sym x.event) (table_arrives r a t ls x end is made).due
 
-pub keeps_table : (w v : Inside) (now : Run) (a : Arriving) (t : MapTable) (ls : List Line) → Sets w v now a.event ls → Arrives now a → a.to ≡ client → a.message ≡ message.MapTable t → ls ≡ a.lines ++ line.Table t.key ∷ []
+pub keeps_table : (w v : Inside) (now : Run) (a : Arriving) (t : MapTable) (ls : List Line) → Sets w v now a.event.value ls → Arrives now a → a.to ≡ client → a.message ≡ message.MapTable t → ls ≡ a.lines ++ line.Table t.key ∷ []
     → v.nodes.items ≡ w.nodes.items → v.clocks.items ≡ w.clocks.items → nets.IsSameNetwork (landing_from w.net a.landing) v.net → Holds ((standing now).tables ++ t ∷ []) v.client → Keeps v
 keeps_table w v now a t ls s x end is made nodes clocks net held =
     let comes : TableComes now x.number x.how t ls = table_arrives now a t ls x end is made in
-    keeps_after w v now a.event ls s.seen s.keeps s.header (table_due now a t ls x end is made) s.comes (over_proper a.event x.number x.how x.event) s.wrote s.within (landing_few w.net v.net a.landing ls net)
-    (parts (after_step (standing now) a.event) v w.ids w.nodes.items w.clocks.items v.net v.client s.ids nodes clocks refl refl
+    keeps_after w v now a.event.value ls s.seen s.keeps s.header (table_due now a t ls x end is made) s.comes (over_proper a.event.value x.number x.how x.event) s.wrote s.within (landing_few w.net v.net a.landing ls net)
+    (parts (after_step (standing now) a.event.value) v w.ids w.nodes.items w.clocks.items v.net v.client s.ids nodes clocks refl refl
     (subst (λ (e : Event). Stands (after_step (standing now) e) w.ids w.nodes.items w.clocks.items v.net v.client) (sym x.event)
     (stands_table now x.number x.how t ls w.ids w.nodes.items w.clocks.items w.net v.net w.client v.client comes (stands_of w now s.seen s.keeps)
     (subst (λ (o : Option ℕ). nets.IsSameNetwork (landing_from w.net o) v.net) x.landing net) held)))

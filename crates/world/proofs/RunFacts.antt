@@ -1,12 +1,9 @@
 -- What holds of the world after a run's steps, which are taken.
-use Rattle.std.proofs.Common.{◌≡◌, ℕ, ◌+◌, ◌<◌, length-append, List, length, refl, sym, ap, ◌∙◌, arith}
-use Rattle.wire_messages.specs.declared.message.Message.{Message}
-use Rattle.wire_messages.specs.declared.message.Message.TheVariants as message
+use Rattle.std.proofs.Common.{◌≡◌, ℕ, ◌+◌, ◌<◌, length-append, List, length, ap, ◌∙◌, arith}
 use Rattle.node_core.specs.Counts.{HaveNumbers}
-use Rattle.node_core.specs.Peers.{ComesFrom, key_in}
 use Rattle.cluster_rules.specs.Steps.{all_lines}
 use Rattle.run_laws.specs.Taken.{Taken, line_bound}
-use Rattle.run_laws.specs.Worlds.{AsksDeclared, ComesFromPeer, CountsBelow, HaveReceivers, KnowsNodes, MessagesCome, SendsAreRead, view_key_of}
+use Rattle.run_laws.specs.Worlds.{AsksDeclared, CountsBelow, HaveReceivers, KnowsNodes, MessagesCome, SendsAreRead}
 use Rattle.run_laws.proofs.Worlds.{asks_declared, counts_few, have_receivers, knows_nodes, messages_come}
 use Rattle.run_laws.proofs.WorldSends.{sends_are_read}
 use Rattle.cluster_rules.specs.Opening.{header_lines}
@@ -44,20 +41,6 @@ few_lines r ls is within =
 pub are_read : (r : Run) (sent : ℕ) (ls : List Line) → Fits r sent ls → SendsAreRead (standing r)
 unfolding standing
 are_read r sent ls fits = sends_are_read r.header r.steps fits.taken fits.nodes (few_lines r ls fits.journal fits.within)
-
-same_key : (m : Message) → key_in m ≡ view_key_of m
-same_key (message.State k wants row) = refl
-same_key (message.Batch b) = refl
-same_key (message.BatchAck k number) = refl
-same_key (message.Progress k wants done handed settled) = refl
-same_key (message.Repl k t nth d v) = refl
-same_key (message.ReplAck k t) = refl
-same_key (message.Ask k t d) = refl
-same_key (message.Answer k t v) = refl
-same_key _ = refl
-
-pub comes_from : (f : Facts) (from : ℕ) (m : Message) → ComesFromPeer f from m → ComesFrom f from m
-comes_from f from m h = record { sender = h.sender; member = λ key e i. h.member key (sym (same_key m) ∙ e) i }
 
 -- the last number of a count
 abbrev last_count : ℕ

@@ -69,7 +69,7 @@ pub record Arrives (r : Run) (a : Arriving) : Type 0 where
   pub number : ℕ
   pub how : Delivery
   pub posting : Posting
-  pub event : a.event ≡ delivering number how
+  pub event : a.event.value ≡ delivering number how
   pub flying : flying_at (standing r).network number ≡ Some posting
   pub free : is_blocked (standing r) posting ≡ false
   pub whole : is_short_of (length posting.bytes) how ≡ false

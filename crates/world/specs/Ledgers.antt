@@ -1,5 +1,5 @@
 -- What is written of a world's steps.
-use Rattle.std.specs.Prelude.{◌≡◌, ◌<◌, ◌≤◌, List, [], ◌∷◌, ◌++◌, length, vec_len, vec_capacity}
+use Rattle.std.specs.Prelude.{◌≡◌, List, [], ◌∷◌, ◌++◌}
 use Rattle.journal_lines.specs.declared.line.Line.{Line}
 use Rattle.cluster_rules.specs.declared.event.Event.{Event}
 use Rattle.world.specs.declared.ledger.Ledger.{Ledger}
@@ -8,11 +8,6 @@ use Rattle.world.specs.declared.ledger.Ledger.{Ledger}
 pub record IsSameLedger (old new : Ledger) : Type 0 where
   pub lines : new.journal.lines ≡ old.journal.lines
   pub events : new.events.items ≡ old.events.items
-
--- there is room for the lines, and for one more event
-pub record HasRoom (l : Ledger) (lines : List Line) : Type 0 where
-  pub journal : length lines ≤ l.journal.spare
-  pub events : vec_len l.events < vec_capacity l.events
 
 -- the step of that event, with those lines, was written
 pub record Wrote (old new : Ledger) (added : List Line) (e : Event) : Type 0 where

@@ -2,9 +2,9 @@ pub mod Arriving
 pub mod Calmness
 pub mod Claims
 pub mod Fits
+pub mod Idle
 pub mod Kept
 pub mod Ledgers
-pub mod Requested
 pub mod Sent
 pub mod Stands
 pub mod Steps

@@ -3,7 +3,7 @@ ghost use Rattle.std.specs.Prelude.{◌≡◌, Contains, IfSome};
 ghost use Rattle.node_rules.specs.Client.{node_for};
 ghost use Rattle.cluster_rules.specs.declared.event.Event.TheVariants as events;
 ghost use Rattle.cluster_rules.specs.Opening.{declared_nodes};
-ghost use Rattle.world.specs.Requested.{IsProperRequest};
+ghost use Rattle.run_laws.specs.Taken.{IsProperEvent};
 ghost use Rattle.world.specs.Steps.{MayCome, TakesStep, client_requesting, requesting, standing};
 
 use crate::fault::StepFault;
@@ -17,6 +17,7 @@ use conflict_order::Want;
 use journal_text::{Line, LineList};
 use node_core::{Effects, SendList};
 use std::alloc::Global;
+use std::snapshot::Snapshot;
 use wire_codec::{Message, encode};
 
 impl World {
@@ -26,11 +27,11 @@ impl World {
         &mut self,
         alloc: Global,
         node: NodeId,
-        event: Event,
+        event: Snapshot<Event>,
     ) -> Result<(), StepFault>
-        requires is { event ≡ events.Tick node }
-        requires comes { MayCome self.old event }
-        ensures { TakesStep self.old self.new event result }
+        requires is { event.value ≡ events.Tick node }
+        requires comes { MayCome self.old event.value }
+        ensures { TakesStep self.old self.new event.value result }
     {
         let number = node.number();
         let place = self.place_of(node);
@@ -51,11 +52,11 @@ impl World {
         &mut self,
         alloc: Global,
         node: NodeId,
-        event: Event,
+        event: Snapshot<Event>,
     ) -> Result<(), StepFault>
-        requires is { event ≡ events.Stop node }
-        requires comes { MayCome self.old event }
-        ensures { TakesStep self.old self.new event result }
+        requires is { event.value ≡ events.Stop node }
+        requires comes { MayCome self.old event.value }
+        ensures { TakesStep self.old self.new event.value result }
     {
         let place = self.place_of(node);
         if !self.nodes[place].is_up() {
@@ -75,11 +76,11 @@ impl World {
         &mut self,
         alloc: Global,
         node: NodeId,
-        event: Event,
+        event: Snapshot<Event>,
     ) -> Result<(), StepFault>
-        requires is { event ≡ events.Start node }
-        requires comes { MayCome self.old event }
-        ensures { TakesStep self.old self.new event result }
+        requires is { event.value ≡ events.Start node }
+        requires comes { MayCome self.old event.value }
+        ensures { TakesStep self.old self.new event.value result }
     {
         let place = self.place_of(node);
         if self.nodes[place].is_up() {
@@ -97,12 +98,12 @@ impl World {
         node: NodeId,
         digest: Digest,
         want: Want,
-        event: Event,
+        event: Snapshot<Event>,
     ) -> Result<(), StepFault>
-        requires is { event ≡ requesting node digest want }
-        requires comes { MayCome self.old event }
-        requires proper { IsProperRequest event }
-        ensures { TakesStep self.old self.new event result }
+        requires is { event.value ≡ requesting node digest want }
+        requires comes { MayCome self.old event.value }
+        requires proper { IsProperEvent event.value }
+        ensures { TakesStep self.old self.new event.value result }
     {
         let place = self.place_of(node);
         let (_, effects) = self.nodes[place].request(alloc, digest, want, self.clocks[place])?;
@@ -123,12 +124,12 @@ impl World {
         alloc: Global,
         digest: Digest,
         want: Want,
-        event: Event,
+        event: Snapshot<Event>,
     ) -> Result<(), StepFault>
-        requires is { event ≡ client_requesting digest want }
-        requires comes { MayCome self.old event }
-        requires proper { IsProperRequest event }
-        ensures { TakesStep self.old self.new event result }
+        requires is { event.value ≡ client_requesting digest want }
+        requires comes { MayCome self.old event.value }
+        requires proper { IsProperEvent event.value }
+        ensures { TakesStep self.old self.new event.value result }
     {
         let partition = partition_of(&digest);
         let Some(node) = self.asked_node(partition) else {
@@ -157,10 +158,15 @@ impl World {
     }
 
     /// The client asks the node for its table.
-    pub(crate) fn ask(&mut self, alloc: Global, node: NodeId, event: Event) -> Result<(), StepFault>
-        requires is { event ≡ events.Ask node }
-        requires comes { MayCome self.old event }
-        ensures { TakesStep self.old self.new event result }
+    pub(crate) fn ask(
+        &mut self,
+        alloc: Global,
+        node: NodeId,
+        event: Snapshot<Event>,
+    ) -> Result<(), StepFault>
+        requires is { event.value ≡ events.Ask node }
+        requires comes { MayCome self.old event.value }
+        ensures { TakesStep self.old self.new event.value result }
     {
         let lines = LineList::new(alloc);
         let mut sends = SendList::new(alloc);

@@ -22,12 +22,13 @@ use journal_text::{Line, LineList};
 use net_script::Flying;
 use node_core::Effects;
 use std::alloc::Global;
+use std::snapshot::Snapshot;
 use wire_codec::Message;
 
 /// A message that arrives.
 #[derive(Drop)]
 struct Arriving {
-    event: Event,
+    event: Snapshot<Event>,
     /// The line of the delivery.
     lines: LineList,
     /// The number of the message, where it leaves the network.
@@ -42,11 +43,11 @@ impl World {
         &mut self,
         alloc: Global,
         message: u64,
-        event: Event,
+        event: Snapshot<Event>,
     ) -> Result<(), StepFault>
-        requires is { event ≡ events.Lose message }
-        requires comes { MayCome self.old event }
-        ensures { TakesStep self.old self.new event result }
+        requires is { event.value ≡ events.Lose message }
+        requires comes { MayCome self.old event.value }
+        ensures { TakesStep self.old self.new event.value result }
     {
         let lines = one_line(alloc, self.loss_line(message))?;
         self.pass_over(lines, Some(message), event)
@@ -76,11 +77,11 @@ impl World {
         alloc: Global,
         message: u64,
         delivery: Delivery,
-        event: Event,
+        event: Snapshot<Event>,
     ) -> Result<(), StepFault>
-        requires is { event ≡ delivering message delivery }
-        requires comes { MayCome self.old event }
-        ensures { TakesStep self.old self.new event result }
+        requires is { event.value ≡ delivering message delivery }
+        requires comes { MayCome self.old event.value }
+        ensures { TakesStep self.old self.new event.value result }
     {
         let landing = delivery.landing(message);
         let Some(flying) = self.flying(message) else {
@@ -130,13 +131,13 @@ impl World {
         &mut self,
         lines: LineList,
         landing: Option<u64>,
-        event: Event,
+        event: Snapshot<Event>,
     ) -> Result<(), StepFault>
-        requires comes { MayCome self.old event }
-        requires proper { IsProperEvent event }
-        requires due { lines ≡ next_lines self.old event }
-        requires lands { OnlyLands self.old event landing }
-        ensures { TakesStep self.old self.new event result }
+        requires comes { MayCome self.old event.value }
+        requires proper { IsProperEvent event.value }
+        requires due { lines ≡ next_lines self.old event.value }
+        requires lands { OnlyLands self.old event.value landing }
+        ensures { TakesStep self.old self.new event.value result }
     {
         self.ledger.tell_all(lines, event)?;
         land(&mut self.net, landing);
@@ -145,10 +146,10 @@ impl World {
 
     /// The client takes tables and nothing else.
     fn arrive_at_client(&mut self, arriving: Arriving) -> Result<(), StepFault>
-        requires comes { MayCome self.old arriving.event }
+        requires comes { MayCome self.old arriving.event.value }
         requires arrives { Arrives self.old arriving }
         requires end { arriving.to ≡ client }
-        ensures { TakesStep self.old self.new arriving.event result }
+        ensures { TakesStep self.old self.new arriving.event.value result }
     {
         let Arriving {
             event,
@@ -174,10 +175,10 @@ impl World {
         place: usize,
         arriving: Arriving,
     ) -> Result<(), StepFault>
-        requires comes { MayCome self.old arriving.event }
+        requires comes { MayCome self.old arriving.event.value }
         requires arrives { Arrives self.old arriving }
         requires end { StandsAt self.old place arriving.to }
-        ensures { TakesStep self.old self.new arriving.event result }
+        ensures { TakesStep self.old self.new arriving.event.value result }
     {
         let Arriving {
             event,

@@ -8,7 +8,7 @@ ghost use Rattle.world.specs.Calmness.{rests_in};
 ghost use Rattle.world.specs.Stands.{AreDivided};
 ghost use Rattle.world.specs.Steps.{standing};
 
-use crate::nodes::falling;
+use crate::order::falling;
 use crate::world::World;
 use cluster_types::{ClusterKey, Groups, Member, NodeId, NodeList};
 use node_core::Node;

@@ -1,19 +1,21 @@
 //! What is written of a world's steps.
-ghost use Rattle.std.specs.Prelude.{◌≡◌, ◌++◌, ◌∷◌, [], ◌<◌, ◌≤◌, length, vec_len, vec_capacity, OnOk, OnErr, IsErrOf};
+ghost use Rattle.std.specs.Prelude.{◌≡◌, ◌++◌, ◌∷◌, [], ◌≤◌, length, OnOk, OnErr, IsErrOf};
 ghost use Rattle.journal_text.specs.Journals.{IsWithin};
-ghost use Rattle.world.specs.Ledgers.{HasRoom, IsSameLedger, Wrote};
+ghost use Rattle.world.specs.Ledgers.{IsSameLedger, Wrote};
 
 use crate::fault::StepFault;
+use crate::history::History;
 use crate::lines::one_line;
 use cluster_rules::Event;
 use journal_text::{Journal, Line, LineList};
 use std::alloc::Global;
+use std::snapshot::Snapshot;
 
-/// The journal, and the event of each step.
+/// The journal, and of each step its event, which takes no memory.
 #[derive(Drop)]
 pub(crate) struct Ledger {
     pub journal: Journal,
-    pub events: Vec<Event>,
+    pub events: History,
 }
 
 impl Ledger {
@@ -24,7 +26,7 @@ impl Ledger {
     {
         Ledger {
             journal: Journal::new(alloc),
-            events: Vec::new(alloc),
+            events: History::new(),
         }
     }
 
@@ -36,18 +38,17 @@ impl Ledger {
         journal
     }
 
-    /// Makes room for the lines and one more event, where the journal has a place for them.
+    /// Makes room for the lines, where the journal has a place for them.
     pub fn make_room(&mut self, lines: &LineList) -> Result<(), StepFault>
         ensures same { IsSameLedger self.old self.new }
         ensures within { OnOk result (IsWithin (self.old.journal.lines ++ lines.now)) }
-        ensures room { OnOk result (HasRoom self.new lines.now) }
+        ensures room { OnOk result (length lines.now ≤ self.new.journal.spare) }
         ensures too_long { IsErrOf result StepFault.RunTooLong → ¬ IsWithin (self.old.journal.lines ++ lines.now) }
     {
         if !self.journal.fits(lines) {
             return Err(StepFault::RunTooLong);
         }
         self.journal.reserve(lines.len())?;
-        self.events.reserve(1)?;
         Ok(())
     }
 
@@ -61,19 +62,19 @@ impl Ledger {
         self.journal.append(&mut lines);
     }
 
-    /// Writes the lines of a step and keeps its event. They fit, and there is room for both.
-    pub fn write(&mut self, lines: LineList, event: Event)
+    /// Writes the lines of a step and keeps its event. They fit, and there is room for them.
+    pub fn write(&mut self, lines: LineList, event: Snapshot<Event>)
         requires within { IsWithin (self.old.journal.lines ++ lines) }
-        requires room { HasRoom self.old lines }
-        ensures { Wrote self.old self.new lines event }
+        requires room { length lines ≤ self.old.journal.spare }
+        ensures { Wrote self.old self.new lines event.value }
     {
         self.append(lines);
-        let _ = self.events.push(event);
+        self.events = self.events.and(&event);
     }
 
     /// Writes the lines of a step and keeps its event, where the journal has a place for them.
-    pub fn tell_all(&mut self, lines: LineList, event: Event) -> Result<(), StepFault>
-        ensures ok { OnOk result (Wrote self.old self.new lines event) }
+    pub fn tell_all(&mut self, lines: LineList, event: Snapshot<Event>) -> Result<(), StepFault>
+        ensures ok { OnOk result (Wrote self.old self.new lines event.value) }
         ensures within { OnOk result (IsWithin (self.old.journal.lines ++ lines)) }
         ensures too_long { IsErrOf result StepFault.RunTooLong → ¬ IsWithin (self.old.journal.lines ++ lines) }
         ensures err { OnErr result (IsSameLedger self.old self.new) }
@@ -84,8 +85,13 @@ impl Ledger {
     }
 
     /// The same of a step of one line.
-    pub fn tell(&mut self, alloc: Global, line: Line, event: Event) -> Result<(), StepFault>
-        ensures ok { OnOk result (Wrote self.old self.new (line ∷ []) event) }
+    pub fn tell(
+        &mut self,
+        alloc: Global,
+        line: Line,
+        event: Snapshot<Event>,
+    ) -> Result<(), StepFault>
+        ensures ok { OnOk result (Wrote self.old self.new (line ∷ []) event.value) }
         ensures within { OnOk result (IsWithin (self.old.journal.lines ++ line ∷ [])) }
         ensures too_long { IsErrOf result StepFault.RunTooLong → ¬ IsWithin (self.old.journal.lines ++ line ∷ []) }
         ensures err { OnErr result (IsSameLedger self.old self.new) }

@@ -88,17 +88,3 @@ fn place_in(ids: &[NodeId], number: u16) -> Option<usize>
 {
     ids.iter().position(|id| id.number() == number)
 }
-
-/// These ids in falling order.
-pub(crate) fn falling(ids: &NodeList) -> NodeList
-    ensures { result ≡ in_order (λ m n. nat_lt n m) ids.now }
-{
-    let mut places = [NodeId::MIN; 16];
-    let places = &mut places[..ids.len()];
-    places.copy_from_slice(ids.as_slice());
-    places.sort_unstable_by(|m, n| n.cmp(m));
-    match NodeList::from_slice(places) {
-        Ok(ids) => ids,
-        Err(_) => unreachable!(),
-    }
-}

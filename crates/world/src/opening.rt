@@ -52,20 +52,6 @@ pub(crate) fn declared_ids(header: &[HeaderLine]) -> NodeList
     ids
 }
 
-/// These ids in rising order.
-pub(crate) fn rising(ids: &NodeList) -> NodeList
-    ensures { result ≡ in_order nat_lt ids.now }
-{
-    let mut places = [NodeId::MIN; 16];
-    let places = &mut places[..ids.len()];
-    places.copy_from_slice(ids.as_slice());
-    places.sort_unstable();
-    match NodeList::from_slice(places) {
-        Ok(ids) => ids,
-        Err(_) => unreachable!(),
-    }
-}
-
 /// The role in which the node begins: with the rack that its line names, or rack 0.
 fn declared_role(header: &[HeaderLine], id: NodeId) -> Role
     ensures { result ≡ declared.declared_role header.now id }

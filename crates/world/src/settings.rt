@@ -10,6 +10,7 @@ use cluster_rules::Event;
 use cluster_types::{BoxedGroups, Digest, NodeId, PartitionId, Role, partition_of};
 use journal_text::Line;
 use std::alloc::Global;
+use std::snapshot::Snapshot;
 
 impl World {
     // ---- what is shown
@@ -20,11 +21,11 @@ impl World {
         node: NodeId,
         from: PartitionId,
         to: PartitionId,
-        event: Event,
+        event: Snapshot<Event>,
     ) -> Result<(), StepFault>
-        requires is { event ≡ events.Map node from to }
-        requires comes { MayCome self.old event }
-        ensures { TakesStep self.old self.new event result }
+        requires is { event.value ≡ events.Map node from to }
+        requires comes { MayCome self.old event.value }
+        ensures { TakesStep self.old self.new event.value result }
     {
         let lines = map_lines(alloc, node, self.node(node), from, to)?;
         self.ledger.tell_all(lines, event)
@@ -34,11 +35,11 @@ impl World {
         &mut self,
         alloc: Global,
         partition: PartitionId,
-        event: Event,
+        event: Snapshot<Event>,
     ) -> Result<(), StepFault>
-        requires is { event ≡ events.Place partition }
-        requires comes { MayCome self.old event }
-        ensures { TakesStep self.old self.new event result }
+        requires is { event.value ≡ events.Place partition }
+        requires comes { MayCome self.old event.value }
+        ensures { TakesStep self.old self.new event.value result }
     {
         let line = self.place_line(alloc, partition)?;
         self.ledger.tell(alloc, line, event)
@@ -48,11 +49,11 @@ impl World {
         &mut self,
         alloc: Global,
         digest: Digest,
-        event: Event,
+        event: Snapshot<Event>,
     ) -> Result<(), StepFault>
-        requires is { event ≡ events.Hash digest }
-        requires comes { MayCome self.old event }
-        ensures { TakesStep self.old self.new event result }
+        requires is { event.value ≡ events.Hash digest }
+        requires comes { MayCome self.old event.value }
+        ensures { TakesStep self.old self.new event.value result }
     {
         let partition = partition_of(&digest);
         self.ledger
@@ -64,11 +65,11 @@ impl World {
         alloc: Global,
         node: NodeId,
         digest: Digest,
-        event: Event,
+        event: Snapshot<Event>,
     ) -> Result<(), StepFault>
-        requires is { event ≡ events.Show node digest }
-        requires comes { MayCome self.old event }
-        ensures { TakesStep self.old self.new event result }
+        requires is { event.value ≡ events.Show node digest }
+        requires comes { MayCome self.old event.value }
+        ensures { TakesStep self.old self.new event.value result }
     {
         let line = holds_line(alloc, node, self.node(node), &digest)?;
         self.ledger.tell(alloc, line, event)
@@ -78,11 +79,11 @@ impl World {
         &mut self,
         alloc: Global,
         rounds: u64,
-        event: Event,
+        event: Snapshot<Event>,
     ) -> Result<(), StepFault>
-        requires is { event ≡ events.Calmed rounds }
-        requires comes { MayCome self.old event }
-        ensures { TakesStep self.old self.new event result }
+        requires is { event.value ≡ events.Calmed rounds }
+        requires comes { MayCome self.old event.value }
+        ensures { TakesStep self.old self.new event.value result }
     {
         self.ledger.tell(alloc, Line::Calm { rounds }, event)
     }
@@ -94,11 +95,11 @@ impl World {
         alloc: Global,
         node: NodeId,
         time: u64,
-        event: Event,
+        event: Snapshot<Event>,
     ) -> Result<(), StepFault>
-        requires is { event ≡ events.Clock node time }
-        requires comes { MayCome self.old event }
-        ensures { TakesStep self.old self.new event result }
+        requires is { event.value ≡ events.Clock node time }
+        requires comes { MayCome self.old event.value }
+        ensures { TakesStep self.old self.new event.value result }
     {
         let place = self.place_of(node);
         self.ledger.tell(alloc, Line::Clock { node, time }, event)?;
@@ -110,11 +111,11 @@ impl World {
         &mut self,
         alloc: Global,
         groups: &BoxedGroups,
-        event: Event,
+        event: Snapshot<Event>,
     ) -> Result<(), StepFault>
-        requires is { event ≡ events.Groups groups.now }
-        requires comes { MayCome self.old event }
-        ensures { TakesStep self.old self.new event result }
+        requires is { event.value ≡ events.Groups groups.now }
+        requires comes { MayCome self.old event.value }
+        ensures { TakesStep self.old self.new event.value result }
     {
         let parts = *groups.groups();
         let groups = BoxedGroups::new(alloc, parts)?;
@@ -129,11 +130,11 @@ impl World {
         alloc: Global,
         node: NodeId,
         quiesced: bool,
-        event: Event,
+        event: Snapshot<Event>,
     ) -> Result<(), StepFault>
-        requires is { event ≡ marking node quiesced }
-        requires comes { MayCome self.old event }
-        ensures { TakesStep self.old self.new event result }
+        requires is { event.value ≡ marking node quiesced }
+        requires comes { MayCome self.old event.value }
+        ensures { TakesStep self.old self.new event.value result }
     {
         let place = self.place_of(node);
         self.ledger.tell(alloc, mark_line(node, quiesced), event)?;

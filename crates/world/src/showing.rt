@@ -14,7 +14,7 @@ ghost use Rattle.cluster_rules.specs.DueEvents.{due_place};
 ghost use Rattle.world.specs.Steps.{standing};
 
 use crate::lines::one_line;
-use crate::nodes::falling;
+use crate::order::falling;
 use crate::world::World;
 use cluster_types::{Digest, Member, MemberList, Members, NoMemory, NodeId, PartitionId, Role};
 use journal_text::{Line, LineList};

@@ -3,7 +3,7 @@ ghost use Rattle.std.specs.Prelude.{◌≡◌, ◌≤◌, ◌++◌, ℕ, length,
 ghost use Rattle.journal_text.specs.Journals.{IsWithin, line_limit};
 ghost use Rattle.net_script.specs.Network as nets;
 ghost use Rattle.node_rules.specs.Steps.{unplanned};
-ghost use Rattle.world.specs.Ledgers.{HasRoom, IsSameLedger, Wrote};
+ghost use Rattle.world.specs.Ledgers.{IsSameLedger, Wrote};
 ghost use Rattle.world.specs.Sent.{IsInFlight, all_posted_in, landing_from};
 ghost use Rattle.world.specs.Taking.{lines_of, with_all_lines};
 
@@ -14,6 +14,7 @@ use cluster_rules::Event;
 use net_script::Net;
 use node_core::{Effects, Node};
 use std::alloc::Global;
+use std::snapshot::Snapshot;
 
 /// No journal has more lines, of which each message takes one.
 const MESSAGE_LIMIT: usize = 2_000_000;
@@ -21,7 +22,7 @@ const MESSAGE_LIMIT: usize = 2_000_000;
 /// What an endpoint does in an event's step.
 #[derive(Drop)]
 pub(crate) struct EndStep {
-    pub event: Event,
+    pub event: Snapshot<Event>,
     /// The endpoint.
     pub from: u16,
     /// The message in flight that leaves the network before the endpoint sends its own.
@@ -31,7 +32,7 @@ pub(crate) struct EndStep {
 
 impl EndStep {
     /// A step that takes no message out of flight.
-    pub fn of(event: Event, from: u16, effects: Effects) -> EndStep
+    pub fn of(event: Snapshot<Event>, from: u16, effects: Effects) -> EndStep
         ensures { result ≡ record { event = event; from = from; landing = None; effects = effects } }
     {
         EndStep {
@@ -55,7 +56,7 @@ impl EndStep {
         ensures within { OnOk result (IsWithin (ledger.old.journal.lines ++ lines_of self net.old)) }
         ensures few { OnOk result (length self.effects.sends ≤ line_limit) }
         ensures place { OnOk result (length self.effects.sends ≤ net.new.spare) }
-        ensures room { OnOk result (HasRoom ledger.new (lines_of self net.old)) }
+        ensures room { OnOk result (length (lines_of self net.old) ≤ ledger.new.journal.spare) }
         ensures too_long { IsErrOf result StepFault.RunTooLong → ¬ IsWithin (ledger.old.journal.lines ++ lines_of self net.old) }
         ensures numbers { OnOk result (nets.AreNumbers net.old.sent (nets.ids_of net.old.flying)) }
         ensures net { nets.IsSameNetwork net.old net.new }
@@ -89,9 +90,9 @@ impl EndStep {
         requires few { length self.effects.sends ≤ line_limit }
         requires place { length self.effects.sends ≤ net.old.spare }
         requires within { IsWithin (ledger.old.journal.lines ++ self.effects.lines) }
-        requires room { HasRoom ledger.old self.effects.lines }
+        requires room { length self.effects.lines ≤ ledger.old.journal.spare }
         ensures net { nets.IsSameNetwork (all_posted_in (landing_from net.old self.landing) self.from self.effects.sends) net.new }
-        ensures wrote { Wrote ledger.old ledger.new self.effects.lines self.event }
+        ensures wrote { Wrote ledger.old ledger.new self.effects.lines self.event.value }
     {
         let EndStep {
             event,
@@ -111,7 +112,7 @@ impl EndStep {
         requires flying { IsInFlight net.old.flying self.landing }
         ensures net { OnOk result (nets.IsSameNetwork (all_posted_in (landing_from net.old self.landing) self.from self.effects.sends) net.new) }
         ensures numbers { OnOk result (nets.AreNumbers net.old.sent (nets.ids_of net.old.flying)) }
-        ensures wrote { OnOk result (Wrote ledger.old ledger.new (lines_of self net.old) self.event) }
+        ensures wrote { OnOk result (Wrote ledger.old ledger.new (lines_of self net.old) self.event.value) }
         ensures within { OnOk result (IsWithin (ledger.old.journal.lines ++ lines_of self net.old)) }
         ensures too_long { IsErrOf result StepFault.RunTooLong → ¬ IsWithin (ledger.old.journal.lines ++ lines_of self net.old) }
         ensures err { OnErr result (nets.IsSameNetwork net.old net.new × IsSameLedger ledger.old ledger.new) }
@@ -135,7 +136,7 @@ impl EndStep {
         ensures node { OnOk result (IfSome node.old.next (λ f. node.new ≡ unplanned f)) }
         ensures net { OnOk result (nets.IsSameNetwork (all_posted_in (landing_from net.old self.landing) self.from self.effects.sends) net.new) }
         ensures numbers { OnOk result (nets.AreNumbers net.old.sent (nets.ids_of net.old.flying)) }
-        ensures wrote { OnOk result (Wrote ledger.old ledger.new (lines_of self net.old) self.event) }
+        ensures wrote { OnOk result (Wrote ledger.old ledger.new (lines_of self net.old) self.event.value) }
         ensures within { OnOk result (IsWithin (ledger.old.journal.lines ++ lines_of self net.old)) }
         ensures too_long { IsErrOf result StepFault.RunTooLong → ¬ IsWithin (ledger.old.journal.lines ++ lines_of self net.old) }
         ensures err { OnErr result ((node.new ≡ node.old) × nets.IsSameNetwork net.old net.new × IsSameLedger ledger.old ledger.new) }

@@ -7,16 +7,15 @@ ghost use Rattle.cluster_rules.specs.Opening as opening;
 ghost use Rattle.cluster_rules.specs.World as worlds;
 ghost use Rattle.run_laws.specs.Taken.{Taken};
 ghost use Rattle.world.specs.Claims.{HasClaims};
-ghost use Rattle.world.specs.Requested.{DoesNothing, IsProperRequest};
+ghost use Rattle.world.specs.Idle.{DoesNothing};
 ghost use Rattle.world.specs.Steps.{MayCome, TakesStep, begun, standing, written, next_lines, stepped};
 
 use crate::delivery::Delivery;
-use crate::event_copy::copy_event;
 use crate::fault::StepFault;
 use crate::ledger::Ledger;
-use crate::opening::{
-    clocks_at_0, declared_ids, declared_nodes, header_lines, rising, undivided_net,
-};
+use crate::opening::{clocks_at_0, declared_ids, declared_nodes, header_lines, undivided_net};
+use crate::order::rising;
+use crate::requested::{same_digest, same_value};
 use client_map::ClientMap;
 use cluster_rules::Event;
 use cluster_types::{IdList, NoMemory, NodeId, NodeList};
@@ -27,6 +26,7 @@ use node_core::Node;
 use script_lang::{Header, HeaderLine};
 use std::alloc::Global;
 use std::marker::Model;
+use std::snapshot::Snapshot;
 
 /// The nodes that a header declares, the network between them, the client and the journal.
 ///
@@ -100,17 +100,19 @@ impl World {
         ensures within { OnOk result (IsWithin (written self.old ++ next_lines self.old event.now)) }
         ensures too_long { IsErrOf result StepFault.RunTooLong → ¬ IsWithin (written self.old ++ next_lines self.old event.now) }
         ensures err { OnErr result (self.new ≡ self.old) }
+        ensures claims { HasClaims (written self.new) }
     {
-        let kept = copy_event(alloc, event)?;
-        self.take(alloc, event, kept)
+        let answer = self.take(alloc, event, Snapshot::of(event));
+        // What the journal ensures of its lines.
+        let _ = self.journal();
+        answer
     }
 
-    /// One step of the event, which is kept.
-    fn take(&mut self, alloc: Global, event: &Event, kept: Event) -> Result<(), StepFault>
-        requires same { kept ≡ event.now }
-        requires comes { MayCome self.old kept }
-        requires proper { IsProperRequest kept }
-        ensures { TakesStep self.old self.new kept result }
+    /// One step of the event, which proofs keep.
+    fn take(&mut self, alloc: Global, event: &Event, kept: Snapshot<Event>) -> Result<(), StepFault>
+        requires same { kept.value ≡ event.now }
+        requires comes { MayCome self.old kept.value }
+        ensures { TakesStep self.old self.new kept.value result }
     {
         match event {
             Event::Clock { node, time } => self.set_clock(alloc, *node, *time, kept),
@@ -122,14 +124,26 @@ impl World {
                 node,
                 digest,
                 value,
-            } => self.request(alloc, *node, *digest, Want::Put(value.copy(alloc)?), kept),
-            Event::Get { node, digest } => self.request(alloc, *node, *digest, Want::Get, kept),
-            Event::Del { node, digest } => self.request(alloc, *node, *digest, Want::Del, kept),
-            Event::ClientPut { digest, value } => {
-                self.client_request(alloc, *digest, Want::Put(value.copy(alloc)?), kept)
+            } => {
+                let want = Want::Put(same_value(alloc, value)?);
+                self.request(alloc, *node, same_digest(digest), want, kept)
             }
-            Event::ClientGet { digest } => self.client_request(alloc, *digest, Want::Get, kept),
-            Event::ClientDel { digest } => self.client_request(alloc, *digest, Want::Del, kept),
+            Event::Get { node, digest } => {
+                self.request(alloc, *node, same_digest(digest), Want::Get, kept)
+            }
+            Event::Del { node, digest } => {
+                self.request(alloc, *node, same_digest(digest), Want::Del, kept)
+            }
+            Event::ClientPut { digest, value } => {
+                let want = Want::Put(same_value(alloc, value)?);
+                self.client_request(alloc, same_digest(digest), want, kept)
+            }
+            Event::ClientGet { digest } => {
+                self.client_request(alloc, same_digest(digest), Want::Get, kept)
+            }
+            Event::ClientDel { digest } => {
+                self.client_request(alloc, same_digest(digest), Want::Del, kept)
+            }
             Event::Ask { node } => self.ask(alloc, *node, kept),
             Event::Deliver { message } => self.deliver(alloc, *message, Delivery::Whole, kept),
             Event::Repeat { message } => self.deliver(alloc, *message, Delivery::Repeated, kept),
@@ -159,10 +173,10 @@ impl World {
     }
 
     /// The step of an event that does nothing.
-    fn do_nothing(&mut self, alloc: Global, event: Event) -> Result<(), StepFault>
-        requires nothing { DoesNothing event }
-        requires comes { MayCome self.old event }
-        ensures { TakesStep self.old self.new event result }
+    fn do_nothing(&mut self, alloc: Global, event: Snapshot<Event>) -> Result<(), StepFault>
+        requires nothing { DoesNothing event.value }
+        requires comes { MayCome self.old event.value }
+        ensures { TakesStep self.old self.new event.value result }
     {
         self.ledger.tell_all(LineList::new(alloc), event)
     }

@@ -34,7 +34,7 @@ invariant_of-self c =
 
 pub returns-in_err-effects : goal.returns-in_err-effects
 returns-in_err-effects c =
-    step_refused c.self.inside _ c.self.inside.ledger c.args.arriving.event c.from_residual.result c.self.view_is (record { lines = refl; events = refl }) c.from_residual.ensures
+    step_refused c.self.inside _ c.self.inside.ledger c.args.arriving.event.value c.from_residual.result c.self.view_is (record { lines = refl; events = refl }) c.from_residual.ensures
 
 pub invariant_of-self-in_err-add_lines : goal.invariant_of-self-in_err-add_lines
 invariant_of-self-in_err-add_lines c =
@@ -42,7 +42,7 @@ invariant_of-self-in_err-add_lines c =
 
 pub returns-in_err-add_lines : goal.returns-in_err-add_lines
 returns-in_err-add_lines c =
-    step_refused c.self.inside _ c.self.inside.ledger c.args.arriving.event c.from_residual-in_err-add_lines.result c.self.view_is (record { lines = refl; events = refl }) c.from_residual-in_err-add_lines.ensures
+    step_refused c.self.inside _ c.self.inside.ledger c.args.arriving.event.value c.from_residual-in_err-add_lines.result c.self.view_is (record { lines = refl; events = refl }) c.from_residual-in_err-add_lines.ensures
 
 pub take_of-requires-clause-planned : goal.take_of-requires-clause-planned
 take_of-requires-clause-planned c =
@@ -55,7 +55,7 @@ take_of-requires-clause-flying c = arrival_flies c.self.inside _ c.args.arriving
 pub returns : goal.returns
 returns c =
     let here = node_at c.self.inside c.args.self.now c.args.place c.args.arriving.to c.index_mut.result.now c.self.view_is c.self.invariant c.requires.end c.index_mut.ensures.value in
-    acts_returns c.self.inside _ c.args.arriving.event (record { event = c.args.arriving.event; from = c.args.arriving.to; landing = c.args.arriving.landing; effects = record { lines = c.add_lines.new.lines; sends = c.in_ok-effects.effects.sends } }) c.args.place (after_message c.index_mut.result.now.now c.index.result.now c.args.arriving.from c.args.arriving.message) c.index_mut-2.result.now c.take_of.new.node c.take_of.new.net c.take_of.new.ledger c.take_of.result c.self.view_is c.self.invariant
+    acts_returns c.self.inside _ c.args.arriving.event.value (record { event = c.args.arriving.event; from = c.args.arriving.to; landing = c.args.arriving.landing; effects = record { lines = c.add_lines.new.lines; sends = c.in_ok-effects.effects.sends } }) c.args.place (after_message c.index_mut.result.now.now c.index.result.now c.args.arriving.from c.args.arriving.message) c.index_mut-2.result.now c.take_of.new.node c.take_of.new.net c.take_of.new.ledger c.take_of.result c.self.view_is c.self.invariant
     (subst (λ (ls : List Line). Acts c.self.inside c.args.self.now (record { event = c.args.arriving.event; from = c.args.arriving.to; landing = c.args.arriving.landing; effects = record { lines = ls; sends = c.in_ok-effects.effects.sends } }) c.args.place (after_message c.index_mut.result.now.now c.index.result.now c.args.arriving.from c.args.arriving.message)) (sym c.in_ok-add_lines.ensures)
     (arrival_acts c.self.inside c.args.self.now c.args.arriving c.args.place c.index.result.now c.index_mut.result.now.now c.in_ok-effects.effects c.self.view_is c.self.invariant c.requires.arrives c.requires.end here
     (c.index.ensures ∙ clock_at c.self.inside c.args.self.now c.args.place c.args.arriving.to c.index.result.now c.self.view_is c.self.invariant c.requires.end)
@@ -66,7 +66,7 @@ returns c =
 pub invariant_of-self-2 : goal.invariant_of-self-2
 invariant_of-self-2 c =
     let here = node_at c.self.inside c.args.self.now c.args.place c.args.arriving.to c.index_mut.result.now c.self.view_is c.self.invariant c.requires.end c.index_mut.ensures.value in
-    acts_kept c.self.inside _ c.args.self.now c.args.arriving.event (record { event = c.args.arriving.event; from = c.args.arriving.to; landing = c.args.arriving.landing; effects = record { lines = c.add_lines.new.lines; sends = c.in_ok-effects.effects.sends } }) c.args.place (after_message c.index_mut.result.now.now c.index.result.now c.args.arriving.from c.args.arriving.message) c.index_mut.result.now c.receive.new.self c.index_mut-2.result.now c.take_of.new.node c.take_of.result c.self.view_is c.self.invariant
+    acts_kept c.self.inside _ c.args.self.now c.args.arriving.event.value (record { event = c.args.arriving.event; from = c.args.arriving.to; landing = c.args.arriving.landing; effects = record { lines = c.add_lines.new.lines; sends = c.in_ok-effects.effects.sends } }) c.args.place (after_message c.index_mut.result.now.now c.index.result.now c.args.arriving.from c.args.arriving.message) c.index_mut.result.now c.receive.new.self c.index_mut-2.result.now c.take_of.new.node c.take_of.result c.self.view_is c.self.invariant
     (subst (λ (ls : List Line). Acts c.self.inside c.args.self.now (record { event = c.args.arriving.event; from = c.args.arriving.to; landing = c.args.arriving.landing; effects = record { lines = ls; sends = c.in_ok-effects.effects.sends } }) c.args.place (after_message c.index_mut.result.now.now c.index.result.now c.args.arriving.from c.args.arriving.message)) (sym c.in_ok-add_lines.ensures)
     (arrival_acts c.self.inside c.args.self.now c.args.arriving c.args.place c.index.result.now c.index_mut.result.now.now c.in_ok-effects.effects c.self.view_is c.self.invariant c.requires.arrives c.requires.end here
     (c.index.ensures ∙ clock_at c.self.inside c.args.self.now c.args.place c.args.arriving.to c.index.result.now c.self.view_is c.self.invariant c.requires.end)

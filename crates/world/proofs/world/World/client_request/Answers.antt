@@ -13,14 +13,14 @@ use Rattle.world.proofs.world.World.client_request.Goals as goal
 
 pub returns-in_default : goal.returns-in_default
 returns-in_default c =
-    step_tells c.self.inside _ c.tell.new.self c.args.event _ c.tell.result c.self.view_is c.self.invariant
-    (no_map_tells _ c.args.event c.args.digest c.args.want c.partition_of-partition.result c.requires.is c.partition_of-partition.ensures c.requires.proper c.in_default.ensures.value)
+    step_tells c.self.inside _ c.tell.new.self c.args.event.value _ c.tell.result c.self.view_is c.self.invariant
+    (no_map_tells _ c.args.event.value c.args.digest c.args.want c.partition_of-partition.result c.requires.is c.partition_of-partition.ensures c.requires.proper c.in_default.ensures.value)
     c.tell.ensures.ok c.tell.ensures.within c.tell.ensures.too_long c.tell.ensures.err
 
 pub invariant_of-self : goal.invariant_of-self
 invariant_of-self c =
-    keeps_tells c.self.inside _ c.tell.new.self c.args.event _ c.tell.result c.self.view_is c.self.invariant
-    (no_map_tells _ c.args.event c.args.digest c.args.want c.partition_of-partition.result c.requires.is c.partition_of-partition.ensures c.requires.proper c.in_default.ensures.value) c.requires.comes
+    keeps_tells c.self.inside _ c.tell.new.self c.args.event.value _ c.tell.result c.self.view_is c.self.invariant
+    (no_map_tells _ c.args.event.value c.args.digest c.args.want c.partition_of-partition.result c.requires.is c.partition_of-partition.ensures c.requires.proper c.in_default.ensures.value) c.requires.comes
     c.tell.ensures.ok c.tell.ensures.within c.tell.ensures.err
 
 pub index_mut-requires : goal.index_mut-requires
@@ -53,27 +53,27 @@ take_of-requires-clause-planned c =
 pub returns : goal.returns
 returns c =
     let here = node_at c.self.inside c.args.self.now c.place_of-place.result c.in-Some.node c.index_mut.result.now c.self.view_is c.self.invariant c.place_of-place.ensures c.index_mut.ensures.value in
-    acts_returns c.self.inside _ c.args.event c.of-step.result c.place_of-place.result (after_request c.index_mut.result.now.now c.index.result.now c.args.digest c.args.want) c.index_mut-2.result.now c.take_of.new.node c.take_of.new.net c.take_of.new.ledger c.take_of.result c.self.view_is c.self.invariant
+    acts_returns c.self.inside _ c.args.event.value c.of-step.result c.place_of-place.result (after_request c.index_mut.result.now.now c.index.result.now c.args.digest c.args.want) c.index_mut-2.result.now c.take_of.new.node c.take_of.new.net c.take_of.new.ledger c.take_of.result c.self.view_is c.self.invariant
     (subst (λ (s : EndStep). Acts c.self.inside c.args.self.now s c.place_of-place.result (after_request c.index_mut.result.now.now c.index.result.now c.args.digest c.args.want))
     (ap (λ (n : ℕ). record { event = c.args.event; from = n; landing = None; effects = record { lines = c.in_ok-lines.lines; sends = c.in_ok-effects.effects.sends } }) (sym c.number.ensures.same) ∙ sym c.of-step.ensures)
-    (client_acts c.self.inside c.args.self.now c.args.event c.in-Some.node c.place_of-place.result c.index.result.now c.args.digest c.args.want c.index_mut.result.now.now (record { lines = c.in_ok-lines.lines; sends = c.in_ok-effects.effects.sends }) c.self.view_is c.self.invariant c.place_of-place.ensures here
+    (client_acts c.self.inside c.args.self.now c.args.event.value c.in-Some.node c.place_of-place.result c.index.result.now c.args.digest c.args.want c.index_mut.result.now.now (record { lines = c.in_ok-lines.lines; sends = c.in_ok-effects.effects.sends }) c.self.view_is c.self.invariant c.place_of-place.ensures here
     (c.index.ensures ∙ clock_at c.self.inside c.args.self.now c.place_of-place.result c.in-Some.node c.index.result.now c.self.view_is c.self.invariant c.place_of-place.ensures)
     c.requires.is c.requires.proper (ap (node_for (standing c.args.self.now).tables) (sym c.partition_of-partition.ensures) ∙ sym c.in-Some.ensures.value)
     (ap (λ (ls : List Line). record { lines = ls; sends = c.in_ok-effects.effects.sends }) c.in_ok-lines.ensures ∙ ap (after_line_of (line.Client c.in-Some.node c.args.digest)) c.in_ok-effects.ensures.effects)))
-    (ap (λ (s : EndStep). s.event) c.of-step.ensures)
+    (ap (λ (s : EndStep). s.event.value) c.of-step.ensures)
     c.take_of.ensures.wrote c.take_of.ensures.within c.take_of.ensures.too_long c.take_of.ensures.err
 
 pub invariant_of-self-2 : goal.invariant_of-self-2
 invariant_of-self-2 c =
     let here = node_at c.self.inside c.args.self.now c.place_of-place.result c.in-Some.node c.index_mut.result.now c.self.view_is c.self.invariant c.place_of-place.ensures c.index_mut.ensures.value in
-    acts_kept c.self.inside _ c.args.self.now c.args.event c.of-step.result c.place_of-place.result (after_request c.index_mut.result.now.now c.index.result.now c.args.digest c.args.want) c.index_mut.result.now c.request.new.self c.index_mut-2.result.now c.take_of.new.node c.take_of.result c.self.view_is c.self.invariant
+    acts_kept c.self.inside _ c.args.self.now c.args.event.value c.of-step.result c.place_of-place.result (after_request c.index_mut.result.now.now c.index.result.now c.args.digest c.args.want) c.index_mut.result.now c.request.new.self c.index_mut-2.result.now c.take_of.new.node c.take_of.result c.self.view_is c.self.invariant
     (subst (λ (s : EndStep). Acts c.self.inside c.args.self.now s c.place_of-place.result (after_request c.index_mut.result.now.now c.index.result.now c.args.digest c.args.want))
     (ap (λ (n : ℕ). record { event = c.args.event; from = n; landing = None; effects = record { lines = c.in_ok-lines.lines; sends = c.in_ok-effects.effects.sends } }) (sym c.number.ensures.same) ∙ sym c.of-step.ensures)
-    (client_acts c.self.inside c.args.self.now c.args.event c.in-Some.node c.place_of-place.result c.index.result.now c.args.digest c.args.want c.index_mut.result.now.now (record { lines = c.in_ok-lines.lines; sends = c.in_ok-effects.effects.sends }) c.self.view_is c.self.invariant c.place_of-place.ensures here
+    (client_acts c.self.inside c.args.self.now c.args.event.value c.in-Some.node c.place_of-place.result c.index.result.now c.args.digest c.args.want c.index_mut.result.now.now (record { lines = c.in_ok-lines.lines; sends = c.in_ok-effects.effects.sends }) c.self.view_is c.self.invariant c.place_of-place.ensures here
     (c.index.ensures ∙ clock_at c.self.inside c.args.self.now c.place_of-place.result c.in-Some.node c.index.result.now c.self.view_is c.self.invariant c.place_of-place.ensures)
     c.requires.is c.requires.proper (ap (node_for (standing c.args.self.now).tables) (sym c.partition_of-partition.ensures) ∙ sym c.in-Some.ensures.value)
     (ap (λ (ls : List Line). record { lines = ls; sends = c.in_ok-effects.effects.sends }) c.in_ok-lines.ensures ∙ ap (after_line_of (line.Client c.in-Some.node c.args.digest)) c.in_ok-effects.ensures.effects)))
-    (ap (λ (s : EndStep). s.event) c.of-step.ensures) c.requires.comes
+    (ap (λ (s : EndStep). s.event.value) c.of-step.ensures) c.requires.comes
     refl refl refl refl refl
     (node_within c.self.inside _ c.place_of-place.result c.in-Some.node c.self.view_is c.self.invariant c.place_of-place.ensures)
     c.index_mut.ensures.value c.in_ok-effects.ensures.planned c.index_mut-2.ensures.value

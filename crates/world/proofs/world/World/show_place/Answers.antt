@@ -4,12 +4,12 @@ use Rattle.world.proofs.world.World.show_place.Goals as goal
 
 pub returns : goal.returns
 returns c =
-    step_tells c.self.inside _ c.tell.new.self c.args.event _ c.tell.result c.self.view_is c.self.invariant
-    (place_tells _ c.args.event c.args.partition c.in_ok-line.line c.requires.is c.in_ok-line.ensures)
+    step_tells c.self.inside _ c.tell.new.self c.args.event.value _ c.tell.result c.self.view_is c.self.invariant
+    (place_tells _ c.args.event.value c.args.partition c.in_ok-line.line c.requires.is c.in_ok-line.ensures)
     c.tell.ensures.ok c.tell.ensures.within c.tell.ensures.too_long c.tell.ensures.err
 
 pub invariant_of-self : goal.invariant_of-self
 invariant_of-self c =
-    keeps_tells c.self.inside _ c.tell.new.self c.args.event _ c.tell.result c.self.view_is c.self.invariant
-    (place_tells _ c.args.event c.args.partition c.in_ok-line.line c.requires.is c.in_ok-line.ensures) c.requires.comes
+    keeps_tells c.self.inside _ c.tell.new.self c.args.event.value _ c.tell.result c.self.view_is c.self.invariant
+    (place_tells _ c.args.event.value c.args.partition c.in_ok-line.line c.requires.is c.in_ok-line.ensures) c.requires.comes
     c.tell.ensures.ok c.tell.ensures.within c.tell.ensures.err

@@ -11,7 +11,7 @@ use Rattle.world.proofs.Places.{at_set}
 use Rattle.world.proofs.world.World.stop.Goals as goal
 
 pub place_of-place-requires : goal.place_of-place-requires
-place_of-place-requires c = named_declared _ c.args.event (event.Stop c.args.node) c.args.node c.requires.is refl c.requires.comes
+place_of-place-requires c = named_declared _ c.args.event.value (event.Stop c.args.node) c.args.node c.requires.is refl c.requires.comes
 
 pub index-requires : goal.index-requires
 index-requires c = omega (arith, node_within c.self.inside _ c.place_of-place.result c.args.node c.self.view_is c.self.invariant c.place_of-place.ensures, c.self.inside.nodes.ok)
@@ -24,15 +24,15 @@ index_mut-requires-2 c = omega (arith, node_within c.self.inside _ c.place_of-pl
 
 pub returns-then-not-is_up : goal.returns-then-not-is_up
 returns-then-not-is_up c =
-    step_tells c.self.inside _ c.tell.new.self c.args.event _ c.tell.result c.self.view_is c.self.invariant
-    (stop_tells _ c.args.event c.args.node c.requires.is (its_own c.self.inside _ c.args.node c.self.view_is c.self.invariant)
+    step_tells c.self.inside _ c.tell.new.self c.args.event.value _ c.tell.result c.self.view_is c.self.invariant
+    (stop_tells _ c.args.event.value c.args.node c.requires.is (its_own c.self.inside _ c.args.node c.self.view_is c.self.invariant)
     (sym (ap (λ (f : Facts). f.up) (node_at c.self.inside c.args.self.now c.place_of-place.result c.args.node c.index.result.now c.self.view_is c.self.invariant c.place_of-place.ensures c.index.ensures)) ∙ sym c.is_up.ensures ∙ c.if-not-is_up.true))
     c.tell.ensures.ok c.tell.ensures.within c.tell.ensures.too_long c.tell.ensures.err
 
 pub invariant_of-self : goal.invariant_of-self
 invariant_of-self c =
-    keeps_tells c.self.inside _ c.tell.new.self c.args.event _ c.tell.result c.self.view_is c.self.invariant
-    (stop_tells _ c.args.event c.args.node c.requires.is (its_own c.self.inside _ c.args.node c.self.view_is c.self.invariant)
+    keeps_tells c.self.inside _ c.tell.new.self c.args.event.value _ c.tell.result c.self.view_is c.self.invariant
+    (stop_tells _ c.args.event.value c.args.node c.requires.is (its_own c.self.inside _ c.args.node c.self.view_is c.self.invariant)
     (sym (ap (λ (f : Facts). f.up) (node_at c.self.inside c.args.self.now c.place_of-place.result c.args.node c.index.result.now c.self.view_is c.self.invariant c.place_of-place.ensures c.index.ensures)) ∙ sym c.is_up.ensures ∙ c.if-not-is_up.true)) c.requires.comes
     c.tell.ensures.ok c.tell.ensures.within c.tell.ensures.err
 
@@ -53,21 +53,21 @@ take_of-requires-clause-planned c =
 pub returns : goal.returns
 returns c =
     let here = node_at c.self.inside c.args.self.now c.place_of-place.result c.args.node c.index_mut.result.now c.self.view_is c.self.invariant c.place_of-place.ensures c.index_mut.ensures.value in
-    acts_returns c.self.inside _ c.args.event c.of-step.result c.place_of-place.result (after_stop c.index_mut.result.now.now) c.index_mut-2.result.now c.take_of.new.node c.take_of.new.net c.take_of.new.ledger c.take_of.result c.self.view_is c.self.invariant
+    acts_returns c.self.inside _ c.args.event.value c.of-step.result c.place_of-place.result (after_stop c.index_mut.result.now.now) c.index_mut-2.result.now c.take_of.new.node c.take_of.new.net c.take_of.new.ledger c.take_of.result c.self.view_is c.self.invariant
     (subst (λ (s : EndStep). Acts c.self.inside c.args.self.now s c.place_of-place.result (after_stop c.index_mut.result.now.now))
     (ap (λ (n : ℕ). record { event = c.args.event; from = n; landing = None; effects = c.in_ok-effects.effects }) (sym c.number.ensures.same) ∙ sym c.of-step.ensures)
-    (stop_acts c.self.inside c.args.self.now c.args.event c.args.node c.place_of-place.result c.index_mut.result.now.now c.in_ok-effects.effects c.self.view_is c.self.invariant c.place_of-place.ensures here c.requires.is c.in_ok-effects.ensures.effects))
-    (ap (λ (s : EndStep). s.event) c.of-step.ensures)
+    (stop_acts c.self.inside c.args.self.now c.args.event.value c.args.node c.place_of-place.result c.index_mut.result.now.now c.in_ok-effects.effects c.self.view_is c.self.invariant c.place_of-place.ensures here c.requires.is c.in_ok-effects.ensures.effects))
+    (ap (λ (s : EndStep). s.event.value) c.of-step.ensures)
     c.take_of.ensures.wrote c.take_of.ensures.within c.take_of.ensures.too_long c.take_of.ensures.err
 
 pub invariant_of-self-2 : goal.invariant_of-self-2
 invariant_of-self-2 c =
     let here = node_at c.self.inside c.args.self.now c.place_of-place.result c.args.node c.index_mut.result.now c.self.view_is c.self.invariant c.place_of-place.ensures c.index_mut.ensures.value in
-    acts_kept c.self.inside _ c.args.self.now c.args.event c.of-step.result c.place_of-place.result (after_stop c.index_mut.result.now.now) c.index_mut.result.now c.stop.new.self c.index_mut-2.result.now c.take_of.new.node c.take_of.result c.self.view_is c.self.invariant
+    acts_kept c.self.inside _ c.args.self.now c.args.event.value c.of-step.result c.place_of-place.result (after_stop c.index_mut.result.now.now) c.index_mut.result.now c.stop.new.self c.index_mut-2.result.now c.take_of.new.node c.take_of.result c.self.view_is c.self.invariant
     (subst (λ (s : EndStep). Acts c.self.inside c.args.self.now s c.place_of-place.result (after_stop c.index_mut.result.now.now))
     (ap (λ (n : ℕ). record { event = c.args.event; from = n; landing = None; effects = c.in_ok-effects.effects }) (sym c.number.ensures.same) ∙ sym c.of-step.ensures)
-    (stop_acts c.self.inside c.args.self.now c.args.event c.args.node c.place_of-place.result c.index_mut.result.now.now c.in_ok-effects.effects c.self.view_is c.self.invariant c.place_of-place.ensures here c.requires.is c.in_ok-effects.ensures.effects))
-    (ap (λ (s : EndStep). s.event) c.of-step.ensures) c.requires.comes
+    (stop_acts c.self.inside c.args.self.now c.args.event.value c.args.node c.place_of-place.result c.index_mut.result.now.now c.in_ok-effects.effects c.self.view_is c.self.invariant c.place_of-place.ensures here c.requires.is c.in_ok-effects.ensures.effects))
+    (ap (λ (s : EndStep). s.event.value) c.of-step.ensures) c.requires.comes
     refl refl refl refl refl
     (node_within c.self.inside _ c.place_of-place.result c.args.node c.self.view_is c.self.invariant c.place_of-place.ensures)
     c.index_mut.ensures.value c.in_ok-effects.ensures.planned c.index_mut-2.ensures.value

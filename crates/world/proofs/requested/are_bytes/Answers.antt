@@ -1,6 +1,6 @@
 use Rattle.std.proofs.Common.{arith}
 use Rattle.world.proofs.DeliveryLaws.{all_bytes}
-use Rattle.world.proofs.event_copy.are_bytes.Goals as goal
+use Rattle.world.proofs.requested.are_bytes.Goals as goal
 
 pub returns : goal.returns
 returns c = all_bytes c.args.bytes.now (λ i. omega (arith, c.type_inv.bytes i))

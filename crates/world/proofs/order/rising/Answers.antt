@@ -3,7 +3,7 @@ use Rattle.std.specs.Prelude.{nat_lt}
 use Rattle.cluster_types.specs.NodeLists.{IsNodeList}
 use Rattle.partition_lists.specs.Lists.{in_order}
 use Rattle.world.proofs.OrderLaws.{compared_rising, list_rising, sorted_rising}
-use Rattle.world.proofs.opening.rising.Goals as goal
+use Rattle.world.proofs.order.rising.Goals as goal
 
 pub unreachable-requires : goal.unreachable-requires
 unreachable-requires c =

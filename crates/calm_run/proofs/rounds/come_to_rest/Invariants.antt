@@ -2,7 +2,7 @@ use Rattle.std.proofs.Common.{◌≤◌, ◌-◌, length}
 use Rattle.journal_text.specs.Journals.{line_limit}
 use Rattle.world.specs.Steps.{written}
 use Rattle.calm_run.proofs.RoundLaws.{AreRounds}
-use Rattle.calm_run.proofs.rounds.calm.Given as goal
+use Rattle.calm_run.proofs.rounds.come_to_rest.Given as goal
 
 -- each round so far wrote a line
 abbrev pub invariant-loop-world : goal.invariant-loop-world

@@ -1,6 +1,6 @@
 use Rattle.std.proofs.Common.{subst, ◌∙◌}
 use Rattle.wire_messages.specs.Versions.{AreBytes}
-use Rattle.world.proofs.event_copy.copy_digest.Goals as goal
+use Rattle.world.proofs.requested.same_digest.Goals as goal
 
 pub returns-clause-proper : goal.returns-clause-proper
 returns-clause-proper c = record {

@@ -5,7 +5,7 @@ use Rattle.std.proofs.lemmas.List.Sorted.{answers_always}
 use Rattle.cluster_types.specs.NodeLists.{IsNodeList}
 use Rattle.partition_lists.specs.Lists.{in_order}
 use Rattle.world.proofs.OrderLaws.{below_is, list_falling, sorted_falling, weak_falling}
-use Rattle.world.proofs.nodes.falling.Goals as goal
+use Rattle.world.proofs.order.falling.Goals as goal
 
 pub unreachable-requires : goal.unreachable-requires
 unreachable-requires c =
