@@ -1,6 +1,7 @@
 -- What holds of every journal holds where there is no line.
-use Rattle.std.proofs.Common.{◌≡◌, ℕ, zero, suc, List, [], take, Some, None, refl, false}
+use Rattle.std.proofs.Common.{◌≡◌, ℕ, zero, suc, List, [], take, Some, refl, false, arith}
 use Rattle.std.specs.Prelude.{slice_get}
+use Rattle.std.proofs.lemmas.Option.{slice_get_within}
 use Rattle.cluster_types.specs.declared.cluster_key.ClusterKey.{ClusterKey}
 use Rattle.journal_lines.specs.declared.line.Line.{Line}
 use Rattle.journal_readings.specs.Claims.{newest}
@@ -12,10 +13,7 @@ use Rattle.cluster_types.specs.ClusterKeys.{key_lt}
 use Rattle.world.specs.Claims.{HasClaims}
 
 no_line : {A : Type 0} (i : ℕ) (l : Line) → slice_get [] i ≡ Some l → A
-no_line i l e = absurd (none_some e)
-  where
-    none_some : None ≡ Some l → ⊥
-    none_some n = cc
+no_line i l e = absurd (omega (arith, slice_get_within [] i l e))
 
 none_lost : (i : ℕ) (d : List ℕ) → newest [] d i ≡ applied (policy_of []) d (take i [])
 unfolding applied content nodes

@@ -1,5 +1,5 @@
 -- Commands that are played one after another.
-use Rattle.std.proofs.Common.{◌≡◌, ℕ, ◌+◌, ◌<◌, ◌≤◌, true, List, [], ◌∷◌, ◌++◌, length, take, drop, get_or, inl, inr, refl, sym, ap, subst, ◌∙◌, arith, append_assoc, IsTrue, All, Result, Ok, Err, OnErr}
+use Rattle.std.proofs.Common.{◌≡◌, ℕ, ◌+◌, ◌<◌, ◌≤◌, true, List, [], ◌∷◌, ◌++◌, length, take, drop, get_or, inl, inr, refl, sym, ap, subst, ◌∙◌, arith, append_assoc, IsTrue, All}
 use Rattle.std.proofs.lemmas.Bool.{and_parts}
 use Rattle.std.proofs.lemmas.List.{append-nil, take_all, take_more, take-append-drop}
 use Rattle.std.proofs.lemmas.List.Elements.{All-nil, All-cons}
@@ -123,10 +123,6 @@ stops_among old mid new cs i c below is p q =
       steps = followed_again old mid new p.played.steps q.taken p.steps q.steps;
       passes = q.passes;
     }
-
-pub on_err : {T E : Type 0} (r : Result T E) (P : Type 0) → P → OnErr r P
-on_err (Ok x) P p = tt
-on_err (Err e) P p = p
 
 pub stands_among : (old mid new : Run) (cs : List Command) (i : ℕ) (c : Command) → i < length cs → c ≡ get_or cs i c → PlaysAllOn old mid (take i cs) → StandsIn mid new c → StandsAmong old new cs
 stands_among old mid new cs i c below is p q =

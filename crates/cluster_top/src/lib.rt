@@ -19,6 +19,3 @@ pub use counting::summary;
 pub use generating::generated;
 pub use replay::{Outcome, run};
 pub use status::{Status, code, fault_text};
-
-#[cfg(test)]
-mod tests;

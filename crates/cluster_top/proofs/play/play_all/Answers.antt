@@ -1,7 +1,7 @@
 use Rattle.std.proofs.Common.{rules, arith, IsErrOf}
 use Rattle.world.specs.declared.fault.StepFault.TheVariants as fault
-use Rattle.cluster_top.specs.Playing.{StandsAmong}
-use Rattle.cluster_top.proofs.PlayLaws.{all_played, may_play, on_err, played_more, played_none, stands_among, stops_among}
+use Rattle.calm_run.proofs.Faults.{on_each_fault}
+use Rattle.cluster_top.proofs.PlayLaws.{all_played, may_play, played_more, played_none, stands_among, stops_among}
 use Rattle.cluster_top.proofs.play.play_all.Goals as goal
 
 pub loop-command-init : goal.loop-command-init
@@ -22,7 +22,7 @@ returns-in_err-play-clause-too_long c = λ stopped.
 
 pub returns-in_err-play-clause-err : goal.returns-in_err-play-clause-err
 returns-in_err-play-clause-err c =
-    on_err c.from_residual.result (StandsAmong c.args.world.now c.play.new.world c.args.commands.now)
+    on_each_fault c.from_residual.result
     (stands_among _ _ _ c.args.commands.now c.loop-command.command-index c.command-item.result c.loop-command-test.true c.command-item.is c.loop-command.invariant c.in_err-play.ensures.err)
 
 pub returns-clause-played : goal.returns-clause-played

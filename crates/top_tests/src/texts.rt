@@ -1,5 +1,5 @@
 //! What the calls that take no streams give, against values from outside.
-use crate::{Status, code, fault_text, generated};
+use cluster_top::{Status, code, fault_text, generated};
 use script_lang::Cause;
 use std::test::Fail;
 

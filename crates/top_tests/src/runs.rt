@@ -1,6 +1,6 @@
 //! Whole runs over ends in memory.
-use crate::{Status, run};
 use byte_ends::{MemSink, MemSource, SureSink, SureSource};
+use cluster_top::{Status, run};
 use script_lang::Cause;
 use std::alloc::Global;
 use std::test::Fail;
@@ -96,32 +96,42 @@ holds 2 0000000000000000000000000000000000000000 none
 const SUMMARY: &str =
     "{\"applied\":1,\"drops\":0,\"lines\":12,\"merges\":0,\"nodes\":1,\"sent\":0,\"settled\":0}";
 
-/// Two nodes that are apart take a write each of one record, and then meet.
-const TWO_SIDES: &str = "factor 2
-node 1
-node 2
-groups 1 | 2
-tick 1
-tick 1
-tick 1
-tick 2
-tick 2
-tick 2
-put 1 #ffff000000000000000000000000000000000000 a
-put 2 #ffff000000000000000000000000000000000000 b
-groups 1 2
+/// Rounds until a node is at rest, and then none.
+const CALM: &str = "node 1
 calm
-show 1 #ffff000000000000000000000000000000000000
-show 2 #ffff000000000000000000000000000000000000
+calm
 ";
 
-const TWO_SIDES_LINES: [&str; 5] = [
-    "enter 2 2.2 2,1",
-    "enter 1 2.2 2,1",
-    "merge 1 2.2 ffff000000000000000000000000000000000000 0.1=62",
-    "holds 1 ffff000000000000000000000000000000000000 0.1=62",
-    "holds 2 ffff000000000000000000000000000000000000 0.1=62",
-];
+const CALM_TRANSCRIPT: &str = "node 1
+tick 1
+tick 1
+tick 1
+promise 1 1.1
+enter 1 1.1 1
+exchanged 1 1.1
+calm 3
+calm 0
+";
+
+/// A round delivers what it has sent.
+const ROUND: &str = "node 2
+node 1
+round
+deliver 1
+deliver 2
+";
+
+const ROUND_TRANSCRIPT: &str = "node 2
+node 1
+tick 1
+sent 1 1 2 010000000000000000000000000000000000
+tick 2
+sent 2 2 1 010000000000000000000000000000000000
+deliver 1 1 2
+deliver 2 2 1
+nomessage 1
+nomessage 2
+";
 
 /// What a run is given, and how it is to end.
 #[derive(Clone, Copy)]
@@ -151,6 +161,8 @@ fn runs_write_their_transcript_or_say_what_failed(rt: HostRuntime) -> Result<(),
         (EARLY, none, none, Status::Done, REFUSED),
         (CLOCKED, none, none, Status::Done, CLOCKED_TRANSCRIPT),
         (DECLARED, none, none, Status::Done, DECLARED_TRANSCRIPT),
+        (CALM, none, none, Status::Done, CALM_TRANSCRIPT),
+        (ROUND, none, none, Status::Done, ROUND_TRANSCRIPT),
         (SCRIPT, first, none, Status::ReadFault, ""),
         (SCRIPT, none, first, Status::WriteFault, ""),
         (
@@ -253,16 +265,5 @@ fn a_summary_follows_the_transcript(rt: HostRuntime) -> Result<(), Fail> {
     assert_eq!(rt; status, Status::Done);
     let wanted = format!(in rt.alloc(); "{TRANSCRIPT}{SUMMARY}\n")?;
     assert_eq!(rt; taken.as_slice(), wanted.as_bytes());
-    Ok(())
-}
-
-#[test]
-fn two_sides_of_a_split_merge_their_writes(rt: HostRuntime) -> Result<(), Fail> {
-    let (status, taken) = written_for(rt.alloc(), "--summary", TWO_SIDES)?;
-    assert_eq!(rt; status, Status::Done);
-    let text = str::from_utf8(taken.as_slice()).map_err(|_| "no text")?;
-    for line in TWO_SIDES_LINES {
-        assert!(rt; text.lines().any(|written| written == line), "{line}");
-    }
     Ok(())
 }
