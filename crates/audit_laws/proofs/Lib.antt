@@ -1,0 +1,9 @@
+pub mod Tests
+pub mod Places
+pub mod Headers
+pub mod ShapeSteps
+pub mod ReadSteps
+pub mod SettledSteps
+pub mod LossSteps
+pub mod MapSteps
+pub mod Steps
