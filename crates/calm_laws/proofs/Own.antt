@@ -1,0 +1,357 @@
+-- The lines that are due of a node's tick and of a message at it are its own.
+use Rattle.std.proofs.Common.{◌≡◌, ℕ, zero, suc, ◌+◌, Bool, true, false, List, [], ◌∷◌, ◌++◌, map, Option, Some, None, refl, subst, ◌∙◌}
+use Rattle.conflict_order.specs.declared.want.Want.{Want}
+use Rattle.conflict_order.specs.declared.want.Want.TheVariants as want
+use Rattle.conflict_order.specs.declared.version.Version.{Version}
+use Rattle.conflict_order.specs.declared.version.Body.TheVariants as body
+use Rattle.conflict_order.specs.Next.{next}
+use Rattle.cluster_types.specs.declared.cluster_key.ClusterKey.{ClusterKey}
+use Rattle.cluster_types.specs.declared.member.Member.{Member}
+use Rattle.wire_messages.specs.declared.message.Message.{Message}
+use Rattle.wire_messages.specs.declared.message.Message.TheVariants as message
+use Rattle.journal_lines.specs.declared.line.Line.{Line}
+use Rattle.journal_lines.specs.declared.line.Line.TheVariants as line
+use Rattle.node_rules.specs.Agreement.{Proposal, proposes, without_missing}
+use Rattle.node_rules.specs.Batches.{out_to, has_number}
+use Rattle.node_rules.specs.Copies.{is_nil}
+use Rattle.node_rules.specs.Effects.{Effects}
+use Rattle.node_rules.specs.Entering.{ending, closing, exchanging, entering}
+use Rattle.node_rules.specs.Exchange.{is_single}
+use Rattle.node_rules.specs.Facts.{Facts, list_at, view_key}
+use Rattle.node_rules.specs.Messages.{voting, committing, counting, unless_stale, entering_if, state_came, finishes, batch_came, batch_ack_came, unless_spent, progress_came, answer_progress, repl_came, done_by, ack_of, repl_ack_came, ask_came, resolving_if, answered_by, answer_of, answer_came, table_if, may_enter, merging, merging_all, due_message_of}
+use Rattle.node_rules.specs.Notes.{note, noted, reached, in_view, after_ages}
+use Rattle.node_rules.specs.Resolving.{done_if, writing, resolving_want}
+use Rattle.node_rules.specs.Settling.{drop, hand, learn, line_if, settle, settling_at, settling_from, settling_if}
+use Rattle.node_rules.specs.Standing.{other_replicas}
+use Rattle.node_rules.specs.Tick.{Part, in_order, beat, propose, proposing_to, propose_new, propose_with, rows, transactions, batches, settlings, progress, progress_if, tick_if, tick_of}
+use Rattle.node_rules.specs.Transactions.{Transaction, Write, transaction, awaits_answer, awaits_ack, answered, is_last_awaited}
+
+-- ---- own lines
+
+-- the line is one of that node that leaves its role and whether it runs, or adds nothing
+abbrev pub OwnLine : ℕ → Line → Type 0
+OwnLine a (line.Clock n time) = ⊥
+OwnLine a (line.Groups groups) = ⊥
+OwnLine a (line.Deliver i b c) = ⊥
+OwnLine a (line.Repeat i b c) = ⊥
+OwnLine a (line.Cut i b c size) = ⊥
+OwnLine a (line.Sent i b c bytes) = ⊥
+OwnLine a (line.Full i) = ⊥
+OwnLine a (line.Tick n) = n ≡ a
+OwnLine a (line.Stop n) = ⊥
+OwnLine a (line.Start n) = ⊥
+OwnLine a (line.Quiesce n) = ⊥
+OwnLine a (line.Unquiesce n) = ⊥
+OwnLine a (line.Promise n k) = n ≡ a
+OwnLine a (line.Enter n k ms) = n ≡ a
+OwnLine a (line.Exchanged n k) = n ≡ a
+OwnLine a (line.Opened n k t d w) = ⊥
+OwnLine a (line.Value n k t d v) = n ≡ a
+OwnLine a (line.Apply n k t d v) = n ≡ a
+OwnLine a (line.Done n k t) = n ≡ a
+OwnLine a (line.Aborted n k t) = n ≡ a
+OwnLine a (line.Doubt n k t) = n ≡ a
+OwnLine a (line.Merge n k d v) = n ≡ a
+OwnLine a (line.Handed n k p) = n ≡ a
+OwnLine a (line.Settled n k p) = n ≡ a
+OwnLine a (line.Learn n k p) = n ≡ a
+OwnLine a (line.Drop n k p) = n ≡ a
+OwnLine a _ = Unit {0}
+
+abbrev pub OwnLines : ℕ → List Line → Type 0
+OwnLines a [] = Unit {0}
+OwnLines a (l ∷ ls) = OwnLine a l × OwnLines a ls
+
+-- the same, and the line isn't that of its tick
+abbrev pub Steady : ℕ → Line → Type 0
+Steady a (line.Clock n time) = ⊥
+Steady a (line.Groups groups) = ⊥
+Steady a (line.Deliver i b c) = ⊥
+Steady a (line.Repeat i b c) = ⊥
+Steady a (line.Cut i b c size) = ⊥
+Steady a (line.Sent i b c bytes) = ⊥
+Steady a (line.Full i) = ⊥
+Steady a (line.Tick n) = ⊥
+Steady a (line.Stop n) = ⊥
+Steady a (line.Start n) = ⊥
+Steady a (line.Quiesce n) = ⊥
+Steady a (line.Unquiesce n) = ⊥
+Steady a (line.Promise n k) = n ≡ a
+Steady a (line.Enter n k ms) = n ≡ a
+Steady a (line.Exchanged n k) = n ≡ a
+Steady a (line.Opened n k t d w) = ⊥
+Steady a (line.Value n k t d v) = n ≡ a
+Steady a (line.Apply n k t d v) = n ≡ a
+Steady a (line.Done n k t) = n ≡ a
+Steady a (line.Aborted n k t) = n ≡ a
+Steady a (line.Doubt n k t) = n ≡ a
+Steady a (line.Merge n k d v) = n ≡ a
+Steady a (line.Handed n k p) = n ≡ a
+Steady a (line.Settled n k p) = n ≡ a
+Steady a (line.Learn n k p) = n ≡ a
+Steady a (line.Drop n k p) = n ≡ a
+Steady a _ = Unit {0}
+
+abbrev pub AllSteady : ℕ → List Line → Type 0
+AllSteady a [] = Unit {0}
+AllSteady a (l ∷ ls) = Steady a l × AllSteady a ls
+
+pub steady_own : (a : ℕ) (l : Line) → Steady a l → OwnLine a l
+steady_own a (line.Tick n) h = absurd h
+steady_own a l h = h
+
+pub all_steady_own : (a : ℕ) (ls : List Line) → AllSteady a ls → OwnLines a ls
+all_steady_own a [] h = tt
+all_steady_own a (l ∷ ls) h = (steady_own a l h.0, all_steady_own a ls h.1)
+
+pub own_append : (a : ℕ) (ls ms : List Line) → AllSteady a ls → AllSteady a ms → AllSteady a (ls ++ ms)
+own_append a [] ms h i = i
+own_append a (l ∷ ls) ms h i = (h.0, own_append a ls ms h.1 i)
+
+line_if_own : (a : ℕ) (l : Line) (b : Bool) → Steady a l → AllSteady a (line_if l b)
+line_if_own a l true h = (h, tt)
+line_if_own a l false h = tt
+
+-- ---- a node stays who it is
+
+pub note_me : (q : Option Want) (f : Facts) (l : Line) → (note q f l).me ≡ f.me
+note_me q f (line.Tick n) = refl
+note_me q f l = refl
+
+pub noted_me : (q : Option Want) (f : Facts) (ls : List Line) → (noted q f ls).me ≡ f.me
+noted_me q f [] = refl
+noted_me q f (l ∷ ls) = noted_me q (note q f l) ls ∙ note_me q f l
+
+-- ---- an entry
+
+ending_own : (a : ℕ) (k : ClusterKey) (number : ℕ) (o : Option Write) → Steady a (ending a k number o)
+ending_own a k number None = refl
+ending_own a k number (Some w) = refl
+
+closing_from : (a : ℕ) (k : ClusterKey) (xs : List Transaction) → AllSteady a (map (λ (x : Transaction). ending a k x.number x.applied) xs)
+closing_from a k [] = tt
+closing_from a k (x ∷ xs) = (ending_own a k x.number x.applied, closing_from a k xs)
+
+exchanging_own : (a : ℕ) (k : ClusterKey) (b : Bool) → AllSteady a (exchanging a k b)
+exchanging_own a k true = (refl, tt)
+exchanging_own a k false = tt
+
+pub entering_own : (f : Facts) (k : ClusterKey) (ms : List Member) → AllSteady f.me (entering f k ms)
+entering_own f k ms = own_append f.me (closing f) _ (closing_from f.me (view_key f) f.transactions.running) (refl, exchanging_own f.me k (is_single ms))
+
+-- ---- messages
+
+abbrev Owns : Facts → Effects → Type 0
+Owns f e = AllSteady f.me e.lines
+
+merging_all_own : (a : ℕ) (f : Facts) (rs : List (List ℕ × Version)) → f.me ≡ a → AllSteady a (merging_all f rs)
+merging_all_own a f [] e = tt
+merging_all_own a f (r ∷ rs) e =
+    own_append a (merging f r.0 r.1) _ (line_if_own a _ _ e) (merging_all_own a (noted None f (merging f r.0 r.1)) rs (noted_me None f (merging f r.0 r.1) ∙ e))
+
+counting_own : (f : Facts) (from : ℕ) (key : ClusterKey) (o : Option Proposal) (b : Bool) → Owns f (counting f from key o b)
+counting_own f from key (Some p) true = go (is_nil (without_missing p from).missing)
+  where
+    go : (b : Bool) → Owns f (committing f p b)
+    go true = entering_own f p.key p.members
+    go false = tt
+counting_own f from key (Some p) false = (tt, tt)
+counting_own f from key None b = (tt, tt)
+
+voting_own : (f : Facts) (from : ℕ) (key : ClusterKey) (b : Bool) → Owns f (voting f from key b)
+voting_own f from key true = tt
+voting_own f from key false = line_if_own f.me _ _ refl
+
+unless_stale_own : (f : Facts) (b : Bool) → Owns f (unless_stale f b)
+unless_stale_own f true = tt
+unless_stale_own f false = (tt, tt)
+
+entering_if_own : (f : Facts) (key : ClusterKey) (ms : List Member) (b : Bool) → Owns f (entering_if f key ms b)
+entering_if_own f key ms true = entering_own f key ms
+entering_if_own f key ms false = (tt, tt)
+
+state_own : (f now : Facts) (from : ℕ) (wants b : Bool) → Owns f (state_came f now from wants b)
+state_own f now from wants true = line_if_own f.me _ (finishes f now) refl
+state_own f now from wants false = (tt, tt)
+
+unless_spent_own : (f : Facts) (b : Bool) → Owns f (unless_spent f b)
+unless_spent_own f true = tt
+unless_spent_own f false = (tt, tt)
+
+batch_ack_own : (f : Facts) (from number : ℕ) (b : Bool) → Owns f (batch_ack_came f from number b)
+batch_ack_own f from number true = unless_spent_own f (has_number (out_to f.batches from) number)
+batch_ack_own f from number false = (tt, tt)
+
+answer_progress_own : (n : ℕ) (f now : Facts) (from : ℕ) (b : Bool) → Owns f (answer_progress n now from b)
+answer_progress_own n f now from true = tt
+answer_progress_own n f now from false = tt
+
+progress_own : (n : ℕ) (f now : Facts) (from : ℕ) (wants b : Bool) → Owns f (progress_came n f now from wants b)
+progress_own n f now from wants true = answer_progress_own n f now from _
+progress_own n f now from wants false = (tt, tt)
+
+done_by_own : (f : Facts) (t : Transaction) (from : ℕ) (b : Bool) → Owns f (done_by f t from b)
+done_by_own f t from true = line_if_own f.me _ (is_last_awaited t from) refl
+done_by_own f t from false = (tt, tt)
+
+ack_of_own : (f : Facts) (from : ℕ) (o : Option Transaction) → Owns f (ack_of f from o)
+ack_of_own f from None = (tt, tt)
+ack_of_own f from (Some t) = done_by_own f t from (awaits_ack t from)
+
+repl_ack_own : (f : Facts) (from number : ℕ) (b : Bool) → Owns f (repl_ack_came f from number b)
+repl_ack_own f from number true = ack_of_own f from (transaction f.transactions number)
+repl_ack_own f from number false = (tt, tt)
+
+ask_own : (f : Facts) (from : ℕ) (key : ClusterKey) (number : ℕ) (d : List ℕ) (b : Bool) → Owns f (ask_came f from key number d b)
+ask_own f from key number d true = tt
+ask_own f from key number d false = (tt, tt)
+
+done_own : (f : Facts) (number : ℕ) (b : Bool) → AllSteady f.me (done_if f number b)
+done_own f number true = (refl, tt)
+done_own f number false = tt
+
+writing_own : (f : Facts) (l : List ℕ) (t : Transaction) (v : Version) → Owns f (writing f l t v)
+writing_own f l t v = (refl, done_own f t.number (is_nil (other_replicas f l)))
+
+resolving_own : (f : Facts) (clock : ℕ) (l : List ℕ) (t : Transaction) (w : Want) → Owns f (resolving_want f clock l t w)
+resolving_own f clock l t want.Get = (refl, tt)
+resolving_own f clock l t (want.Put bytes) = writing_own f l t (next t.best clock (body.Value bytes))
+resolving_own f clock l t want.Del = writing_own f l t (next t.best clock body.Tombstone)
+
+resolving_if_own : (f : Facts) (clock : ℕ) (t : Transaction) (b : Bool) → Owns f (resolving_if f clock t b)
+resolving_if_own f clock t true = resolving_own f clock _ t t.want
+resolving_if_own f clock t false = tt
+
+answered_own : (f : Facts) (clock : ℕ) (t : Transaction) (from : ℕ) (v : Option Version) (b : Bool) → Owns f (answered_by f clock t from v b)
+answered_own f clock t from v true = resolving_if_own f clock (answered f.store.by from v t) (is_last_awaited t from)
+answered_own f clock t from v false = (tt, tt)
+
+answer_of_own : (f : Facts) (clock from : ℕ) (v : Option Version) (o : Option Transaction) → Owns f (answer_of f clock from v o)
+answer_of_own f clock from v None = (tt, tt)
+answer_of_own f clock from v (Some t) = answered_own f clock t from v (awaits_answer t from)
+
+answer_own : (f : Facts) (clock from number : ℕ) (v : Option Version) (b : Bool) → Owns f (answer_came f clock from number v b)
+answer_own f clock from number v true = answer_of_own f clock from v (transaction f.transactions number)
+answer_own f clock from number v false = (tt, tt)
+
+table_own : (f : Facts) (b : Bool) → Owns f (table_if f b)
+table_own f true = tt
+table_own f false = tt
+
+batch_own : (f : Facts) (from : ℕ) (b : _) (c : Bool) → Owns f (batch_came f from b c)
+batch_own f from b true = merging_all_own f.me f b.records refl
+batch_own f from b false = (tt, tt)
+
+repl_own : (f : Facts) (from : ℕ) (key : ClusterKey) (number : ℕ) (d : List ℕ) (v : Version) (b : Bool) → Owns f (repl_came f from key number d v b)
+repl_own f from key number d v true = line_if_own f.me _ _ refl
+repl_own f from key number d v false = (tt, tt)
+
+-- the lines that are due of a message are its receiver's
+pub message_steady : (n : ℕ) (f : Facts) (clock from : ℕ) (m : Message) → AllSteady f.me (due_message_of n f clock from m).lines
+message_steady n f clock from (message.Heartbeat v promised hears role) = tt
+message_steady n f clock from (message.Propose k ms) = voting_own f from k _
+message_steady n f clock from (message.Accept k) = counting_own f from k f.agreement.proposal (proposes f.agreement.proposal k)
+message_steady n f clock from (message.Refuse k promised) = unless_stale_own f (proposes f.agreement.proposal k)
+message_steady n f clock from (message.Commit k ms) = entering_if_own f k ms (may_enter f k ms)
+message_steady n f clock from (message.State k wants row) = state_own f (reached f from (message.State k wants row)) from wants (in_view f k)
+message_steady n f clock from (message.Batch b) = batch_own f from b (in_view f b.key)
+message_steady n f clock from (message.BatchAck k number) = batch_ack_own f from number (in_view f k)
+message_steady n f clock from (message.Progress k wants done handed settled) = progress_own n f (reached f from (message.Progress k wants done handed settled)) from wants (in_view f k)
+message_steady n f clock from (message.Repl k number nth d v) = repl_own f from k number d v (in_view f k)
+message_steady n f clock from (message.ReplAck k number) = repl_ack_own f from number (in_view f k)
+message_steady n f clock from (message.Ask k number d) = ask_own f from k number d (in_view f k)
+message_steady n f clock from (message.Answer k number v) = answer_own f clock from number v (in_view f k)
+message_steady n f clock from message.MapAsk = table_own f f.exchange.exchanged
+message_steady n f clock from _ = (tt, tt)
+
+pub message_own : (n : ℕ) (f : Facts) (clock from : ℕ) (m : Message) → OwnLines f.me (due_message_of n f clock from m).lines
+message_own n f clock from m = all_steady_own f.me _ (message_steady n f clock from m)
+
+-- ---- ticks
+
+settling_at_own : (a : ℕ) (l : List ℕ) (p : ℕ) (f : Facts) → f.me ≡ a → AllSteady a (settling_at l p f)
+settling_at_own a l p f e =
+    let f1 : Facts = noted None f (hand f l p) in
+    let f2 : Facts = noted None f1 (settle f1 l p) in
+    let f3 : Facts = noted None f2 (learn f2 l p) in
+    let e1 : f1.me ≡ a = noted_me None f (hand f l p) ∙ e in
+    let e2 : f2.me ≡ a = noted_me None f1 (settle f1 l p) ∙ e1 in
+    let e3 : f3.me ≡ a = noted_me None f2 (learn f2 l p) ∙ e2 in
+    own_append a (hand f l p) _ (line_if_own a (line.Handed f.me (view_key f) p) _ e)
+    (own_append a (settle f1 l p) _ (line_if_own a (line.Settled f1.me (view_key f1) p) _ e1)
+    (own_append a (learn f2 l p) (drop f3 l p) (line_if_own a (line.Learn f2.me (view_key f2) p) _ e2) (line_if_own a (line.Drop f3.me (view_key f3) p) _ e3)))
+
+settling_from_own : (a n p : ℕ) (f : Facts) → f.me ≡ a → AllSteady a (settling_from n p f)
+unfolding settling_from
+settling_from_own a zero p f e = tt
+settling_from_own a (suc n) p f e =
+    own_append a (settling_at (list_at f p) p f) _ (settling_at_own a (list_at f p) p f e)
+    (settling_from_own a n (p + 1) (noted None f (settling_at (list_at f p) p f)) (noted_me None f (settling_at (list_at f p) p f) ∙ e))
+
+settling_own : (n : ℕ) (f : Facts) (b : Bool) → AllSteady f.me (settling_if n f b)
+settling_own n f true = settling_from_own f.me n 0 f refl
+settling_own n f false = tt
+
+abbrev PartOwn : Part → Type 0
+PartOwn part = (f : Facts) → AllSteady f.me (part f).lines
+
+abbrev PartsOwn : List Part → Type 0
+PartsOwn [] = Unit {0}
+PartsOwn (p ∷ ps) = PartOwn p × PartsOwn ps
+
+in_order_own : (ps : List Part) → PartsOwn ps → (f : Facts) → AllSteady f.me (in_order ps f).lines
+in_order_own [] h f = tt
+in_order_own (p ∷ ps) h f =
+    own_append f.me (p f).lines _ (h.0 f) (subst (λ (a : ℕ). AllSteady a (in_order ps (noted None f (p f).lines)).lines) (noted_me None f (p f).lines) (in_order_own ps h.1 (noted None f (p f).lines)))
+
+proposing_own : (f : Facts) (k : ClusterKey) (set : List Member) (ns : List ℕ) → Owns f (proposing_to f k set ns)
+proposing_own f k set [] = (refl, entering_own f k set)
+proposing_own f k set (n ∷ ns) = (refl, tt)
+
+propose_new_own : (f : Facts) (b : Bool) → Owns f (propose_new f b)
+propose_new_own f true = proposing_own f _ _ _
+propose_new_own f false = tt
+
+propose_own : (f : Facts) (o : Option Proposal) → Owns f (propose_with f o)
+propose_own f (Some p) = tt
+propose_own f None = propose_new_own f _
+
+progress_if_own : (n : ℕ) (f : Facts) (b : Bool) → Owns f (progress_if n f b)
+progress_if_own n f true = tt
+progress_if_own n f false = tt
+
+-- the parts of a tick but the first, which is its line
+abbrev pub later_parts : ℕ → List Part
+later_parts n = beat ∷ propose ∷ rows ∷ transactions ∷ batches ∷ settlings n ∷ progress n ∷ []
+
+parts_own : (n : ℕ) → PartsOwn (later_parts n)
+parts_own n = (
+  λ f. tt,
+  (
+    λ f. propose_own f f.agreement.proposal,
+    (
+      λ f. tt,
+      (
+        λ f. tt,
+        (
+          λ f. tt,
+          (
+            λ f. settling_own n f f.exchange.exchanged,
+            (λ f. progress_if_own n f _, tt),
+          ),
+        ),
+      ),
+    ),
+  ),
+)
+
+pub later_steady : (n : ℕ) (f : Facts) → AllSteady f.me (in_order (later_parts n) f).lines
+later_steady n f = in_order_own (later_parts n) (parts_own n) f
+
+-- the lines that are due of a tick are the node's
+pub tick_own : (n : ℕ) (f : Facts) → OwnLines f.me (tick_of n f).lines
+tick_own n f = go f.up
+  where
+    go : (b : Bool) → OwnLines f.me (tick_if n f b).lines
+    go true = (refl, all_steady_own f.me _ (later_steady n (after_ages f)))
+    go false = (tt, tt)

@@ -1,0 +1,193 @@
+-- Which kinds of messages answer which.
+use Rattle.std.proofs.Common.{◌≡◌, ℕ, ◌==◌, ◌||◌, not, Bool, true, false, List, [], ◌∷◌, ◌++◌, Option, Some, None, refl, ap, ◌∙◌}
+use Rattle.std.specs.Prelude.{flat_map}
+use Rattle.conflict_order.specs.declared.version.Version.{Version}
+use Rattle.conflict_order.specs.declared.version.Body.TheVariants as body
+use Rattle.conflict_order.specs.declared.want.Want.{Want}
+use Rattle.conflict_order.specs.declared.want.Want.TheVariants as want
+use Rattle.conflict_order.specs.Next.{next}
+use Rattle.cluster_types.specs.declared.cluster_key.ClusterKey.{ClusterKey}
+use Rattle.cluster_types.specs.declared.member.Member.{Member}
+use Rattle.wire_messages.specs.declared.message.Batch.{Batch}
+use Rattle.wire_messages.specs.declared.message.Message.{Message}
+use Rattle.wire_messages.specs.declared.message.Message.TheVariants as message
+use Rattle.node_rules.specs.Agreement as agreement
+use Rattle.node_rules.specs.Agreement.{Proposal, proposes, without_missing}
+use Rattle.node_rules.specs.Batches.{out_to, has_number}
+use Rattle.node_rules.specs.Copies.{is_nil}
+use Rattle.node_rules.specs.Effects.{Effects, to_each}
+use Rattle.node_rules.specs.Facts.{Facts}
+use Rattle.node_rules.specs.Messages.{voting, committing, counting, unless_stale, entering_if, state_came, batch_came, batch_ack_came, unless_spent, progress_came, answer_progress, repl_came, done_by, ack_of, repl_ack_came, ask_came, resolving_if, answered_by, answer_of, answer_came, table_if, may_enter, due_message_of, answer_state}
+use Rattle.node_rules.specs.Notes.{reached, in_view}
+use Rattle.node_rules.specs.Resolving.{writing, resolving_want}
+use Rattle.node_rules.specs.Standing.{other_replicas}
+use Rattle.node_rules.specs.Tables.{contains}
+use Rattle.node_rules.specs.Transactions.{Transaction, transaction, awaits_answer, awaits_ack, answered, is_last_awaited}
+use Rattle.calm_laws.specs.Acts.{Gets, sent_at}
+use Rattle.calm_laws.specs.Flows.{Occurs}
+use Rattle.calm_laws.specs.Group.{replies, kind}
+use Rattle.calm_laws.proofs.KindLaws.{NoneOf, none_read}
+use Rattle.calm_laws.proofs.Sent.{none_among}
+use Rattle.calm_laws.proofs.Took.{differ, same_number}
+
+-- whether the kind is none of these
+abbrev pub outside : List ℕ → ℕ → Bool
+outside ks k = not (contains ks k)
+
+abbrev In : List ℕ → Effects → Type 0
+In ks e = NoneOf (outside ks) e.sends
+
+pub each_in : (ks : List ℕ) (ns : List ℕ) (m : Message) → outside ks (kind m) ≡ false → NoneOf (outside ks) (to_each ns m)
+each_in ks [] m h = tt
+each_in ks (n ∷ ns) m h = (h, each_in ks ns m h)
+
+committing_in : (f : Facts) (p : Proposal) (b : Bool) → In (5 ∷ []) (committing f p b)
+committing_in f p true = each_in (5 ∷ []) (agreement.others f.me p.members) (message.Commit p.key p.members) refl
+committing_in f p false = tt
+
+counting_in : (f : Facts) (from : ℕ) (key : ClusterKey) (o : Option Proposal) (b : Bool) → In (5 ∷ []) (counting f from key o b)
+counting_in f from key (Some p) true = committing_in f p (is_nil (without_missing p from).missing)
+counting_in f from key (Some p) false = tt
+counting_in f from key None b = tt
+
+voting_in : (f : Facts) (from : ℕ) (key : ClusterKey) (b : Bool) → In (3 ∷ 4 ∷ []) (voting f from key b)
+voting_in f from key true = (refl, tt)
+voting_in f from key false = (refl, tt)
+
+unless_stale_in : (f : Facts) (b : Bool) → In [] (unless_stale f b)
+unless_stale_in f true = tt
+unless_stale_in f false = tt
+
+entering_if_in : (f : Facts) (key : ClusterKey) (ms : List Member) (b : Bool) → In [] (entering_if f key ms b)
+entering_if_in f key ms true = tt
+entering_if_in f key ms false = tt
+
+answer_state_in : (f : Facts) (from : ℕ) (b : Bool) → NoneOf (outside (6 ∷ [])) (answer_state f from b)
+answer_state_in f from true = (refl, tt)
+answer_state_in f from false = tt
+
+state_in : (f now : Facts) (from : ℕ) (wants b : Bool) → In (6 ∷ []) (state_came f now from wants b)
+state_in f now from wants true = answer_state_in f from wants
+state_in f now from wants false = tt
+
+batch_in : (f : Facts) (from : ℕ) (b : Batch) (c : Bool) → In (8 ∷ []) (batch_came f from b c)
+batch_in f from b true = (refl, tt)
+batch_in f from b false = tt
+
+unless_spent_in : (f : Facts) (b : Bool) → In [] (unless_spent f b)
+unless_spent_in f true = tt
+unless_spent_in f false = tt
+
+batch_ack_in : (f : Facts) (from number : ℕ) (b : Bool) → In [] (batch_ack_came f from number b)
+batch_ack_in f from number true = unless_spent_in f (has_number (out_to f.batches from) number)
+batch_ack_in f from number false = tt
+
+answer_progress_in : (n : ℕ) (now : Facts) (from : ℕ) (b : Bool) → In (9 ∷ []) (answer_progress n now from b)
+answer_progress_in n now from true = (refl, tt)
+answer_progress_in n now from false = tt
+
+progress_in : (n : ℕ) (f now : Facts) (from : ℕ) (wants b : Bool) → In (9 ∷ []) (progress_came n f now from wants b)
+progress_in n f now from wants true = answer_progress_in n now from _
+progress_in n f now from wants false = tt
+
+repl_in : (f : Facts) (from : ℕ) (key : ClusterKey) (number : ℕ) (d : List ℕ) (v : Version) (b : Bool) → In (11 ∷ []) (repl_came f from key number d v b)
+repl_in f from key number d v true = (refl, tt)
+repl_in f from key number d v false = tt
+
+done_by_in : (f : Facts) (t : Transaction) (from : ℕ) (b : Bool) → In [] (done_by f t from b)
+done_by_in f t from true = tt
+done_by_in f t from false = tt
+
+ack_of_in : (f : Facts) (from : ℕ) (o : Option Transaction) → In [] (ack_of f from o)
+ack_of_in f from None = tt
+ack_of_in f from (Some t) = done_by_in f t from (awaits_ack t from)
+
+repl_ack_in : (f : Facts) (from number : ℕ) (b : Bool) → In [] (repl_ack_came f from number b)
+repl_ack_in f from number true = ack_of_in f from (transaction f.transactions number)
+repl_ack_in f from number false = tt
+
+ask_in : (f : Facts) (from : ℕ) (key : ClusterKey) (number : ℕ) (d : List ℕ) (b : Bool) → In (13 ∷ []) (ask_came f from key number d b)
+ask_in f from key number d true = (refl, tt)
+ask_in f from key number d false = tt
+
+writing_in : (f : Facts) (l : List ℕ) (t : Transaction) (v : Version) → In (10 ∷ []) (writing f l t v)
+writing_in f l t v = each_in (10 ∷ []) (other_replicas f l) _ refl
+
+resolving_in : (f : Facts) (clock : ℕ) (l : List ℕ) (t : Transaction) (w : Want) → In (10 ∷ []) (resolving_want f clock l t w)
+resolving_in f clock l t want.Get = tt
+resolving_in f clock l t (want.Put bytes) = writing_in f l t (next t.best clock (body.Value bytes))
+resolving_in f clock l t want.Del = writing_in f l t (next t.best clock body.Tombstone)
+
+resolving_if_in : (f : Facts) (clock : ℕ) (t : Transaction) (b : Bool) → In (10 ∷ []) (resolving_if f clock t b)
+resolving_if_in f clock t true = resolving_in f clock _ t t.want
+resolving_if_in f clock t false = tt
+
+answered_in : (f : Facts) (clock : ℕ) (t : Transaction) (from : ℕ) (v : Option Version) (b : Bool) → In (10 ∷ []) (answered_by f clock t from v b)
+answered_in f clock t from v true = resolving_if_in f clock (answered f.store.by from v t) (is_last_awaited t from)
+answered_in f clock t from v false = tt
+
+answer_of_in : (f : Facts) (clock from : ℕ) (v : Option Version) (o : Option Transaction) → In (10 ∷ []) (answer_of f clock from v o)
+answer_of_in f clock from v None = tt
+answer_of_in f clock from v (Some t) = answered_in f clock t from v (awaits_answer t from)
+
+answer_in : (f : Facts) (clock from number : ℕ) (v : Option Version) (b : Bool) → In (10 ∷ []) (answer_came f clock from number v b)
+answer_in f clock from number v true = answer_of_in f clock from v (transaction f.transactions number)
+answer_in f clock from number v false = tt
+
+table_in : (f : Facts) (b : Bool) → In (15 ∷ []) (table_if f b)
+table_in f true = (refl, tt)
+table_in f false = tt
+
+pub message_in_replies : (n : ℕ) (f : Facts) (clock from : ℕ) (m : Message) → NoneOf (outside (replies (kind m))) (due_message_of n f clock from m).sends
+message_in_replies n f clock from (message.Heartbeat v promised hears role) = tt
+message_in_replies n f clock from (message.Propose k ms) = voting_in f from k _
+message_in_replies n f clock from (message.Accept k) = counting_in f from k f.agreement.proposal (proposes f.agreement.proposal k)
+message_in_replies n f clock from (message.Refuse k promised) = unless_stale_in f (proposes f.agreement.proposal k)
+message_in_replies n f clock from (message.Commit k ms) = entering_if_in f k ms (may_enter f k ms)
+message_in_replies n f clock from (message.State k wants row) = state_in f (reached f from (message.State k wants row)) from wants (in_view f k)
+message_in_replies n f clock from (message.Batch b) = batch_in f from b (in_view f b.key)
+message_in_replies n f clock from (message.BatchAck k number) = batch_ack_in f from number (in_view f k)
+message_in_replies n f clock from (message.Progress k wants done handed settled) = progress_in n f (reached f from (message.Progress k wants done handed settled)) from wants (in_view f k)
+message_in_replies n f clock from (message.Repl k number nth d v) = repl_in f from k number d v (in_view f k)
+message_in_replies n f clock from (message.ReplAck k number) = repl_ack_in f from number (in_view f k)
+message_in_replies n f clock from (message.Ask k number d) = ask_in f from k number d (in_view f k)
+message_in_replies n f clock from (message.Answer k number v) = answer_in f clock from number v (in_view f k)
+message_in_replies n f clock from message.MapAsk = table_in f f.exchange.exchanged
+message_in_replies n f clock from _ = tt
+
+-- ---- what is sent
+
+pub is_inside : (b : Bool) → not b ≡ false → b ≡ true
+is_inside true e = refl
+is_inside false e = differ refl e
+
+-- a message that is sent on another one is of a kind that may answer it
+pub answers : (n c : ℕ) (f : Facts) (from : ℕ) (m : Message) (to : ℕ) (x : Message) → Occurs (to, x) (sent_at n c f (Gets from m)) → contains (replies (kind m)) (kind x) ≡ true
+answers n c f from m to x h =
+    is_inside (contains (replies (kind m)) (kind x))
+    (none_among (outside (replies (kind m))) (sent_at n c f (Gets from m)) to x (none_read (outside (replies (kind m))) (due_message_of n f c from m).sends (message_in_replies n f c from m)) h)
+
+contains_front : (xs ys : List ℕ) (x : ℕ) → contains xs x ≡ true → contains (xs ++ ys) x ≡ true
+contains_front [] ys x e = differ e refl
+contains_front (y ∷ xs) ys x e = go (y == x) e (contains_front xs ys x)
+  where
+    go : (b : Bool) → (b || contains xs x) ≡ true → (contains xs x ≡ true → contains (xs ++ ys) x ≡ true) → (b || contains (xs ++ ys) x) ≡ true
+    go true f rest = refl
+    go false f rest = rest f
+
+contains_behind : (xs ys : List ℕ) (x : ℕ) → contains ys x ≡ true → contains (xs ++ ys) x ≡ true
+contains_behind [] ys x e = e
+contains_behind (y ∷ xs) ys x e = go (y == x) (contains_behind xs ys x e)
+  where
+    go : (b : Bool) → contains (xs ++ ys) x ≡ true → (b || contains (xs ++ ys) x) ≡ true
+    go true f = refl
+    go false f = f
+
+-- the kinds that may answer one of these
+pub answers_all : (ks : List ℕ) (j k : ℕ) → contains ks j ≡ true → contains (replies j) k ≡ true → contains (flat_map replies ks) k ≡ true
+answers_all [] j k e h = differ e refl
+answers_all (i ∷ ks) j k e h = go (i == j) refl e (λ f. answers_all ks j k f h)
+  where
+    go : (b : Bool) → (i == j) ≡ b → (b || contains ks j) ≡ true → (contains ks j ≡ true → contains (flat_map replies ks) k ≡ true) → contains (replies i ++ flat_map replies ks) k ≡ true
+    go true s f rest = contains_front (replies i) (flat_map replies ks) k (ap (λ (y : ℕ). contains (replies y) k) (same_number i j s) ∙ h)
+    go false s f rest = contains_behind (replies i) (flat_map replies ks) k (rest f)

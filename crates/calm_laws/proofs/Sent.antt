@@ -1,0 +1,292 @@
+-- Which kinds a node sends: beats of a tick alone, and one to each peer.
+use Rattle.std.proofs.Common.{◌≡◌, ℕ, ◌==◌, ◌||◌, Bool, true, false, List, [], ◌∷◌, ◌++◌, Option, Some, None, refl, sym, ap, subst, ◌∙◌, inl, inr}
+use Rattle.std.specs.Prelude.{filter_map, flat_map}
+use Rattle.std.specs.List.{cons_option}
+use Rattle.std.proofs.lemmas.List.Elements.{filter_map-append}
+use Rattle.conflict_order.specs.declared.version.Version.{Version}
+use Rattle.conflict_order.specs.declared.version.Body.TheVariants as body
+use Rattle.conflict_order.specs.declared.want.Want.{Want}
+use Rattle.conflict_order.specs.declared.want.Want.TheVariants as want
+use Rattle.conflict_order.specs.Next.{next}
+use Rattle.cluster_types.specs.declared.cluster_key.ClusterKey.{ClusterKey}
+use Rattle.cluster_types.specs.declared.member.Member.{Member}
+use Rattle.wire_messages.specs.declared.message.Batch.{Batch}
+use Rattle.wire_messages.specs.declared.message.Message.{Message}
+use Rattle.wire_messages.specs.declared.message.Message.TheVariants as message
+use Rattle.wire_messages.specs.Decoding.{message_of}
+use Rattle.wire_messages.specs.Spelling.{spelling}
+use Rattle.node_rules.specs.Agreement as agreement
+use Rattle.node_rules.specs.Agreement.{Proposal, proposes, without_missing}
+use Rattle.node_rules.specs.Batches.{out_to, has_number, next_batch, Target, Targets}
+use Rattle.node_rules.specs.Copies.{is_nil, Content}
+use Rattle.node_rules.specs.Effects.{Effects, to_each}
+use Rattle.node_rules.specs.Facts.{Facts, view_key}
+use Rattle.node_rules.specs.Messages.{voting, committing, counting, unless_stale, entering_if, state_came, batch_came, batch_ack_came, unless_spent, progress_came, answer_progress, repl_came, done_by, ack_of, repl_ack_came, ask_came, resolving_if, answered_by, answer_of, answer_came, table_if, may_enter, due_message_of, answer_state}
+use Rattle.node_rules.specs.Notes.{noted, reached, in_view, after_ages}
+use Rattle.node_rules.specs.Resolving.{writing, resolving_want, repl}
+use Rattle.node_rules.specs.Standing.{other_replicas, others}
+use Rattle.node_rules.specs.Tick.{Part, in_order, propose, proposing_to, propose_new, propose_with, rows, transactions, sends_again, batches, batch_to, settlings, progress, progress_if, state, tick_if}
+use Rattle.node_rules.specs.Transactions.{Transaction, Write, transaction, awaits_answer, awaits_ack, answered, is_last_awaited}
+use Rattle.calm_laws.specs.Acts.{Input, Ticks, Gets, reading, read_to, as_read, sent_at, acted, outbox}
+use Rattle.calm_laws.specs.Flows.{Occurs, beat_of}
+use Rattle.calm_laws.specs.Group.{kind}
+use Rattle.calm_laws.proofs.KindLaws.{NoneOf, none_append, none_read}
+
+-- ---- a message at a node sends no beat, and nothing else that ticks send alone
+
+-- whether only a tick sends messages of that kind
+abbrev pub asks : ℕ → Bool
+asks k = (k == 1) || ((k == 2) || ((k == 7) || (k == 12)))
+
+abbrev Answers : Effects → Type 0
+Answers e = NoneOf asks e.sends
+
+each_none : (ns : List ℕ) (m : Message) → asks (kind m) ≡ false → NoneOf asks (to_each ns m)
+each_none [] m h = tt
+each_none (n ∷ ns) m h = (h, each_none ns m h)
+
+committing_none : (f : Facts) (p : Proposal) (b : Bool) → Answers (committing f p b)
+committing_none f p true = each_none (agreement.others f.me p.members) (message.Commit p.key p.members) refl
+committing_none f p false = tt
+
+counting_none : (f : Facts) (from : ℕ) (key : ClusterKey) (o : Option Proposal) (b : Bool) → Answers (counting f from key o b)
+counting_none f from key (Some p) true = committing_none f p (is_nil (without_missing p from).missing)
+counting_none f from key (Some p) false = tt
+counting_none f from key None b = tt
+
+voting_none : (f : Facts) (from : ℕ) (key : ClusterKey) (b : Bool) → Answers (voting f from key b)
+voting_none f from key true = (refl, tt)
+voting_none f from key false = (refl, tt)
+
+unless_stale_none : (f : Facts) (b : Bool) → Answers (unless_stale f b)
+unless_stale_none f true = tt
+unless_stale_none f false = tt
+
+entering_if_none : (f : Facts) (key : ClusterKey) (ms : List Member) (b : Bool) → Answers (entering_if f key ms b)
+entering_if_none f key ms true = tt
+entering_if_none f key ms false = tt
+
+answer_state_none : (f : Facts) (from : ℕ) (b : Bool) → NoneOf asks (answer_state f from b)
+answer_state_none f from true = (refl, tt)
+answer_state_none f from false = tt
+
+state_none : (f now : Facts) (from : ℕ) (wants b : Bool) → Answers (state_came f now from wants b)
+state_none f now from wants true = answer_state_none f from wants
+state_none f now from wants false = tt
+
+batch_none : (f : Facts) (from : ℕ) (b : Batch) (c : Bool) → Answers (batch_came f from b c)
+batch_none f from b true = (refl, tt)
+batch_none f from b false = tt
+
+unless_spent_none : (f : Facts) (b : Bool) → Answers (unless_spent f b)
+unless_spent_none f true = tt
+unless_spent_none f false = tt
+
+batch_ack_none : (f : Facts) (from number : ℕ) (b : Bool) → Answers (batch_ack_came f from number b)
+batch_ack_none f from number true = unless_spent_none f (has_number (out_to f.batches from) number)
+batch_ack_none f from number false = tt
+
+answer_progress_none : (n : ℕ) (now : Facts) (from : ℕ) (b : Bool) → Answers (answer_progress n now from b)
+answer_progress_none n now from true = (refl, tt)
+answer_progress_none n now from false = tt
+
+progress_none : (n : ℕ) (f now : Facts) (from : ℕ) (wants b : Bool) → Answers (progress_came n f now from wants b)
+progress_none n f now from wants true = answer_progress_none n now from _
+progress_none n f now from wants false = tt
+
+repl_none : (f : Facts) (from : ℕ) (key : ClusterKey) (number : ℕ) (d : List ℕ) (v : Version) (b : Bool) → Answers (repl_came f from key number d v b)
+repl_none f from key number d v true = (refl, tt)
+repl_none f from key number d v false = tt
+
+done_by_none : (f : Facts) (t : Transaction) (from : ℕ) (b : Bool) → Answers (done_by f t from b)
+done_by_none f t from true = tt
+done_by_none f t from false = tt
+
+ack_of_none : (f : Facts) (from : ℕ) (o : Option Transaction) → Answers (ack_of f from o)
+ack_of_none f from None = tt
+ack_of_none f from (Some t) = done_by_none f t from (awaits_ack t from)
+
+repl_ack_none : (f : Facts) (from number : ℕ) (b : Bool) → Answers (repl_ack_came f from number b)
+repl_ack_none f from number true = ack_of_none f from (transaction f.transactions number)
+repl_ack_none f from number false = tt
+
+ask_none : (f : Facts) (from : ℕ) (key : ClusterKey) (number : ℕ) (d : List ℕ) (b : Bool) → Answers (ask_came f from key number d b)
+ask_none f from key number d true = (refl, tt)
+ask_none f from key number d false = tt
+
+writing_none : (f : Facts) (l : List ℕ) (t : Transaction) (v : Version) → Answers (writing f l t v)
+writing_none f l t v = each_none (other_replicas f l) _ refl
+
+resolving_none : (f : Facts) (clock : ℕ) (l : List ℕ) (t : Transaction) (w : Want) → Answers (resolving_want f clock l t w)
+resolving_none f clock l t want.Get = tt
+resolving_none f clock l t (want.Put bytes) = writing_none f l t (next t.best clock (body.Value bytes))
+resolving_none f clock l t want.Del = writing_none f l t (next t.best clock body.Tombstone)
+
+resolving_if_none : (f : Facts) (clock : ℕ) (t : Transaction) (b : Bool) → Answers (resolving_if f clock t b)
+resolving_if_none f clock t true = resolving_none f clock _ t t.want
+resolving_if_none f clock t false = tt
+
+answered_none : (f : Facts) (clock : ℕ) (t : Transaction) (from : ℕ) (v : Option Version) (b : Bool) → Answers (answered_by f clock t from v b)
+answered_none f clock t from v true = resolving_if_none f clock (answered f.store.by from v t) (is_last_awaited t from)
+answered_none f clock t from v false = tt
+
+answer_of_none : (f : Facts) (clock from : ℕ) (v : Option Version) (o : Option Transaction) → Answers (answer_of f clock from v o)
+answer_of_none f clock from v None = tt
+answer_of_none f clock from v (Some t) = answered_none f clock t from v (awaits_answer t from)
+
+answer_none : (f : Facts) (clock from number : ℕ) (v : Option Version) (b : Bool) → Answers (answer_came f clock from number v b)
+answer_none f clock from number v true = answer_of_none f clock from v (transaction f.transactions number)
+answer_none f clock from number v false = tt
+
+table_none : (f : Facts) (b : Bool) → Answers (table_if f b)
+table_none f true = (refl, tt)
+table_none f false = tt
+
+pub message_none : (n : ℕ) (f : Facts) (clock from : ℕ) (m : Message) → Answers (due_message_of n f clock from m)
+message_none n f clock from (message.Heartbeat v promised hears role) = tt
+message_none n f clock from (message.Propose k ms) = voting_none f from k _
+message_none n f clock from (message.Accept k) = counting_none f from k f.agreement.proposal (proposes f.agreement.proposal k)
+message_none n f clock from (message.Refuse k promised) = unless_stale_none f (proposes f.agreement.proposal k)
+message_none n f clock from (message.Commit k ms) = entering_if_none f k ms (may_enter f k ms)
+message_none n f clock from (message.State k wants row) = state_none f (reached f from (message.State k wants row)) from wants (in_view f k)
+message_none n f clock from (message.Batch b) = batch_none f from b (in_view f b.key)
+message_none n f clock from (message.BatchAck k number) = batch_ack_none f from number (in_view f k)
+message_none n f clock from (message.Progress k wants done handed settled) = progress_none n f (reached f from (message.Progress k wants done handed settled)) from wants (in_view f k)
+message_none n f clock from (message.Repl k number nth d v) = repl_none f from k number d v (in_view f k)
+message_none n f clock from (message.ReplAck k number) = repl_ack_none f from number (in_view f k)
+message_none n f clock from (message.Ask k number d) = ask_none f from k number d (in_view f k)
+message_none n f clock from (message.Answer k number v) = answer_none f clock from number v (in_view f k)
+message_none n f clock from message.MapAsk = table_none f f.exchange.exchanged
+message_none n f clock from _ = tt
+
+-- inputs that are messages
+abbrev pub AllGets : List Input → Type 0
+AllGets [] = Unit {0}
+AllGets (Ticks ∷ is) = ⊥
+AllGets (Gets a m ∷ is) = AllGets is
+
+-- what messages make a node send is no beat, proposal, batch or question
+pub outbox_none : (n c : ℕ) (f : Facts) (is : List Input) → AllGets is → NoneOf asks (outbox n c f is)
+outbox_none n c f [] h = tt
+outbox_none n c f (Ticks ∷ is) h = absurd h
+outbox_none n c f (Gets a m ∷ is) h = none_append asks (sent_at n c f (Gets a m)) _ (none_read asks (due_message_of n f c a m).sends (message_none n f c a m)) (outbox_none n c (acted n c f (Gets a m)) is h)
+
+-- ---- a tick
+
+abbrev pub is_one : ℕ → Bool
+is_one k = k == 1
+
+abbrev Silent : Effects → Type 0
+Silent e = NoneOf is_one e.sends
+
+each_silent : (ns : List ℕ) (m : Message) → is_one (kind m) ≡ false → NoneOf is_one (to_each ns m)
+each_silent [] m h = tt
+each_silent (n ∷ ns) m h = (h, each_silent ns m h)
+
+again_none : (f : Facts) (t : Transaction) (o : Option Write) → NoneOf is_one (sends_again f t o)
+again_none f t None = each_silent t.awaiting _ refl
+again_none f t (Some w) = each_silent t.awaiting (repl f t w) refl
+
+transactions_none : (f : Facts) (ts : List Transaction) → NoneOf is_one (flat_map (λ (t : Transaction). sends_again f t t.applied) ts)
+transactions_none f [] = tt
+transactions_none f (t ∷ ts) = none_append is_one (sends_again f t t.applied) _ (again_none f t t.applied) (transactions_none f ts)
+
+batches_none : (k : ClusterKey) (c : Content) (ts : Targets) → NoneOf is_one (filter_map (λ (t : Target). batch_to t.node (next_batch k c t)) ts)
+batches_none k c [] = tt
+batches_none k c (t ∷ ts) = go (next_batch k c t) (batches_none k c ts)
+  where
+    go : (o : Option Batch) → NoneOf is_one (filter_map (λ (t : Target). batch_to t.node (next_batch k c t)) ts) → NoneOf is_one (cons_option (batch_to t.node o) (filter_map (λ (t : Target). batch_to t.node (next_batch k c t)) ts))
+    go None rest = rest
+    go (Some b) rest = (refl, rest)
+
+proposing_none : (f : Facts) (k : ClusterKey) (set : List Member) (ns : List ℕ) → Silent (proposing_to f k set ns)
+proposing_none f k set [] = tt
+proposing_none f k set (n ∷ ns) = each_silent (n ∷ ns) (message.Propose k set) refl
+
+propose_new_none : (f : Facts) (b : Bool) → Silent (propose_new f b)
+propose_new_none f true = proposing_none f _ _ _
+propose_new_none f false = tt
+
+propose_none : (f : Facts) (o : Option Proposal) → Silent (propose_with f o)
+propose_none f (Some p) = each_silent p.missing (message.Propose p.key p.members) refl
+propose_none f None = propose_new_none f _
+
+progress_if_none : (n : ℕ) (f : Facts) (b : Bool) → Silent (progress_if n f b)
+progress_if_none n f true = each_silent (others f) _ refl
+progress_if_none n f false = tt
+
+abbrev PartNone : Part → Type 0
+PartNone part = (f : Facts) → Silent (part f)
+
+abbrev PartsNone : List Part → Type 0
+PartsNone [] = Unit {0}
+PartsNone (p ∷ ps) = PartNone p × PartsNone ps
+
+in_order_none : (ps : List Part) → PartsNone ps → (f : Facts) → Silent (in_order ps f)
+in_order_none [] h f = tt
+in_order_none (p ∷ ps) h f = none_append is_one (p f).sends _ (h.0 f) (in_order_none ps h.1 (noted None f (p f).lines))
+
+abbrev pub silent_parts : ℕ → List Part
+silent_parts n = propose ∷ rows ∷ transactions ∷ batches ∷ settlings n ∷ progress n ∷ []
+
+silent_none : (n : ℕ) → PartsNone (silent_parts n)
+silent_none n = (
+  λ f. propose_none f f.agreement.proposal,
+  (
+    λ f. each_silent _ (state f true) refl,
+    (
+      λ f. transactions_none f f.transactions.running,
+      (
+        λ f. batches_none (view_key f) f.store.content f.batches,
+        (
+          λ f. tt,
+          (λ f. progress_if_none n f _, tt),
+        ),
+      ),
+    ),
+  ),
+)
+
+pub read_append : (xs ys : List (ℕ × Message)) → as_read (xs ++ ys) ≡ as_read xs ++ as_read ys
+unfolding as_read
+read_append xs ys = filter_map-append reading xs ys
+
+-- it goes to each of these, as it can be read
+pub each_among : (m : Message) → message_of (spelling m) ≡ Some m → (ns : List ℕ) (to : ℕ) → Occurs to ns → Occurs (to, m) (as_read (to_each ns m))
+unfolding as_read
+each_among m r [] to h = absurd h
+each_among m r (n ∷ ns) to (inl e) = subst (λ (o : Option Message). Occurs (to, m) (cons_option (read_to n o) (as_read (to_each ns m)))) (sym r) (inl (ap (λ (k : ℕ). (k, m)) e))
+each_among m r (n ∷ ns) to (inr h) = subst (λ (o : Option Message). Occurs (to, m) (cons_option (read_to n o) (as_read (to_each ns m)))) (sym r) (inr (each_among m r ns to h))
+
+pub among_each : (m : Message) → message_of (spelling m) ≡ Some m → (ns : List ℕ) (to : ℕ) (x : Message) → Occurs (to, x) (as_read (to_each ns m)) → m ≡ x
+unfolding as_read
+among_each m r [] to x h = absurd h
+among_each m r (n ∷ ns) to x h = go (subst (λ (o : Option Message). Occurs (to, x) (cons_option (read_to n o) (as_read (to_each ns m)))) r h) (among_each m r ns to x)
+  where
+    go : Occurs (to, x) ((n, m) ∷ as_read (to_each ns m)) → (Occurs (to, x) (as_read (to_each ns m)) → m ≡ x) → m ≡ x
+    go (inl e) rest = ap (λ (q : ℕ × Message). q.1) e
+    go (inr i) rest = rest i
+
+pub none_among : (test : ℕ → Bool) (ms : List (ℕ × Message)) (to : ℕ) (x : Message) → NoneOf test ms → Occurs (to, x) ms → test (kind x) ≡ false
+none_among test [] to x h i = absurd i
+none_among test (m ∷ ms) to x h (inl e) = ap (λ (q : ℕ × Message). test (kind q.1)) (sym e) ∙ h.0
+none_among test (m ∷ ms) to x h (inr i) = none_among test ms to x h.1 i
+
+-- what an up node's tick sends: its beat to each peer, and then no beat
+pub record TickSends (n c : ℕ) (f : Facts) : Type 0 where
+  pub others : List (ℕ × Message)
+  pub all : sent_at n c f Ticks ≡ as_read (to_each f.peers (beat_of (after_ages f))) ++ others
+  pub silent : NoneOf is_one others
+
+pub tick_sends : (n c : ℕ) (f : Facts) → f.up ≡ true → TickSends n c f
+tick_sends n c f up = go f.up up
+  where
+    rest : Effects
+    rest = in_order (silent_parts n) (after_ages f)
+
+    go : (b : Bool) → b ≡ true → TickSends n c f
+    go b e = record {
+      others = as_read rest.sends;
+      all = ap (λ (x : Bool). as_read (tick_if n f x).sends) up ∙ read_append (to_each f.peers (beat_of (after_ages f))) rest.sends;
+      silent = none_read is_one rest.sends (in_order_none (silent_parts n) (silent_none n) (after_ages f));
+    }
