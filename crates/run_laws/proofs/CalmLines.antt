@@ -79,7 +79,7 @@ calm_place h ss t i rounds e = (
     declared = ap nodes lines_here ∙ nodes_agree h (lines_among (take p.count (all_marks ss))) behind_here ∙ sym (nodes_agree h ls w.behind);
     groups = ap groups_of lines_here ∙ groups_agree h (take p.count (all_marks ss)) behind_here ∙ sym (ap (λ (x : World). x.network.groups) world);
     ups = λ n e. ap (settings.is_up n) lines_here ∙ up_is h (take p.count (all_marks ss)) n (subst (λ (ns : List ℕ). has_node ns n ≡ true) (nodes_agree h ls w.behind) e) ∙ sym (ap (λ (x : World). (x.facts n).up) world);
-    roles = λ n. ap (present_role n) lines_here ∙ role_agrees h (take p.count (all_marks ss)) n t.declared behind_here ∙ sym (ap (λ (x : World). (x.facts n).role) world);
+    roles = λ n. ap (present_role n) lines_here ∙ role_agrees h (take p.count (all_marks ss)) n t.declared.distinct behind_here ∙ sym (ap (λ (x : World). (x.facts n).role) world);
   },
 )
   where

@@ -38,7 +38,7 @@ a_value v p = record { limit = p.limit; each = bytes_of v p.bytes }
 
 -- ---- who ticks has an id
 
-abbrev AllProper : List Step → Type 0
+abbrev pub AllProper : List Step → Type 0
 AllProper ss = AllByRecursion (λ (s : Step). IsProperEvent s.event) ss
 
 proper_append : (ss ts : List Step) → AllProper ss → AllProper ts → AllProper (ss ++ ts)
@@ -73,7 +73,7 @@ proper_round n w h =
     let ticks : Played = play_all n (map event.Tick (up_nodes w)) w in
     proper_append ticks.steps (flows n 4 ticks.world).steps (proper_all n _ w (proper_ticks (up_nodes w) (up_ids w h))) (proper_flows n 4 ticks.world)
 
-proper_rounds : (n k : ℕ) (w : World) → AreIds w.nodes → AllProper (rounds n k w).steps
+pub proper_rounds : (n k : ℕ) (w : World) → AreIds w.nodes → AllProper (rounds n k w).steps
 unfolding rounds
 proper_rounds n zero w h = tt
 proper_rounds n (suc k) w h =
@@ -90,6 +90,7 @@ proper_command n w command.Calm x ids p h =
     subst (λ (y : Played). AllProper y.steps) (sym h.played) (proper_append (rounds n h.number w).steps (play n (event.Calmed h.number) (rounds n h.number w).world).steps (proper_rounds n h.number w ids) (tt, tt))
 proper_command n w (command.Tick node) x ids p h = by_event n w (event.Tick node) x h (node_id node p)
 proper_command n w (command.Clock node time) x ids p h = by_event n w (event.Clock node time) x h p.1
+proper_command n w (command.Groups groups) x ids p h = by_event n w (event.Groups groups) x h p
 proper_command n w (command.Put node d v) x ids p h = by_event n w (event.Put node d v) x h (a_digest d p.1, a_value v p.2)
 proper_command n w (command.Get node d) x ids p h = by_event n w (event.Get node d) x h (a_digest d p.1)
 proper_command n w (command.Del node d) x ids p h = by_event n w (event.Del node d) x h (a_digest d p.1)

@@ -1,7 +1,7 @@
 -- What holds of the journal of taken steps holds of that of a script's run, of one that was begun, and of no line at all.
-use Rattle.std.proofs.Common.{◌≡◌, ◌≢◌, ℕ, ◌+◌, ◌<◌, List, [], ◌++◌, length, map, refl, sym, ap, ◌∙◌, subst, subst₂, lit<, arith}
+use Rattle.std.proofs.Common.{◌≡◌, ◌≢◌, ℕ, ◌+◌, ◌<◌, List, [], ◌++◌, length, map, refl, sym, ap, ◌∙◌, subst, subst₂, lit<, lit≤, arith}
 use Rattle.std.proofs.lemmas.List.Elements.{All-nil}
-use Rattle.cluster_types.specs.Distinct.{AreDistinct}
+use Rattle.cluster_types.specs.NodeLists.{IsNodeList}
 use Rattle.cluster_types.specs.Partitions.{partition_count}
 use Rattle.cluster_types.proofs.DistinctLaws.{none_distinct}
 use Rattle.script_lang.specs.declared.script.Script.{Script}
@@ -39,7 +39,7 @@ no_more h ss lines written short = omega (arith, short, ap length written ∙ le
 pub taken_of_front : (s : Script) (lines : List Line) (r : FrontRun s lines) → IsProper s → length lines < line_bound → Taken s.header r.taken
 taken_of_front s lines r p short = record {
   header = p.header;
-  declared = subst AreDistinct (same_nodes s.header) p.nodes.distinct;
+  declared = subst IsNodeList (same_nodes s.header) p.nodes;
   allowed = fronts_allowed partition_count (opened s.header) s.commands r.taken (all_playable s p) r.front;
   ranges = events_of_front partition_count s r.taken p.header p.commands r.front;
   short = no_more s.header r.taken lines r.written short;
@@ -48,7 +48,7 @@ taken_of_front s lines r p short = record {
 none_taken : Taken [] []
 none_taken = record {
   header = All-nil IsProperHeaderLine;
-  declared = none_distinct;
+  declared = record { limit = lit≤ tt; distinct = none_distinct };
   allowed = tt;
   ranges = All-nil (λ (x : Step). IsProperEvent x.event);
   short = lit< tt;

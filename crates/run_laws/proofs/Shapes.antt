@@ -80,7 +80,7 @@ entries_first h G lines o i _ e = refl
 marks_stand : (h : Header) (ss : List Step) → Taken h ss → StandsInOrder (journal h (lines_among (all_marks ss)))
 marks_stand h ss t = let w : Walks h ss = taken_walks h ss t in record {
   header = header_first h (lines_among (all_marks ss)) w.behind;
-  declared_once = subst AreDistinct (sym (nodes_agree h (lines_among (all_marks ss)) w.behind)) t.declared;
+  declared_once = subst AreDistinct (sym (nodes_agree h (lines_among (all_marks ss)) w.behind)) t.declared.distinct;
   exchanged = entries_first h (ground_of h ss) (lines_among (all_marks ss)) (marks_are_a_journal h ss t.header w);
 }
 

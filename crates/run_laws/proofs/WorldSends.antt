@@ -3,7 +3,6 @@ use Rattle.std.proofs.Common.{◌≡◌, ℕ, ◌+◌, ◌<◌, ◌≤◌, ◌^�
 use Rattle.conflict_order.specs.declared.policy.Policy.{Policy}
 use Rattle.conflict_order.specs.declared.want.Want.{Want}
 use Rattle.cluster_types.specs.declared.cluster_key.ClusterKey.{ClusterKey}
-use Rattle.cluster_types.specs.NodeLists.{IsNodeList}
 use Rattle.wire_messages.specs.declared.message.Message.{Message}
 use Rattle.wire_messages.specs.Decoding.{message_of}
 use Rattle.wire_messages.specs.Nodes.{IsId}
@@ -119,8 +118,8 @@ reads {by} {factor} {ns} {z} k = record {
 
 -- ---- the world behind the steps
 
-pub knows : (h : Header) (ss : List Step) → Taken h ss → IsNodeList (declared_nodes h) → length (all_lines ss) + 1 < line_bound → Knows (declared_policy h) (declared_factor h) (declared_nodes h) (after_all (first h) (all_marks ss))
-knows h ss t nodes room =
+pub knows : (h : Header) (ss : List Step) → Taken h ss → length (all_lines ss) + 1 < line_bound → Knows (declared_policy h) (declared_factor h) (declared_nodes h) (after_all (first h) (all_marks ss))
+knows h ss t room =
     let w : Walked (declared_policy h) (declared_factor h) (first h) (all_marks ss) = taken_leads h ss t in
     record {
       lawful = w.lawful;
@@ -128,9 +127,9 @@ knows h ss t nodes room =
       ranged = taken_ranged h ss t;
       peopled = subst (λ (u : Traced). Peopled (declared_nodes h) u) (sym (traced_all (first h) (all_marks ss))) (allowed_named partition_count h ss t.header t.allowed).peopled;
       ids = declared_ids h t.header;
-      few = nodes.limit;
+      few = t.declared.limit;
       room = subst (λ (c : ℕ). c + 1 < 2 ^ 32) (sym (lines_of_taken h ss)) room;
     }
 
 pub sends_are_read : SendsRead
-sends_are_read h ss t nodes room = subst SendsAreRead (world_all (first h) (all_marks ss)) (reads {z = after_all (first h) (all_marks ss)} (knows h ss t nodes room))
+sends_are_read h ss t room = subst SendsAreRead (world_all (first h) (all_marks ss)) (reads {z = after_all (first h) (all_marks ss)} (knows h ss t room))

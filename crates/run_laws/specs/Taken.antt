@@ -1,6 +1,7 @@
 -- Steps that are taken: allowed, of a header and events that keep their ranges, and not too many.
 use Rattle.std.specs.Prelude.{◌<◌, ◌^◌, ℕ, false, List, [], length, None, All, unwrap_or}
-use Rattle.cluster_types.specs.Distinct.{AreDistinct}
+use Rattle.cluster_types.specs.Groups.{AreGroups}
+use Rattle.cluster_types.specs.NodeLists.{IsNodeList}
 use Rattle.cluster_types.specs.Partitions.{partition_count}
 use Rattle.cluster_types.specs.StateRows.{state_of}
 use Rattle.script_lang.specs.Proper.{IsProperHeaderLine}
@@ -16,10 +17,11 @@ use Rattle.cluster_laws.specs.Ground.{Ground}
 use Rattle.key_laws.specs.Traced.{untouched}
 use Rattle.run_laws.specs.Fronts.{Front, after_all}
 
--- what the event brings keeps its ranges: a clock's time is below 2^64, the id of a node that ticks is one, and digests and
--- values are such as a message can carry
+-- what the event brings keeps its ranges: a clock's time is below 2^64, groups have no node twice, the id of a node that
+-- ticks is one, and digests and values are such as a message can carry
 abbrev pub IsProperEvent : Event → Type 0
 IsProperEvent (event.Clock n time) = time < 2 ^ 64
+IsProperEvent (event.Groups groups) = AreGroups groups
 IsProperEvent (event.Tick n) = IsId n
 IsProperEvent (event.Put n d v) = IsDigest d × IsValue v
 IsProperEvent (event.Get n d) = IsDigest d
@@ -34,9 +36,9 @@ abbrev pub line_bound : ℕ
 line_bound = 2 ^ 32
 
 pub record Taken (h : Header) (ss : List Step) : Type 0 where
-  -- the header's lines keep their ranges, and no node is declared twice
+  -- the header's lines keep their ranges, and declare at most sixteen nodes, none twice
   pub header : All IsProperHeaderLine h
-  pub declared : AreDistinct (declared_nodes h)
+  pub declared : IsNodeList (declared_nodes h)
   -- each event may come where it comes, and has just the lines that are due of it
   pub allowed : AreAllowed partition_count (opened h) ss
   pub ranges : All (λ (s : Step). IsProperEvent s.event) ss

@@ -2,7 +2,6 @@
 use Rattle.std.specs.Prelude.{◌≡◌, ◌<◌, ◌+◌, ◌⊎◌, ℕ, nat_lt, true, List, Option, Some, None, length, All, Contains}
 use Rattle.conflict_order.specs.declared.want.Want.{Want}
 use Rattle.cluster_types.specs.declared.cluster_key.ClusterKey.{ClusterKey}
-use Rattle.cluster_types.specs.NodeLists.{IsNodeList}
 use Rattle.cluster_types.specs.Partitions.{partition_count}
 use Rattle.partition_lists.specs.Lists.{in_order}
 use Rattle.wire_messages.specs.declared.message.Message.{Message}
@@ -80,6 +79,6 @@ pub record SendsAreRead (w : World) : Type 0 where
   pub request : (n : ℕ) (d : List ℕ) (q : Want) → IsDigest d → IsWant q → AreRead (due_request (w.facts n) (w.clocks n) d q).sends
   pub message : (i : ℕ) (p : Posting) (m : Message) → posting_at w.network i ≡ Some p → message_of p.bytes ≡ Some m → is_up w p.to ≡ true → AreRead (due_message (w.facts p.to) (w.clocks p.to) p.from m).sends
 
--- where at most sixteen nodes are declared, and a number is left for one line more
+-- where a number is left for one line more
 abbrev pub SendsRead : Type 0
-SendsRead = (h : Header) (ss : List Step) → Taken h ss → IsNodeList (declared_nodes h) → length (all_lines ss) + 1 < line_bound → SendsAreRead (world_after h ss)
+SendsRead = (h : Header) (ss : List Step) → Taken h ss → length (all_lines ss) + 1 < line_bound → SendsAreRead (world_after h ss)

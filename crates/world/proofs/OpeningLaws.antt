@@ -213,8 +213,7 @@ unfolding run_of_events written
 first_fits h sent ls nodes proper is within none = record {
   within = within;
   journal = is ∙ sym (append-nil (header_lines h));
-  taken = record { header = proper; declared = nodes.distinct; allowed = tt; ranges = All-nil (λ (s : Rattle.cluster_rules.specs.Steps.Step). Rattle.run_laws.specs.Taken.IsProperEvent s.event); short = Rattle.std.proofs.Common.lit< tt };
-  nodes = nodes;
+  taken = record { header = proper; declared = nodes; allowed = tt; ranges = All-nil (λ (s : Rattle.cluster_rules.specs.Steps.Step). Rattle.run_laws.specs.Taken.IsProperEvent s.event); short = Rattle.std.proofs.Common.lit< tt };
   sent = subst (λ n. n ≤ length ls) (sym none) (omega arith);
 }
 

@@ -40,7 +40,7 @@ few_lines r ls is within =
 
 pub are_read : (r : Run) (sent : ℕ) (ls : List Line) → Fits r sent ls → SendsAreRead (standing r)
 unfolding standing
-are_read r sent ls fits = sends_are_read r.header r.steps fits.taken fits.nodes (few_lines r ls fits.journal fits.within)
+are_read r sent ls fits = sends_are_read r.header r.steps fits.taken (few_lines r ls fits.journal fits.within)
 
 -- the last number of a count
 abbrev last_count : ℕ

@@ -105,7 +105,6 @@ fits_more h es es' e sent sent' ls ls' ms fits kept wrote made comes proper with
       journal = is;
       within = within;
       taken = taken_more r e ls' fits.taken comes proper is within;
-      nodes = fits.nodes;
       sent = let more : length ls' ≡ length ls + length ms = ap length wrote ∙ length-append ls ms in omega (arith, few, fits.sent, more);
     })
 

@@ -1,5 +1,6 @@
 -- What a world keeps where an event sets something in it.
 use Rattle.std.proofs.Common.{◌≡◌, ℕ, ◌+◌, ◌<◌, ◌≤◌, ◌^◌, Bool, true, false, List, [], ◌∷◌, ◌++◌, set, Option, Some, refl, sym, ap, subst, arith}
+use Rattle.cluster_types.specs.Groups.{AreGroups}
 use Rattle.journal_lines.specs.declared.line.Line.{Line}
 use Rattle.journal_lines.specs.declared.line.Line.TheVariants as line
 use Rattle.journal_text.specs.Journals.{IsWithin}
@@ -62,10 +63,10 @@ keeps_clock w v now e n time place s at is fits nodes clocks net client =
     few : v.net.sent ≡ w.net.sent → v.net.sent ≤ w.net.sent + 1
     few e = omega (arith, e)
 
-pub keeps_groups : (w v : Inside) (now : Run) (e : Event) (groups : List (List ℕ)) → Sets w v now e (line.Groups groups ∷ []) → e ≡ event.Groups groups
+pub keeps_groups : (w v : Inside) (now : Run) (e : Event) (groups : List (List ℕ)) → Sets w v now e (line.Groups groups ∷ []) → e ≡ event.Groups groups → AreGroups groups
     → v.nodes.items ≡ w.nodes.items → v.clocks.items ≡ w.clocks.items → v.net.flying ≡ w.net.flying → v.net.sent ≡ w.net.sent → v.net.groups ≡ Some groups → v.client ≡ w.client → Keeps v
-keeps_groups w v now e groups s is nodes clocks flying sent set client =
-    keeps_after w v now e (line.Groups groups ∷ []) s.seen s.keeps s.header (groups_due now e groups is) s.comes (subst IsProperEvent (sym is) tt) s.wrote s.within (omega (arith, sent))
+keeps_groups w v now e groups s is proper nodes clocks flying sent set client =
+    keeps_after w v now e (line.Groups groups ∷ []) s.seen s.keeps s.header (groups_due now e groups is) s.comes (subst IsProperEvent (sym is) proper) s.wrote s.within (omega (arith, sent))
     (parts (after_step (standing now) e) v w.ids w.nodes.items w.clocks.items v.net w.client s.ids nodes clocks refl client
     (subst (λ (x : Event). Stands (after_step (standing now) x) w.ids w.nodes.items w.clocks.items v.net w.client) (sym is)
     (stands_groups (standing now) w.ids w.nodes.items w.clocks.items w.net v.net w.client groups (stands_of w now s.seen s.keeps) flying sent set)))

@@ -83,4 +83,4 @@ pub ids_are : (r : Run) (ids : List ℕ) (nodes : List Planning) (clocks : List 
 ids_are r ids nodes clocks net entries h = h.declared ∙ ap (in_order nat_lt) (same_nodes r)
 
 pub ids_differ : (r : Run) (ids : List ℕ) (nodes : List Planning) (clocks : List ℕ) (net : nets.Network) (entries : List (Option Entry)) (sent : ℕ) (ls : List Line) → Stands (standing r) ids nodes clocks net entries → Fits r sent ls → AllPairs (λ x y. x ≢ y) ids
-ids_differ r ids nodes clocks net entries sent ls h fits = subst (λ (ns : List ℕ). AllPairs (λ x y. x ≢ y) ns) (sym (ids_are r ids nodes clocks net entries h)) (ids_distinct (declared_nodes r.header) fits.nodes.distinct).differ
+ids_differ r ids nodes clocks net entries sent ls h fits = subst (λ (ns : List ℕ). AllPairs (λ x y. x ≢ y) ns) (sym (ids_are r ids nodes clocks net entries h)) (ids_distinct (declared_nodes r.header) fits.taken.declared.distinct).differ

@@ -118,6 +118,8 @@ impl World {
         ensures { TakesStep self.old self.new event.value result }
     {
         let parts = *groups.groups();
+        // What the type ensures of groups: no node is in two.
+        let _ = parts.as_slice();
         let groups = BoxedGroups::new(alloc, parts)?;
         self.ledger.tell(alloc, Line::Groups { groups }, event)?;
         self.net.set_groups(parts);

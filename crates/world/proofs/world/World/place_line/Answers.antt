@@ -13,12 +13,12 @@ write_members-requires-clause-declared c =
 
 pub place-requires-clause-order : goal.place-requires-clause-order
 place-requires-clause-order c =
-    members_fall (standing c.args.self.now) (declared_nodes c.args.self.now.header) c.as_slice.result.now c.write_members.new.members (fits_of c.self.inside c.args.self.now c.self.view_is c.self.invariant).nodes.distinct
+    members_fall (standing c.args.self.now) (declared_nodes c.args.self.now.header) c.as_slice.result.now c.write_members.new.members (fits_of c.self.inside c.args.self.now c.self.view_is c.self.invariant).taken.declared.distinct
     (c.as_slice.ensures.same ∙ c.falling-ids.ensures ∙ ap (in_order (λ m n. nat_lt n m)) c.rising_ids.ensures)
     c.write_members.ensures
 
 pub returns : goal.returns
 returns c =
-    place_due c.args.self.now c.args.partition c.as_slice.result.now c.write_members.new.members c.in_ok-place.field-0 (fits_of c.self.inside c.args.self.now c.self.view_is c.self.invariant).nodes.distinct
+    place_due c.args.self.now c.args.partition c.as_slice.result.now c.write_members.new.members c.in_ok-place.field-0 (fits_of c.self.inside c.args.self.now c.self.view_is c.self.invariant).taken.declared.distinct
     (c.as_slice.ensures.same ∙ c.falling-ids.ensures ∙ ap (in_order (λ m n. nat_lt n m)) c.rising_ids.ensures)
     c.write_members.ensures c.in_ok-place.ensures

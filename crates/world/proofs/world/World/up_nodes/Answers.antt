@@ -15,5 +15,5 @@ returns c =
     let up = is_up (standing now) in
     c.up_among.ensures
     ∙ ap (filter up) (ids_of_world c.self.inside now c.self.view_is c.self.invariant)
-    ∙ filter_rising up (declared_nodes now.header) (fits_of c.self.inside now c.self.view_is c.self.invariant).nodes.distinct
+    ∙ filter_rising up (declared_nodes now.header) (fits_of c.self.inside now c.self.view_is c.self.invariant).taken.declared.distinct
     ∙ ap (λ (ns : List ℕ). in_order nat_lt (filter up ns)) (sym (same_nodes now))
