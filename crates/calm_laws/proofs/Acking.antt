@@ -12,6 +12,7 @@ use Rattle.wire_messages.specs.declared.message.Message.{Message}
 use Rattle.wire_messages.specs.declared.message.Message.TheVariants as message
 use Rattle.journal_lines.specs.declared.line.Line.{Line}
 use Rattle.journal_lines.specs.declared.line.Line.TheVariants as line
+use Rattle.partition_lists.proofs.InOrderLaws.{equal}
 use Rattle.node_rules.specs.Agreement.{Proposal}
 use Rattle.node_rules.specs.Batches.{Target, Targets, next_batch, sending}
 use Rattle.node_rules.specs.Copies.{Content, Row}
@@ -29,6 +30,9 @@ use Rattle.node_rules.specs.Tables.{changed_if}
 use Rattle.node_rules.specs.Tick.{batch_to, batches, beat, propose, propose_new, propose_with, progress, progress_if, rows, sends_again, state, tick_if, transactions}
 use Rattle.node_rules.specs.Transactions.{Transaction, Write}
 use Rattle.journal_readings.specs.Lines.{has_node}
+use Rattle.node_rules.proofs.NoteLaws.{all_sent-append}
+use Rattle.cluster_rules.proofs.KeptFacts.{num_same}
+use Rattle.cluster_laws.proofs.At.{differ}
 use Rattle.key_laws.proofs.DueViews.{AllOfView, OfView, settling_of_view}
 use Rattle.calm_laws.specs.Acts.{Gets, Ticks, acted, as_read, effects}
 use Rattle.calm_laws.specs.Flows.{Once}
@@ -40,8 +44,6 @@ use Rattle.calm_laws.proofs.KindLaws.{NoneOf, none_append, none_read}
 use Rattle.calm_laws.proofs.Sent.{asks, message_none}
 use Rattle.calm_laws.proofs.Taking.{free_agrees, rests_proposed}
 use Rattle.calm_laws.proofs.Ticking.{proposed, progressing, tick_facts, tick_list}
-use Rattle.calm_laws.proofs.TickTurns.{all_sent_append}
-use Rattle.calm_laws.proofs.Took.{differ, number_is, same_number}
 use Rattle.calm_laws.proofs.Words.{Each, Ends, Words, is_state, message_words}
 
 -- ---- messages
@@ -229,7 +231,7 @@ others_go k c t (u ∷ us) ts h = go (u.node == t.node) refl h (λ s. others_go 
       where
         isnt : (b : Bool) → (t.node == u.node) ≡ b → b ≡ false
         isnt false i = refl
-        isnt true i = differ (number_is u.node t.node (sym (same_number t.node u.node i))) s
+        isnt true i = differ (equal u.node t.node (sym (num_same t.node u.node i))) s
 
     go : (b : Bool) → (u.node == t.node) ≡ b → (b || has_node (map (λ (t : Target). t.node) us) t.node) ≡ false → (has_node (map (λ (t : Target). t.node) us) t.node ≡ false → go_all k c (t ∷ goes ts u (next_batch k c u)) us ≡ t ∷ go_all k c (goes ts u (next_batch k c u)) us)
         → go_all k c (goes (t ∷ ts) u (next_batch k c u)) us ≡ t ∷ go_all k c (goes ts u (next_batch k c u)) us
@@ -249,7 +251,7 @@ sending_leaves (t ∷ ts) x b h = go (t.node == x) h (sending_leaves ts x b)
 first_goes : (t : Target) (ts : Targets) (o : Option Batch) → has_node (map (λ (t : Target). t.node) ts) t.node ≡ false → goes (t ∷ ts) t o ≡ begun_with t o ∷ ts
 first_goes t ts None h = refl
 first_goes t ts (Some b) h =
-    ap (λ (c : Bool). changed_if (λ (x : Target). record x { out = Some b; batches = b.number }) t c ∷ sending ts t.node b) (number_is t.node t.node refl)
+    ap (λ (c : Bool). changed_if (λ (x : Target). record x { out = Some b; batches = b.number }) t c ∷ sending ts t.node b) (equal t.node t.node refl)
     ∙ ap (λ (xs : Targets). record t { out = Some b; batches = b.number } ∷ xs) (sending_leaves ts t.node b h)
 
 begun_node : (t : Target) (o : Option Batch) → (begun_with t o).node ≡ t.node
@@ -291,7 +293,7 @@ rests_begins n c f up none e read once =
     ∙ ap (λ (x : Facts). x.batches) (rests_proposed f none e) in
     ap (λ (x : Facts). x.batches) (tick_facts n c f up)
     ∙ ap (λ (ms : List (ℕ × Message)). (all_sent h0 ms).batches) plain
-    ∙ ap (λ (x : Facts). x.batches) (all_sent_append h0 b (p ++ (r ++ (t ++ (o ++ q)))) ∙ all_sent_append h1 p (r ++ (t ++ (o ++ q))) ∙ all_sent_append h2 r (t ++ (o ++ q)) ∙ all_sent_append h3 t (o ++ q) ∙ all_sent_append h4 o q)
+    ∙ ap (λ (x : Facts). x.batches) (all_sent-append h0 b (p ++ (r ++ (t ++ (o ++ q)))) ∙ all_sent-append h1 p (r ++ (t ++ (o ++ q))) ∙ all_sent-append h2 r (t ++ (o ++ q)) ∙ all_sent-append h3 t (o ++ q) ∙ all_sent-append h4 o q)
     ∙ all_sent_leaves h5 q (none_append (λ k. k == 7) (progress n (progressing n f)).sends [] (progress_not n (progressing n f) _) tt)
     ∙ ap (λ (x : Facts). (all_sent h4 (batches x).sends).batches) (rests_proposed f none e)
     ∙ sent_all (view_key f) f.store.content f.batches h4

@@ -4,12 +4,12 @@ use Rattle.cluster_types.specs.declared.cluster_key.ClusterKey.{ClusterKey}
 use Rattle.wire_messages.specs.declared.message.Batch.{Batch}
 use Rattle.wire_messages.specs.declared.message.Message.{Message}
 use Rattle.wire_messages.specs.declared.message.Message.TheVariants as message
+use Rattle.partition_lists.proofs.InOrderLaws.{equal}
 use Rattle.node_rules.specs.Batches.{Target, Targets, acked_out, acking, without_batch}
 use Rattle.node_rules.specs.Keys.{same_key}
 use Rattle.node_rules.specs.Tables.{changed_if}
-use Rattle.calm_laws.specs.Flows.{Occurs}
+use Rattle.run_laws.specs.Tied.{Among}
 use Rattle.calm_laws.specs.Handing.{acked_by, acked_if, target_acked, settled_out}
-use Rattle.calm_laws.proofs.Took.{number_is}
 
 -- ---- a target and what became of it
 
@@ -71,9 +71,9 @@ acked_now : (t u : Target) (x number : ℕ) → Became t u → Acked x number t 
 acked_now t u x number (inr e) node b out is = ap (λ (y : Target). takes x number y) e ∙ settled_stays t t.out x number refl
 acked_now t u x number (inl e) node b out is =
     ap (λ (y : Target). takes x number y) e
-    ∙ ap (λ (c : Bool). changed_if (λ (y : Target). acked_out y number y.out) t c) (number_is t.node x node)
+    ∙ ap (λ (c : Bool). changed_if (λ (y : Target). acked_out y number y.out) t c) (equal t.node x node)
     ∙ ap (λ (o : Option Batch). acked_out t number o) out
-    ∙ ap (λ (c : Bool). if c then without_batch t b else t) (number_is b.number number is)
+    ∙ ap (λ (c : Bool). if c then without_batch t b else t) (equal b.number number is)
     ∙ ap (λ (o : Option Batch). settled_out t o) (sym out)
 
 -- ---- all targets
@@ -102,7 +102,7 @@ pub acked_pairs_now : (k : ClusterKey) (x number : ℕ) (ts us : Targets) → sa
 acked_pairs_now k x number ts us e h = subst (λ (b : Bool). Pairs (Acked x number) ts (acked_if us x number b)) (sym e) (pairs_map Became (Acked x number) (takes x number) (λ t u r. acked_now t u x number r) ts us h)
 
 -- once each batch that is out was acknowledged all targets are settled
-pub all_settled : (ts us : Targets) → Pairs Became ts us → ((t : Target) → Occurs t ts → (b : Batch) → t.out ≡ Some b → Pairs (Acked t.node b.number) ts us) → us ≡ map target_acked ts
+pub all_settled : (ts us : Targets) → Pairs Became ts us → ((t : Target) → Among ts t → (b : Batch) → t.out ≡ Some b → Pairs (Acked t.node b.number) ts us) → us ≡ map target_acked ts
 all_settled [] [] h each = refl
 all_settled [] (u ∷ us) h each = absurd h
 all_settled (t ∷ ts) [] h each = absurd h

@@ -17,6 +17,7 @@ use Rattle.wire_messages.proofs.DecodingLaws.{read_back}
 use Rattle.journal_lines.specs.declared.line.Line.{Line}
 use Rattle.journal_lines.specs.declared.line.Line.TheVariants as line
 use Rattle.journal_lines.specs.declared.refusal.Refusal.{Refusal}
+use Rattle.partition_lists.proofs.InOrderLaws.{equal}
 use Rattle.node_rules.specs.Client.{node_for}
 use Rattle.node_rules.specs.Effects.{Effects}
 use Rattle.node_rules.specs.Facts.{Facts, list_at}
@@ -35,14 +36,16 @@ use Rattle.cluster_rules.specs.Network.{Network, client, flying_at, flying_if, l
 use Rattle.cluster_rules.specs.NodeSteps.{AreOf, AreRead, IsNumbered, Moves, all_sent_in}
 use Rattle.cluster_rules.specs.Steps.{play}
 use Rattle.cluster_rules.specs.World.{World, is_up}
+use Rattle.cluster_rules.proofs.KeptFacts.{num_same}
 use Rattle.cluster_rules.proofs.MarkLaws.{adds_nothing}
 use Rattle.cluster_rules.proofs.NodeLaws.{node_step}
 use Rattle.cluster_rules.proofs.OwnLines.{message_own, request_own, start_own, stop_own, tick_own}
+use Rattle.cluster_laws.proofs.At.{differ}
 use Rattle.run_laws.specs.Taken.{IsProperEvent}
 use Rattle.run_laws.specs.Worlds.{SendsAreRead}
 use Rattle.calm_laws.specs.Becoming.{Became, stayed, ticked, heard, asked, stopped, started, quiesced}
 use Rattle.calm_laws.specs.Flows.{InOrder, Named, AreGiven}
-use Rattle.calm_laws.proofs.Took.{at_itself, at_other, differ, number_is, same_number}
+use Rattle.calm_laws.proofs.Took.{at_itself, at_other}
 
 -- ---- one node acts
 
@@ -50,8 +53,8 @@ one_acts : (w v : World) (e : Event) (a m : ℕ) → Became w e a (v.facts a) �
 one_acts w v e a m here others = go (a == m) refl
   where
     go : (b : Bool) → (a == m) ≡ b → Became w e m (v.facts m)
-    go true i = subst (λ (x : ℕ). Became w e x (v.facts x)) (same_number a m i) here
-    go false i = stayed (others m (λ s. differ (number_is a m s) i))
+    go true i = subst (λ (x : ℕ). Became w e x (v.facts x)) (num_same a m i) here
+    go false i = stayed (others m (λ s. differ (equal a m s) i))
 
 numbered_all : (s : ℕ) (is : List ℕ) → AreGiven s is → All (λ j. j ≤ s) is
 numbered_all s [] h = All-nil (λ j. j ≤ s)

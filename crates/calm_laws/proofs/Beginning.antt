@@ -1,13 +1,12 @@
 -- The ticks of a round that begins ready: nobody but the greatest proposes, and it proposes the group.
-use Rattle.std.proofs.Common.{◌≡◌, ℕ, ◌+◌, ◌<◌, ◌≤◌, ◌==◌, ◌&&◌, nat_lt, Bool, true, false, List, [], ◌∷◌, Option, Some, None, refl, sym, ap, subst, ◌∙◌, ◌⊎◌, inl, inr, arith}
-use Rattle.std.proofs.lemmas.Bool.Decides.{nat_tests}
+use Rattle.std.proofs.Common.{◌≡◌, ℕ, ◌+◌, ◌≤◌, ◌==◌, ◌&&◌, Bool, true, false, List, [], ◌∷◌, Option, Some, None, refl, sym, ap, subst, ◌∙◌, ◌⊎◌, inl, inr, arith}
 use Rattle.cluster_types.specs.declared.cluster_key.ClusterKey.{ClusterKey}
 use Rattle.cluster_types.specs.declared.member.Member.{Member}
 use Rattle.cluster_types.specs.ClusterKeys.{IsBelow}
 use Rattle.wire_messages.specs.declared.message.Message.{Message}
 use Rattle.wire_messages.specs.declared.message.Message.TheVariants as message
-use Rattle.wire_messages.specs.Keys.{IsKeyField}
-use Rattle.wire_messages.specs.Nodes.{IsId}
+use Rattle.partition_lists.proofs.InOrderLaws.{equal}
+use Rattle.journal_readings.proofs.Fronts.{and_right}
 use Rattle.node_rules.specs.Agreement as agreement
 use Rattle.node_rules.specs.Agreement.{Agreement, Proposal, has_round, kept_if, next_key, others, proposes_set, seen_round}
 use Rattle.node_rules.specs.Copies.{is_nil}
@@ -18,11 +17,15 @@ use Rattle.node_rules.specs.Notes.{after_ages, neighbours}
 use Rattle.node_rules.specs.Tick.{propose, propose_new, propose_with, proposing_to, is_candidate, wants_view}
 use Rattle.journal_readings.specs.Lines.{has_node}
 use Rattle.cluster_rules.specs.World.{World}
+use Rattle.cluster_rules.proofs.KeptFacts.{num_same}
+use Rattle.cluster_laws.proofs.At.{differ}
 use Rattle.key_laws.specs.Order.{AtMost}
+use Rattle.key_laws.proofs.DueTick.{next_is_key}
 use Rattle.key_laws.proofs.Order.{at_most_below, below_at_most}
+use Rattle.run_laws.specs.Tied.{Among}
 use Rattle.calm_laws.specs.Laws.{CanBeRead, ReadsWith, is_to_propose}
 use Rattle.calm_laws.specs.Acts.{Input, Ticks, Gets, as_read, served, sent_at}
-use Rattle.calm_laws.specs.Flows.{Occurs, Base, Ticked, inbox, ticks_if}
+use Rattle.calm_laws.specs.Flows.{Base, Ticked, inbox, ticks_if}
 use Rattle.calm_laws.specs.Group.{Group, kind}
 use Rattle.calm_laws.specs.Letters.{arriving_at}
 use Rattle.calm_laws.specs.Stances.{Stance, stance_of, proposes_to, ticks}
@@ -33,7 +36,6 @@ use Rattle.calm_laws.proofs.Passing.{AllOnly, Parties, Party, Readable, only_fre
 use Rattle.calm_laws.proofs.Rolls.{only_leader}
 use Rattle.calm_laws.proofs.Sent.{among_each}
 use Rattle.calm_laws.proofs.TickTurns.{tick_only, tick_turns}
-use Rattle.calm_laws.proofs.Took.{differ, number_is, same_number}
 use Rattle.calm_laws.proofs.Turns.{Led, inside_entered, inside_follows}
 
 -- the key of the next proposal
@@ -44,12 +46,6 @@ key_next g w = next_key g (w.facts g).agreement
 
 pub below_round : (a : ClusterKey) (n s : ℕ) → a.round ≤ s → IsBelow a (record { round = s + 1; principal = n })
 below_round a n s le = omega (arith, le)
-
-pub key_fits : (g : ℕ) (a : Agreement) → IsId g → has_round a ≡ true → IsKeyField (next_key g a)
-key_fits g a id e = record { view = record { above_none = omega arith; below_limit = small (seen_round a + 1) e; led = id.positive }; fits = id.fits }
-  where
-    small : (x : ℕ) → nat_lt x 281474976710656 ≡ true → x < 281474976710656
-    small x e = grind (arith, nat_tests)
 
 -- ---- who proposes
 
@@ -66,13 +62,9 @@ others_rest ns gs g set w r m here d =
     let h : Facts = after_ages f in
     ap (λ (b : Bool). (b && ((h.hearing.quiet == quiet_ticks) && wants_view h)) && has_round h.agreement) (named_greatest f m set (r.base.named m) (r.sees m here) ∙ only_leader gs g set r.roll m here d)
 
-pub and_right : (a b : Bool) → (a && b) ≡ true → b ≡ true
-and_right true b e = e
-and_right false b e = differ e refl
-
 -- the messages of its proposal can be read
 pub next_readable : (ns gs : List ℕ) (g : ℕ) (set : List Member) (w : World) → Ready ns gs g set w → is_to_propose (after_ages (w.facts g)) ≡ true → Readable (key_next g w) set
-next_readable ns gs g set w r e = readable (key_next g w) set (key_fits g (w.facts g).agreement (r.roll.each g r.roll.lead) (and_right (is_candidate (after_ages (w.facts g))) _ e)) r.roll.fit
+next_readable ns gs g set w r e = readable (key_next g w) set (next_is_key g (w.facts g).agreement (r.roll.each g r.roll.lead) (and_right (is_candidate (after_ages (w.facts g))) _ e)) r.roll.fit
 
 reads_with : (ns gs : List ℕ) (g : ℕ) (set : List Member) (w : World) → Ready ns gs g set w → (m : ℕ) → has_node gs m ≡ true → ReadsWith (after_ages (w.facts m)) (after_ages (w.facts m)).agreement.proposal
 reads_with ns gs g set w r m here = subst (λ (o : Option Proposal). ReadsWith h o) (sym (aged_none f (r.none m here))) (λ e. go (m == g) refl e)
@@ -87,10 +79,10 @@ reads_with ns gs g set w r m here = subst (λ (o : Option Proposal). ReadsWith h
     is_set = ap (λ (x : ℕ). next_key x f.agreement) (r.base.named m)
 
     go : (b : Bool) → (m == g) ≡ b → is_to_propose h ≡ true → CanBeRead (message.Propose (next_key f.me h.agreement) (neighbours h))
-    go false s e = differ e (others_rest ns gs g set w r m here (λ i. differ (number_is m g i) s))
+    go false s e = differ e (others_rest ns gs g set w r m here (λ i. differ (equal m g i) s))
     go true s e =
-        let leads : is_to_propose (after_ages (w.facts g)) ≡ true = subst (λ (x : ℕ). is_to_propose (after_ages (w.facts x)) ≡ true) (same_number m g s) e in
-        let fine : CanBeRead (message.Propose (next_key m f.agreement) set) = subst (λ (x : ℕ). CanBeRead (message.Propose (next_key x (w.facts x).agreement) set)) (sym (same_number m g s)) (next_readable ns gs g set w r leads).proposes in
+        let leads : is_to_propose (after_ages (w.facts g)) ≡ true = subst (λ (x : ℕ). is_to_propose (after_ages (w.facts x)) ≡ true) (num_same m g s) e in
+        let fine : CanBeRead (message.Propose (next_key m f.agreement) set) = subst (λ (x : ℕ). CanBeRead (message.Propose (next_key x (w.facts x).agreement) set)) (sym (num_same m g s)) (next_readable ns gs g set w r leads).proposes in
         subst (λ (k : ClusterKey). CanBeRead (message.Propose k (neighbours h))) (sym is_set) (subst (λ (ms : List Member). CanBeRead (message.Propose (next_key m f.agreement) ms)) (sym (r.sees m here)) fine)
 
 -- ---- stances after the ticks
@@ -218,69 +210,69 @@ parties_begin n ns gs g set w t r seen k e m here = go (m == g) refl
     led (inr h) = inl (inside_follows (key_next g w) set (stance_of (t.facts g)) h)
 
     go : (b : Bool) → (m == g) ≡ b → Party (key_next g w) set (stance_of (t.facts m))
-    go true s = subst (λ (x : ℕ). Party (key_next g w) set (stance_of (t.facts x))) (sym (same_number m g s)) (led (leader_leads n ns gs g set w t r k e))
-    go false s = inl (others_follow n ns gs g set w t r seen k m here (λ i. differ (number_is m g i) s))
+    go true s = subst (λ (x : ℕ). Party (key_next g w) set (stance_of (t.facts x))) (sym (num_same m g s)) (led (leader_leads n ns gs g set w t r k e))
+    go false s = inl (others_follow n ns gs g set w t r seen k m here (λ i. differ (equal m g i) s))
 
 -- ---- what the ticks bring
 
-pub proposed_only : (h : Facts) (set : List Member) (os : List ℕ) (k : ClusterKey) → CanBeRead (message.Propose k set) → (to : ℕ) (x : Message) → Occurs (to, x) (as_read (proposing_to h k set os).sends) → message.Propose k set ≡ x
+pub proposed_only : (h : Facts) (set : List Member) (os : List ℕ) (k : ClusterKey) → CanBeRead (message.Propose k set) → (to : ℕ) (x : Message) → Among (as_read (proposing_to h k set os).sends) (to, x) → message.Propose k set ≡ x
 unfolding as_read
 proposed_only h set [] k r to x i = absurd i
 proposed_only h set (n ∷ ns) k r to x i = among_each (message.Propose k set) r (n ∷ ns) to x i
 
-pub nothing_asked : (h : Facts) (to : ℕ) (x : Message) → Occurs (to, x) (as_read (propose_new h false).sends) → ⊥
+pub nothing_asked : (h : Facts) (to : ℕ) (x : Message) → Among (as_read (propose_new h false).sends) (to, x) → ⊥
 unfolding as_read
 nothing_asked h to x i = i
 
 -- a node that makes no proposal asks for nothing
 rests_asks : (ns gs : List ℕ) (g : ℕ) (set : List Member) (w : World) → Ready ns gs g set w → (m : ℕ) → has_node gs m ≡ true → is_to_propose (after_ages (w.facts m)) ≡ false
-    → (to : ℕ) (x : Message) → Occurs (to, x) (as_read (propose (after_ages (w.facts m))).sends) → ⊥
+    → (to : ℕ) (x : Message) → Among (as_read (propose (after_ages (w.facts m))).sends) (to, x) → ⊥
 rests_asks ns gs g set w r m here e to x i =
     let h : Facts = after_ages (w.facts m) in
     nothing_asked h to x
-    (subst (λ (b : Bool). Occurs (to, x) (as_read (propose_new h b).sends)) e
-    (subst (λ (o : Option Proposal). Occurs (to, x) (as_read (propose_with h o).sends)) (aged_none (w.facts m) (r.none m here)) i))
+    (subst (λ (b : Bool). Among (as_read (propose_new h b).sends) (to, x)) e
+    (subst (λ (o : Option Proposal). Among (as_read (propose_with h o).sends) (to, x)) (aged_none (w.facts m) (r.none m here)) i))
 
 leader_asks : (ns gs : List ℕ) (g : ℕ) (set : List Member) (w : World) → Ready ns gs g set w → is_to_propose (after_ages (w.facts g)) ≡ true
-    → (to : ℕ) (x : Message) → Occurs (to, x) (as_read (propose (after_ages (w.facts g))).sends) → message.Propose (key_next g w) set ≡ x
+    → (to : ℕ) (x : Message) → Among (as_read (propose (after_ages (w.facts g))).sends) (to, x) → message.Propose (key_next g w) set ≡ x
 leader_asks ns gs g set w r e to x i =
     let h : Facts = after_ages (w.facts g) in
     let here : has_node gs g ≡ true = r.roll.lead in
     proposed_only h set (others g set) (key_next g w) (next_readable ns gs g set w r e).proposes to x
-    (subst (λ (y : ℕ). Occurs (to, x) (as_read (proposing_to h (next_key y (w.facts g).agreement) set (others y set)).sends)) (r.base.named g)
-    (subst (λ (ms : List Member). Occurs (to, x) (as_read (proposing_to h (next_key h.me h.agreement) ms (others h.me ms)).sends)) (r.sees g here)
-    (subst (λ (b : Bool). Occurs (to, x) (as_read (propose_new h b).sends)) e
-    (subst (λ (o : Option Proposal). Occurs (to, x) (as_read (propose_with h o).sends)) (aged_none (w.facts g) (r.none g here)) i))))
+    (subst (λ (y : ℕ). Among (as_read (proposing_to h (next_key y (w.facts g).agreement) set (others y set)).sends) (to, x)) (r.base.named g)
+    (subst (λ (ms : List Member). Among (as_read (proposing_to h (next_key h.me h.agreement) ms (others h.me ms)).sends) (to, x)) (r.sees g here)
+    (subst (λ (b : Bool). Among (as_read (propose_new h b).sends) (to, x)) e
+    (subst (λ (o : Option Proposal). Among (as_read (propose_with h o).sends) (to, x)) (aged_none (w.facts g) (r.none g here)) i))))
 
 asks_only : (ns gs : List ℕ) (g : ℕ) (set : List Member) (w : World) → Ready ns gs g set w → (m : ℕ) → has_node gs m ≡ true
-    → (to : ℕ) (x : Message) → Occurs (to, x) (as_read (propose (after_ages (w.facts m))).sends) → Only true false false (key_next g w) set x
+    → (to : ℕ) (x : Message) → Among (as_read (propose (after_ages (w.facts m))).sends) (to, x) → Only true false false (key_next g w) set x
 asks_only ns gs g set w r m here to x i = go (is_to_propose (after_ages (w.facts m))) refl (m == g) refl
   where
     go : (b : Bool) → is_to_propose (after_ages (w.facts m)) ≡ b → (c : Bool) → (m == g) ≡ c → Only true false false (key_next g w) set x
     go false e c s = absurd (rests_asks ns gs g set w r m here e to x i)
-    go true e false s = differ e (others_rest ns gs g set w r m here (λ j. differ (number_is m g j) s))
+    go true e false s = differ e (others_rest ns gs g set w r m here (λ j. differ (equal m g j) s))
     go true e true s =
         let is : message.Propose (key_next g w) set ≡ x =
-        leader_asks ns gs g set w r (subst (λ (y : ℕ). is_to_propose (after_ages (w.facts y)) ≡ true) (same_number m g s) e) to x
-        (subst (λ (y : ℕ). Occurs (to, x) (as_read (propose (after_ages (w.facts y))).sends)) (same_number m g s) i) in
+        leader_asks ns gs g set w r (subst (λ (y : ℕ). is_to_propose (after_ages (w.facts y)) ≡ true) (num_same m g s) e) to x
+        (subst (λ (y : ℕ). Among (as_read (propose (after_ages (w.facts y))).sends) (to, x)) (num_same m g s) i) in
         subst (λ (y : Message). Only true false false (key_next g w) set y) is (refl, refl, refl)
 
 -- what comes after the ticks: what was in flight, and what the ticks of the group sent
 pub comes_after : (n : ℕ) (ns gs : List ℕ) (w t : World) → Base ns w → Group ns gs w → Cleared gs w → Ticked n w t ns → (C : Message → Type 0) → ((x : Message) → is_agreeing (kind x) ≡ false → C x)
-    → ((m : ℕ) → has_node gs m ≡ true → (to : ℕ) (x : Message) → Occurs (to, x) (as_read (propose (after_ages (w.facts m))).sends) → C x)
-    → (m : ℕ) → has_node gs m ≡ true → (from : ℕ) (x : Message) → Occurs (Gets from x) (inbox t m) → C x
-comes_after n ns gs w t b g cleared k C other here m is from x h = go (among_either (Gets from x) (inbox w m) (arriving_at t m k.posted) (subst (λ (xs : List Input). Occurs (Gets from x) xs) (k.inbox m) h))
+    → ((m : ℕ) → has_node gs m ≡ true → (to : ℕ) (x : Message) → Among (as_read (propose (after_ages (w.facts m))).sends) (to, x) → C x)
+    → (m : ℕ) → has_node gs m ≡ true → (from : ℕ) (x : Message) → Among (inbox t m) (Gets from x) → C x
+comes_after n ns gs w t b g cleared k C other here m is from x h = go (among_either (Gets from x) (inbox w m) (arriving_at t m k.posted) (subst (λ (xs : List Input). Among xs (Gets from x)) (k.inbox m) h))
   where
     ticks_bring : FromGroup gs from m x (sent_at n (w.clocks from) (w.facts from) Ticks) → C x
     ticks_bring s = tick_only n (w.clocks from) (w.facts from) (b.up from (g.up from s.sender)) C other (here from s.sender) m x s.sent
 
-    go : Occurs (Gets from x) (inbox w m) ⊎ Occurs (Gets from x) (arriving_at t m k.posted) → C x
+    go : Among (inbox w m) (Gets from x) ⊎ Among (arriving_at t m k.posted) (Gets from x) → C x
     go (inl i) = other x (cleared m is from x i)
     go (inr i) = ticks_bring (from_ticks n ns gs w t g k from m x is i)
 
 comes_first : (n : ℕ) (ns gs : List ℕ) (g : ℕ) (set : List Member) (w t : World) → Ready ns gs g set w → Ticked n w t ns → (C : Message → Type 0) → ((x : Message) → is_agreeing (kind x) ≡ false → C x)
-    → ((m : ℕ) → has_node gs m ≡ true → (to : ℕ) (x : Message) → Occurs (to, x) (as_read (propose (after_ages (w.facts m))).sends) → C x)
-    → (m : ℕ) → has_node gs m ≡ true → (from : ℕ) (x : Message) → Occurs (Gets from x) (inbox t m) → C x
+    → ((m : ℕ) → has_node gs m ≡ true → (to : ℕ) (x : Message) → Among (as_read (propose (after_ages (w.facts m))).sends) (to, x) → C x)
+    → (m : ℕ) → has_node gs m ≡ true → (from : ℕ) (x : Message) → Among (inbox t m) (Gets from x) → C x
 comes_first n ns gs g set w t r k C other here = comes_after n ns gs w t r.base r.group r.cleared k C other here
 
 -- after the ticks only the proposal of the greatest comes
@@ -294,5 +286,5 @@ cleared_begins n ns gs g set w t r k e =
     comes_first n ns gs g set w t r k (λ x. is_agreeing (kind x) ≡ false) (λ x free. free) (λ m here to x i. absurd (rests_asks ns gs g set w r m here (rests m here (m == g) refl) to x i))
   where
     rests : (m : ℕ) → has_node gs m ≡ true → (b : Bool) → (m == g) ≡ b → is_to_propose (after_ages (w.facts m)) ≡ false
-    rests m here true s = subst (λ (y : ℕ). is_to_propose (after_ages (w.facts y)) ≡ false) (sym (same_number m g s)) e
-    rests m here false s = others_rest ns gs g set w r m here (λ i. differ (number_is m g i) s)
+    rests m here true s = subst (λ (y : ℕ). is_to_propose (after_ages (w.facts y)) ≡ false) (sym (num_same m g s)) e
+    rests m here false s = others_rest ns gs g set w r m here (λ i. differ (equal m g i) s)

@@ -12,9 +12,11 @@ use Rattle.node_rules.specs.Keys.{same_key}
 use Rattle.node_rules.specs.Notes as notes
 use Rattle.journal_readings.specs.Lines.{has_node}
 use Rattle.cluster_rules.specs.World.{World}
+use Rattle.cluster_laws.proofs.At.{differ}
 use Rattle.key_laws.proofs.Order.{same_self}
+use Rattle.run_laws.specs.Tied.{Among}
 use Rattle.calm_laws.specs.Acts.{Gets, acted}
-use Rattle.calm_laws.specs.Flows.{Occurs, Flowed, inbox}
+use Rattle.calm_laws.specs.Flows.{Flowed, inbox}
 use Rattle.calm_laws.specs.Group.{kind}
 use Rattle.calm_laws.specs.Progresses.{BitsGrow}
 use Rattle.calm_laws.specs.Turns.{Cleared, is_agreeing}
@@ -24,7 +26,6 @@ use Rattle.calm_laws.proofs.Hearing.{gets_inbox}
 use Rattle.calm_laws.proofs.Inputs.{Keeps, served_kept}
 use Rattle.calm_laws.proofs.Knowing.{acted_bits}
 use Rattle.calm_laws.proofs.Proposals.{all_gets}
-use Rattle.calm_laws.proofs.Took.{differ}
 
 -- whether it is of what was handed over, and else of what was settled
 abbrev pub row_in : Bool → Bits → List Bool
@@ -73,9 +74,9 @@ has_told n c k set f x b p key wants done handed settled o e h =
     go false h = either_joined f.bits.settled settled p h
 
 -- and keeps it through flows
-pub keeps_has : (n c : ℕ) (b : Bool) (p : ℕ) (u : World) (m : ℕ) → ((from : ℕ) (y : Message) → Occurs (Gets from y) (inbox u m) → is_agreeing (kind y) ≡ false) → Keeps n c (λ f. Has b p f.bits) (inbox u m)
+pub keeps_has : (n c : ℕ) (b : Bool) (p : ℕ) (u : World) (m : ℕ) → ((from : ℕ) (y : Message) → Among (inbox u m) (Gets from y) → is_agreeing (kind y) ≡ false) → Keeps n c (λ f. Has b p f.bits) (inbox u m)
 keeps_has n c b p u m free f i there h =
-    all_gets (inbox u m) i (gets_inbox u m) there (λ j. Occurs j (inbox u m) → Has b p (acted n c f j).bits) (λ from y among. has_grows b p f.bits (acted n c f (Gets from y)).bits (acted_grow n c f from y (free from y among)) h) there
+    all_gets (inbox u m) i (gets_inbox u m) there (λ j. Among (inbox u m) j → Has b p (acted n c f j).bits) (λ from y among. has_grows b p f.bits (acted n c f (Gets from y)).bits (acted_grow n c f from y (free from y among)) h) there
 
 pub flow_has : (n : ℕ) (gs : List ℕ) (u v : World) (m : ℕ) (b : Bool) (p : ℕ) → Flowed n u v → Cleared gs u → has_node gs m ≡ true → Has b p (u.facts m).bits → Has b p (v.facts m).bits
 flow_has n gs u v m b p f cleared here h =

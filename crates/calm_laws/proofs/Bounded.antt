@@ -8,11 +8,11 @@ use Rattle.cluster_rules.specs.Calm.{is_calm_of}
 use Rattle.cluster_rules.specs.CalmBound.{IsBehindFull, IsWithinCalm, calm_limit, is_full_line, is_full_round}
 use Rattle.cluster_rules.specs.Steps.{Played, all_lines, round}
 use Rattle.cluster_rules.specs.World.{World}
+use Rattle.cluster_laws.proofs.At.{differ}
 use Rattle.calm_laws.specs.Flows.{world_at}
 use Rattle.calm_laws.specs.Schedules.{Schedule}
 use Rattle.calm_laws.proofs.Calming.{calm_then}
 use Rattle.calm_laws.proofs.Sequence.{at_start, one_more}
-use Rattle.calm_laws.proofs.Took.{differ}
 
 -- rounds of the world after rounds are rounds of the first one
 pub later_world : (n from : ℕ) (w : World) (i : ℕ) → world_at n (world_at n w from) i ≡ world_at n w (from + i)

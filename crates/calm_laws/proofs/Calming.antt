@@ -7,6 +7,7 @@ use Rattle.cluster_types.specs.declared.member.Member.{Member}
 use Rattle.cluster_types.specs.Partitions.{partition_count}
 use Rattle.cluster_types.specs.MembersEqual.{same_members}
 use Rattle.partition_lists.specs.Lists.{in_order}
+use Rattle.partition_lists.proofs.InOrderLaws.{equal}
 use Rattle.node_rules.specs.Copies.{is_nil}
 use Rattle.node_rules.specs.Exchange.{View, is_view, key_of, members_of}
 use Rattle.node_rules.specs.Facts.{Facts, has_exchanged_in, view_key}
@@ -15,9 +16,11 @@ use Rattle.node_rules.specs.Transactions.{Transaction}
 use Rattle.cluster_rules.specs.Calm.{as_members, is_calm_of, is_group_at_rest, share_view, up_in}
 use Rattle.journal_readings.specs.Lines.{has_node}
 use Rattle.cluster_rules.specs.World.{World, is_up}
+use Rattle.cluster_laws.proofs.At.{differ}
 use Rattle.key_laws.proofs.Order.{same_self}
+use Rattle.run_laws.specs.Tied.{Among}
 use Rattle.calm_laws.specs.Exchanges.{Exchanged, RowsThere}
-use Rattle.calm_laws.specs.Flows.{Occurs, Rounded, inbox, world_at}
+use Rattle.calm_laws.specs.Flows.{Rounded, inbox, world_at}
 use Rattle.calm_laws.specs.Ground.{Agreed}
 use Rattle.calm_laws.specs.Handing.{AtMostPending, LegibleRound, NothingOut}
 use Rattle.calm_laws.specs.Schedules.{Home, Party, Schedule}
@@ -33,21 +36,20 @@ use Rattle.calm_laws.proofs.Sequence.{at_start, base_after, next_round, role_sta
 use Rattle.calm_laws.proofs.Settled.{group_settles}
 use Rattle.calm_laws.proofs.Silence.{silent_end}
 use Rattle.calm_laws.proofs.Steadying.{same_itself, steady_rests}
-use Rattle.calm_laws.proofs.Took.{differ, number_is}
 
 -- ---- lists
 
 all_true : (test : ℕ → Bool) (xs : List ℕ) → ((m : ℕ) → has_node xs m ≡ true → test m ≡ true) → list_all test xs ≡ true
 all_true test [] h = refl
 all_true test (x ∷ xs) h =
-    ap (λ (b : Bool). b && list_all test xs) (h x (ap (λ (b : Bool). b || has_node xs x) (number_is x x refl)))
+    ap (λ (b : Bool). b && list_all test xs) (h x (ap (λ (b : Bool). b || has_node xs x) (equal x x refl)))
     ∙ all_true test xs (λ m e. h m (behind (x == m) (has_node xs m) e))
   where
     behind : (b c : Bool) → c ≡ true → (b || c) ≡ true
     behind true c e = refl
     behind false c e = e
 
-each_true : (test : List ℕ → Bool) (xs : List (List ℕ)) → ((x : List ℕ) → Occurs x xs → test x ≡ true) → list_all test xs ≡ true
+each_true : (test : List ℕ → Bool) (xs : List (List ℕ)) → ((x : List ℕ) → Among xs x → test x ≡ true) → list_all test xs ≡ true
 each_true test [] h = refl
 each_true test (x ∷ xs) h = ap (λ (b : Bool). b && list_all test xs) (h x (inl refl)) ∙ each_true test xs (λ y i. h y (inr i))
 
@@ -76,7 +78,7 @@ shares n k v (x ∷ xs) h = all_true (λ (m : ℕ). has_exchanged_in (view_key (
     set = as_members v (x ∷ xs)
 
     here : has_node (x ∷ xs) x ≡ true
-    here = ap (λ (b : Bool). b || has_node xs x) (number_is x x refl)
+    here = ap (λ (b : Bool). b || has_node xs x) (equal x x refl)
 
     key : view_key (v.facts x) ≡ k
     key = ap (λ (o : Option View). key_of o) (h x here).view
@@ -212,7 +214,7 @@ module _ (ns : List ℕ) (w : World) (most q : ℕ) (enough : 21 + q ≤ most) w
         let now : (m : ℕ) → (ends.facts m).role ≡ (w.facts m).role = λ m. role_stays partition_count ns w most s.plain m (suc (20 + q)) (omega (arith, enough)) in
         ap (λ (f : ℕ → Member). in_order (λ (a : Member) (b : Member). nat_lt b.id a.id) (map f gs)) (λ i m. record { id = m; role = now m i })
 
-    each_group : (group : List ℕ) → Occurs group w.network.groups → is_group_at_rest partition_count ends group ≡ true
+    each_group : (group : List ℕ) → Among w.network.groups group → is_group_at_rest partition_count ends group ≡ true
     each_group group among = go (s.parties enough group among)
       where
         go : (up_in w group ≡ []) ⊎ Party ns group w most q → is_group_at_rest partition_count ends group ≡ true

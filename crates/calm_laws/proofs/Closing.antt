@@ -17,8 +17,10 @@ use Rattle.node_rules.specs.Tick.{beat, propose, rows, sends_again, tick_if, tra
 use Rattle.node_rules.specs.Transactions.{Transaction, Transactions, Write, transaction}
 use Rattle.journal_readings.specs.Lines.{has_node}
 use Rattle.cluster_rules.specs.World.{World}
+use Rattle.cluster_laws.proofs.At.{differ}
+use Rattle.run_laws.specs.Tied.{Among}
 use Rattle.calm_laws.specs.Acts.{Input, Ticks, Gets, acted, as_read, effects, outbox, sent_at, served}
-use Rattle.calm_laws.specs.Flows.{Occurs, Rounded, inbox, ticks_if}
+use Rattle.calm_laws.specs.Flows.{Rounded, inbox, ticks_if}
 use Rattle.calm_laws.specs.Group.{kind}
 use Rattle.calm_laws.specs.Handing.{Legible, Legibly}
 use Rattle.calm_laws.specs.Transacting.{Awaits, HeardFrom, In, NoneOpen, Such, Waiting, open_at}
@@ -33,7 +35,6 @@ use Rattle.calm_laws.proofs.Rolls.{contains_among, nothing_there}
 use Rattle.calm_laws.proofs.Steadying.{steady_rests}
 use Rattle.calm_laws.proofs.Taking.{rests_exchange, rests_proposed}
 use Rattle.calm_laws.proofs.Ticking.{proposed, tick_list, tick_sent}
-use Rattle.calm_laws.proofs.Took.{differ}
 use Rattle.calm_laws.proofs.Transacting.{acted_heard, found_number, to_each_among}
 use Rattle.calm_laws.proofs.Numbered.{nothing_open}
 use Rattle.calm_laws.proofs.OpenSteps.{flow_open, heard_turns, in_acted, in_key, in_seen, keeps_open, none_turns, writes_close}
@@ -92,12 +93,12 @@ module _ (n : ℕ) (ns gs : List ℕ) (g : ℕ) (set : List Member) (k : Cluster
       (flow_open n gs r.ticks_end r.first_end m k set number (λ o. o ≡ None) r.first u.ticks here none_turns (in_ticks m here, e))).1
 
   -- what an open transaction sends comes to whom it awaits
-  asked : (m : ℕ) (here : has_node gs m ≡ true) (t : Transaction) → Occurs t (w.facts m).transactions.running → (y : Message) → ((x : ℕ) → Occurs x t.awaiting → Occurs (x, y) (sends_again (after_ages (w.facts m)) t t.applied))
-      → (x : ℕ) → contains t.awaiting x ≡ true → Occurs (Gets m y) (inbox r.ticks_end x)
+  asked : (m : ℕ) (here : has_node gs m ≡ true) (t : Transaction) → Among (w.facts m).transactions.running t → (y : Message) → ((x : ℕ) → Among t.awaiting x → Among (sends_again (after_ages (w.facts m)) t t.applied) (x, y))
+      → (x : ℕ) → contains t.awaiting x ≡ true → Among (inbox r.ticks_end x) (Gets m y)
   asked m here t there y goes x missed =
       let to : (has_node gs x ≡ true) × (x ≡ m → ⊥) = (h.waiting m here t there).1 x missed in
       tick_arrives n ns gs w r.ticks_end u.group_ticks u.ups_ticks u.ticked m x here to.0 (λ e. to.1 (sym e)) y
-      (subst (λ (ms : List (ℕ × Message)). Occurs (x, y) ms) (sym (tick_sent n (w.clocks m) (w.facts m) up ∙ plain)) listed)
+      (subst (λ (ms : List (ℕ × Message)). Among ms (x, y)) (sym (tick_sent n (w.clocks m) (w.facts m) up ∙ plain)) listed)
     where
       up : (w.facts m).up ≡ true
       up = h.ready.base.up m (h.ready.group.up m here)
@@ -105,12 +106,12 @@ module _ (n : ℕ) (ns gs : List ℕ) (g : ℕ) (set : List Member) (k : Cluster
       plain : as_read (tick_list n (w.facts m)) ≡ tick_list n (w.facts m)
       plain = subst (λ (b : Bool). as_read (tick_if n (w.facts m) b).sends ≡ (tick_if n (w.facts m) b).sends) up (h.legible.ticks m here)
 
-      part : Occurs (x, y) (transactions (proposed (w.facts m))).sends
+      part : Among (transactions (proposed (w.facts m))).sends (x, y)
       part =
-          subst (λ (f : Facts). Occurs (x, y) (transactions f).sends) (sym (rests_proposed (w.facts m) (aged_none (w.facts m) (h.ready.none m here)) (u.asks m here)))
+          subst (λ (f : Facts). Among (transactions f).sends (x, y)) (sym (rests_proposed (w.facts m) (aged_none (w.facts m) (h.ready.none m here)) (u.asks m here)))
           (again_among (after_ages (w.facts m)) (w.facts m).transactions.running t (x, y) there (goes x (contains_among t.awaiting x missed)))
 
-      listed : Occurs (x, y) (tick_list n (w.facts m))
+      listed : Among (tick_list n (w.facts m)) (x, y)
       listed = among_behind (x, y) (beat (after_ages (w.facts m))).sends _ (among_behind (x, y) (propose (after_ages (w.facts m))).sends _ (among_behind (x, y) (rows (proposed (w.facts m))).sends _ (among_front (x, y) (transactions (proposed (w.facts m))).sends _ part)))
 
   -- a written one closes in the second flow
@@ -119,11 +120,11 @@ module _ (n : ℕ) (ns gs : List ℕ) (g : ℕ) (set : List Member) (k : Cluster
       gone_after_second m here number
       (writes_close n ns gs k set number r.ticks_end r.first_end r.second_end u.group_first u.ups_first r.first r.second u.ticks u.first in_ticks h.legible.first m here (λ y. contains t.awaiting y ≡ true)
       (λ y s. waits.1 y s) (repl (after_ages (w.facts m)) t x) (in_key k set m (w.facts m) (record { me = h.ready.base.named m; view = h.steady.views m here }), found_number (w.facts m).transactions.running number t e)
-      (asked m here t there (repl (after_ages (w.facts m)) t x) (λ y s. subst (λ (o : Option Write). Occurs (y, repl (after_ages (w.facts m)) t x) (sends_again (after_ages (w.facts m)) t o)) (sym a) (to_each_among t.awaiting y (repl (after_ages (w.facts m)) t x) s)))
+      (asked m here t there (repl (after_ages (w.facts m)) t x) (λ y s. subst (λ (o : Option Write). Among (sends_again (after_ages (w.facts m)) t o) (y, repl (after_ages (w.facts m)) t x)) (sym a) (to_each_among t.awaiting y (repl (after_ages (w.facts m)) t x) s)))
       (subst (λ (o : Option Transaction). Such (Awaits true (λ y. contains t.awaiting y ≡ true)) o) (sym (ap (λ (ts : Transactions). transaction ts number) (open_ticks m here) ∙ e))
       (record { applied = ap (λ (o : Option Write). is_some o) a; some = waits.0; within = λ y s. s })))
     where
-      there : Occurs t (w.facts m).transactions.running
+      there : Among (w.facts m).transactions.running t
       there = found_among (w.facts m).transactions.running number t e
 
       waits : (is_nil t.awaiting ≡ false) × ((y : ℕ) → contains t.awaiting y ≡ true → (has_node gs y ≡ true) × (y ≡ m → ⊥))
@@ -154,12 +155,12 @@ record AnswerTo (k : ClusterKey) (number m : ℕ) (l : ℕ × Message) : Type 0 
   to : l.0 ≡ m
   answers : Answers k number l.1
 
-pub any_legible : (n c : ℕ) (P : Facts → Type 0) (T : ℕ × Message → Type 0) (is : List Input) (f : Facts) (x : Input) → Along n c P f is → Legibly n c f is → ((g : Facts) → P g → Any T (effects n c g x).sends) → Occurs x is → Any T (outbox n c f is)
+pub any_legible : (n c : ℕ) (P : Facts → Type 0) (T : ℕ × Message → Type 0) (is : List Input) (f : Facts) (x : Input) → Along n c P f is → Legibly n c f is → ((g : Facts) → P g → Any T (effects n c g x).sends) → Among is x → Any T (outbox n c f is)
 any_legible n c P T [] f x a l gives h = absurd h
 any_legible n c P T (i ∷ is) f x a l gives (inl e) = go (subst (λ (j : Input). Any T (effects n c f j).sends) (sym e) (gives f a.0))
   where
     go : Any T (effects n c f i).sends → Any T (outbox n c f (i ∷ is))
-    go y = record { which = y.which; among = among_front y.which (sent_at n c f i) (outbox n c (acted n c f i) is) (subst (λ (ms : List (ℕ × Message)). Occurs y.which ms) (sym l.0) y.among); good = y.good }
+    go y = record { which = y.which; among = among_front y.which (sent_at n c f i) (outbox n c (acted n c f i) is) (subst (λ (ms : List (ℕ × Message)). Among ms y.which) (sym l.0) y.among); good = y.good }
 any_legible n c P T (i ∷ is) f x a l gives (inr h) = go (any_legible n c P T is (acted n c f i) x a.1 l.1 gives h)
   where
     go : Any T (outbox n c (acted n c f i) is) → Any T (outbox n c f (i ∷ is))
@@ -194,7 +195,7 @@ module _ (n : ℕ) (ns gs : List ℕ) (g : ℕ) (set : List Member) (k : Cluster
     waits = h.waiting m here t (found_among (w.facts m).transactions.running number t e)
 
     -- the question comes, and its answer
-    answer_comes : (x : ℕ) → contains t.awaiting x ≡ true → (y : Message) × Answers k number y × Occurs (Gets x y) (inbox r.first_end m)
+    answer_comes : (x : ℕ) → contains t.awaiting x ≡ true → (y : Message) × Answers k number y × Among (inbox r.first_end m) (Gets x y)
     answer_comes x missed = (some.which.1, some.good.answers, arrived)
       where
         to : (has_node gs x ≡ true) × (x ≡ m → ⊥)
@@ -203,9 +204,9 @@ module _ (n : ℕ) (ns gs : List ℕ) (g : ℕ) (set : List Member) (k : Cluster
         question : Message
         question = message.Ask (view_key (after_ages (w.facts m))) t.number t.digest
 
-        comes : Occurs (Gets m (message.Ask (view_key (after_ages (w.facts m))) t.number t.digest)) (inbox r.ticks_end x)
+        comes : Among (inbox r.ticks_end x) (Gets m (message.Ask (view_key (after_ages (w.facts m))) t.number t.digest))
         comes = asked n ns gs g set k w v r h m here t (found_among (w.facts m).transactions.running number t e) (message.Ask (view_key (after_ages (w.facts m))) t.number t.digest)
-            (λ y s. subst (λ (o : Option Write). Occurs (y, message.Ask (view_key (after_ages (w.facts m))) t.number t.digest) (sends_again (after_ages (w.facts m)) t o)) (sym a) (to_each_among t.awaiting y (message.Ask (view_key (after_ages (w.facts m))) t.number t.digest) s)) x missed
+            (λ y s. subst (λ (o : Option Write). Among (sends_again (after_ages (w.facts m)) t o) (y, message.Ask (view_key (after_ages (w.facts m))) t.number t.digest)) (sym a) (to_each_among t.awaiting y (message.Ask (view_key (after_ages (w.facts m))) t.number t.digest) s)) x missed
 
         key : view_key (after_ages (w.facts m)) ≡ k
         key = in_key k set m (w.facts m) (record { me = h.ready.base.named m; view = h.steady.views m here })
@@ -222,10 +223,10 @@ module _ (n : ℕ) (ns gs : List ℕ) (g : ℕ) (set : List Member) (k : Cluster
             (keeps_open n (r.ticks_end.clocks x) k set x number (λ o. Unit {0}) (inbox r.ticks_end x) (gets_inbox r.ticks_end x) (undist.ticks x to.0) (λ k number f x ms o z t h. tt)) (in_ticks n ns gs g set k w v r h x to.0, tt))
             (h.legible.first x to.0) answered comes
 
-        arrived : Occurs (Gets x some.which.1) (inbox r.first_end m)
+        arrived : Among (inbox r.first_end m) (Gets x some.which.1)
         arrived =
             flow_arrives n ns gs r.ticks_end r.first_end undist.group_first undist.ups_first r.first x m to.0 here to.1 some.which.1
-            (subst (λ (y : ℕ). Occurs (y, some.which.1) (outbox n (r.ticks_end.clocks x) (r.ticks_end.facts x) (inbox r.ticks_end x))) some.good.to some.among)
+            (subst (λ (y : ℕ). Among (outbox n (r.ticks_end.clocks x) (r.ticks_end.facts x) (inbox r.ticks_end x)) (y, some.which.1)) some.good.to some.among)
 
     heard_second : (x : ℕ) → contains t.awaiting x ≡ true → Such (HeardFrom x) (open_at (r.second_end.facts m) number)
     heard_second x missed = go (answer_comes x missed)
@@ -233,7 +234,7 @@ module _ (n : ℕ) (ns gs : List ℕ) (g : ℕ) (set : List Member) (k : Cluster
         c : ℕ
         c = r.first_end.clocks m
 
-        go : (y : Message) × Answers k number y × Occurs (Gets x y) (inbox r.first_end m) → Such (HeardFrom x) (open_at (r.second_end.facts m) number)
+        go : (y : Message) × Answers k number y × Among (inbox r.first_end m) (Gets x y) → Such (HeardFrom x) (open_at (r.second_end.facts m) number)
         go y =
             (subst (λ (f : Facts). In k set m f × Such (HeardFrom x) (open_at f number)) (sym (r.second.facts m))
             (served_each n (r.first_end.clocks m) (λ f. In k set m f × Unit {0}) (λ f. In k set m f × Such (HeardFrom x) (open_at f number)) (inbox r.first_end m) (r.first_end.facts m) (Gets x y.0)

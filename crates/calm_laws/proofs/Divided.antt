@@ -5,8 +5,11 @@ use Rattle.std.proofs.lemmas.Bool.Decides.{nat_tests}
 use Rattle.cluster_types.specs.Groups as groups
 use Rattle.cluster_types.specs.Groups.{apart, group_of}
 use Rattle.journal_readings.specs.Lines.{has_node}
-use Rattle.calm_laws.specs.Flows.{Occurs, Once}
-use Rattle.calm_laws.proofs.Took.{differ, same_number}
+use Rattle.cluster_rules.proofs.KeptFacts.{num_same}
+use Rattle.cluster_laws.proofs.At.{differ}
+use Rattle.run_laws.specs.Tied.{Among}
+use Rattle.calm_laws.specs.Flows.{Once}
+use Rattle.calm_laws.proofs.Lists.{has_front}
 
 -- ---- the place of a group
 
@@ -44,14 +47,6 @@ differ_later (Some i) (Some j) = ap not (same i j)
 
 -- ---- who stands where
 
-has_first : (xs ys : List ℕ) (a : ℕ) → has_node xs a ≡ true → has_node (xs ++ ys) a ≡ true
-has_first [] ys a e = differ e refl
-has_first (x ∷ xs) ys a e = go (x == a) e (has_first xs ys a)
-  where
-    go : (b : Bool) → (b || has_node xs a) ≡ true → (has_node xs a ≡ true → has_node (xs ++ ys) a ≡ true) → (b || has_node (xs ++ ys) a) ≡ true
-    go true f rest = refl
-    go false f rest = rest f
-
 has_behind : (xs ys : List ℕ) (a : ℕ) → has_node ys a ≡ true → has_node (xs ++ ys) a ≡ true
 has_behind [] ys a e = e
 has_behind (x ∷ xs) ys a e = go (x == a) (has_behind xs ys a e)
@@ -69,15 +64,15 @@ has_either (x ∷ xs) ys a e = go (x == a) e (has_either xs ys a)
     go false f rest = rest f
 
 -- whoever stands in a group stands among all
-pub in_groups : (gs : List (List ℕ)) (group : List ℕ) (a : ℕ) → Occurs group gs → has_node group a ≡ true → has_node (concat gs) a ≡ true
+pub in_groups : (gs : List (List ℕ)) (group : List ℕ) (a : ℕ) → Among gs group → has_node group a ≡ true → has_node (concat gs) a ≡ true
 in_groups [] group a h e = absurd h
-in_groups (g ∷ gs) group a (inl s) e = has_first g (concat gs) a (subst (λ (ns : List ℕ). has_node ns a ≡ true) (sym s) e)
+in_groups (g ∷ gs) group a (inl s) e = has_front g (concat gs) a (subst (λ (ns : List ℕ). has_node ns a ≡ true) (sym s) e)
 in_groups (g ∷ gs) group a (inr h) e = has_behind g (concat gs) a (in_groups gs group a h e)
 
 -- and whoever stands among all stands in a group
 pub record Place (gs : List (List ℕ)) (a : ℕ) : Type 0 where
   pub group : List ℕ
-  pub among : Occurs group gs
+  pub among : Among gs group
   pub here : has_node group a ≡ true
 
 pub place : (gs : List (List ℕ)) (a : ℕ) → has_node (concat gs) a ≡ true → Place gs a
@@ -93,7 +88,7 @@ once_front [] ys a o e f = differ e refl
 once_front (x ∷ xs) ys a o e f = go (x == a) refl e (λ h. once_front xs ys a o.1 h f)
   where
     go : (b : Bool) → (x == a) ≡ b → (b || has_node xs a) ≡ true → (has_node xs a ≡ true → ⊥) → ⊥
-    go true s h rest = differ (has_behind xs ys a f) (subst (λ (y : ℕ). has_node (xs ++ ys) y ≡ false) (same_number x a s) o.0)
+    go true s h rest = differ (has_behind xs ys a f) (subst (λ (y : ℕ). has_node (xs ++ ys) y ≡ false) (num_same x a s) o.0)
     go false s h rest = rest h
 
 once_behind : (xs ys : List ℕ) → Once (xs ++ ys) → Once ys
@@ -116,7 +111,7 @@ Both g gs a b x y = groups.differ (cond x (Some 0) (later (group_of gs a))) (con
 apart_is : (g : List ℕ) (gs : List (List ℕ)) (a b : ℕ) → apart (g ∷ gs) a b ≡ Both g gs a b (has_node g a) (has_node g b)
 apart_is g gs a b = ap₂ groups.differ (place_of a g gs) (place_of b g gs)
 
-pub together : (gs : List (List ℕ)) (group : List ℕ) (a b : ℕ) → Once (concat gs) → Occurs group gs → has_node group a ≡ true → has_node group b ≡ true → apart gs a b ≡ false
+pub together : (gs : List (List ℕ)) (group : List ℕ) (a b : ℕ) → Once (concat gs) → Among gs group → has_node group a ≡ true → has_node group b ≡ true → apart gs a b ≡ false
 together [] group a b o h e f = absurd h
 together (g ∷ gs) group a b o (inl s) e f =
     apart_is g gs a b ∙ ap₂ (Both g gs a b) (ap (λ (ns : List ℕ). has_node ns a) s ∙ e) (ap (λ (ns : List ℕ). has_node ns b) s ∙ f)
@@ -148,7 +143,7 @@ first_apart gs b e =
     not_zero : (i : ℕ) → not (suc i == 0) ≡ true
     not_zero i = grind (arith, nat_tests)
 
-pub asunder : (gs : List (List ℕ)) (group : List ℕ) (a b : ℕ) → Once (concat gs) → Occurs group gs → has_node (concat gs) a ≡ true → has_node group a ≡ false → has_node group b ≡ true → apart gs a b ≡ true
+pub asunder : (gs : List (List ℕ)) (group : List ℕ) (a b : ℕ) → Once (concat gs) → Among gs group → has_node (concat gs) a ≡ true → has_node group a ≡ false → has_node group b ≡ true → apart gs a b ≡ true
 asunder [] group a b o h all e f = absurd h
 asunder (g ∷ gs) group a b o (inl s) all e f = go (has_either g (concat gs) a all)
   where

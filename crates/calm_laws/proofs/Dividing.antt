@@ -1,5 +1,4 @@
--- Only the event that divides the network changes its groups, so no node stands in two of them where each such event
--- keeps to that.
+-- Only the event that divides the network changes its groups, so no node stands in two of them.
 use Rattle.std.proofs.Common.{◌≡◌, ℕ, ◌+◌, ◌==◌, nat_lt, Bool, true, false, List, [], ◌∷◌, ◌++◌, map, length, Option, Some, None, refl, sym, subst, ◌∙◌, append-nil}
 use Rattle.std.specs.Prelude.{option_and_then}
 use Rattle.std.specs.List.{concat}
@@ -29,7 +28,8 @@ use Rattle.cluster_rules.specs.Opening.{Header, declared_nodes}
 use Rattle.cluster_rules.specs.Steps.{AreDue, Step, all_marks, marks_of, play}
 use Rattle.cluster_rules.specs.World.{World, opened}
 use Rattle.cluster_rules.proofs.MarkLaws.{after_all-append}
-use Rattle.calm_laws.specs.Claims.{AllDivideWell, DividesWell}
+use Rattle.run_laws.specs.Taken.{IsProperEvent}
+use Rattle.run_laws.proofs.EventRanges.{AllProper}
 use Rattle.calm_laws.proofs.Own.{message_own, tick_own}
 use Rattle.calm_laws.proofs.Reached.{Unsent, map_unsent, own_unsent, request_unsent, start_unsent, stop_unsent}
 use Rattle.calm_laws.proofs.Shrinking.{begun_groups, came_groups, sent_groups}
@@ -143,17 +143,17 @@ AreApart w = AreDistinct (concat w.network.groups)
 kept_apart : (n : ℕ) (w : World) (e : Event) → Whole e → AreApart w → AreApart (play n e w).world
 kept_apart n w e h d = subst (λ (gs : List (List ℕ)). AreDistinct (concat gs)) (sym (lines_groups (due_of n w e) (begun w e) (due_undivided n w e h) ∙ begun_groups w e)) d
 
-step_apart : (n : ℕ) (w : World) (e : Event) → DividesWell e → AreApart w → AreApart (play n e w).world
-step_apart n w (event.Groups groups) h d = h
+step_apart : (n : ℕ) (w : World) (e : Event) → IsProperEvent e → AreApart w → AreApart (play n e w).world
+step_apart n w (event.Groups groups) h d = h.distinct
 step_apart n w e h d = kept_apart n w e tt d
 
-steps_apart : (n : ℕ) (ss : List Step) (w : World) → AreDue n w ss → AllDivideWell ss → AreApart w → AreApart (after_all w (all_marks ss))
+steps_apart : (n : ℕ) (ss : List Step) (w : World) → AreDue n w ss → AllProper ss → AreApart w → AreApart (after_all w (all_marks ss))
 steps_apart n [] w due h d = d
 steps_apart n (s ∷ ss) w due h d =
     let u : World = after_all w (marks_of s) in
     let one : AreApart u = subst (λ (ls : List Line). AreApart (after_all w (Begins s.event ∷ map Writes ls))) (sym due.0) (step_apart n w s.event h.0 d) in
     subst AreApart (sym (after_all-append w (marks_of s) (all_marks ss))) (steps_apart n ss u due.1 h.1 one)
 
--- no node stands in two groups behind steps that divide well
-pub apart_behind : (n : ℕ) (h : Header) (ss : List Step) → AreDistinct (declared_nodes h) → AreDue n (opened h) ss → AllDivideWell ss → AreDistinct (concat (after_all (opened h) (all_marks ss)).network.groups)
-apart_behind n h ss distinct due well = steps_apart n ss (opened h) due well (subst AreDistinct (sym (append-nil (declared_nodes h))) distinct)
+-- no node stands in two groups behind proper steps
+pub apart_behind : (n : ℕ) (h : Header) (ss : List Step) → AreDistinct (declared_nodes h) → AreDue n (opened h) ss → AllProper ss → AreDistinct (concat (after_all (opened h) (all_marks ss)).network.groups)
+apart_behind n h ss distinct due proper = steps_apart n ss (opened h) due proper (subst AreDistinct (sym (append-nil (declared_nodes h))) distinct)

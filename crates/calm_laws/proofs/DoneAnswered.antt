@@ -18,9 +18,10 @@ use Rattle.node_rules.specs.Tick.{progress_message}
 use Rattle.journal_readings.specs.Lines.{has_node}
 use Rattle.cluster_rules.specs.World.{World}
 use Rattle.key_laws.proofs.Order.{same_self}
+use Rattle.run_laws.specs.Tied.{Among}
 use Rattle.calm_laws.specs.Acts.{Gets, Input, acted, as_read, effects, outbox, served}
 use Rattle.calm_laws.specs.Exchanges.{ends_with, taken_if, took}
-use Rattle.calm_laws.specs.Flows.{Occurs, Rounded, inbox, ticks_if}
+use Rattle.calm_laws.specs.Flows.{Rounded, inbox, ticks_if}
 use Rattle.calm_laws.specs.Group.{kind}
 use Rattle.calm_laws.specs.Handing.{Legibly}
 use Rattle.calm_laws.specs.Letters.{arriving_at}
@@ -97,15 +98,15 @@ answers_done c k set rows f s m key e done handed settled =
     knows = all_settled_grows f (notes.progress_came f m done handed settled true) (progress_bits f m done handed settled true) refl refl refl partition_count 0 s.knows
 
 -- what comes to it in a flow keeps that, where each sender's row is there
-pub settles_along : (n : ℕ) (u : World) (x : ℕ) (k : ClusterKey) (set : List Member) (rows : List MemberRow) → ((from : ℕ) (y : Message) → Occurs (Gets from y) (inbox u x) → is_agreeing (kind y) ≡ false) → ((from : ℕ) (y : Message) → Occurs (Gets from y) (inbox u x) → lacks rows from ≡ false)
+pub settles_along : (n : ℕ) (u : World) (x : ℕ) (k : ClusterKey) (set : List Member) (rows : List MemberRow) → ((from : ℕ) (y : Message) → Among (inbox u x) (Gets from y) → is_agreeing (kind y) ≡ false) → ((from : ℕ) (y : Message) → Among (inbox u x) (Gets from y) → lacks rows from ≡ false)
     → Settles k set rows (u.facts x) → Along n (u.clocks x) (Settles k set rows) (u.facts x) (inbox u x)
 settles_along n u x k set rows free there s =
     kept_along n (u.clocks x) (Settles k set rows) (inbox u x) (u.facts x)
-    (λ f i among p. all_gets (inbox u x) i (gets_inbox u x) among (λ j. Occurs j (inbox u x) → Settles k set rows (acted n (u.clocks x) f j)) (λ from y t. settles_acted n (u.clocks x) k set rows f from y (free from y t) (there from y t) p) among) s
+    (λ f i among p. all_gets (inbox u x) i (gets_inbox u x) among (λ j. Among (inbox u x) j → Settles k set rows (acted n (u.clocks x) f j)) (λ from y t. settles_acted n (u.clocks x) k set rows f from y (free from y t) (there from y t) p) among) s
 
 -- so whoever asks it in a flow is told that it is done
-pub done_answered : (u : World) (x m : ℕ) (k : ClusterKey) (set : List Member) (rows : List MemberRow) → ((from : ℕ) (y : Message) → Occurs (Gets from y) (inbox u x) → is_agreeing (kind y) ≡ false) → ((from : ℕ) (y : Message) → Occurs (Gets from y) (inbox u x) → lacks rows from ≡ false)
-    → Settles k set rows (u.facts x) → Legibly partition_count (u.clocks x) (u.facts x) (inbox u x) → (key : ClusterKey) → key ≡ k → (done handed settled : List Bool) → Occurs (Gets m (message.Progress key true done handed settled)) (inbox u x)
+pub done_answered : (u : World) (x m : ℕ) (k : ClusterKey) (set : List Member) (rows : List MemberRow) → ((from : ℕ) (y : Message) → Among (inbox u x) (Gets from y) → is_agreeing (kind y) ≡ false) → ((from : ℕ) (y : Message) → Among (inbox u x) (Gets from y) → lacks rows from ≡ false)
+    → Settles k set rows (u.facts x) → Legibly partition_count (u.clocks x) (u.facts x) (inbox u x) → (key : ClusterKey) → key ≡ k → (done handed settled : List Bool) → Among (inbox u x) (Gets m (message.Progress key true done handed settled))
     → Any (DoneTo k m) (outbox partition_count (u.clocks x) (u.facts x) (inbox u x))
 done_answered u x m k set rows free there s legible key e done handed settled asked =
     any_legible partition_count (u.clocks x) (Settles k set rows) (DoneTo k m) (inbox u x) (u.facts x) (Gets m (message.Progress key true done handed settled)) (settles_along partition_count u x k set rows free there s) legible
@@ -116,7 +117,7 @@ done_answered u x m k set rows free there s legible key e done handed settled as
 -- what else it stands on: each row is there, and whatever is on its way to the group was sent by it
 pub record Rowful (gs : List ℕ) (w : World) : Type 0 where
   pub rows : (x a : ℕ) → has_node gs x ≡ true → has_node gs a ≡ true → lacks (w.facts x).exchange.rows a ≡ false
-  pub senders : (m : ℕ) → has_node gs m ≡ true → (from : ℕ) (y : Message) → Occurs (Gets from y) (inbox w m) → has_node gs from ≡ true
+  pub senders : (m : ℕ) → has_node gs m ≡ true → (from : ℕ) (y : Message) → Among (inbox w m) (Gets from y) → has_node gs from ≡ true
 
 pub tells_free : (k : ClusterKey) (y : Message) → TellsDone k y → is_agreeing (kind y) ≡ false
 tells_free k (message.Progress key wants done handed settled) t = refl
@@ -128,11 +129,11 @@ told_by n c k set f x (message.Progress key wants done handed settled) t o =
 told_by n c k set f x _ t o = absurd t
 
 module _ (ns gs : List ℕ) (g : ℕ) (set : List Member) (k : ClusterKey) (w v : World) (r : Rounded partition_count w v) (h : TellRound partition_count ns gs g set k w v r) (left : FullInbox partition_count gs w) (j : Rowful gs w) where
-  pub senders_ticks : (x : ℕ) → has_node gs x ≡ true → (from : ℕ) (y : Message) → Occurs (Gets from y) (inbox r.ticks_end x) → has_node gs from ≡ true
+  pub senders_ticks : (x : ℕ) → has_node gs x ≡ true → (from : ℕ) (y : Message) → Among (inbox r.ticks_end x) (Gets from y) → has_node gs from ≡ true
   senders_ticks x here from y there =
-      go (among_either (Gets from y) (inbox w x) (arriving_at r.ticks_end x (calm ns gs g set k w v r h).ticked.posted) (subst (λ (is : List Input). Occurs (Gets from y) is) ((calm ns gs g set k w v r h).ticked.inbox x) there))
+      go (among_either (Gets from y) (inbox w x) (arriving_at r.ticks_end x (calm ns gs g set k w v r h).ticked.posted) (subst (λ (is : List Input). Among is (Gets from y)) ((calm ns gs g set k w v r h).ticked.inbox x) there))
     where
-      go : Occurs (Gets from y) (inbox w x) ⊎ Occurs (Gets from y) (arriving_at r.ticks_end x (calm ns gs g set k w v r h).ticked.posted) → has_node gs from ≡ true
+      go : Among (inbox w x) (Gets from y) ⊎ Among (arriving_at r.ticks_end x (calm ns gs g set k w v r h).ticked.posted) (Gets from y) → has_node gs from ≡ true
       go (inl i) = j.senders x here from y i
       go (inr i) = (from_ticks partition_count ns gs w r.ticks_end h.hands.ready.group (calm ns gs g set k w v r h).ticked from x y here i).sender
 
@@ -167,10 +168,10 @@ module _ (ns gs : List ℕ) (g : ℕ) (set : List Member) (k : ClusterKey) (w v 
           done_answered r.ticks_end x m k set (w.facts x).exchange.rows ((calm ns gs g set k w v r h).ticks x here) (λ from y i. j.rows x from here (senders_ticks x here from y i)) (settles_ticks x here knows) (h.hands.legible.first x here)
           (view_key (progressing partition_count (w.facts m))) (key_of_telling ns gs g set k w v r h left m there) _ _ _ (told_all ns gs g set k w v r h left m x there here (λ i. d (sym i)) e)
 
-      comes : Occurs (Gets x told.which.1) (inbox r.first_end m)
+      comes : Among (inbox r.first_end m) (Gets x told.which.1)
       comes =
           flow_arrives partition_count ns gs r.ticks_end r.first_end (calm ns gs g set k w v r h).group_first (calm ns gs g set k w v r h).ups_first r.first x m here there (λ i. d (sym i)) told.which.1
-          (subst (λ (y : ℕ). Occurs (y, told.which.1) (outbox partition_count (r.ticks_end.clocks x) (r.ticks_end.facts x) (inbox r.ticks_end x))) told.good.to told.among)
+          (subst (λ (y : ℕ). Among (outbox partition_count (r.ticks_end.clocks x) (r.ticks_end.facts x) (inbox r.ticks_end x)) (y, told.which.1)) told.good.to told.among)
 
       second : Over k set (r.second_end.facts m) × KnowsDone partition_count x (r.second_end.facts m).bits
       second =

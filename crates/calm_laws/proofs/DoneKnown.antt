@@ -13,9 +13,11 @@ use Rattle.node_rules.specs.Standing.{is_done, knows_all_settled, others}
 use Rattle.node_rules.specs.Tick.{batches, beat, progress, progress_if, progress_message, propose, rows, tick_if, transactions}
 use Rattle.journal_readings.specs.Lines.{has_node}
 use Rattle.cluster_rules.specs.World.{World}
+use Rattle.cluster_rules.proofs.OwnLines.{noted_me}
 use Rattle.key_laws.proofs.Order.{same_self}
+use Rattle.run_laws.specs.Tied.{Among}
 use Rattle.calm_laws.specs.Acts.{Gets, Input, acted, as_read}
-use Rattle.calm_laws.specs.Flows.{Occurs, Flowed, Rounded, inbox}
+use Rattle.calm_laws.specs.Flows.{Flowed, Rounded, inbox}
 use Rattle.calm_laws.specs.Group.{kind}
 use Rattle.calm_laws.specs.Progresses.{Emptied, FullInbox, KnowsDone}
 use Rattle.calm_laws.specs.Turns.{Cleared, is_agreeing}
@@ -26,7 +28,6 @@ use Rattle.calm_laws.proofs.Handovers.{over_acted}
 use Rattle.calm_laws.proofs.Hearing.{gets_inbox}
 use Rattle.calm_laws.proofs.Inputs.{Keeps, served_each, served_kept}
 use Rattle.calm_laws.proofs.Knowing.{done_kept, done_told}
-use Rattle.calm_laws.proofs.Own.{noted_me}
 use Rattle.calm_laws.proofs.Proposals.{all_gets}
 use Rattle.calm_laws.proofs.Proposing.{tick_arrives}
 use Rattle.calm_laws.proofs.Rolls.{contains_among, other_in}
@@ -37,15 +38,15 @@ use Rattle.calm_laws.proofs.Transacting.{to_each_among}
 
 -- ---- flows
 
-pub keeps_done : (n c : ℕ) (k : ClusterKey) (set : List Member) (most x : ℕ) (is : List Input) (u : World) (gs : List ℕ) (m : ℕ) → ((from : ℕ) (y : Message) → Occurs (Gets from y) (inbox u m) → is_agreeing (kind y) ≡ false) → FullInbox most gs u → has_node gs m ≡ true
+pub keeps_done : (n c : ℕ) (k : ClusterKey) (set : List Member) (most x : ℕ) (is : List Input) (u : World) (gs : List ℕ) (m : ℕ) → ((from : ℕ) (y : Message) → Among (inbox u m) (Gets from y) → is_agreeing (kind y) ≡ false) → FullInbox most gs u → has_node gs m ≡ true
     → Keeps n c (λ f. Over k set f × KnowsDone most x f.bits) (inbox u m)
 keeps_done n c k set most x is u gs m free full here f i there p =
-    all_gets (inbox u m) i (gets_inbox u m) there (λ j. Occurs j (inbox u m) → Over k set (acted n c f j) × KnowsDone most x (acted n c f j).bits)
+    all_gets (inbox u m) i (gets_inbox u m) there (λ j. Among (inbox u m) j → Over k set (acted n c f j) × KnowsDone most x (acted n c f j).bits)
     (λ from y among. (over_acted n c k set f from y (free from y among) p.0, done_kept n c x f from y most (free from y among) (full m here from y among) p.1)) there
 
-pub keeps_over : (n c : ℕ) (k : ClusterKey) (set : List Member) (u : World) (m : ℕ) → ((from : ℕ) (y : Message) → Occurs (Gets from y) (inbox u m) → is_agreeing (kind y) ≡ false) → Keeps n c (λ f. Over k set f) (inbox u m)
+pub keeps_over : (n c : ℕ) (k : ClusterKey) (set : List Member) (u : World) (m : ℕ) → ((from : ℕ) (y : Message) → Among (inbox u m) (Gets from y) → is_agreeing (kind y) ≡ false) → Keeps n c (λ f. Over k set f) (inbox u m)
 keeps_over n c k set u m free f i there p =
-    all_gets (inbox u m) i (gets_inbox u m) there (λ j. Occurs j (inbox u m) → Over k set (acted n c f j)) (λ from y among. over_acted n c k set f from y (free from y among) p) there
+    all_gets (inbox u m) i (gets_inbox u m) there (λ j. Among (inbox u m) j → Over k set (acted n c f j)) (λ from y among. over_acted n c k set f from y (free from y among) p) there
 
 pub flow_knows : (n : ℕ) (gs : List ℕ) (u v : World) (m : ℕ) (k : ClusterKey) (set : List Member) (most x : ℕ) → Flowed n u v → Cleared gs u → FullInbox most gs u → has_node gs m ≡ true → Over k set (u.facts m) × KnowsDone most x (u.facts m).bits → Over k set (v.facts m) × KnowsDone most x (v.facts m).bits
 flow_knows n gs u v m k set most x f cleared full here p =
@@ -81,10 +82,10 @@ module _ (ns gs : List ℕ) (g : ℕ) (set : List Member) (k : ClusterKey) (w v 
 
   -- who doesn't know all settled tells each other one
   pub told_all : (x m : ℕ) (here : has_node gs x ≡ true) → has_node gs m ≡ true → (m ≡ x → ⊥) → knows_all_settled (progressing partition_count (w.facts x)) partition_count 0 ≡ false
-      → Occurs (Gets x (progress_message partition_count (progressing partition_count (w.facts x)) true)) (inbox r.ticks_end m)
+      → Among (inbox r.ticks_end m) (Gets x (progress_message partition_count (progressing partition_count (w.facts x)) true))
   told_all x m here there d e =
       tick_arrives partition_count ns gs w r.ticks_end (calm ns gs g set k w v r h).group_ticks (calm ns gs g set k w v r h).ups_ticks (calm ns gs g set k w v r h).ticked x m here there (λ i. d (sym i)) (progress_message partition_count (progressing partition_count (w.facts x)) true)
-      (subst (λ (ms : List (ℕ × Message)). Occurs (m, progress_message partition_count (progressing partition_count (w.facts x)) true) ms) (sym (tick_sent partition_count (w.clocks x) (w.facts x) (up_of x here) ∙ plain)) (listed (progress_message partition_count (progressing partition_count (w.facts x)) true) part))
+      (subst (λ (ms : List (ℕ × Message)). Among ms (m, progress_message partition_count (progressing partition_count (w.facts x)) true)) (sym (tick_sent partition_count (w.clocks x) (w.facts x) (up_of x here) ∙ plain)) (listed (progress_message partition_count (progressing partition_count (w.facts x)) true) part))
     where
       plain : as_read (tick_list partition_count (w.facts x)) ≡ tick_list partition_count (w.facts x)
       plain = subst (λ (b : Bool). as_read (tick_if partition_count (w.facts x) b).sends ≡ (tick_if partition_count (w.facts x) b).sends) (up_of x here) (h.hands.legible.ticks x here)
@@ -94,13 +95,13 @@ module _ (ns gs : List ℕ) (g : ℕ) (set : List Member) (k : ClusterKey) (w v 
           ap (λ (b : Bool). b && not (knows_all_settled (progressing partition_count (w.facts x)) partition_count 0)) (ap (λ (e : Exchange). e.exchanged) (exchange_of x here) ∙ h.hands.over x here)
           ∙ ap (λ (b : Bool). not b) e
 
-      part : Occurs (m, progress_message partition_count (progressing partition_count (w.facts x)) true) (progress partition_count (progressing partition_count (w.facts x))).sends
+      part : Among (progress partition_count (progressing partition_count (w.facts x))).sends (m, progress_message partition_count (progressing partition_count (w.facts x)) true)
       part =
-          subst (λ (b : Bool). Occurs (m, progress_message partition_count (progressing partition_count (w.facts x)) true) (progress_if partition_count (progressing partition_count (w.facts x)) b).sends) (sym tells)
+          subst (λ (b : Bool). Among (progress_if partition_count (progressing partition_count (w.facts x)) b).sends (m, progress_message partition_count (progressing partition_count (w.facts x)) true)) (sym tells)
           (to_each_among (others (progressing partition_count (w.facts x))) m (progress_message partition_count (progressing partition_count (w.facts x)) true)
-          (subst (λ (ys : List ℕ). Occurs m ys) (sym (others_of x here)) (contains_among (agreement.others x set) m (other_in gs g set h.hands.ready.roll x m there d))))
+          (subst (λ (ys : List ℕ). Among ys m) (sym (others_of x here)) (contains_among (agreement.others x set) m (other_in gs g set h.hands.ready.roll x m there d))))
 
-      listed : (y : Message) → Occurs (m, y) (progress partition_count (progressing partition_count (w.facts x))).sends → Occurs (m, y) (tick_list partition_count (w.facts x))
+      listed : (y : Message) → Among (progress partition_count (progressing partition_count (w.facts x))).sends (m, y) → Among (tick_list partition_count (w.facts x)) (m, y)
       listed y i =
           among_behind (m, y) (beat (after_ages (w.facts x))).sends _ (among_behind (m, y) (propose (after_ages (w.facts x))).sends _ (among_behind (m, y) (rows (proposed (w.facts x))).sends _
           (among_behind (m, y) (transactions (proposed (w.facts x))).sends _ (among_behind (m, y) (batches (proposed (w.facts x))).sends _ (among_front (m, y) (progress partition_count (progressing partition_count (w.facts x))).sends [] i)))))

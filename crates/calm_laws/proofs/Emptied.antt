@@ -6,8 +6,9 @@ use Rattle.node_rules.specs.Standing.{is_done}
 use Rattle.node_rules.specs.Transactions.{Transaction}
 use Rattle.journal_readings.specs.Lines.{has_node}
 use Rattle.cluster_rules.specs.World.{World}
+use Rattle.run_laws.specs.Tied.{Among}
 use Rattle.calm_laws.specs.Exchanges.{Exchanged, RowsThere}
-use Rattle.calm_laws.specs.Flows.{Occurs, world_at}
+use Rattle.calm_laws.specs.Flows.{world_at}
 use Rattle.calm_laws.specs.Ground.{Agreed, Basis, Provisions}
 use Rattle.calm_laws.specs.Handing.{AtMostPending, Handing, LegibleRound, NothingOut}
 use Rattle.calm_laws.specs.Transacting.{NoneOpen, Waiting}
@@ -19,7 +20,7 @@ use Rattle.calm_laws.proofs.Handovers.{HandRound}
 use Rattle.calm_laws.proofs.Pending.{done_then, handing_kept, nothing_out, pending_falls}
 
 none_waits : (gs : List ℕ) (w : World) → NoneOpen gs w → Waiting gs w
-none_waits gs w h m here t there = absurd (subst (λ (ts : List Transaction). Occurs t ts) (h m here) there)
+none_waits gs w h m here t there = absurd (subst (λ (ts : List Transaction). Among ts t) (h m here) there)
 
 module _ (n : ℕ) (ns gs : List ℕ) (g : ℕ) (set : List Member) (w : World) (most : ℕ) (x : Basis n ns gs g set w most) (a : Agreed n gs g set w most) (p : Provisions n gs w most a.key) where
   ready : (i : ℕ) → 12 ≤ i → i ≤ most → Ready ns gs g set (world_at n w i)

@@ -7,6 +7,7 @@ use Rattle.cluster_types.specs.declared.member.Member.{Member}
 use Rattle.cluster_types.specs.Members.{ids_of}
 use Rattle.wire_messages.specs.declared.message.Message.{Message}
 use Rattle.wire_messages.specs.declared.message.Message.TheVariants as message
+use Rattle.partition_lists.proofs.InOrderLaws.{equal}
 use Rattle.node_rules.specs.declared.member_row.MemberRow.{MemberRow}
 use Rattle.node_rules.specs.Agreement as agreement
 use Rattle.node_rules.specs.Copies.{Row}
@@ -20,10 +21,13 @@ use Rattle.node_rules.specs.Tables.{contains}
 use Rattle.node_rules.specs.Tick.{own_row_in, state}
 use Rattle.journal_readings.specs.Lines.{has_node}
 use Rattle.cluster_rules.specs.World.{World}
+use Rattle.cluster_rules.proofs.KeptFacts.{num_same}
+use Rattle.cluster_laws.proofs.At.{differ}
 use Rattle.key_laws.proofs.Order.{same_self}
+use Rattle.run_laws.specs.Tied.{Among}
 use Rattle.calm_laws.specs.Acts.{Input, Ticks, Gets, acted, as_read, sent_at, served}
 use Rattle.calm_laws.specs.Exchanges.{Exchanged, LacksRow, Rows, RowsThere, Shares, ends_with, finished_if, taken_if, took}
-use Rattle.calm_laws.specs.Flows.{Occurs, Flowed, Rounded, inbox, ticks_if}
+use Rattle.calm_laws.specs.Flows.{Flowed, Rounded, inbox, ticks_if}
 use Rattle.calm_laws.specs.Group.{kind}
 use Rattle.calm_laws.specs.Laws.{CanBeRead, is_to_propose}
 use Rattle.calm_laws.specs.Turns.{Cleared, Ready, Steady, is_agreeing}
@@ -39,13 +43,12 @@ use Rattle.calm_laws.proofs.Sent.{AllGets, each_among}
 use Rattle.calm_laws.proofs.Steadying.{steady_rests}
 use Rattle.calm_laws.proofs.Taking.{acted_takes, rests_exchange, rests_proposed}
 use Rattle.calm_laws.proofs.Ticking.{proposed, tick_rows}
-use Rattle.calm_laws.proofs.Took.{differ, number_is, same_number}
 
 -- ---- flows
 
-keeps_took : (n c : ℕ) (P : Exchange → Type 0) (is : List Input) → AllGets is → ((from : ℕ) (x : Message) → Occurs (Gets from x) is → is_agreeing (kind x) ≡ false) → ((e : Exchange) (from : ℕ) (x : Message) → P e → P (took e from x)) → Keeps n c (λ f. P f.exchange) is
+keeps_took : (n c : ℕ) (P : Exchange → Type 0) (is : List Input) → AllGets is → ((from : ℕ) (x : Message) → Among is (Gets from x) → is_agreeing (kind x) ≡ false) → ((e : Exchange) (from : ℕ) (x : Message) → P e → P (took e from x)) → Keeps n c (λ f. P f.exchange) is
 keeps_took n c P is gets free kept f i h p =
-    all_gets is i gets h (λ j. Occurs j is → P (acted n c f j).exchange) (λ from x there. subst P (sym (acted_takes n c f from x (free from x there))) (kept f.exchange from x p)) h
+    all_gets is i gets h (λ j. Among is j → P (acted n c f j).exchange) (λ from x there. subst P (sym (acted_takes n c f from x (free from x there))) (kept f.exchange from x p)) h
 
 pub flow_takes : (n : ℕ) (gs : List ℕ) (u v : World) (m : ℕ) (P : Exchange → Type 0) → Flowed n u v → Cleared gs u → has_node gs m ≡ true → ((e : Exchange) (from : ℕ) (x : Message) → P e → P (took e from x)) → P (u.facts m).exchange → P (v.facts m).exchange
 flow_takes n gs u v m P f cleared here kept p =
@@ -70,7 +73,7 @@ has_first rows more m e = go (row_of rows m) refl
     go (Some row) i = ap (λ (o : Option Row). is_none o) (found_first rows more m row i)
 
 has_last : (rows : List MemberRow) (m : ℕ) (row : Row) → lacks (rows ++ record { node = m; row = row } ∷ []) m ≡ false
-has_last [] m row = ap (λ (b : Bool). is_none (option_map (λ (r : MemberRow). r.row) (cond b (Some (record { node = m; row = row })) None))) (number_is m m refl)
+has_last [] m row = ap (λ (b : Bool). is_none (option_map (λ (r : MemberRow). r.row) (cond b (Some (record { node = m; row = row })) None))) (equal m m refl)
 has_last (r ∷ rows) m row = go (r.node == m) (has_last rows m row)
   where
     go : (b : Bool) → lacks (rows ++ record { node = m; row = row } ∷ []) m ≡ false → is_none (option_map (λ (r : MemberRow). r.row) (cond b (Some r) (find (λ (r : MemberRow). r.node == m) (rows ++ record { node = m; row = row } ∷ [])))) ≡ false
@@ -169,7 +172,7 @@ over_kept e from _ h = h
 nobody_missing : (test : ℕ → Bool) (xs : List ℕ) → ((x : ℕ) → contains xs x ≡ true → test x ≡ false) → find test xs ≡ None
 nobody_missing test [] h = refl
 nobody_missing test (x ∷ xs) h =
-    ap (λ (b : Bool). cond b (Some x) (find test xs)) (h x (ap (λ (b : Bool). b || contains xs x) (number_is x x refl)))
+    ap (λ (b : Bool). cond b (Some x) (find test xs)) (h x (ap (λ (b : Bool). b || contains xs x) (equal x x refl)))
     ∙ nobody_missing test xs (λ y e. h y (behind (x == y) (contains xs y) e))
   where
     behind : (b c : Bool) → c ≡ true → (b || c) ≡ true
@@ -180,10 +183,10 @@ nobody_missing test (x ∷ xs) h =
 
 -- a row that is wanted is answered by the receiver's own
 row_answered : (n c : ℕ) (k : ClusterKey) (set : List Member) (m : ℕ) (mine : Row) → CanBeRead (message.State k false mine) → (f : Facts) → f.me ≡ m → Shares k set m mine f.exchange → (from : ℕ) (row : Row)
-    → Occurs (from, message.State k false mine) (sent_at n c f (Gets from (message.State k true row)))
+    → Among (sent_at n c f (Gets from (message.State k true row))) (from, message.State k false mine)
 row_answered n c k set m mine reads f name h from row =
-    subst (λ (b : Bool). Occurs (from, message.State k false mine) (as_read (state_came f (reached f from (message.State k true row)) from true b).sends)) (sym (ap (λ (o : Option View). is_view o k) h.view ∙ same_self k))
-    (subst (λ (x : Message). Occurs (from, message.State k false mine) (as_read ((from, x) ∷ []))) (sym (own_state f false name h))
+    subst (λ (b : Bool). Among (as_read (state_came f (reached f from (message.State k true row)) from true b).sends) (from, message.State k false mine)) (sym (ap (λ (o : Option View). is_view o k) h.view ∙ same_self k))
+    (subst (λ (x : Message). Among (as_read ((from, x) ∷ [])) (from, message.State k false mine)) (sym (own_state f false name h))
     (each_among (message.State k false mine) reads (from ∷ []) from (inl refl)))
   where
     own_state : (f : Facts) (b : Bool) → f.me ≡ m → Shares k set m mine f.exchange → state f b ≡ message.State k b mine
@@ -192,12 +195,12 @@ row_answered n c k set m mine reads f name h from row =
         ∙ ap (λ (y : ℕ). message.State k b (unwrap_or (row_of f.exchange.rows y) [])) name
         ∙ ap (λ (o : Option Row). message.State k b (unwrap_or o [])) h.own
 
-among_filter : (test : ℕ → Bool) (xs : List ℕ) (x : ℕ) → test x ≡ true → Occurs x xs → Occurs x (filter test xs)
+among_filter : (test : ℕ → Bool) (xs : List ℕ) (x : ℕ) → test x ≡ true → Among xs x → Among (filter test xs) x
 among_filter test [] x e h = absurd h
-among_filter test (y ∷ xs) x e (inl s) = subst (λ (b : Bool). Occurs x (cond b (y ∷ filter test xs) (filter test xs))) (sym (ap test s ∙ e)) (inl s)
+among_filter test (y ∷ xs) x e (inl s) = subst (λ (b : Bool). Among (cond b (y ∷ filter test xs) (filter test xs)) x) (sym (ap test s ∙ e)) (inl s)
 among_filter test (y ∷ xs) x e (inr h) = go (test y) (among_filter test xs x e h)
   where
-    go : (b : Bool) → Occurs x (filter test xs) → Occurs x (cond b (y ∷ filter test xs) (filter test xs))
+    go : (b : Bool) → Among (filter test xs) x → Among (cond b (y ∷ filter test xs) (filter test xs)) x
     go true i = inr i
     go false i = i
 
@@ -231,14 +234,14 @@ module _ (n : ℕ) (ns gs : List ℕ) (g : ℕ) (set : List Member) (k : Cluster
   shares_second m here = flow_takes n gs r.first_end r.second_end m (Shares k set m (h.rows.row m)) r.second u.first here (shares_kept k set m (h.rows.row m)) (shares_first m here)
 
   -- a row that is lacking is asked for with the node's own
-  row_asked : (m x : ℕ) → has_node gs m ≡ true → has_node gs x ≡ true → (x ≡ m → ⊥) → lacks (w.facts m).exchange.rows x ≡ true → Occurs (Gets m (message.State k true (h.rows.row m))) (inbox r.ticks_end x)
+  row_asked : (m x : ℕ) → has_node gs m ≡ true → has_node gs x ≡ true → (x ≡ m → ⊥) → lacks (w.facts m).exchange.rows x ≡ true → Among (inbox r.ticks_end x) (Gets m (message.State k true (h.rows.row m)))
   row_asked m x here there d lacking =
       tick_arrives n ns gs w r.ticks_end u.group_ticks u.ups_ticks u.ticked m x here there (λ e. d (sym e)) (message.State k true (h.rows.row m))
-      (subst (λ (y : Message). Occurs (x, y) (sent_at n (w.clocks m) (w.facts m) Ticks)) own
+      (subst (λ (y : Message). Among (sent_at n (w.clocks m) (w.facts m) Ticks) (x, y)) own
       (tick_rows n (w.clocks m) (w.facts m) (h.ready.base.up m (h.ready.group.up m here)) (subst (λ (y : Message). CanBeRead y) (sym own) (h.rows.reads m here true)) x
-      (subst (λ (f : Facts). Occurs x (filter (lacks f.exchange.rows) (others f))) (sym same)
+      (subst (λ (f : Facts). Among (filter (lacks f.exchange.rows) (others f)) x) (sym same)
       (among_filter (lacks (w.facts m).exchange.rows) (others (after_ages (w.facts m))) x lacking
-      (subst (λ (ys : List ℕ). Occurs x ys) (sym members) (contains_among (agreement.others m set) x (other_in gs g set h.ready.roll m x there d)))))))
+      (subst (λ (ys : List ℕ). Among ys x) (sym members) (contains_among (agreement.others m set) x (other_in gs g set h.ready.roll m x there d)))))))
     where
       same : proposed (w.facts m) ≡ after_ages (w.facts m)
       same = rests_proposed (w.facts m) (aged_none (w.facts m) (h.ready.none m here)) (u.asks m here)
@@ -254,7 +257,7 @@ module _ (n : ℕ) (ns gs : List ℕ) (g : ℕ) (set : List Member) (k : Cluster
           ∙ ap (λ (o : Option Row). message.State k true (unwrap_or o [])) (h.rows.own m here)
 
   -- and comes in the flow after
-  row_comes : (m x : ℕ) → has_node gs m ≡ true → has_node gs x ≡ true → (x ≡ m → ⊥) → lacks (w.facts m).exchange.rows x ≡ true → Occurs (Gets x (message.State k false (h.rows.row x))) (inbox r.first_end m)
+  row_comes : (m x : ℕ) → has_node gs m ≡ true → has_node gs x ≡ true → (x ≡ m → ⊥) → lacks (w.facts m).exchange.rows x ≡ true → Among (inbox r.first_end m) (Gets x (message.State k false (h.rows.row x)))
   row_comes m x here there d lacking =
       flow_arrives n ns gs r.ticks_end r.first_end u.group_first u.ups_first r.first x m there here d (message.State k false (h.rows.row x))
       (outbox_each n (r.ticks_end.clocks x) P (inbox r.ticks_end x) (r.ticks_end.facts x) (Gets m (message.State k true (h.rows.row m))) (m, message.State k false (h.rows.row x))
@@ -271,7 +274,7 @@ module _ (n : ℕ) (ns gs : List ℕ) (g : ℕ) (set : List Member) (k : Cluster
   has_second m x here there = go (x == m) refl (lacks (w.facts m).exchange.rows x) refl
     where
       go : (b : Bool) → (x == m) ≡ b → (c : Bool) → lacks (w.facts m).exchange.rows x ≡ c → Has x (r.second_end.facts m).exchange
-      go true s c e = ap (λ (y : ℕ). lacks (r.second_end.facts m).exchange.rows y) (same_number x m s) ∙ ap (λ (o : Option Row). is_none o) (shares_second m here).own
+      go true s c e = ap (λ (y : ℕ). lacks (r.second_end.facts m).exchange.rows y) (num_same x m s) ∙ ap (λ (o : Option Row). is_none o) (shares_second m here).own
       go false s false e =
           flow_takes n gs r.first_end r.second_end m (Has x) r.second u.first here (has_kept x)
           (flow_takes n gs r.ticks_end r.first_end m (Has x) r.first u.ticks here (has_kept x) (subst (λ (y : Exchange). Has x y) (sym (ticks_exchange m here)) e))
@@ -281,7 +284,7 @@ module _ (n : ℕ) (ns gs : List ℕ) (g : ℕ) (set : List Member) (k : Cluster
           (keeps_took n (r.first_end.clocks m) (Shares k set m (h.rows.row m)) (inbox r.first_end m) (gets_inbox r.first_end m) (u.first m here) (shares_kept k set m (h.rows.row m)))
           (keeps_took n (r.first_end.clocks m) (Has x) (inbox r.first_end m) (gets_inbox r.first_end m) (u.first m here) (has_kept x))
           (λ f p. subst (λ (y : Exchange). Has x y) (sym (acted_takes n (r.first_end.clocks m) f x (message.State k false (h.rows.row x)) refl)) (row_came k set m (h.rows.row m) f.exchange x false (h.rows.row x) p))
-          (row_comes m x here there (λ i. differ (number_is x m i) s) e) (shares_first m here))
+          (row_comes m x here there (λ i. differ (equal x m i) s) e) (shares_first m here))
 
   rowed_second : (m : ℕ) → has_node gs m ≡ true → LacksRow (r.second_end.facts m).exchange
   rowed_second m here =

@@ -4,6 +4,7 @@ use Rattle.std.specs.List.{cons_option}
 use Rattle.cluster_types.specs.Distinct.{without}
 use Rattle.wire_messages.specs.declared.message.Message.{Message}
 use Rattle.wire_messages.specs.Decoding.{message_of}
+use Rattle.partition_lists.proofs.InOrderLaws.{equal}
 use Rattle.cluster_rules.specs.declared.event.Event.{Event}
 use Rattle.cluster_rules.specs.declared.event.Event.TheVariants as event
 use Rattle.cluster_rules.specs.DueEvents.{is_blocked}
@@ -12,17 +13,20 @@ use Rattle.journal_readings.specs.Messages.{Posting}
 use Rattle.cluster_rules.specs.Network.{client, are_apart}
 use Rattle.cluster_rules.specs.Steps.{play_all, flow}
 use Rattle.cluster_rules.specs.World.{World, is_up}
+use Rattle.cluster_rules.proofs.KeptFacts.{num_same}
+use Rattle.cluster_laws.proofs.At.{differ}
+use Rattle.cluster_laws.proofs.GroundLaws.{apart}
+use Rattle.run_laws.specs.Tied.{Among}
 use Rattle.calm_laws.specs.Acts.{Input, Ticks, Gets, read_to, served, outbox}
 use Rattle.calm_laws.specs.Letters.{new_numbers, letter_if, letter_from, letters_from, arriving_input, unblocked, input_of, input, given, given_if, ins, arriving_at, left_flying}
-use Rattle.calm_laws.specs.Flows.{Occurs, Clear, Flowed, InOrder, Named, AreGiven, Once, Ticked, inbox, ticks_if}
-use Rattle.calm_laws.proofs.Lists.{posting_new}
+use Rattle.calm_laws.specs.Flows.{Clear, Flowed, InOrder, Named, AreGiven, Once, Ticked, inbox, ticks_if}
+use Rattle.calm_laws.proofs.Lists.{above_isnt, posting_new}
 use Rattle.calm_laws.proofs.Ran.{Ready, Alike, Ran, ran, named_on, ups_on, ins_alike}
-use Rattle.calm_laws.proofs.Took.{same_number, number_is, number_isnt, differ}
 
 -- ---- numbers in flight
 
 has_first : (x : ℕ) (xs : List ℕ) → has_node (x ∷ xs) x ≡ true
-has_first x xs = ap (λ (b : Bool). b || has_node xs x) (number_is x x refl)
+has_first x xs = ap (λ (b : Bool). b || has_node xs x) (equal x x refl)
 
 has_later : (x : ℕ) (xs : List ℕ) (j : ℕ) → has_node xs j ≡ true → has_node (x ∷ xs) j ≡ true
 has_later x xs j e = go (x == j)
@@ -35,7 +39,7 @@ has_split : (x : ℕ) (xs : List ℕ) (j : ℕ) → has_node (x ∷ xs) j ≡ tr
 has_split x xs j e = go (x == j) refl e
   where
     go : (b : Bool) → (x == j) ≡ b → (b || has_node xs j) ≡ true → (x ≡ j) ⊎ (has_node xs j ≡ true)
-    go true s f = inl (same_number x j s)
+    go true s f = inl (num_same x j s)
     go false s f = inr f
 
 has_kept : (fl : List ℕ) (i j : ℕ) → has_node fl j ≡ true → (j ≡ i → ⊥) → has_node (without fl i) j ≡ true
@@ -43,7 +47,7 @@ has_kept [] i j e d = e
 has_kept (x ∷ fl) i j e d = go (x == i) refl (has_split x fl j e) (λ f. has_kept fl i j f d)
   where
     go : (b : Bool) → (x == i) ≡ b → (x ≡ j) ⊎ (has_node fl j ≡ true) → (has_node fl j ≡ true → has_node (without fl i) j ≡ true) → has_node (cond (not b) (x ∷ without fl i) (without fl i)) j ≡ true
-    go true s (inl h) rest = absurd (d (sym h ∙ same_number x i s))
+    go true s (inl h) rest = absurd (d (sym h ∙ num_same x i s))
     go true s (inr h) rest = rest h
     go false s (inl h) rest = subst (λ (y : ℕ). has_node (x ∷ without fl i) y ≡ true) h (has_first x (without fl i))
     go false s (inr h) rest = has_later x (without fl i) j (rest h)
@@ -57,7 +61,7 @@ kept_has (x ∷ fl) i j e = go (x == i) refl e (kept_has fl i j)
     go false s f rest = split (has_split x (without fl i) j f)
       where
         split : (x ≡ j) ⊎ (has_node (without fl i) j ≡ true) → (has_node (x ∷ fl) j ≡ true) × (i ≡ j → ⊥)
-        split (inl h) = (subst (λ (y : ℕ). has_node (x ∷ fl) y ≡ true) h (has_first x fl), λ t. differ (number_is x i (h ∙ sym t)) s)
+        split (inl h) = (subst (λ (y : ℕ). has_node (x ∷ fl) y ≡ true) h (has_first x fl), λ t. differ (equal x i (h ∙ sym t)) s)
         split (inr h) = (has_later x fl j (rest h).0, (rest h).1)
 
 -- the deliveries of a flow are ready
@@ -79,12 +83,9 @@ taken_flow (i ∷ is) fl sub = taken_flow is (without fl i) (λ j e. other j (ke
         split (inl t) = absurd (h.1 t)
         split (inr t) = t
 
-above_not : (s i : ℕ) → i ≤ s → s + 1 ≡ i → ⊥
-above_not s i le e = omega (arith, le, e)
-
 new_hasnt : (s : ℕ) (ps : List Posting) (i : ℕ) → i ≤ s → has_node (new_numbers s ps) i ≡ false
 new_hasnt s [] i le = refl
-new_hasnt s (p ∷ ps) i le = ap (λ (b : Bool). b || has_node (new_numbers (s + 1) ps) i) (number_isnt (s + 1) i (above_not s i le)) ∙ new_hasnt (s + 1) ps i (omega (arith, le))
+new_hasnt s (p ∷ ps) i le = ap (λ (b : Bool). b || has_node (new_numbers (s + 1) ps) i) (apart (s + 1) i (above_isnt s i le)) ∙ new_hasnt (s + 1) ps i (omega (arith, le))
 
 numbered_new : (s t : ℕ) (ps : List Posting) → s + length ps ≤ t → AreGiven t (new_numbers s ps)
 numbered_new s t [] le = tt
@@ -158,7 +159,7 @@ ins_ticks w [] h m = refl
 ins_ticks w (a ∷ ns) h m = go (a == m) refl (ins_ticks w ns h.1 m)
   where
     go : (b : Bool) → (a == m) ≡ b → ins w (map event.Tick ns) m ≡ ticks_if (has_node ns m) → given_if Ticks b ++ ins w (map event.Tick ns) m ≡ ticks_if (b || has_node ns m)
-    go true e rest = ap (λ (xs : List Input). Ticks ∷ xs) (rest ∙ ap ticks_if (subst (λ (y : ℕ). has_node ns y ≡ false) (same_number a m e) h.0))
+    go true e rest = ap (λ (xs : List Input). Ticks ∷ xs) (rest ∙ ap ticks_if (subst (λ (y : ℕ). has_node ns y ≡ false) (num_same a m e) h.0))
     go false e rest = rest
 
 ins_append : (w : World) (es fs : List Event) (m : ℕ) → ins w (es ++ fs) m ≡ ins w es m ++ ins w fs m
@@ -200,21 +201,21 @@ ticked n w ns named ordered once clear =
 
 -- ---- who gets what
 
-pub among_front : {A : Type 0} (x : A) (xs ys : List A) → Occurs x xs → Occurs x (xs ++ ys)
+pub among_front : {A : Type 0} (x : A) (xs ys : List A) → Among xs x → Among (xs ++ ys) x
 among_front x [] ys h = absurd h
 among_front x (y ∷ xs) ys (inl e) = inl e
 among_front x (y ∷ xs) ys (inr h) = inr (among_front x xs ys h)
 
-pub among_behind : {A : Type 0} (x : A) (xs ys : List A) → Occurs x ys → Occurs x (xs ++ ys)
+pub among_behind : {A : Type 0} (x : A) (xs ys : List A) → Among ys x → Among (xs ++ ys) x
 among_behind x [] ys h = h
 among_behind x (y ∷ xs) ys h = inr (among_behind x xs ys h)
 
-pub among_either : {A : Type 0} (x : A) (xs ys : List A) → Occurs x (xs ++ ys) → Occurs x xs ⊎ Occurs x ys
+pub among_either : {A : Type 0} (x : A) (xs ys : List A) → Among (xs ++ ys) x → Among xs x ⊎ Among ys x
 among_either x [] ys h = inr h
 among_either x (y ∷ xs) ys (inl e) = inl (inl e)
 among_either {A} x (y ∷ xs) ys (inr h) = go (among_either x xs ys h)
   where
-    go : Occurs x xs ⊎ Occurs x ys → Occurs x (y ∷ xs) ⊎ Occurs x ys
+    go : Among xs x ⊎ Among ys x → Among (y ∷ xs) x ⊎ Among ys x
     go (inl i) = inl (inr i)
     go (inr i) = inr i
 
@@ -235,31 +236,31 @@ open_free w p h =
     never false = refl
 
 -- what was posted to a node that is open to its sender comes to it
-pub arrives : (w : World) (a m : ℕ) (x : Message) (ps : List Posting) → Open w a m → Occurs (m, x) (letters_from a ps) → Occurs (Gets a x) (arriving_at w m ps)
+pub arrives : (w : World) (a m : ℕ) (x : Message) (ps : List Posting) → Open w a m → Among (letters_from a ps) (m, x) → Among (arriving_at w m ps) (Gets a x)
 arrives w a m x [] o h = absurd h
 arrives w a m x (p ∷ ps) o h = go (p.from == a) refl (message_of p.bytes) refl h (arrives w a m x ps o)
   where
-    rest : Occurs (Gets a x) (arriving_at w m ps) → Occurs (Gets a x) (arriving_at w m (p ∷ ps))
+    rest : Among (arriving_at w m ps) (Gets a x) → Among (arriving_at w m (p ∷ ps)) (Gets a x)
     rest i = among_behind (Gets a x) (given m (input_of w (Some p))) (arriving_at w m ps) i
 
-    here : (y : Message) → p.from ≡ a → message_of p.bytes ≡ Some y → p.to ≡ m → y ≡ x → Occurs (Gets a x) (arriving_at w m (p ∷ ps))
+    here : (y : Message) → p.from ≡ a → message_of p.bytes ≡ Some y → p.to ≡ m → y ≡ x → Among (arriving_at w m (p ∷ ps)) (Gets a x)
     here y s r t e =
         let open_p : Open w p.from p.to = subst (λ (k : ℕ). Open w k p.to) (sym s) (subst (λ (k : ℕ). Open w a k) (sym t) o) in
         let is : given m (input_of w (Some p)) ≡ Gets p.from y ∷ [] =
         ap (λ (b : Bool). given m (unblocked p b)) (open_free w p open_p)
         ∙ ap (λ (z : Option Message). given m (arriving_input p z (p.to == client))) r
         ∙ ap (λ (b : Bool). given m (arriving_input p (Some y) b)) open_p.node
-        ∙ ap (λ (b : Bool). given_if (Gets p.from y) b) (number_is p.to m t) in
-        subst (λ (xs : List Input). Occurs (Gets a x) (xs ++ arriving_at w m ps)) (sym is) (inl (ap (λ (k : ℕ). Gets k y) s ∙ ap (λ (z : Message). Gets a z) e))
+        ∙ ap (λ (b : Bool). given_if (Gets p.from y) b) (equal p.to m t) in
+        subst (λ (xs : List Input). Among (xs ++ arriving_at w m ps) (Gets a x)) (sym is) (inl (ap (λ (k : ℕ). Gets k y) s ∙ ap (λ (z : Message). Gets a z) e))
 
     go : (b : Bool) → (p.from == a) ≡ b → (z : Option Message) → message_of p.bytes ≡ z
-        → Occurs (m, x) (cons_option (letter_if p b) (letters_from a ps)) → (Occurs (m, x) (letters_from a ps) → Occurs (Gets a x) (arriving_at w m ps)) → Occurs (Gets a x) (arriving_at w m (p ∷ ps))
+        → Among (cons_option (letter_if p b) (letters_from a ps)) (m, x) → (Among (letters_from a ps) (m, x) → Among (arriving_at w m ps) (Gets a x)) → Among (arriving_at w m (p ∷ ps)) (Gets a x)
     go false s z r i next = rest (next i)
-    go true s None r i next = rest (next (subst (λ (q : Option Message). Occurs (m, x) (cons_option (read_to p.to q) (letters_from a ps))) r i))
-    go true s (Some y) r i next = split (subst (λ (q : Option Message). Occurs (m, x) (cons_option (read_to p.to q) (letters_from a ps))) r i)
+    go true s None r i next = rest (next (subst (λ (q : Option Message). Among (cons_option (read_to p.to q) (letters_from a ps)) (m, x)) r i))
+    go true s (Some y) r i next = split (subst (λ (q : Option Message). Among (cons_option (read_to p.to q) (letters_from a ps)) (m, x)) r i)
       where
-        split : (◌≡◌ {A = ℕ × Message} (p.to, y) (m, x)) ⊎ Occurs (m, x) (letters_from a ps) → Occurs (Gets a x) (arriving_at w m (p ∷ ps))
-        split (inl e) = here y (same_number p.from a s) r (ap (λ (q : ℕ × Message). q.0) e) (ap (λ (q : ℕ × Message). q.1) e)
+        split : (◌≡◌ {A = ℕ × Message} (p.to, y) (m, x)) ⊎ Among (letters_from a ps) (m, x) → Among (arriving_at w m (p ∷ ps)) (Gets a x)
+        split (inl e) = here y (num_same p.from a s) r (ap (λ (q : ℕ × Message). q.0) e) (ap (λ (q : ℕ × Message). q.1) e)
         split (inr j) = rest (next j)
 
 -- what comes to a node was posted to it by a sender to whom it is open
@@ -267,21 +268,21 @@ pub record Came (w : World) (m : ℕ) (ps : List Posting) (i : Input) : Type 0 w
   pub from : ℕ
   pub message : Message
   pub is : Gets from message ≡ i
-  pub letter : Occurs (m, message) (letters_from from ps)
+  pub letter : Among (letters_from from ps) (m, message)
   pub free : is_blocked w (record { from = from; to = m; bytes = [] }) ≡ false
 
 came_later : (w : World) (m : ℕ) (p : Posting) (ps : List Posting) (i : Input) → Came w m ps i → Came w m (p ∷ ps) i
 came_later w m p ps i c = record { from = c.from; message = c.message; is = c.is; letter = go (letter_from c.from p); free = c.free }
   where
-    go : (o : Option (ℕ × Message)) → Occurs (m, c.message) (cons_option o (letters_from c.from ps))
+    go : (o : Option (ℕ × Message)) → Among (cons_option o (letters_from c.from ps)) (m, c.message)
     go None = c.letter
     go (Some l) = inr c.letter
 
-pub came : (w : World) (m : ℕ) (ps : List Posting) (i : Input) → Occurs i (arriving_at w m ps) → Came w m ps i
+pub came : (w : World) (m : ℕ) (ps : List Posting) (i : Input) → Among (arriving_at w m ps) i → Came w m ps i
 came w m [] i h = absurd h
 came w m (p ∷ ps) i h = split (among_either i (given m (input_of w (Some p))) (arriving_at w m ps) h) (came w m ps i)
   where
-    given_here : (y : Message) (b : Bool) → (p.to == m) ≡ b → is_blocked w p ≡ false → message_of p.bytes ≡ Some y → Occurs i (given_if (Gets p.from y) b) → Came w m (p ∷ ps) i
+    given_here : (y : Message) (b : Bool) → (p.to == m) ≡ b → is_blocked w p ≡ false → message_of p.bytes ≡ Some y → Among (given_if (Gets p.from y) b) i → Came w m (p ∷ ps) i
     given_here y false s free r g = absurd g
     given_here y true s free r (inr g) = absurd g
     given_here y true s free r (inl g) = record {
@@ -289,21 +290,21 @@ came w m (p ∷ ps) i h = split (among_either i (given m (input_of w (Some p))) 
       message = y;
       is = g;
       letter =
-          subst (λ (b : Bool). Occurs (m, y) (cons_option (letter_if p b) (letters_from p.from ps))) (sym (number_is p.from p.from refl))
-          (subst (λ (q : Option Message). Occurs (m, y) (cons_option (read_to p.to q) (letters_from p.from ps))) (sym r)
-          (inl (ap (λ (k : ℕ). (k, y)) (same_number p.to m s))));
-      free = subst (λ (k : ℕ). is_blocked w (record { from = p.from; to = k; bytes = [] }) ≡ false) (same_number p.to m s) free;
+          subst (λ (b : Bool). Among (cons_option (letter_if p b) (letters_from p.from ps)) (m, y)) (sym (equal p.from p.from refl))
+          (subst (λ (q : Option Message). Among (cons_option (read_to p.to q) (letters_from p.from ps)) (m, y)) (sym r)
+          (inl (ap (λ (k : ℕ). (k, y)) (num_same p.to m s))));
+      free = subst (λ (k : ℕ). is_blocked w (record { from = p.from; to = k; bytes = [] }) ≡ false) (num_same p.to m s) free;
     }
 
-    at_end : (z : Option Message) (c : Bool) → message_of p.bytes ≡ z → is_blocked w p ≡ false → Occurs i (given m (arriving_input p z c)) → Came w m (p ∷ ps) i
+    at_end : (z : Option Message) (c : Bool) → message_of p.bytes ≡ z → is_blocked w p ≡ false → Among (given m (arriving_input p z c)) i → Came w m (p ∷ ps) i
     at_end None c r free g = absurd g
     at_end (Some y) true r free g = absurd g
     at_end (Some y) false r free g = given_here y (p.to == m) refl free r g
 
-    opens : (b : Bool) → is_blocked w p ≡ b → Occurs i (given m (unblocked p b)) → Came w m (p ∷ ps) i
+    opens : (b : Bool) → is_blocked w p ≡ b → Among (given m (unblocked p b)) i → Came w m (p ∷ ps) i
     opens true s g = absurd g
     opens false s g = at_end (message_of p.bytes) (p.to == client) refl s g
 
-    split : Occurs i (given m (input_of w (Some p))) ⊎ Occurs i (arriving_at w m ps) → (Occurs i (arriving_at w m ps) → Came w m ps i) → Came w m (p ∷ ps) i
+    split : Among (given m (input_of w (Some p))) i ⊎ Among (arriving_at w m ps) i → (Among (arriving_at w m ps) i → Came w m ps i) → Came w m (p ∷ ps) i
     split (inl g) next = opens (is_blocked w p) refl g
     split (inr g) next = came_later w m p ps i (next g)

@@ -135,7 +135,7 @@ places_there {w} may m q lt = (
 
 -- ---- all rounds
 
-again : (k most : ℕ) → k ≤ most → most ≡ k + (most - k)
+pub again : (k most : ℕ) → k ≤ most → most ≡ k + (most - k)
 again k most le = omega (arith, le)
 
 module _ (w : World) (most : ℕ) (may : MayTake w (rounds partition_count most w).steps) where

@@ -31,11 +31,11 @@ pub room_before : {w : World} (m : MayTake w []) → length (all_lines m.before)
 room_before m = subst (λ (ss : List Step). length (all_lines ss) + 1 < line_bound) (append-nil m.before) m.room
 
 pub known : {w : World} (m : MayTake w []) → Knows (declared_policy m.header) (declared_factor m.header) (declared_nodes m.header) (front_of m)
-known m = knows m.header m.before (taken_before m) m.few (room_before m)
+known m = knows m.header m.before (taken_before m) (room_before m)
 
 -- what is due there is read as it is sent
 pub read_there : {w : World} → MayTake w [] → SendsAreRead w
-read_there m = subst SendsAreRead m.leads (sends_are_read m.header m.before (taken_before m) m.few (room_before m))
+read_there m = subst SendsAreRead m.leads (sends_are_read m.header m.before (taken_before m) (room_before m))
 
 -- what a message that was sent there says
 pub said_there : {w : World} (m : MayTake w []) (i : ℕ) (p : Posting) (x : Message) → posting_at w.network i ≡ Some p → message_of p.bytes ≡ Some x → Says (front_of m).chronicle.traced p.from x

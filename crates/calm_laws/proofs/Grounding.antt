@@ -5,7 +5,7 @@ use Rattle.cluster_types.specs.declared.member.Member.{Member}
 use Rattle.cluster_types.specs.Distinct.{AreDistinct}
 use Rattle.cluster_types.specs.Partitions.{partition_count}
 use Rattle.cluster_types.specs.Members.{ids_of}
-use Rattle.partition_lists.proofs.InOrderLaws.{DifferBy, differ_in_order}
+use Rattle.partition_lists.proofs.InOrderLaws.{differ_in_order, DifferBy, equal}
 use Rattle.wire_messages.specs.Nodes.{IsId}
 use Rattle.journal_lines.specs.declared.line.Line.{Line}
 use Rattle.node_rules.specs.Facts.{Facts}
@@ -18,7 +18,8 @@ use Rattle.cluster_rules.specs.World.{World, is_up, up_nodes}
 use Rattle.cluster_laws.specs.Ground as laid
 use Rattle.key_laws.proofs.Peopled.{FitsRack}
 use Rattle.run_laws.specs.Taken.{ground_of}
-use Rattle.calm_laws.specs.Flows.{Occurs, Base, Once, Plain, world_at}
+use Rattle.run_laws.specs.Tied.{Among}
+use Rattle.calm_laws.specs.Flows.{Base, Once, Plain, world_at}
 use Rattle.calm_laws.specs.Exchanges.{Exchanged}
 use Rattle.calm_laws.specs.Footing.{Footing}
 use Rattle.calm_laws.specs.Ground.{Agreed, Basis, Provisions}
@@ -42,12 +43,11 @@ use Rattle.calm_laws.proofs.Rosters.{Greatest, falling, greatest, ids_are, membe
 use Rattle.calm_laws.proofs.Shaped.{shaped, within_bit}
 use Rattle.calm_laws.proofs.Sequence.{at_start, next_round, one_more}
 use Rattle.calm_laws.proofs.Stretch.{may_at, may_round}
-use Rattle.calm_laws.proofs.Took.{number_is}
 
 -- each of them has an id
 ids_of_all : (ns : List ℕ) → ((m : ℕ) → has_node ns m ≡ true → IsId m) → AreIds ns
 ids_of_all [] h = tt
-ids_of_all (n ∷ ns) h = (h n (ap (λ (b : Bool). b || has_node ns n) (number_is n n refl)), ids_of_all ns (λ m e. h m (later (n == m) m e)))
+ids_of_all (n ∷ ns) h = (h n (ap (λ (b : Bool). b || has_node ns n) (equal n n refl)), ids_of_all ns (λ m e. h m (later (n == m) m e)))
   where
     later : (b : Bool) (m : ℕ) → has_node ns m ≡ true → (b || has_node ns m) ≡ true
     later true m e = refl
@@ -81,7 +81,7 @@ module _ (w : World) (most : ℕ) (may : MayTake w (rounds partition_count most 
       subst (λ (v : World). LegibleRound partition_count gs (world_at partition_count w k) v) (sym (one_more partition_count k w))
       (legible_round gs (world_at partition_count w k) (may_round w most may k lt) (subst Once (sym b.ups) b.once) (placed k lt) (λ m e. b.up m (up m e)))
 
-  module _ (distinct : AreDistinct (concat w.network.groups)) (group : List ℕ) (among : Occurs group w.network.groups) (g : Greatest (up_in w group)) where
+  module _ (distinct : AreDistinct (concat w.network.groups)) (group : List ℕ) (among : Among w.network.groups group) (g : Greatest (up_in w group)) where
     up : (m : ℕ) → has_node (up_in w group) m ≡ true → is_up w m ≡ true
     up m e = (in_group w start group m e).1
 
@@ -92,7 +92,7 @@ module _ (w : World) (most : ℕ) (may : MayTake w (rounds partition_count most 
     ground_there = record {
       plain = plain_there;
       group = group_there w start distinct group among;
-      roll = roll_of w (up_in w group) (declared_nodes start.header) g (group_differ w start distinct group among) start.few.limit
+      roll = roll_of w (up_in w group) (declared_nodes start.header) g (group_differ w start distinct group among) start.taken.declared.limit
           (λ m e. declared_up start m (up m e)) (λ m e. id_of start m (declared_up start m (up m e)))
           (λ n. subst (λ (f : Facts). FitsRack n f.role) (facts_are start n) ((known start).peopled.nodes n).rack);
       roster = roster_of w (up_in w group) (group_differ w start distinct group among);
@@ -174,7 +174,7 @@ module _ (w : World) (most : ℕ) (may : MayTake w (rounds partition_count most 
     }
 
   -- rounds that may be taken and lose no message are a schedule of calm
-  pub schedule_there : AreDistinct (concat w.network.groups) → (q : ℕ) → ((group : List ℕ) → Occurs group w.network.groups → 17 ≤ most → AtMostPending q (up_in w group) (world_at partition_count w 17)) → Schedule (up_nodes w) w most q
+  pub schedule_there : AreDistinct (concat w.network.groups) → (q : ℕ) → ((group : List ℕ) → Among w.network.groups group → 17 ≤ most → AtMostPending q (up_in w group) (world_at partition_count w 17)) → Schedule (up_nodes w) w most q
   schedule_there distinct q pending = record {
     plain = plain_there;
     parties = λ le group among. party le group among (up_in w group) refl;
@@ -182,6 +182,6 @@ module _ (w : World) (most : ℕ) (may : MayTake w (rounds partition_count most 
     others = not_up w start;
   }
     where
-      party : 21 + q ≤ most → (group : List ℕ) → Occurs group w.network.groups → (ns : List ℕ) → up_in w group ≡ ns → (up_in w group ≡ []) ⊎ Party (up_nodes w) group w most q
+      party : 21 + q ≤ most → (group : List ℕ) → Among w.network.groups group → (ns : List ℕ) → up_in w group ≡ ns → (up_in w group ≡ []) ⊎ Party (up_nodes w) group w most q
       party le group among [] e = inl e
       party le group among (n ∷ ns) e = inr (party_there distinct group among (subst Greatest (sym e) (greatest n ns)) q le (pending group among (omega (arith, le))))

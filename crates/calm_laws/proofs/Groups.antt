@@ -10,17 +10,21 @@ use Rattle.std.specs.Ordering.{nat_cmp, is_eq}
 use Rattle.std.proofs.lemmas.Bool.Decides.{nat_tests}
 use Rattle.cluster_types.specs.Groups.{apart}
 use Rattle.wire_messages.specs.declared.message.Message.TheVariants as message
+use Rattle.partition_lists.proofs.InOrderLaws.{equal}
 use Rattle.node_rules.specs.Hearing.{Heard, aged, older, timeout, heard_ids}
 use Rattle.node_rules.specs.Tables.{Table, with_entry, contains}
 use Rattle.journal_readings.specs.Lines.{has_node}
 use Rattle.cluster_rules.specs.Network.{client, are_apart}
 use Rattle.cluster_rules.specs.World.{World, is_up}
+use Rattle.cluster_rules.proofs.KeptFacts.{num_same}
+use Rattle.cluster_laws.proofs.At.{differ}
+use Rattle.cluster_laws.proofs.GroundLaws.{apart as differs_from}
+use Rattle.run_laws.specs.Tied.{Among}
 use Rattle.calm_laws.specs.Acts.{Input, Ticks, Gets}
 use Rattle.calm_laws.specs.Letters.{arriving_at}
-use Rattle.calm_laws.specs.Flows.{Occurs, Base, Foreign, Fresh, HeardAs, Near, Rounded, Speaks, Ticked, inbox, look, new_heard, beat_entry}
+use Rattle.calm_laws.specs.Flows.{Base, Foreign, Fresh, HeardAs, Near, Rounded, Speaks, Ticked, inbox, look, new_heard, beat_entry}
 use Rattle.calm_laws.proofs.Hearing.{base_kept, Framed, round_frame, fresh, Told, ticks_beats, quiet_after, flow_heard, ticks_heard, weaker}
 use Rattle.calm_laws.proofs.Hears.{hear, hear_all, ties, BeatIs, BeatsAre, hear_append}
-use Rattle.calm_laws.proofs.Took.{same_number, number_is, number_isnt, differ}
 
 -- ---- who is named
 
@@ -40,7 +44,7 @@ named_in (x ∷ t) m h e = go (m == x.0) refl (ap (λ (b : Bool). cond b (Some x
   where
     go : (b : Bool) → (m == x.0) ≡ b → cond b (Some x.1) (look t m) ≡ Some h → (look t m ≡ Some h → list_any (λ (y : ℕ). y == m) (map (λ (y : ℕ × Heard). y.0) t) ≡ true)
         → ((x.0 == m) || list_any (λ (y : ℕ). y == m) (map (λ (y : ℕ × Heard). y.0) t)) ≡ true
-    go true s f rest = ap (λ (b : Bool). b || list_any (λ (y : ℕ). y == m) (map (λ (y : ℕ × Heard). y.0) t)) (number_is x.0 m (sym (same_number m x.0 s)))
+    go true s f rest = ap (λ (b : Bool). b || list_any (λ (y : ℕ). y == m) (map (λ (y : ℕ × Heard). y.0) t)) (equal x.0 m (sym (num_same m x.0 s)))
     go false s f rest = later (x.0 == m) (rest f)
       where
         later : (b : Bool) → list_any (λ (y : ℕ). y == m) (map (λ (y : ℕ × Heard). y.0) t) ≡ true → (b || list_any (λ (y : ℕ). y == m) (map (λ (y : ℕ × Heard). y.0) t)) ≡ true
@@ -102,7 +106,7 @@ entries_put P a b x [] d h = (λ i. absurd (d i), tt)
 entries_put P a b x (e ∷ t) d h = go (nat_cmp b e.0) refl (entries_put P a b x t d h.1)
   where
     tie : nat_cmp b e.0 ≡ Equal → b ≡ e.0
-    tie s = same_number b e.0 (sym (ties b e.0) ∙ ap is_eq s)
+    tie s = num_same b e.0 (sym (ties b e.0) ∙ ap is_eq s)
 
     go : (r : Ordering) → nat_cmp b e.0 ≡ r → Entries P a (with_entry t b x) → Entries P a (by_order r ((b, x) ∷ e ∷ t) ((e.0, x) ∷ t) (e ∷ with_entry t b x))
     go Less s rest = (λ i. absurd (d i), h)
@@ -121,7 +125,7 @@ entries_all P a (i ∷ is) t g h = entries_all P a is (hear t i) g.1 (entries_he
 pub absent : (a : ℕ) (t : Table Heard) → Entries (λ h. ⊥) a t → look t a ≡ None
 absent a [] h = refl
 absent a (e ∷ t) h =
-    ap (λ (b : Bool). cond b (Some e.1) (look t a)) (ties a e.0 ∙ number_isnt a e.0 (λ s. h.0 (sym s)))
+    ap (λ (b : Bool). cond b (Some e.1) (look t a)) (ties a e.0 ∙ differs_from a e.0 (λ s. h.0 (sym s)))
     ∙ absent a t h.1
 
 entries_any : (a : ℕ) (t : Table Heard) → Entries (λ h. 0 ≤ h.age) a t
@@ -177,7 +181,7 @@ near_round ns w v f a m h = record {
   receiver = h.receiver;
   together = ap (λ (gs : List (List ℕ)). not (a == client) && (not (m == client) && apart gs a m)) f.groups ∙ h.together;
   node = h.node;
-  peer = subst (λ (ps : List ℕ). Occurs m ps) (sym (f.same a).peers) h.peer;
+  peer = subst (λ (ps : List ℕ). Among ps m) (sym (f.same a).peers) h.peer;
 }
 
 pub near_at : (n : ℕ) (ns : List ℕ) (W : ℕ → World) (most : ℕ) → Rounds n ns W most → (a m : ℕ) → Near ns (W 0) a m → (k : ℕ) → k ≤ most → Near ns (W k) a m

@@ -16,6 +16,7 @@ use Rattle.node_rules.specs.Messages.{due_message_of}
 use Rattle.node_rules.specs.Notes as notes
 use Rattle.node_rules.specs.Notes.{after_ages, all_sent, in_view, note, noted, reached, sent}
 use Rattle.node_rules.specs.Settling.{settling}
+use Rattle.cluster_laws.proofs.At.{differ}
 use Rattle.key_laws.proofs.DueViews.{AllOfView, OfView, settling_of_view}
 use Rattle.calm_laws.specs.Acts.{Gets, Ticks, acted, as_read}
 use Rattle.calm_laws.specs.Group.{kind}
@@ -24,7 +25,6 @@ use Rattle.calm_laws.specs.Progresses.{BitsGrow}
 use Rattle.calm_laws.specs.Turns.{is_agreeing}
 use Rattle.calm_laws.proofs.Taking.{free_agrees, rests_proposed}
 use Rattle.calm_laws.proofs.Ticking.{proposed, progressing, tick_facts, tick_list}
-use Rattle.calm_laws.proofs.Took.{differ}
 use Rattle.calm_laws.proofs.Words.{Each, Ends, Words, message_words}
 
 -- ---- rows of bits

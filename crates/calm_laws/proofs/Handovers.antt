@@ -19,9 +19,10 @@ use Rattle.node_rules.specs.Tick.{batch_to, batches, beat, propose, rows, tick_i
 use Rattle.journal_readings.specs.Lines.{has_node}
 use Rattle.cluster_rules.specs.World.{World}
 use Rattle.key_laws.proofs.Order.{same_self}
+use Rattle.run_laws.specs.Tied.{Among}
 use Rattle.calm_laws.specs.Acts.{Input, Ticks, Gets, acted, as_read, effects, outbox, sent_at, served}
 use Rattle.calm_laws.specs.Exchanges.{Exchanged, finished_if, taken_if, took}
-use Rattle.calm_laws.specs.Flows.{Occurs, Flowed, Rounded, inbox, ticks_if}
+use Rattle.calm_laws.specs.Flows.{Flowed, Rounded, inbox, ticks_if}
 use Rattle.calm_laws.specs.Group.{kind}
 use Rattle.calm_laws.specs.Handing.{Handing, Legible, Legibly, acked_by, target_begun, begun_with, target_acked}
 use Rattle.calm_laws.specs.Turns.{Cleared, Ready, Steady, is_agreeing}
@@ -43,10 +44,10 @@ use Rattle.calm_laws.proofs.Ticking.{proposed, tick_list, tick_sent}
 -- ---- what is sent is read as it was sent
 
 pub outbox_legible : (n c : ℕ) (P : Facts → Type 0) (is : List Input) (f : Facts) (x : Input) (m : ℕ × Message) → Along n c P f is → Legibly n c f is
-    → ((g : Facts) → P g → Occurs m (effects n c g x).sends) → Occurs x is → Occurs m (outbox n c f is)
+    → ((g : Facts) → P g → Among (effects n c g x).sends m) → Among is x → Among (outbox n c f is) m
 outbox_legible n c P [] f x m a l gives h = absurd h
 outbox_legible n c P (i ∷ is) f x m a l gives (inl e) =
-    among_front m (sent_at n c f i) (outbox n c (acted n c f i) is) (subst (λ (ms : List (ℕ × Message)). Occurs m ms) (sym l.0) (subst (λ (j : Input). Occurs m (effects n c f j).sends) (sym e) (gives f a.0)))
+    among_front m (sent_at n c f i) (outbox n c (acted n c f i) is) (subst (λ (ms : List (ℕ × Message)). Among ms m) (sym l.0) (subst (λ (j : Input). Among (effects n c f j).sends m) (sym e) (gives f a.0)))
 outbox_legible n c P (i ∷ is) f x m a l gives (inr h) =
     among_behind m (sent_at n c f i) (outbox n c (acted n c f i) is) (outbox_legible n c P is (acted n c f i) x m a.1 l.1 gives h)
 
@@ -71,10 +72,10 @@ over_acted n c k set f from x free o = record {
 }
 
 -- what acknowledgements keep of the targets
-pub keeps_acked : (n c : ℕ) (k : ClusterKey) (set : List Member) (P : Targets → Type 0) (is : List Input) → AllGets is → ((from : ℕ) (x : Message) → Occurs (Gets from x) is → is_agreeing (kind x) ≡ false)
+pub keeps_acked : (n c : ℕ) (k : ClusterKey) (set : List Member) (P : Targets → Type 0) (is : List Input) → AllGets is → ((from : ℕ) (x : Message) → Among is (Gets from x) → is_agreeing (kind x) ≡ false)
     → ((ts : Targets) (from : ℕ) (x : Message) → P ts → P (acked_by k ts from x)) → Keeps n c (λ f. Over k set f × P f.batches) is
 keeps_acked n c k set P is gets free kept f i h p =
-    all_gets is i gets h (λ j. Occurs j is → Over k set (acted n c f j) × P (acted n c f j).batches)
+    all_gets is i gets h (λ j. Among is j → Over k set (acted n c f j) × P (acted n c f j).batches)
     (λ from x there. (over_acted n c k set f from x (free from x there) p.0, subst P (sym (acted_acks n c k set f p.0 from x (free from x there))) (kept f.batches from x p.1))) h
 
 pub flow_acked : (n : ℕ) (gs : List ℕ) (u v : World) (m : ℕ) (k : ClusterKey) (set : List Member) (P : Targets → Type 0) → Flowed n u v → Cleared gs u → has_node gs m ≡ true → ((ts : Targets) (from : ℕ) (x : Message) → P ts → P (acked_by k ts from x))
@@ -85,14 +86,14 @@ flow_acked n gs u v m k set P f cleared here kept p =
 
 -- ---- targets
 
-among_sends : (k : ClusterKey) (c : Content) (ts : Targets) (t : Target) (b : Batch) → Occurs t ts → next_batch k c t ≡ Some b → Occurs (t.node, message.Batch b) (filter_map (λ (t : Target). batch_to t.node (next_batch k c t)) ts)
+among_sends : (k : ClusterKey) (c : Content) (ts : Targets) (t : Target) (b : Batch) → Among ts t → next_batch k c t ≡ Some b → Among (filter_map (λ (t : Target). batch_to t.node (next_batch k c t)) ts) (t.node, message.Batch b)
 among_sends k c [] t b h e = absurd h
 among_sends k c (s ∷ ts) t b (inl i) e =
-    subst (λ (x : Target). Occurs (t.node, message.Batch b) (cons_option (batch_to x.node (next_batch k c x)) (filter_map (λ (t : Target). batch_to t.node (next_batch k c t)) ts))) (sym i)
-    (subst (λ (o : Option Batch). Occurs (t.node, message.Batch b) (cons_option (batch_to t.node o) (filter_map (λ (t : Target). batch_to t.node (next_batch k c t)) ts))) (sym e) (inl refl))
+    subst (λ (x : Target). Among (cons_option (batch_to x.node (next_batch k c x)) (filter_map (λ (t : Target). batch_to t.node (next_batch k c t)) ts)) (t.node, message.Batch b)) (sym i)
+    (subst (λ (o : Option Batch). Among (cons_option (batch_to t.node o) (filter_map (λ (t : Target). batch_to t.node (next_batch k c t)) ts)) (t.node, message.Batch b)) (sym e) (inl refl))
 among_sends k c (s ∷ ts) t b (inr i) e = go (next_batch k c s) (among_sends k c ts t b i e)
   where
-    go : (o : Option Batch) → Occurs (t.node, message.Batch b) (filter_map (λ (t : Target). batch_to t.node (next_batch k c t)) ts) → Occurs (t.node, message.Batch b) (cons_option (batch_to s.node o) (filter_map (λ (t : Target). batch_to t.node (next_batch k c t)) ts))
+    go : (o : Option Batch) → Among (filter_map (λ (t : Target). batch_to t.node (next_batch k c t)) ts) (t.node, message.Batch b) → Among (cons_option (batch_to s.node o) (filter_map (λ (t : Target). batch_to t.node (next_batch k c t)) ts)) (t.node, message.Batch b)
     go None j = j
     go (Some d) j = inr j
 
@@ -130,10 +131,10 @@ batch_key k c t b out e = go t.out refl e
 -- where a target of these is from
 pub record From (k : ClusterKey) (c : Content) (ts : Targets) (t : Target) : Type 0 where
   pub source : Target
-  pub there : Occurs source ts
+  pub there : Among ts source
   pub is : target_begun k c source ≡ t
 
-from_map : (k : ClusterKey) (c : Content) (ts : Targets) (t : Target) → Occurs t (map (target_begun k c) ts) → From k c ts t
+from_map : (k : ClusterKey) (c : Content) (ts : Targets) (t : Target) → Among (map (target_begun k c) ts) t → From k c ts t
 from_map k c [] t h = absurd h
 from_map k c (s ∷ ts) t (inl e) = record { source = s; there = inl refl; is = e }
 from_map k c (s ∷ ts) t (inr h) = later (from_map k c ts t h)
@@ -189,8 +190,8 @@ module _ (n : ℕ) (ns gs : List ℕ) (g : ℕ) (set : List Member) (k : Cluster
       flow_acked n gs r.first_end r.second_end m k set (Pairs Became (map (target_begun k (w.facts m).store.content) (w.facts m).batches)) r.second u.first here (became_pairs k (map (target_begun k (w.facts m).store.content) (w.facts m).batches)) (became_first m here)
 
   -- each batch goes out
-  batch_sent : (m : ℕ) (here : has_node gs m ≡ true) (t : Target) (b : Batch) → Occurs t (w.facts m).batches → next_batch k (w.facts m).store.content t ≡ Some b → Occurs (t.node, message.Batch b) (sent_at n (w.clocks m) (w.facts m) Ticks)
-  batch_sent m here t b there next = subst (λ (ms : List (ℕ × Message)). Occurs (t.node, message.Batch b) ms) (sym (tick_sent n (w.clocks m) f up ∙ plain)) listed
+  batch_sent : (m : ℕ) (here : has_node gs m ≡ true) (t : Target) (b : Batch) → Among (w.facts m).batches t → next_batch k (w.facts m).store.content t ≡ Some b → Among (sent_at n (w.clocks m) (w.facts m) Ticks) (t.node, message.Batch b)
+  batch_sent m here t b there next = subst (λ (ms : List (ℕ × Message)). Among ms (t.node, message.Batch b)) (sym (tick_sent n (w.clocks m) f up ∙ plain)) listed
     where
       f : Facts
       f = w.facts m
@@ -201,20 +202,20 @@ module _ (n : ℕ) (ns gs : List ℕ) (g : ℕ) (set : List Member) (k : Cluster
       plain : as_read (tick_list n (w.facts m)) ≡ tick_list n (w.facts m)
       plain = subst (λ (x : Bool). as_read (tick_if n (w.facts m) x).sends ≡ (tick_if n (w.facts m) x).sends) up (h.legible.ticks m here)
 
-      part : Occurs (t.node, message.Batch b) (batches (proposed (w.facts m))).sends
+      part : Among (batches (proposed (w.facts m))).sends (t.node, message.Batch b)
       part =
-          subst (λ (y : Facts). Occurs (t.node, message.Batch b) (batches y).sends) (sym (rests_proposed (w.facts m) (aged_none (w.facts m) (h.ready.none m here)) (u.asks m here)))
-          (subst (λ (q : ClusterKey). Occurs (t.node, message.Batch b) (filter_map (λ (t : Target). batch_to t.node (next_batch q (w.facts m).store.content t)) (w.facts m).batches)) (sym (view_of m here))
+          subst (λ (y : Facts). Among (batches y).sends (t.node, message.Batch b)) (sym (rests_proposed (w.facts m) (aged_none (w.facts m) (h.ready.none m here)) (u.asks m here)))
+          (subst (λ (q : ClusterKey). Among (filter_map (λ (t : Target). batch_to t.node (next_batch q (w.facts m).store.content t)) (w.facts m).batches) (t.node, message.Batch b)) (sym (view_of m here))
           (among_sends k (w.facts m).store.content (w.facts m).batches t b there next))
 
-      listed : Occurs (t.node, message.Batch b) (tick_list n (w.facts m))
+      listed : Among (tick_list n (w.facts m)) (t.node, message.Batch b)
       listed =
           let x : ℕ × Message = (t.node, message.Batch b) in
           among_behind x (beat (after_ages (w.facts m))).sends _ (among_behind x (propose (after_ages (w.facts m))).sends _ (among_behind x (rows (proposed (w.facts m))).sends _ (among_behind x (transactions (proposed (w.facts m))).sends _
           (among_front x (batches (proposed (w.facts m))).sends _ part))))
 
   -- and is acknowledged
-  ack_comes : (m : ℕ) (here : has_node gs m ≡ true) (t : Target) (b : Batch) → Occurs t (w.facts m).batches → next_batch k (w.facts m).store.content t ≡ Some b → Occurs (Gets t.node (message.BatchAck k b.number)) (inbox r.first_end m)
+  ack_comes : (m : ℕ) (here : has_node gs m ≡ true) (t : Target) (b : Batch) → Among (w.facts m).batches t → next_batch k (w.facts m).store.content t ≡ Some b → Among (inbox r.first_end m) (Gets t.node (message.BatchAck k b.number))
   ack_comes m here t b there next =
       flow_arrives n ns gs r.ticks_end r.first_end u.group_first u.ups_first r.first t.node m to.0 here to.1 (message.BatchAck k b.number)
       (outbox_legible n (r.ticks_end.clocks t.node) (λ f. Over k set f × Pairs Became (begins t.node) f.batches) (inbox r.ticks_end t.node) (r.ticks_end.facts t.node) (Gets m (message.Batch b)) (m, message.BatchAck k b.number)
@@ -230,12 +231,12 @@ module _ (n : ℕ) (ns gs : List ℕ) (g : ℕ) (set : List Member) (k : Cluster
       key : b.key ≡ k
       key = batch_key k (w.facts m).store.content t b (λ d e. h.handing.key m here t d there e) next
 
-      acks : (f : Facts) → Over k set f → Occurs (m, message.BatchAck k b.number) (batch_came f m b (is_view f.exchange.view b.key)).sends
+      acks : (f : Facts) → Over k set f → Among (batch_came f m b (is_view f.exchange.view b.key)).sends (m, message.BatchAck k b.number)
       acks f o =
-          subst (λ (c : Bool). Occurs (m, message.BatchAck k b.number) (batch_came f m b c).sends) (sym (ap (λ (v : Option View). is_view v b.key) o.view ∙ ap (λ (q : ClusterKey). same_key k q) key ∙ same_self k))
+          subst (λ (c : Bool). Among (batch_came f m b c).sends (m, message.BatchAck k b.number)) (sym (ap (λ (v : Option View). is_view v b.key) o.view ∙ ap (λ (q : ClusterKey). same_key k q) key ∙ same_self k))
           (inl (ap (λ (q : ClusterKey). (m, message.BatchAck q b.number)) key))
 
-  acked_second : (m : ℕ) (here : has_node gs m ≡ true) (t : Target) → Occurs t (begins m) → (b : Batch) → t.out ≡ Some b → Pairs (Acked t.node b.number) (begins m) (r.second_end.facts m).batches
+  acked_second : (m : ℕ) (here : has_node gs m ≡ true) (t : Target) → Among (begins m) t → (b : Batch) → t.out ≡ Some b → Pairs (Acked t.node b.number) (begins m) (r.second_end.facts m).batches
   acked_second m here t there b out = go (from_map k (w.facts m).store.content (w.facts m).batches t there)
     where
       go : From k (w.facts m).store.content (w.facts m).batches t → Pairs (Acked t.node b.number) (begins m) (r.second_end.facts m).batches
@@ -243,7 +244,7 @@ module _ (n : ℕ) (ns gs : List ℕ) (g : ℕ) (set : List Member) (k : Cluster
           let c : ℕ = r.first_end.clocks m in
           let next : next_batch k (w.facts m).store.content f.source ≡ Some b = sym (begun_out k (w.facts m).store.content f.source) ∙ ap (λ (x : Target). x.out) f.is ∙ out in
           let to : f.source.node ≡ t.node = sym (begun_to k (w.facts m).store.content f.source) ∙ ap (λ (x : Target). x.node) f.is in
-          let comes : Occurs (Gets t.node (message.BatchAck k b.number)) (inbox r.first_end m) = subst (λ (x : ℕ). Occurs (Gets x (message.BatchAck k b.number)) (inbox r.first_end m)) to (ack_comes m here f.source b f.there next) in
+          let comes : Among (inbox r.first_end m) (Gets t.node (message.BatchAck k b.number)) = subst (λ (x : ℕ). Among (inbox r.first_end m) (Gets x (message.BatchAck k b.number))) to (ack_comes m here f.source b f.there next) in
           (subst (λ (y : Facts). Over k set y × Pairs (Acked t.node b.number) (begins m) y.batches) (sym (r.second.facts m))
           (served_each n c (λ y. Over k set y × Pairs Became (begins m) y.batches) (λ y. Over k set y × Pairs (Acked t.node b.number) (begins m) y.batches) (inbox r.first_end m) (r.first_end.facts m) (Gets t.node (message.BatchAck k b.number))
           (keeps_acked n c k set (Pairs Became (begins m)) (inbox r.first_end m) (gets_inbox r.first_end m) (u.first m here) (became_pairs k (begins m)))

@@ -19,15 +19,16 @@ use Rattle.journal_readings.specs.Messages.{Posting}
 use Rattle.cluster_rules.specs.Network.{client, posting_at}
 use Rattle.cluster_rules.specs.World.{World, is_up, up_nodes}
 use Rattle.partition_lists.specs.Lists.{in_order}
+use Rattle.cluster_laws.proofs.At.{differ}
+use Rattle.run_laws.specs.Tied.{Among}
 use Rattle.calm_laws.specs.Acts.{Input, Ticks, Gets, as_read, served, outbox, sent_at}
 use Rattle.calm_laws.specs.Letters.{letters_from, arriving_input, unblocked, input_of, given, given_if, ins, arriving_at}
-use Rattle.calm_laws.specs.Flows.{Occurs, Base, Flowed, HeardAs, Near, Rounded, Speaks, Ticked, beat_of, inbox, new_heard, ticks_if, beat_entry}
+use Rattle.calm_laws.specs.Flows.{Base, Flowed, HeardAs, Near, Rounded, Speaks, Ticked, beat_of, inbox, new_heard, ticks_if, beat_entry}
 use Rattle.calm_laws.specs.Group.{kind}
 use Rattle.calm_laws.proofs.Flow.{among_front, among_either, Open, arrives, Came, came}
 use Rattle.calm_laws.proofs.Hears.{hear_all, served_heard, tick_heard, BeatsAre, heard_kept, heard_new, hear_append, beats_are}
 use Rattle.calm_laws.proofs.Same.{Same, same_on, served_same}
 use Rattle.calm_laws.proofs.Sent.{asks, is_one, AllGets, outbox_none, each_among, among_each, none_among, TickSends, tick_sends}
-use Rattle.calm_laws.proofs.Took.{differ}
 
 -- ---- what a flow brings is messages
 
@@ -75,13 +76,13 @@ same_message a b x y e = ap message_in e
 
 -- in the flow after a flow no beat comes
 pub quiet_after : (n : ℕ) (u v : World) → Flowed n u v → (B : Heard → Type 0) (a m : ℕ) → BeatsAre B a (inbox v m)
-quiet_after n u v f B a m = beats_are B a (inbox v m) (λ x p h r i. never x p h r (came v m f.posted (Gets a (message.Heartbeat x p h r)) (subst (λ (is : List Input). Occurs (Gets a (message.Heartbeat x p h r)) is) (f.inbox m) i)))
+quiet_after n u v f B a m = beats_are B a (inbox v m) (λ x p h r i. never x p h r (came v m f.posted (Gets a (message.Heartbeat x p h r)) (subst (λ (is : List Input). Among is (Gets a (message.Heartbeat x p h r))) (f.inbox m) i)))
   where
     never : (x p : ClusterKey) (h : List ℕ) (r : Role) → Came v m f.posted (Gets a (message.Heartbeat x p h r)) → B (new_heard x p h r)
     never x p h r c =
         let beat : Message = message.Heartbeat x p h r in
         let is : c.message ≡ beat = same_message c.from a c.message beat c.is in
-        let silent : asks (kind c.message) ≡ false = none_among asks (outbox n (u.clocks c.from) (u.facts c.from) (inbox u c.from)) m c.message (outbox_none n (u.clocks c.from) (u.facts c.from) (inbox u c.from) (gets_inbox u c.from)) (subst (λ (ls : List (ℕ × Message)). Occurs (m, c.message) ls) (f.from c.from) c.letter) in
+        let silent : asks (kind c.message) ≡ false = none_among asks (outbox n (u.clocks c.from) (u.facts c.from) (inbox u c.from)) m c.message (outbox_none n (u.clocks c.from) (u.facts c.from) (inbox u c.from) (gets_inbox u c.from)) (subst (λ (ls : List (ℕ × Message)). Among ls (m, c.message)) (f.from c.from) c.letter) in
         differ (ap (λ (y : Message). asks (kind y)) is) silent
 
 -- ---- worlds with these up nodes
@@ -164,11 +165,11 @@ ticks_beats n ns w t k ups a m speaks = beats_are (Told ns w t a m) a (arriving_
         who : c.from ≡ a
         who = same_from c.from a c.message beat c.is
 
-        letter : Occurs (m, beat) (outbox n (w.clocks a) (w.facts a) (ticks_if (has_node ns a)))
+        letter : Among (outbox n (w.clocks a) (w.facts a) (ticks_if (has_node ns a))) (m, beat)
         letter =
-            subst (λ (ls : List (ℕ × Message)). Occurs (m, beat) ls) (k.from a)
-            (subst (λ (y : ℕ). Occurs (m, beat) (letters_from y k.posted)) who
-            (subst (λ (y : Message). Occurs (m, y) (letters_from c.from k.posted)) (same_message c.from a c.message beat c.is) c.letter))
+            subst (λ (ls : List (ℕ × Message)). Among ls (m, beat)) (k.from a)
+            (subst (λ (y : ℕ). Among (letters_from y k.posted) (m, beat)) who
+            (subst (λ (y : Message). Among (letters_from c.from k.posted) (m, y)) (same_message c.from a c.message beat c.is) c.letter))
 
         free : is_blocked t (record { from = a; to = m; bytes = [] }) ≡ false
         free = subst (λ (y : ℕ). is_blocked t (record { from = y; to = m; bytes = [] }) ≡ false) who c.free
@@ -177,18 +178,18 @@ ticks_beats n ns w t k ups a m speaks = beats_are (Told ns w t a m) a (arriving_
         of_tick e =
             let s : TickSends n (w.clocks a) (w.facts a) = tick_sends n (w.clocks a) (w.facts a) (ups a e) in
             split s (among_either (m, beat) (as_read (to_each (w.facts a).peers (beat_of (after_ages (w.facts a))))) s.others
-            (subst (λ (ls : List (ℕ × Message)). Occurs (m, beat) ls) (outbox_ticks n (w.clocks a) (w.facts a) (has_node ns a) e ∙ s.all) letter))
+            (subst (λ (ls : List (ℕ × Message)). Among ls (m, beat)) (outbox_ticks n (w.clocks a) (w.facts a) (has_node ns a) e ∙ s.all) letter))
           where
-            split : (s : TickSends n (w.clocks a) (w.facts a)) → Occurs (m, beat) (as_read (to_each (w.facts a).peers (beat_of (after_ages (w.facts a))))) ⊎ Occurs (m, beat) s.others → beat_entry (w.facts a) ≡ new_heard x p h r
+            split : (s : TickSends n (w.clocks a) (w.facts a)) → Among (as_read (to_each (w.facts a).peers (beat_of (after_ages (w.facts a))))) (m, beat) ⊎ Among s.others (m, beat) → beat_entry (w.facts a) ≡ new_heard x p h r
             split s (inl i) = told_as (w.facts a) x p h r (among_each (beat_of (after_ages (w.facts a))) (speaks e) (w.facts a).peers m beat i)
             split s (inr i) = differ refl (none_among is_one s.others m beat s.silent i)
 
         go : (b : Bool) → has_node ns a ≡ b → Told ns w t a m (new_heard x p h r)
         go true e = record { ticks = e; free = free; is = of_tick e }
-        go false e = absurd (subst (λ (b : Bool). Occurs (m, beat) (outbox n (w.clocks a) (w.facts a) (ticks_if b))) e letter)
+        go false e = absurd (subst (λ (b : Bool). Among (outbox n (w.clocks a) (w.facts a) (ticks_if b)) (m, beat)) e letter)
 
 -- and a node that is near has one
-pub tick_beat : (n : ℕ) (ns : List ℕ) (w t : World) (k : Ticked n w t ns) → ((m : ℕ) → has_node ns m ≡ true → is_up w m ≡ true) → (a m : ℕ) → Near ns w a m → Speaks (w.facts a) → Occurs (Gets a (beat_of (after_ages (w.facts a)))) (arriving_at t m k.posted)
+pub tick_beat : (n : ℕ) (ns : List ℕ) (w t : World) (k : Ticked n w t ns) → ((m : ℕ) → has_node ns m ≡ true → is_up w m ≡ true) → (a m : ℕ) → Near ns w a m → Speaks (w.facts a) → Among (arriving_at t m k.posted) (Gets a (beat_of (after_ages (w.facts a))))
 tick_beat n ns w t k ups a m near speaks =
     let s : TickSends n (w.clocks a) (w.facts a) = tick_sends n (w.clocks a) (w.facts a) (ups a near.sender) in
     let beat : Message = beat_of (after_ages (w.facts a)) in
@@ -198,7 +199,7 @@ tick_beat n ns w t k ups a m near speaks =
       node = near.node;
     } in
     arrives t a m beat k.posted opened
-    (subst (λ (ls : List (ℕ × Message)). Occurs (m, beat) ls) (sym (k.from a ∙ outbox_ticks n (w.clocks a) (w.facts a) (has_node ns a) near.sender ∙ s.all))
+    (subst (λ (ls : List (ℕ × Message)). Among ls (m, beat)) (sym (k.from a ∙ outbox_ticks n (w.clocks a) (w.facts a) (has_node ns a) near.sender ∙ s.all))
     (among_front (m, beat) (as_read (to_each (w.facts a).peers beat)) s.others (each_among beat speaks (w.facts a).peers m near.peer)))
 
 -- ---- a round

@@ -13,6 +13,7 @@ use Rattle.wire_messages.specs.declared.message.Message.{Message}
 use Rattle.wire_messages.specs.declared.message.Message.TheVariants as message
 use Rattle.journal_lines.specs.declared.line.Line.{Line}
 use Rattle.journal_lines.specs.declared.line.Line.TheVariants as line
+use Rattle.partition_lists.proofs.InOrderLaws.{equal}
 use Rattle.node_rules.specs.Copies.{Row}
 use Rattle.node_rules.specs.Facts.{Facts, list_at}
 use Rattle.node_rules.specs.Hearing.{Heard, aged}
@@ -21,11 +22,13 @@ use Rattle.node_rules.specs.Notes as notes
 use Rattle.node_rules.specs.Notes.{note, noted, reached, sent, all_sent, in_view, after_ages}
 use Rattle.node_rules.specs.Tables.{Table, with_entry}
 use Rattle.node_rules.specs.Tick.{in_order, tick_if}
+use Rattle.cluster_rules.proofs.KeptFacts.{num_same}
+use Rattle.cluster_laws.proofs.At.{differ}
+use Rattle.run_laws.specs.Tied.{Among}
 use Rattle.calm_laws.specs.Acts.{Input, Ticks, Gets, as_read, acted, served}
-use Rattle.calm_laws.specs.Flows.{Occurs, HeardAs, look, new_heard}
+use Rattle.calm_laws.specs.Flows.{HeardAs, look, new_heard}
 use Rattle.calm_laws.proofs.Own.{Steady, AllSteady, message_steady, later_parts, later_steady}
 use Rattle.calm_laws.proofs.Sent.{AllGets}
-use Rattle.calm_laws.proofs.Took.{same_number, number_is, differ}
 
 -- ---- what is heard goes with beats and ticks alone
 
@@ -142,8 +145,8 @@ put_heard : (B : Heard → Type 0) (t : Table Heard) (a b : ℕ) (x : Heard) →
 put_heard B t a b x new old = go (a == b) refl old
   where
     go : (c : Bool) → (a == b) ≡ c → (b ≡ a) ⊎ HeardAs B t a → HeardAs B (with_entry t b x) a
-    go true e o = record { entry = x; stands = look_hear t b a x ∙ ap (λ (c : Bool). cond c (Some x) (look t a)) e; good = new (sym (same_number a b e)) }
-    go false e (inl s) = differ (number_is a b (sym s)) e
+    go true e o = record { entry = x; stands = look_hear t b a x ∙ ap (λ (c : Bool). cond c (Some x) (look t a)) e; good = new (sym (num_same a b e)) }
+    go false e (inl s) = differ (equal a b (sym s)) e
     go false e (inr h) = record { entry = h.entry; stands = look_hear t b a x ∙ ap (λ (c : Bool). cond c (Some x) (look t a)) e ∙ h.stands; good = h.good }
 
 hear_kept : (B : Heard → Type 0) (t : Table Heard) (a : ℕ) (i : Input) → BeatIs B a i → HeardAs B t a → HeardAs B (hear t i) a
@@ -157,7 +160,7 @@ heard_kept B t a (i ∷ is) g h = heard_kept B (hear t i) a is g.1 (hear_kept B 
 
 -- once a beat comes the node is heard so
 pub heard_new : (B : Heard → Type 0) (t : Table Heard) (a : ℕ) (view promised : ClusterKey) (hears : List ℕ) (role : Role) (is : List Input)
-    → BeatsAre B a is → Occurs (Gets a (message.Heartbeat view promised hears role)) is → HeardAs B (hear_all t is) a
+    → BeatsAre B a is → Among is (Gets a (message.Heartbeat view promised hears role)) → HeardAs B (hear_all t is) a
 heard_new B t a view promised hears role [] g h = absurd h
 heard_new B t a view promised hears role (i ∷ is) g (inl e) =
     heard_kept B (hear t i) a is g.1
@@ -171,7 +174,7 @@ not_heard_one t a Ticks g = refl
 not_heard_one t a (Gets b (message.Heartbeat view promised hears role)) g = go (a == b) refl
   where
     go : (c : Bool) → (a == b) ≡ c → look (with_entry t b (new_heard view promised hears role)) a ≡ look t a
-    go true e = absurd (g (sym (same_number a b e)))
+    go true e = absurd (g (sym (num_same a b e)))
     go false e = look_hear t b a (new_heard view promised hears role) ∙ ap (λ (c : Bool). cond c (Some (new_heard view promised hears role)) (look t a)) e
 not_heard_one t a (Gets b m) g = refl
 
@@ -189,6 +192,6 @@ beat_is B a Ticks all = tt
 beat_is B a (Gets b (message.Heartbeat view promised hears role)) all = λ e. all view promised hears role (ap (λ (k : ℕ). Gets k (message.Heartbeat view promised hears role)) e)
 beat_is B a (Gets b m) all = tt
 
-pub beats_are : (B : Heard → Type 0) (a : ℕ) (is : List Input) → ((v p : ClusterKey) (h : List ℕ) (r : Role) → Occurs (Gets a (message.Heartbeat v p h r)) is → B (new_heard v p h r)) → BeatsAre B a is
+pub beats_are : (B : Heard → Type 0) (a : ℕ) (is : List Input) → ((v p : ClusterKey) (h : List ℕ) (r : Role) → Among is (Gets a (message.Heartbeat v p h r)) → B (new_heard v p h r)) → BeatsAre B a is
 beats_are B a [] all = tt
 beats_are B a (i ∷ is) all = (beat_is B a i (λ v p h r e. all v p h r (inl e)), beats_are B a is (λ v p h r m. all v p h r (inr m)))

@@ -10,6 +10,7 @@ use Rattle.cluster_types.specs.Rows.{bit}
 use Rattle.wire_messages.specs.declared.message.Message.{Message}
 use Rattle.wire_messages.specs.declared.message.Message.TheVariants as message
 use Rattle.journal_lines.specs.declared.line.Line.{Line}
+use Rattle.partition_lists.proofs.InOrderLaws.{equal}
 use Rattle.node_rules.specs.declared.member_row.MemberRow.{MemberRow}
 use Rattle.node_rules.specs.Bits.{Bits, progressing}
 use Rattle.node_rules.specs.Facts.{Facts, members}
@@ -21,6 +22,7 @@ use Rattle.cluster_types.specs.Members.{ids_of}
 use Rattle.node_rules.specs.Exchange.{View, members_of}
 use Rattle.node_rules.specs.Standing.{is_all_empty, knows_all_settled, knows_settled}
 use Rattle.node_rules.specs.Tables.{at, with_entry}
+use Rattle.cluster_laws.proofs.At.{differ}
 use Rattle.calm_laws.specs.Acts.{Gets, acted, as_read}
 use Rattle.calm_laws.specs.Group.{kind}
 use Rattle.calm_laws.specs.Progresses.{BitsGrow, FullProgress, KnowsDone}
@@ -28,7 +30,6 @@ use Rattle.calm_laws.specs.Turns.{is_agreeing}
 use Rattle.calm_laws.proofs.Growing.{ack_bits, all_sent_bits, answer_bits, batch_bits, row_bits, write_bits}
 use Rattle.calm_laws.proofs.Hears.{ties}
 use Rattle.calm_laws.proofs.Taking.{free_agrees}
-use Rattle.calm_laws.proofs.Took.{differ, number_is}
 use Rattle.calm_laws.proofs.Words.{Each, Ends, Words, message_words}
 
 -- ---- bits after a message
@@ -62,7 +63,7 @@ done_put n x from b done handed settled full h = go (x == from) refl h
 
     go : (c : Bool) → (x == from) ≡ c → (x ≡ from) ⊎ KnowsDone n x b → KnowsDone n x (progressing b from done handed settled)
     go true e h = record { row = done; told = looked ∙ ap (λ (c : Bool). cond c (Some done) (at b.done x)) e; full = full }
-    go false e (inl i) = differ (number_is x from i) e
+    go false e (inl i) = differ (equal x from i) e
     go false e (inr k) = record { row = k.row; told = looked ∙ ap (λ (c : Bool). cond c (Some done) (at b.done x)) e ∙ k.told; full = k.full }
 
 done_came : (n x : ℕ) (f : Facts) (from : ℕ) (done handed settled : List Bool) (b : Bool) → ((p : ℕ) → p < n → bit done p ≡ true) → KnowsDone n x f.bits → KnowsDone n x (notes.progress_came f from done handed settled b).bits

@@ -8,9 +8,9 @@ use Rattle.wire_messages.specs.declared.message.Message.TheVariants as message
 use Rattle.node_rules.specs.Agreement as agreement
 use Rattle.node_rules.specs.Agreement.{Agreement, Proposal, kept_if, may_enter, next_key, others, proposal_of, proposes, without_missing}
 use Rattle.node_rules.specs.Copies.{is_nil}
+use Rattle.key_laws.proofs.Addressed.{in_without}
 use Rattle.calm_laws.specs.Stances.{Stance, counts, enters_if, proposes_to, ticks, turned}
 use Rattle.calm_laws.specs.Turns.{Lacking}
-use Rattle.calm_laws.proofs.Rolls.{without_from}
 
 kept_lacks : (me : ℕ) (b : Bool) (o : Option Proposal) → Lacking me o → Lacking me (kept_if b o)
 kept_lacks me true o h = h
@@ -24,7 +24,7 @@ lacks_accepts me s from (Some p) true e h = go (is_nil (without_missing p from).
   where
     go : (b : Bool) → is_nil (without_missing p from).missing ≡ b → Lacking me (enters_if (record s { agreement = agreement.accepting_if s.agreement from true }) p.key p.members b).agreement.proposal
     go true i = tt
-    go false i = subst (λ (o : Option Proposal). Lacking me (agreement.accepted_by o from)) (sym e) (i, λ x j. h.1 x (without_from p.missing from x j))
+    go false i = subst (λ (o : Option Proposal). Lacking me (agreement.accepted_by o from)) (sym e) (i, λ x j. h.1 x (in_without p.missing from x j))
 
 pub lacks_kept : (me you : ℕ) (s : Stance) (from : ℕ) (m : Message) → Lacking me s.agreement.proposal → Lacking me (turned you s from m).agreement.proposal
 lacks_kept me you s from (message.Propose key ms) h = go (key_lt s.agreement.promised key)

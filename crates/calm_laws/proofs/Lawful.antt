@@ -1,5 +1,5 @@
 -- The laws of keys hold all along a round: votes can be read whenever they are sent.
-use Rattle.std.proofs.Common.{◌≡◌, ℕ, ◌==◌, ◌||◌, ◌&&◌, nat_lt, true, List, [], ◌∷◌, map, refl, sym, ap, subst, ◌∙◌, inl, inr, arith}
+use Rattle.std.proofs.Common.{◌≡◌, ℕ, ◌==◌, ◌||◌, ◌&&◌, nat_lt, true, List, [], ◌∷◌, map, sym, ap, subst, ◌∙◌, inl, inr, arith}
 use Rattle.std.proofs.lemmas.Bool.Decides.{nat_tests}
 use Rattle.cluster_types.specs.declared.cluster_key.ClusterKey.{ClusterKey}
 use Rattle.cluster_types.specs.ClusterKeys as keys
@@ -10,22 +10,17 @@ use Rattle.node_rules.specs.Facts.{Facts}
 use Rattle.cluster_rules.specs.declared.event.Event.{Event}
 use Rattle.cluster_rules.specs.declared.event.Event.TheVariants as event
 use Rattle.cluster_rules.specs.DueEvents.{due_of}
-use Rattle.cluster_rules.specs.Marks as marks
-use Rattle.cluster_rules.specs.Marks.{Mark, Begins, Writes}
+use Rattle.cluster_rules.specs.Marks.{Mark, Begins}
 use Rattle.cluster_rules.specs.Steps.{play}
 use Rattle.cluster_rules.specs.World.{World}
-use Rattle.key_laws.specs.Traced.{Traced, after, after_all}
+use Rattle.key_laws.specs.Traced.{Traced, after_all}
 use Rattle.key_laws.proofs.DueSteps.{Begun, step_ok}
 use Rattle.key_laws.proofs.Kept.{kept_all}
 use Rattle.key_laws.proofs.Quiet.{writes}
+use Rattle.key_laws.proofs.Runs.{world_of}
 use Rattle.calm_laws.specs.Laws.{AreIds, HasLaws}
 use Rattle.calm_laws.proofs.Along.{EventsKeep}
 use Rattle.calm_laws.proofs.Proposals.{Votes}
-
-world_of : (t : Traced) (ms : List Mark) → (after_all t ms).world ≡ marks.after_all t.world ms
-world_of t [] = refl
-world_of t (Begins e ∷ ms) = world_of (after t (Begins e)) ms
-world_of t (Writes l ∷ ms) = world_of (after t (Writes l)) ms
 
 -- each event keeps that
 pub lawful_kept : (n : ℕ) (e : Event) → Begun e → (w : World) → HasLaws w → HasLaws (play n e w).world

@@ -6,8 +6,8 @@ use Rattle.cluster_types.specs.Distinct.{without}
 use Rattle.journal_readings.specs.Lines.{has_node}
 use Rattle.journal_readings.specs.Messages.{Posting}
 use Rattle.cluster_rules.specs.Network.{Network, posting_at, posting_if}
+use Rattle.cluster_laws.proofs.GroundLaws.{apart}
 use Rattle.calm_laws.specs.Letters.{new_numbers}
-use Rattle.calm_laws.proofs.Took.{number_isnt}
 
 -- ---- places
 
@@ -63,13 +63,13 @@ filter_append {A} test (x ∷ xs) ys = go (test x) (filter_append test xs ys)
     go true e = ap (λ (zs : List A). x ∷ zs) e
     go false e = e
 
-above_isnt : (s i : ℕ) → i ≤ s → s + 1 ≡ i → ⊥
+pub above_isnt : (s i : ℕ) → i ≤ s → s + 1 ≡ i → ⊥
 above_isnt s i le e = omega (arith, le, e)
 
 without_numbers : (s : ℕ) (ps : List Posting) (i : ℕ) → i ≤ s → without (new_numbers s ps) i ≡ new_numbers s ps
 without_numbers s [] i le = refl
 without_numbers s (p ∷ ps) i le =
-    ap (λ (b : Bool). cond (not b) ((s + 1) ∷ without (new_numbers (s + 1) ps) i) (without (new_numbers (s + 1) ps) i)) (number_isnt (s + 1) i (above_isnt s i le))
+    ap (λ (b : Bool). cond (not b) ((s + 1) ∷ without (new_numbers (s + 1) ps) i) (without (new_numbers (s + 1) ps) i)) (apart (s + 1) i (above_isnt s i le))
     ∙ ap (λ (xs : List ℕ). (s + 1) ∷ xs) (without_numbers (s + 1) ps i (omega (arith, le)))
 
 pub without_new : (xs : List ℕ) (s : ℕ) (ps : List Posting) (i : ℕ) → i ≤ s → without (xs ++ new_numbers s ps) i ≡ without xs i ++ new_numbers s ps

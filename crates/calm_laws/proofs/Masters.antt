@@ -5,12 +5,13 @@ use Rattle.cluster_types.specs.declared.member.Member.{Member}
 use Rattle.cluster_types.specs.Members.{ids_of}
 use Rattle.partition_lists.specs.Lists.{in_order, list, put_in_order}
 use Rattle.partition_lists.specs.Ranks.{is_smaller, rank_of}
+use Rattle.partition_lists.proofs.InOrderLaws.{equal}
 use Rattle.node_rules.specs.declared.member_row.MemberRow.{MemberRow}
 use Rattle.node_rules.specs.Map.{acting, is_wholest, master}
 use Rattle.node_rules.specs.Tables.{contains}
 use Rattle.journal_readings.specs.Lines.{has_node}
+use Rattle.cluster_laws.proofs.At.{differ}
 use Rattle.calm_laws.specs.Turns.{Roll}
-use Rattle.calm_laws.proofs.Took.{differ, number_is}
 
 abbrev Every : {A : Type 0} → (A → Type 0) → List A → Type 0
 Every P [] = Unit {0}
@@ -41,7 +42,7 @@ ranks_every id rank P (m ∷ ms) same h = (subst P (sym (same m)) h.0, ranks_eve
 members_every : (P : ℕ → Type 0) (ms : List Member) → ((x : ℕ) → contains (ids_of ms) x ≡ true → P x) → Every (λ m. P m.id) ms
 members_every P [] h = tt
 members_every P (m ∷ ms) h = (
-  h m.id (ap (λ (b : Bool). b || contains (ids_of ms) m.id) (number_is m.id m.id refl)),
+  h m.id (ap (λ (b : Bool). b || contains (ids_of ms) m.id) (equal m.id m.id refl)),
   members_every P ms (λ x e. h x (behind (m.id == x) (contains (ids_of ms) x) e)),
 )
   where

@@ -40,7 +40,6 @@ may_front w ss ts m = record {
   before = m.before;
   leads = m.leads;
   taken = taken_front m.header (m.before ++ ss) ts whole;
-  few = m.few;
   room = omega (arith, front_lines (m.before ++ ss) ts, ap (λ (us : List Step). length (all_lines us)) (append_assoc m.before ss ts), m.room);
 }
   where
@@ -61,7 +60,6 @@ may_after w ss ts m = record {
       ∙ after_all-append (opened m.header) (all_marks m.before) (all_marks ss)
       ∙ ap (λ (u : World). after_all u (all_marks ss)) m.leads;
   taken = subst (λ (us : List Step). Taken m.header us) (sym (append_assoc m.before ss ts)) m.taken;
-  few = m.few;
   room = omega (arith, ap (λ (us : List Step). length (all_lines us)) (append_assoc m.before ss ts), m.room);
 }
 

@@ -13,9 +13,12 @@ use Rattle.node_rules.specs.Tables.{contains}
 use Rattle.node_rules.specs.Transactions.{Transaction}
 use Rattle.journal_readings.specs.Lines.{has_node}
 use Rattle.cluster_rules.specs.World.{World, is_up}
+use Rattle.cluster_laws.proofs.At.{differ}
+use Rattle.key_laws.proofs.Addressed.{in_without}
 use Rattle.key_laws.proofs.Order.{same_self}
+use Rattle.run_laws.specs.Tied.{Among}
 use Rattle.calm_laws.specs.Acts.{Input, Gets, acted}
-use Rattle.calm_laws.specs.Flows.{Occurs, Flowed, inbox}
+use Rattle.calm_laws.specs.Flows.{Flowed, inbox}
 use Rattle.calm_laws.specs.Group.{Group, kind}
 use Rattle.calm_laws.specs.Handing.{Legibly}
 use Rattle.calm_laws.specs.Transacting.{Awaits, HeardFrom, In, Lost, Shrinks, Such, Turns, WritesFor, open_at}
@@ -25,11 +28,10 @@ use Rattle.calm_laws.proofs.Hearing.{gets_inbox}
 use Rattle.calm_laws.proofs.Inputs.{Keeps, kept_along, served_each, served_kept}
 use Rattle.calm_laws.proofs.Proposals.{all_gets, without_hasnt}
 use Rattle.calm_laws.proofs.Proposing.{flow_arrives}
-use Rattle.calm_laws.proofs.Rolls.{nothing_there, without_from}
+use Rattle.calm_laws.proofs.Rolls.{nothing_there}
 use Rattle.calm_laws.proofs.Same.{acted_same}
 use Rattle.calm_laws.proofs.Sent.{AllGets}
 use Rattle.calm_laws.proofs.Taking.{acted_takes}
-use Rattle.calm_laws.proofs.Took.{differ}
 use Rattle.calm_laws.proofs.Transacting.{acted_lost, acted_opens}
 
 -- ---- what an act keeps
@@ -52,7 +54,7 @@ shrinks_awaits b S x o z s h =
     subst (λ (o : Option Transaction). Such (Awaits b S) o) (sym s.after) (record {
       applied = ap (λ (w : Option _). is_some w) s.applied ∙ a.applied;
       some = s.some;
-      within = λ y e. a.within y (without_from s.was.awaiting x y (ap (λ (ys : List ℕ). contains ys y) (sym s.awaiting) ∙ e));
+      within = λ y e. a.within y (in_without s.was.awaiting x y (ap (λ (ys : List ℕ). contains ys y) (sym s.awaiting) ∙ e));
     })
 
 pub applied_turns : (S : ℕ → Type 0) → Step (λ o z. Such (Awaits true S) o → Such (Awaits true S) z)
@@ -92,10 +94,10 @@ in_key k set m f i = ap (λ (o : Option View). key_of o) i.view
 pub in_seen : (k : ClusterKey) (set : List Member) (m : ℕ) (f : Facts) → In k set m f → is_view f.exchange.view k ≡ true
 in_seen k set m f i = ap (λ (o : Option View). is_view o k) i.view ∙ same_self k
 
-pub keeps_open : (n c : ℕ) (k : ClusterKey) (set : List Member) (m number : ℕ) (Q : Option Transaction → Type 0) (is : List Input) → AllGets is → ((from : ℕ) (x : Message) → Occurs (Gets from x) is → is_agreeing (kind x) ≡ false) → Step (λ o z. Q o → Q z)
+pub keeps_open : (n c : ℕ) (k : ClusterKey) (set : List Member) (m number : ℕ) (Q : Option Transaction → Type 0) (is : List Input) → AllGets is → ((from : ℕ) (x : Message) → Among is (Gets from x) → is_agreeing (kind x) ≡ false) → Step (λ o z. Q o → Q z)
     → Keeps n c (λ f. In k set m f × Q (open_at f number)) is
 keeps_open n c k set m number Q is gets free step f i h p =
-    all_gets is i gets h (λ j. Occurs j is → In k set m (acted n c f j) × Q (open_at (acted n c f j) number))
+    all_gets is i gets h (λ j. Among is j → In k set m (acted n c f j) × Q (open_at (acted n c f j) number))
     (λ from x there. (
       in_acted n c k set m f from x (free from x there) p.0,
       step k number f from (due_message_of n f c from x).sends (open_at f number) (open_at (acted n c f (Gets from x)) number) (acted_opens n c k f (in_key k set m f p.0) from number x (free from x there)) p.1,
@@ -122,7 +124,7 @@ module _ (n : ℕ) (ns gs : List ℕ) (k : ClusterKey) (set : List Member) (numb
   -- writes that come in a flow are acknowledged in the next one, and close the transaction
   pub writes_close : (u v z : World) → Group ns gs v → ((m : ℕ) → has_node ns m ≡ true → is_up v m ≡ true) → Flowed n u v → Flowed n v z → Cleared gs u → Cleared gs v
       → ((x : ℕ) → has_node gs x ≡ true → In k set x (u.facts x)) → ((x : ℕ) → has_node gs x ≡ true → Legibly n (u.clocks x) (u.facts x) (inbox u x))
-      → (m : ℕ) → has_node gs m ≡ true → (S : ℕ → Type 0) → ((x : ℕ) → S x → (has_node gs x ≡ true) × (x ≡ m → ⊥)) → (y : Message) → WritesFor k number y → ((x : ℕ) → S x → Occurs (Gets m y) (inbox u x))
+      → (m : ℕ) → has_node gs m ≡ true → (S : ℕ → Type 0) → ((x : ℕ) → S x → (has_node gs x ≡ true) × (x ≡ m → ⊥)) → (y : Message) → WritesFor k number y → ((x : ℕ) → S x → Among (inbox u x) (Gets m y))
       → Such (Awaits true S) (open_at (u.facts m) number) → open_at (z.facts m) number ≡ None
   writes_close u v z g ups f h first second inside legible m here S others y writes come status = nobody S (λ x. true) (open_at (z.facts m) number) last.1 lost
     where
@@ -132,13 +134,13 @@ module _ (n : ℕ) (ns gs : List ℕ) (k : ClusterKey) (set : List Member) (numb
       last : In k set m (z.facts m) × Such (Awaits true S) (open_at (z.facts m) number)
       last = flow_open n gs v z m k set number (Such (Awaits true S)) h second here (applied_turns S) middle
 
-      acks : (y : Message) → WritesFor k number y → (x : ℕ) (f : Facts) (c : ℕ) → In k set x f → Occurs (m, message.ReplAck k number) (due_message_of n f c m y).sends
+      acks : (y : Message) → WritesFor k number y → (x : ℕ) (f : Facts) (c : ℕ) → In k set x f → Among (due_message_of n f c m y).sends (m, message.ReplAck k number)
       acks (message.Repl key t nth digest ver) w x f c i =
-          subst (λ (b : Bool). Occurs (m, message.ReplAck k number) (repl_came f m key t digest ver b).sends) (sym (ap (λ (q : ClusterKey). is_view f.exchange.view q) w.0 ∙ in_seen k set x f i))
+          subst (λ (b : Bool). Among (repl_came f m key t digest ver b).sends (m, message.ReplAck k number)) (sym (ap (λ (q : ClusterKey). is_view f.exchange.view q) w.0 ∙ in_seen k set x f i))
           (inl (ap (λ (q : ClusterKey). (m, message.ReplAck q t)) w.0 ∙ ap (λ (a : ℕ). (m, message.ReplAck k a)) w.1))
       acks _ w x f c i = absurd w
 
-      ack_comes : (x : ℕ) → S x → Occurs (Gets x (message.ReplAck k number)) (inbox v m)
+      ack_comes : (x : ℕ) → S x → Among (inbox v m) (Gets x (message.ReplAck k number))
       ack_comes x s =
           let to : (has_node gs x ≡ true) × (x ≡ m → ⊥) = others x s in
           flow_arrives n ns gs u v g ups f x m to.0 here to.1 (message.ReplAck k number)

@@ -13,6 +13,7 @@ use Rattle.conflict_order.specs.declared.version.Version.{Version}
 use Rattle.cluster_types.specs.declared.member.Member.{Member}
 use Rattle.cluster_types.specs.Rows.{bit}
 use Rattle.partition_lists.specs.Lists.{list}
+use Rattle.partition_lists.proofs.InOrderLaws.{equal}
 use Rattle.node_rules.specs.Bits.{with_bit}
 use Rattle.node_rules.specs.Copies.{Content, digests, digests_of, holds_of, is_nil, is_of}
 use Rattle.node_rules.specs.Exchange.{members_of}
@@ -21,9 +22,10 @@ use Rattle.node_rules.specs.Notes.{noted}
 use Rattle.node_rules.specs.Settling.{drop, hand, learn, line_if, may_hand, may_settle, settle, settling_at, settling_from}
 use Rattle.node_rules.specs.Standing.{has_nothing_to_learn_or_drop, has_settled_bit, is_done, is_replica, is_to_drop, is_to_learn}
 use Rattle.journal_lines.specs.declared.line.Line.TheVariants as line
+use Rattle.node_rules.proofs.NoteLaws.{noted-append}
+use Rattle.cluster_rules.proofs.KeptFacts.{num_same}
+use Rattle.cluster_laws.proofs.At.{differ}
 use Rattle.calm_laws.specs.Calming.{Reaches}
-use Rattle.calm_laws.proofs.Ticking.{noted_append}
-use Rattle.calm_laws.proofs.Took.{differ, number_is, same_number}
 
 -- ---- rows of bits
 
@@ -169,9 +171,9 @@ pub four : (f : Facts) (l : List ℕ) (p : ℕ) → noted None f (settling_at l 
 four f l p =
     let g : Facts = after_hand f l p in
     let h : Facts = after_settle f l p in
-    noted_append None f (hand f l p) (settle g l p ++ (learn h l p ++ drop (after_learn f l p) l p))
-    ∙ noted_append None g (settle g l p) (learn h l p ++ drop (after_learn f l p) l p)
-    ∙ noted_append None h (learn h l p) (drop (after_learn f l p) l p)
+    noted-append None f (hand f l p) (settle g l p ++ (learn h l p ++ drop (after_learn f l p) l p))
+    ∙ noted-append None g (settle g l p) (learn h l p ++ drop (after_learn f l p) l p)
+    ∙ noted-append None h (learn h l p) (drop (after_learn f l p) l p)
 
 at_others : (f : Facts) (l : List ℕ) (p q : ℕ) → (p ≡ q → ⊥) → Nothing f q → Nothing (noted None f (settling_at l p f)) q
 at_others f l p q d h =
@@ -269,16 +271,16 @@ unfolding settling_from
 settled_places n ms zero p f le h before q lt = before q (omega (arith, lt))
 settled_places n ms (suc k) p f le h before q lt =
     let f1 : Facts = noted None f (settling_at (list_at f p) p f) in
-    subst (λ (g : Facts). Nothing g q) (sym (noted_append None f (settling_at (list_at f p) p f) (settling_from k (p + 1) f1)))
+    subst (λ (g : Facts). Nothing g q) (sym (noted-append None f (settling_at (list_at f p) p f) (settling_from k (p + 1) f1)))
     (settled_places n ms k (p + 1) f1 (omega (arith, le)) (all_placed n ms f (list_at f p) p h) upto q (omega (arith, lt)))
   where
     upto : (j : ℕ) → j < p + 1 → Nothing (noted None f (settling_at (list_at f p) p f)) j
     upto j less = go (p == j) refl
       where
         go : (b : Bool) → (p == j) ≡ b → Nothing (noted None f (settling_at (list_at f p) p f)) j
-        go true e = subst (λ (y : ℕ). Nothing (noted None f (settling_at (list_at f p) p f)) y) (same_number p j e) (at_place n ms f p (omega (arith, le)) h)
+        go true e = subst (λ (y : ℕ). Nothing (noted None f (settling_at (list_at f p) p f)) y) (num_same p j e) (at_place n ms f p (omega (arith, le)) h)
         go false e =
-            let other : p ≡ j → ⊥ = λ i. differ (number_is p j i) e in
+            let other : p ≡ j → ⊥ = λ i. differ (equal p j i) e in
             at_others f (list_at f p) p j other (before j (below other))
           where
             below : (p ≡ j → ⊥) → j < p

@@ -25,38 +25,19 @@ use Rattle.node_rules.specs.Settling.{drop, hand, learn, line_if, settle, settli
 use Rattle.node_rules.specs.Standing.{other_replicas}
 use Rattle.node_rules.specs.Tick.{Part, in_order, beat, propose, proposing_to, propose_new, propose_with, rows, transactions, batches, settlings, progress, progress_if, tick_if, tick_of}
 use Rattle.node_rules.specs.Transactions.{Transaction, Write, transaction, awaits_answer, awaits_ack, answered, is_last_awaited}
+use Rattle.cluster_rules.specs.NodeSteps.{IsOf}
+use Rattle.cluster_rules.proofs.OwnLines.{noted_me}
 
 -- ---- own lines
 
 -- the line is one of that node that leaves its role and whether it runs, or adds nothing
 abbrev pub OwnLine : ℕ → Line → Type 0
-OwnLine a (line.Clock n time) = ⊥
-OwnLine a (line.Groups groups) = ⊥
-OwnLine a (line.Deliver i b c) = ⊥
-OwnLine a (line.Repeat i b c) = ⊥
-OwnLine a (line.Cut i b c size) = ⊥
-OwnLine a (line.Sent i b c bytes) = ⊥
-OwnLine a (line.Full i) = ⊥
-OwnLine a (line.Tick n) = n ≡ a
 OwnLine a (line.Stop n) = ⊥
 OwnLine a (line.Start n) = ⊥
 OwnLine a (line.Quiesce n) = ⊥
 OwnLine a (line.Unquiesce n) = ⊥
-OwnLine a (line.Promise n k) = n ≡ a
-OwnLine a (line.Enter n k ms) = n ≡ a
-OwnLine a (line.Exchanged n k) = n ≡ a
 OwnLine a (line.Opened n k t d w) = ⊥
-OwnLine a (line.Value n k t d v) = n ≡ a
-OwnLine a (line.Apply n k t d v) = n ≡ a
-OwnLine a (line.Done n k t) = n ≡ a
-OwnLine a (line.Aborted n k t) = n ≡ a
-OwnLine a (line.Doubt n k t) = n ≡ a
-OwnLine a (line.Merge n k d v) = n ≡ a
-OwnLine a (line.Handed n k p) = n ≡ a
-OwnLine a (line.Settled n k p) = n ≡ a
-OwnLine a (line.Learn n k p) = n ≡ a
-OwnLine a (line.Drop n k p) = n ≡ a
-OwnLine a _ = Unit {0}
+OwnLine a l = IsOf a l
 
 abbrev pub OwnLines : ℕ → List Line → Type 0
 OwnLines a [] = Unit {0}
@@ -64,33 +45,8 @@ OwnLines a (l ∷ ls) = OwnLine a l × OwnLines a ls
 
 -- the same, and the line isn't that of its tick
 abbrev pub Steady : ℕ → Line → Type 0
-Steady a (line.Clock n time) = ⊥
-Steady a (line.Groups groups) = ⊥
-Steady a (line.Deliver i b c) = ⊥
-Steady a (line.Repeat i b c) = ⊥
-Steady a (line.Cut i b c size) = ⊥
-Steady a (line.Sent i b c bytes) = ⊥
-Steady a (line.Full i) = ⊥
 Steady a (line.Tick n) = ⊥
-Steady a (line.Stop n) = ⊥
-Steady a (line.Start n) = ⊥
-Steady a (line.Quiesce n) = ⊥
-Steady a (line.Unquiesce n) = ⊥
-Steady a (line.Promise n k) = n ≡ a
-Steady a (line.Enter n k ms) = n ≡ a
-Steady a (line.Exchanged n k) = n ≡ a
-Steady a (line.Opened n k t d w) = ⊥
-Steady a (line.Value n k t d v) = n ≡ a
-Steady a (line.Apply n k t d v) = n ≡ a
-Steady a (line.Done n k t) = n ≡ a
-Steady a (line.Aborted n k t) = n ≡ a
-Steady a (line.Doubt n k t) = n ≡ a
-Steady a (line.Merge n k d v) = n ≡ a
-Steady a (line.Handed n k p) = n ≡ a
-Steady a (line.Settled n k p) = n ≡ a
-Steady a (line.Learn n k p) = n ≡ a
-Steady a (line.Drop n k p) = n ≡ a
-Steady a _ = Unit {0}
+Steady a l = OwnLine a l
 
 abbrev pub AllSteady : ℕ → List Line → Type 0
 AllSteady a [] = Unit {0}
@@ -117,10 +73,6 @@ line_if_own a l false h = tt
 pub note_me : (q : Option Want) (f : Facts) (l : Line) → (note q f l).me ≡ f.me
 note_me q f (line.Tick n) = refl
 note_me q f l = refl
-
-pub noted_me : (q : Option Want) (f : Facts) (ls : List Line) → (noted q f ls).me ≡ f.me
-noted_me q f [] = refl
-noted_me q f (l ∷ ls) = noted_me q (note q f l) ls ∙ note_me q f l
 
 -- ---- an entry
 

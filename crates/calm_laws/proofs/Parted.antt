@@ -13,16 +13,19 @@ use Rattle.cluster_rules.specs.Steps.{Step, all_marks}
 use Rattle.cluster_rules.specs.World.{World, is_up, opened, up_nodes}
 use Rattle.cluster_rules.proofs.AllowedLaws.{nodes_stay}
 use Rattle.cluster_laws.specs.Ground.{Ground}
+use Rattle.cluster_laws.proofs.At.{differ}
+use Rattle.cluster_laws.proofs.GroundLaws.{apart}
 use Rattle.key_laws.proofs.Addressed.{and_left, and_right}
 use Rattle.key_laws.proofs.Peopled.{peers_of}
 use Rattle.run_laws.specs.Fronts.{Front, after, after_all, world_of}
 use Rattle.run_laws.specs.LineOk.{Goes}
 use Rattle.run_laws.specs.Taken.{first, ground_of}
+use Rattle.run_laws.specs.Tied.{Among}
 use Rattle.run_laws.proofs.CalmLines.{first_grouped}
 use Rattle.run_laws.proofs.Named as named
 use Rattle.run_laws.proofs.Places.{Grouped, grouped_begun, grouped_line}
 use Rattle.run_laws.proofs.Premised.{taken_walks}
-use Rattle.calm_laws.specs.Flows.{Occurs, Base, Once}
+use Rattle.calm_laws.specs.Flows.{Base, Once}
 use Rattle.calm_laws.specs.Group.{Away, Group}
 use Rattle.calm_laws.specs.Onward.{MayTake}
 use Rattle.calm_laws.specs.Schedules.{Home}
@@ -31,7 +34,6 @@ use Rattle.calm_laws.proofs.Fronts.{facts_are, known, world_is}
 use Rattle.calm_laws.proofs.Onward.{taken_before}
 use Rattle.calm_laws.proofs.Premises.{declared_up, id_of}
 use Rattle.calm_laws.proofs.Rosters.{has_number, number_has}
-use Rattle.calm_laws.proofs.Took.{differ, number_isnt}
 use Rattle.calm_laws.proofs.Walks.{named_of, order_of}
 
 -- ---- lists in which no number stands twice
@@ -58,7 +60,7 @@ differ_behind : (xs ys : List ℕ) → DifferBy (λ n. n) (xs ++ ys) → DifferB
 differ_behind [] ys h = h
 differ_behind (x ∷ xs) ys h = differ_behind xs ys h.1
 
-differ_group : (gs : List (List ℕ)) (group : List ℕ) → Occurs group gs → DifferBy (λ n. n) (concat gs) → DifferBy (λ n. n) group
+differ_group : (gs : List (List ℕ)) (group : List ℕ) → Among gs group → DifferBy (λ n. n) (concat gs) → DifferBy (λ n. n) group
 differ_group [] group h d = absurd h
 differ_group (g ∷ gs) group (inl e) d = subst (λ (ns : List ℕ). DifferBy (λ n. n) ns) e (differ_front g (concat gs) d)
 differ_group (g ∷ gs) group (inr h) d = differ_group gs group h (differ_behind g (concat gs) d)
@@ -68,7 +70,7 @@ all_node test [] m e h = absurd h
 all_node test (x ∷ xs) m e (inl i) = ap test (sym i) ∙ and_left (test x) (list_all test xs) e
 all_node test (x ∷ xs) m e (inr h) = all_node test xs m (and_right (test x) (list_all test xs) e) h
 
-has_among : (xs : List ℕ) (m : ℕ) → Has xs m → Occurs m xs
+has_among : (xs : List ℕ) (m : ℕ) → Has xs m → Among xs m
 has_among [] m h = h
 has_among (x ∷ xs) m (inl e) = inl e
 has_among (x ∷ xs) m (inr h) = inr (has_among xs m h)
@@ -103,7 +105,7 @@ module _ (w : World) (may : MayTake w []) where
   base_there = record {
     named = named_of may;
     in_order = order_of may;
-    once = once_of (up_nodes w) (differ_in_order nat_lt (λ n. n) (filter (is_up w) w.nodes) (differ_filter (λ n. n) (is_up w) w.nodes (differs w.nodes (subst AreDistinct (sym (nodes_are may)) (taken_before may).declared))));
+    once = once_of (up_nodes w) (differ_in_order nat_lt (λ n. n) (filter (is_up w) w.nodes) (differ_filter (λ n. n) (is_up w) w.nodes (differs w.nodes (subst AreDistinct (sym (nodes_are may)) (taken_before may).declared.distinct))));
     ups = refl;
     up = node_up;
   }
@@ -134,7 +136,7 @@ module _ (w : World) (may : MayTake w []) where
       let p : Place w.network.groups a = place w.network.groups a (grouped_each a (up_declared a up)) in
       record { group = p.group; among = p.among; here = to_group p.group a p.here up }
 
-  module _ (distinct : AreDistinct (concat w.network.groups)) (group : List ℕ) (among : Occurs group w.network.groups) where
+  module _ (distinct : AreDistinct (concat w.network.groups)) (group : List ℕ) (among : Among w.network.groups group) where
     -- no node stands twice among them
     pub group_differ : DifferBy (λ n. n) (up_in w group)
     group_differ = differ_filter (λ n. n) (is_up w) group (differ_group w.network.groups group among (differs (concat w.network.groups) distinct))
@@ -148,11 +150,11 @@ module _ (w : World) (may : MayTake w []) where
         positive : (m : ℕ) → 0 < m → (m == 0) ≡ false
         positive m h = grind (arith, nat_tests)
 
-    peer : (a m : ℕ) → is_up w m ≡ true → (a ≡ m → ⊥) → Occurs m (w.facts a).peers
-    peer a m up d = subst (λ (ns : List ℕ). Occurs m ns) (sym (ap (λ f. f.peers) (sym (facts_are may a)) ∙ ((known may).peopled.nodes a).peers))
+    peer : (a m : ℕ) → is_up w m ≡ true → (a ≡ m → ⊥) → Among (w.facts a).peers m
+    peer a m up d = subst (λ (ns : List ℕ). Among ns m) (sym (ap (λ f. f.peers) (sym (facts_are may a)) ∙ ((known may).peopled.nodes a).peers))
         (has_among (peers_of (declared_nodes may.header) a) m
         (has_in_order nat_lt (without (declared_nodes may.header) a) m
-        (has_filter (λ n. not (n == a)) (declared_nodes may.header) m (has_number (declared_nodes may.header) m (declared_up may m up)) (ap not (number_isnt m a (λ s. d (sym s)))))))
+        (has_filter (λ n. not (n == a)) (declared_nodes may.header) m (has_number (declared_nodes may.header) m (declared_up may m up)) (ap not (apart m a (λ s. d (sym s)))))))
 
     apart_from : (a m : ℕ) → (a == client) ≡ false → (m == client) ≡ false → Bool → Type 0
     apart_from a m x y b = are_apart w.network a m ≡ b

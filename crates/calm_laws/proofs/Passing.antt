@@ -21,10 +21,13 @@ use Rattle.node_rules.specs.Messages.{voting, committing, counting}
 use Rattle.node_rules.specs.Tables.{contains}
 use Rattle.journal_readings.specs.Lines.{has_node}
 use Rattle.cluster_rules.specs.World.{World}
+use Rattle.cluster_rules.proofs.KeptFacts.{num_same}
+use Rattle.cluster_laws.proofs.At.{differ}
 use Rattle.key_laws.specs.Order.{AtMost}
 use Rattle.key_laws.proofs.Order.{at_most_eq, at_most_lt}
+use Rattle.run_laws.specs.Tied.{Among}
 use Rattle.calm_laws.specs.Acts.{Input, Gets, as_read, sent_at, acted, outbox}
-use Rattle.calm_laws.specs.Flows.{Occurs, Flowed, inbox}
+use Rattle.calm_laws.specs.Flows.{Flowed, inbox}
 use Rattle.calm_laws.specs.Group.{Group, replies, kind}
 use Rattle.calm_laws.specs.Stances.{Stance, stance_of, turned}
 use Rattle.calm_laws.specs.Turns.{is_agreeing, Only, Follows, Leads}
@@ -35,7 +38,6 @@ use Rattle.calm_laws.proofs.Proposals.{all_gets}
 use Rattle.calm_laws.proofs.Replies.{answers}
 use Rattle.calm_laws.proofs.Same.{acted_same}
 use Rattle.calm_laws.proofs.Sent.{AllGets, among_each}
-use Rattle.calm_laws.proofs.Took.{differ, same_number}
 use Rattle.calm_laws.proofs.Turning.{acted_turns}
 use Rattle.calm_laws.proofs.Turns.{Led, follows_kept, inside_follows, leads_kept}
 
@@ -90,7 +92,7 @@ one_kind : (i j : ℕ) → is_agreeing i ≡ false → contains (i ∷ []) j ≡
 one_kind i j e h = go (i == j) refl h
   where
     go : (b : Bool) → (i == j) ≡ b → (b || false) ≡ true → is_agreeing j ≡ false
-    go true s f = ap is_agreeing (sym (same_number i j s)) ∙ e
+    go true s f = ap is_agreeing (sym (num_same i j s)) ∙ e
     go false s f = differ f refl
 
 pub free_replies : (y : Message) (j : ℕ) → is_agreeing (kind y) ≡ false → contains (replies (kind y)) j ≡ true → is_agreeing j ≡ false
@@ -110,23 +112,23 @@ free_replies _ j e h = no_kind j h
 -- ---- what is sent on a message of the proposal
 
 module _ (p a o : Bool) (k : ClusterKey) (ms : List Member) (r : Readable k ms) where
-  accept_passes : (f : Facts) (from : ℕ) (l : ClusterKey) → l ≡ k → p ≡ true → AtMost f.agreement.promised k → (to : ℕ) (x : Message) → Occurs (to, x) (as_read (voting f from l (key_lt l f.agreement.promised)).sends) → Only false p a k ms x
+  accept_passes : (f : Facts) (from : ℕ) (l : ClusterKey) → l ≡ k → p ≡ true → AtMost f.agreement.promised k → (to : ℕ) (x : Message) → Among (as_read (voting f from l (key_lt l f.agreement.promised)).sends) (to, x) → Only false p a k ms x
   accept_passes f from l e may most to x h =
       let not_below : key_lt l f.agreement.promised ≡ false = ap (λ (y : ClusterKey). key_lt y f.agreement.promised) e ∙ at_most_lt k f.agreement.promised most in
       let is : message.Accept k ≡ x = among_each (message.Accept k) r.accepts (from ∷ []) to x
-      (subst (λ (y : ClusterKey). Occurs (to, x) (as_read (voting f from y false).sends)) e (subst (λ (b : Bool). Occurs (to, x) (as_read (voting f from l b).sends)) not_below h)) in
+      (subst (λ (y : ClusterKey). Among (as_read (voting f from y false).sends) (to, x)) e (subst (λ (b : Bool). Among (as_read (voting f from l b).sends) (to, x)) not_below h)) in
       subst (λ (y : Message). Only false p a k ms y) is (may, refl)
 
-  commit_passes : (f : Facts) (q : Proposal) → q.key ≡ k → q.members ≡ ms → a ≡ true → (b : Bool) (to : ℕ) (x : Message) → Occurs (to, x) (as_read (committing f q b).sends) → Only false p a k ms x
+  commit_passes : (f : Facts) (q : Proposal) → q.key ≡ k → q.members ≡ ms → a ≡ true → (b : Bool) (to : ℕ) (x : Message) → Among (as_read (committing f q b).sends) (to, x) → Only false p a k ms x
   unfolding as_read
   commit_passes f q e i may false to x h = absurd h
   commit_passes f q e i may true to x h =
       let same : message.Commit q.key q.members ≡ message.Commit k ms = ap (λ (y : ClusterKey). message.Commit y q.members) e ∙ ap (λ (ys : List Member). message.Commit k ys) i in
       let is : message.Commit k ms ≡ x = among_each (message.Commit k ms) r.commits (agreement.others f.me q.members) to x
-      (subst (λ (y : Message). Occurs (to, x) (as_read (to_each (agreement.others f.me q.members) y))) same h) in
+      (subst (λ (y : Message). Among (as_read (to_each (agreement.others f.me q.members) y)) (to, x)) same h) in
       subst (λ (y : Message). Only false p a k ms y) is (may, refl, refl)
 
-  count_passes : (f : Facts) (from : ℕ) (l : ClusterKey) (q : Option Proposal) → Party k ms (stance_of f) → f.agreement.proposal ≡ q → a ≡ true → (b : Bool) (to : ℕ) (x : Message) → Occurs (to, x) (as_read (counting f from l q b).sends) → Only false p a k ms x
+  count_passes : (f : Facts) (from : ℕ) (l : ClusterKey) (q : Option Proposal) → Party k ms (stance_of f) → f.agreement.proposal ≡ q → a ≡ true → (b : Bool) (to : ℕ) (x : Message) → Among (as_read (counting f from l q b).sends) (to, x) → Only false p a k ms x
   unfolding as_read
   count_passes f from l None h e may b to x i = absurd i
   count_passes f from l (Some q) h e may false to x i = absurd i
@@ -135,11 +137,11 @@ module _ (p a o : Bool) (k : ClusterKey) (ms : List Member) (r : Readable k ms) 
       let same : q ≡ h.stands = some_is q h.stands (sym e ∙ h.is) in
       commit_passes f q (ap (λ (y : Proposal). y.key) same ∙ h.key) (ap (λ (y : Proposal). y.members) same ∙ h.members) may (is_nil (without_missing q from).missing) to x i
 
-  other_passes : (n c : ℕ) (f : Facts) (from : ℕ) (y : Message) → is_agreeing (kind y) ≡ false → (to : ℕ) (x : Message) → Occurs (to, x) (sent_at n c f (Gets from y)) → Only false p a k ms x
+  other_passes : (n c : ℕ) (f : Facts) (from : ℕ) (y : Message) → is_agreeing (kind y) ≡ false → (to : ℕ) (x : Message) → Among (sent_at n c f (Gets from y)) (to, x) → Only false p a k ms x
   other_passes n c f from y free to x h = only_free false p a k ms x (free_replies y (kind x) free (answers n c f from y to x h))
 
   -- of such a message only an answer of the same proposal is sent
-  pub passes : (n c : ℕ) (f : Facts) (from : ℕ) (y : Message) → Only p a o k ms y → Party k ms (stance_of f) → (to : ℕ) (x : Message) → Occurs (to, x) (sent_at n c f (Gets from y)) → Only false p a k ms x
+  pub passes : (n c : ℕ) (f : Facts) (from : ℕ) (y : Message) → Only p a o k ms y → Party k ms (stance_of f) → (to : ℕ) (x : Message) → Among (sent_at n c f (Gets from y)) (to, x) → Only false p a k ms x
   passes n c f from (message.Propose l ns) is h to x i = accept_passes f from l is.1 is.0 (party_promised k ms (stance_of f) h) to x i
   passes n c f from (message.Accept l) is h to x i = count_passes f from l f.agreement.proposal h refl is.0 (proposes f.agreement.proposal l) to x i
   passes n c f from (message.Refuse l promised) is h to x i = absurd is
@@ -149,20 +151,20 @@ module _ (p a o : Bool) (k : ClusterKey) (ms : List Member) (r : Readable k ms) 
 -- ---- flows
 
 -- what each message among these makes of a stance keeps what holds of stances
-pub keeps_turned : (n c : ℕ) (P : Stance → Type 0) (is : List Input) → AllGets is → ((me : ℕ) (s : Stance) (from : ℕ) (m : Message) → Occurs (Gets from m) is → P s → P (turned me s from m)) → Keeps n c (λ f. P (stance_of f)) is
+pub keeps_turned : (n c : ℕ) (P : Stance → Type 0) (is : List Input) → AllGets is → ((me : ℕ) (s : Stance) (from : ℕ) (m : Message) → Among is (Gets from m) → P s → P (turned me s from m)) → Keeps n c (λ f. P (stance_of f)) is
 keeps_turned n c P is gets kept f i h p =
-    all_gets is i gets h (λ j. Occurs j is → P (stance_of (acted n c f j))) (λ from m there. subst P (sym (acted_turns n c f from m)) (kept f.me (stance_of f) from m there p)) h
+    all_gets is i gets h (λ j. Among is j → P (stance_of (acted n c f j))) (λ from m there. subst P (sym (acted_turns n c f from m)) (kept f.me (stance_of f) from m there p)) h
 
-pub flow_kept : (n : ℕ) (u v : World) (m : ℕ) (P : Stance → Type 0) → Flowed n u v → ((me : ℕ) (s : Stance) (from : ℕ) (x : Message) → Occurs (Gets from x) (inbox u m) → P s → P (turned me s from x)) → P (stance_of (u.facts m)) → P (stance_of (v.facts m))
+pub flow_kept : (n : ℕ) (u v : World) (m : ℕ) (P : Stance → Type 0) → Flowed n u v → ((me : ℕ) (s : Stance) (from : ℕ) (x : Message) → Among (inbox u m) (Gets from x) → P s → P (turned me s from x)) → P (stance_of (u.facts m)) → P (stance_of (v.facts m))
 flow_kept n u v m P f kept p =
     subst (λ (g : Facts). P (stance_of g)) (sym (f.facts m))
     (served_kept n (u.clocks m) (λ g. P (stance_of g)) (inbox u m) (u.facts m) (keeps_turned n (u.clocks m) P (inbox u m) (gets_inbox u m) kept) p)
 
 -- one message among these gives what the others keep
 pub flow_each : (n : ℕ) (u v : World) (m : ℕ) (P Q : Stance → Type 0) → Flowed n u v
-    → ((me : ℕ) (s : Stance) (from : ℕ) (x : Message) → Occurs (Gets from x) (inbox u m) → P s → P (turned me s from x))
-    → ((me : ℕ) (s : Stance) (from : ℕ) (x : Message) → Occurs (Gets from x) (inbox u m) → Q s → Q (turned me s from x))
-    → (a : ℕ) (y : Message) → ((me : ℕ) (s : Stance) → me ≡ (u.facts m).me → P s → Q (turned me s a y)) → Occurs (Gets a y) (inbox u m) → P (stance_of (u.facts m)) → Q (stance_of (v.facts m))
+    → ((me : ℕ) (s : Stance) (from : ℕ) (x : Message) → Among (inbox u m) (Gets from x) → P s → P (turned me s from x))
+    → ((me : ℕ) (s : Stance) (from : ℕ) (x : Message) → Among (inbox u m) (Gets from x) → Q s → Q (turned me s from x))
+    → (a : ℕ) (y : Message) → ((me : ℕ) (s : Stance) → me ≡ (u.facts m).me → P s → Q (turned me s a y)) → Among (inbox u m) (Gets a y) → P (stance_of (u.facts m)) → Q (stance_of (v.facts m))
 flow_each n u v m P Q f keep kept a y gives comes p =
     subst (λ (g : Facts). Q (stance_of g)) (sym (f.facts m))
     (served_each n (u.clocks m) (λ g. (g.me ≡ (u.facts m).me) × P (stance_of g)) (λ g. Q (stance_of g)) (inbox u m) (u.facts m) (Gets a y)
@@ -171,7 +173,7 @@ flow_each n u v m P Q f keep kept a y gives comes p =
 
 -- the messages of agreement that come to the group are of that proposal
 abbrev pub AllOnly : Bool → Bool → Bool → ClusterKey → List Member → List ℕ → World → Type 0
-AllOnly p a o k ms gs w = (m : ℕ) → has_node gs m ≡ true → (from : ℕ) (x : Message) → Occurs (Gets from x) (inbox w m) → Only p a o k ms x
+AllOnly p a o k ms gs w = (m : ℕ) → has_node gs m ≡ true → (from : ℕ) (x : Message) → Among (inbox w m) (Gets from x) → Only p a o k ms x
 
 abbrev pub Parties : ClusterKey → List Member → List ℕ → World → Type 0
 Parties k ms gs w = (m : ℕ) → has_node gs m ≡ true → Party k ms (stance_of (w.facts m))
@@ -187,5 +189,5 @@ flow_only n ns gs u v p a o k ms r g f only h m here from x there =
     kept_along n (u.clocks from) (λ g. Party k ms (stance_of g)) is (u.facts from)
     (keeps_turned n (u.clocks from) (Party k ms) is (gets_inbox u from) (λ me s b y t. party_kept p a o k ms me s b y (only from sent.sender b y t))) (h from sent.sender) in
     let by : SentBy n (u.clocks from) (λ g. Party k ms (stance_of g)) is (m, x) = outbox_only n (u.clocks from) (λ g. Party k ms (stance_of g)) is (u.facts from) (m, x) all sent.sent in
-    all_gets is by.act (gets_inbox u from) by.came (λ i. Occurs i is → Occurs (m, x) (sent_at n (u.clocks from) by.facts i) → Only false p a k ms x)
+    all_gets is by.act (gets_inbox u from) by.came (λ i. Among is i → Among (sent_at n (u.clocks from) by.facts i) (m, x) → Only false p a k ms x)
     (λ b y came i. passes p a o k ms r n (u.clocks from) by.facts b y (only from sent.sender b y came) by.before m x i) by.came by.sent

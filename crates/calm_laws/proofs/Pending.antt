@@ -14,12 +14,13 @@ use Rattle.node_rules.specs.Copies.{Content, is_of}
 use Rattle.node_rules.specs.Standing.{is_done}
 use Rattle.journal_readings.specs.Lines.{has_node}
 use Rattle.cluster_rules.specs.World.{World}
+use Rattle.cluster_laws.proofs.At.{differ}
+use Rattle.run_laws.specs.Tied.{Among}
 use Rattle.calm_laws.specs.Exchanges.{Exchanged}
-use Rattle.calm_laws.specs.Flows.{Occurs, Once, Rounded}
+use Rattle.calm_laws.specs.Flows.{Once, Rounded}
 use Rattle.calm_laws.specs.Handing.{AtMostPending, Handing, NothingOut, PendingHeld, target_begun, begun_with, target_acked, settled_out}
 use Rattle.calm_laws.proofs.Handovers.{HandRound, batches_end}
 use Rattle.calm_laws.proofs.Acknowledged.{settled_out_none}
-use Rattle.calm_laws.proofs.Took.{differ}
 
 -- ---- a target after a round
 
@@ -93,7 +94,7 @@ drops_first : (p : List ℕ → Bool) (d : List ℕ) (ds : List (List ℕ)) → 
 drops_first p d ds e = subst (λ (b : Bool). length (cond b (d ∷ filter p ds) (filter p ds)) ≤ length ds) (sym e) (no_more p ds)
 
 -- where nothing was out and something is pending it falls
-pub falls : (k : ClusterKey) (c : Content) (t : Target) (p : ℕ) → t.out ≡ None → ((d : List ℕ) → Occurs d t.pending → is_some (finite.get c d) ≡ true) → length t.pending ≤ suc p → length (after k c t).pending ≤ p
+pub falls : (k : ClusterKey) (c : Content) (t : Target) (p : ℕ) → t.out ≡ None → ((d : List ℕ) → Among t.pending d → is_some (finite.get c d) ≡ true) → length t.pending ≤ suc p → length (after k c t).pending ≤ p
 falls k c t p out held most = go t.pending refl
   where
     go : (ds : List (List ℕ)) → t.pending ≡ ds → length (after k c t).pending ≤ p
@@ -110,7 +111,7 @@ falls k c t p out held most = go t.pending refl
         next = ap (λ (o : Option Batch). batch_after k c t o) out ∙ ap (λ (xs : List (List ℕ)). fresh_batch k c t xs) e
 
         among : is_among (new_batch k c t).records d ≡ true
-        among = ap (λ (xs : List (List ℕ)). is_among (records_of c (take batch_limit xs)) d) e ∙ first_among c d (take 63 ds) (held d (subst (λ (xs : List (List ℕ)). Occurs d xs) (sym e) (inl refl)))
+        among = ap (λ (xs : List (List ℕ)). is_among (records_of c (take batch_limit xs)) d) e ∙ first_among c d (take 63 ds) (held d (subst (λ (xs : List (List ℕ)). Among xs d) (sym e) (inl refl)))
 
         fewer : length (after k c t).pending ≤ length ds
         fewer =
@@ -125,10 +126,10 @@ falls k c t p out held most = go t.pending refl
 -- where a target after the round is from
 record Source (k : ClusterKey) (c : Content) (ts : Targets) (t : Target) : Type 0 where
   source : Target
-  there : Occurs source ts
+  there : Among ts source
   is : after k c source ≡ t
 
-source_of : (k : ClusterKey) (c : Content) (ts : Targets) (t : Target) → Occurs t (map target_acked (map (target_begun k c) ts)) → Source k c ts t
+source_of : (k : ClusterKey) (c : Content) (ts : Targets) (t : Target) → Among (map target_acked (map (target_begun k c) ts)) t → Source k c ts t
 source_of k c [] t h = absurd h
 source_of k c (s ∷ ts) t (inl e) = record { source = s; there = inl refl; is = e }
 source_of k c (s ∷ ts) t (inr h) = later (source_of k c ts t h)
@@ -155,8 +156,8 @@ after_nodes k c [] = refl
 after_nodes k c (t ∷ ts) = ap (λ (x : ℕ). x ∷ map (λ (t : Target). t.node) (map target_acked (map (target_begun k c) ts))) (after_node k c t) ∙ ap (λ (xs : List ℕ). t.node ∷ xs) (after_nodes k c ts)
 
 module _ (n : ℕ) (ns gs : List ℕ) (g : ℕ) (set : List Member) (k : ClusterKey) (w v : World) (r : Rounded n w v) (h : HandRound n ns gs g set k w v r) where
-  from : (m : ℕ) → has_node gs m ≡ true → (t : Target) → Occurs t (v.facts m).batches → Source k (w.facts m).store.content (w.facts m).batches t
-  from m here t there = source_of k (w.facts m).store.content (w.facts m).batches t (subst (λ (ts : Targets). Occurs t ts) (batches_end n ns gs g set k w v r h m here) there)
+  from : (m : ℕ) → has_node gs m ≡ true → (t : Target) → Among (v.facts m).batches t → Source k (w.facts m).store.content (w.facts m).batches t
+  from m here t there = source_of k (w.facts m).store.content (w.facts m).batches t (subst (λ (ts : Targets). Among ts t) (batches_end n ns gs g set k w v r h m here) there)
 
   -- nothing is out at the end of a round
   pub nothing_out : NothingOut gs v
@@ -183,7 +184,7 @@ module _ (n : ℕ) (ns gs : List ℕ) (g : ℕ) (set : List Member) (k : Cluster
 
 -- ---- nothing is pending
 
-none_pending : (ts : Targets) (p : ℕ) → ((t : Target) → Occurs t ts → length t.pending ≤ 0) → is_pending ts p ≡ false
+none_pending : (ts : Targets) (p : ℕ) → ((t : Target) → Among ts t → length t.pending ≤ 0) → is_pending ts p ≡ false
 none_pending [] p h = refl
 none_pending (t ∷ ts) p h =
     ap (λ (xs : List (List ℕ)). list_any (is_of p) xs || is_pending ts p) (empty t.pending (h t (inl refl)))

@@ -3,19 +3,21 @@ use Rattle.std.proofs.Common.{◌≡◌, ℕ, zero, suc, ◌+◌, ◌<◌, ◌�
 use Rattle.std.proofs.lemmas.Bool.Decides.{nat_tests}
 use Rattle.cluster_types.specs.Rows.{bit}
 use Rattle.journal_lines.specs.declared.line.Line.TheVariants as line
+use Rattle.partition_lists.proofs.InOrderLaws.{equal}
 use Rattle.node_rules.specs.Bits.{with_bit}
 use Rattle.node_rules.specs.Facts.{Facts, list_at, view_key}
 use Rattle.node_rules.specs.Notes.{noted}
 use Rattle.node_rules.specs.Settling.{line_if, may_hand, may_settle, settling_at, settling_from}
 use Rattle.node_rules.specs.Standing.{are_all_done, is_acting, is_all_empty, is_master, is_to_drop, is_to_learn}
 use Rattle.node_rules.specs.Transactions.{is_busy}
+use Rattle.node_rules.proofs.NoteLaws.{noted-append}
+use Rattle.cluster_rules.proofs.KeptFacts.{num_same}
+use Rattle.cluster_laws.proofs.At.{differ}
 use Rattle.calm_laws.specs.Calming.{Reaches}
 use Rattle.calm_laws.proofs.Bitwise.{Has}
 use Rattle.calm_laws.proofs.Growing.{bit_stays}
 use Rattle.calm_laws.proofs.Knowing.{or_grows}
 use Rattle.calm_laws.proofs.Owing.{after_hand, after_learn, after_settle, four, reaches_set}
-use Rattle.calm_laws.proofs.Ticking.{noted_append}
-use Rattle.calm_laws.proofs.Took.{differ, number_is, same_number}
 
 -- what each of the four lines of a partition keeps, the lines of all keep
 pub record Lasts (P : List ℕ → Facts → Type 0) : Type 0 where
@@ -37,7 +39,7 @@ unfolding settling_from
 from_lasts P h l zero p f x = x
 from_lasts P h l (suc k) p f x =
     let g : Facts = noted None f (settling_at (list_at f p) p f) in
-    subst (λ (y : Facts). P l y) (sym (noted_append None f (settling_at (list_at f p) p f) (settling_from k (p + 1) g))) (from_lasts P h l k (p + 1) g (all_last P h l f (list_at f p) p x))
+    subst (λ (y : Facts). P l y) (sym (noted-append None f (settling_at (list_at f p) p f) (settling_from k (p + 1) g))) (from_lasts P h l k (p + 1) g (all_last P h l f (list_at f p) p x))
 
 pub next_above : (a b : ℕ) → a ≤ b → (a ≡ b → ⊥) → a + 1 ≤ b
 next_above a b le d = go (nat_lt a b) refl
@@ -52,15 +54,15 @@ unfolding settling_from
 comes_about P Q h j q l makes zero p f le lt x = absurd (omega (arith, le, lt))
 comes_about P Q h j q l makes (suc k) p f le lt x =
     let g : Facts = noted None f (settling_at (list_at f p) p f) in
-    subst (λ (y : Facts). Q l y) (sym (noted_append None f (settling_at (list_at f p) p f) (settling_from k (p + 1) g)))
+    subst (λ (y : Facts). Q l y) (sym (noted-append None f (settling_at (list_at f p) p f) (settling_from k (p + 1) g)))
     (go (p == q) refl (λ above. comes_about P Q h j q l makes k (p + 1) g above (omega (arith, lt)) (all_last P h l f (list_at f p) p x)))
   where
     go : (b : Bool) → (p == q) ≡ b → (p + 1 ≤ q → Q l (noted None (noted None f (settling_at (list_at f p) p f)) (settling_from k (p + 1) (noted None f (settling_at (list_at f p) p f)))))
         → Q l (noted None (noted None f (settling_at (list_at f p) p f)) (settling_from k (p + 1) (noted None f (settling_at (list_at f p) p f))))
     go true e rest =
         from_lasts Q j l k (p + 1) (noted None f (settling_at (list_at f p) p f))
-        (subst (λ (y : ℕ). Q l (noted None f (settling_at (list_at f y) y f))) (sym (same_number p q e)) (makes f x))
-    go false e rest = rest (next_above p q le (λ i. differ (number_is p q i) e))
+        (subst (λ (y : ℕ). Q l (noted None f (settling_at (list_at f y) y f))) (sym (num_same p q e)) (makes f x))
+    go false e rest = rest (next_above p q le (λ i. differ (equal p q i) e))
 
 -- ---- a bit
 

@@ -14,6 +14,7 @@ use Rattle.cluster_rules.specs.declared.event.Event.{Event}
 use Rattle.cluster_rules.specs.Opening.{Header, declared_factor, declared_nodes, declared_policy}
 use Rattle.cluster_rules.specs.Steps.{play}
 use Rattle.cluster_rules.specs.World.{World, is_up, opened}
+use Rattle.cluster_laws.proofs.GroundLaws.{apart}
 use Rattle.key_laws.specs.Ends.{IsOneOf}
 use Rattle.key_laws.proofs.Addressed.{and_right}
 use Rattle.key_laws.proofs.AllowedRuns.{declared_id}
@@ -25,9 +26,10 @@ use Rattle.run_laws.specs.Fronts.{facts_at}
 use Rattle.run_laws.specs.LineDue.{LawOf}
 use Rattle.run_laws.specs.Taken.{IsProperEvent}
 use Rattle.run_laws.specs.Tied as tied
+use Rattle.run_laws.specs.Tied.{Among}
 use Rattle.run_laws.proofs.AllRead.{ProposalFits, TicksSpelled}
 use Rattle.run_laws.proofs.WorldSends.{proposal_fits, spells, ticks}
-use Rattle.calm_laws.specs.Flows.{Occurs, Speaks, look}
+use Rattle.calm_laws.specs.Flows.{Speaks, look}
 use Rattle.calm_laws.specs.Laws.{HasLaws, ReadsWith}
 use Rattle.calm_laws.specs.Onward.{MayTake}
 use Rattle.calm_laws.specs.Turns.{Lacking}
@@ -35,18 +37,17 @@ use Rattle.calm_laws.specs.Waits.{LacksSome, Waits}
 use Rattle.calm_laws.proofs.Becoming.{became}
 use Rattle.calm_laws.proofs.Fronts.{facts_are, front_of, known, read_there, world_is}
 use Rattle.calm_laws.proofs.Hears.{ties}
-use Rattle.calm_laws.proofs.Took.{number_isnt}
 use Rattle.calm_laws.proofs.Waits.{Found, became_waits}
 use Rattle.calm_laws.proofs.Walks.{named_of, order_of, reaches}
 
 -- ---- lists
 
-pub to_front : {A : Type 0} (x : A) (xs : List A) → Occurs x xs → tied.Among xs x
+pub to_front : {A : Type 0} (x : A) (xs : List A) → Among xs x → tied.Among xs x
 to_front x [] h = h
 to_front x (y ∷ ys) (inl e) = inl e
 to_front x (y ∷ ys) (inr h) = inr (to_front x ys h)
 
-pub from_front : {A : Type 0} (x : A) (xs : List A) → tied.Among xs x → Occurs x xs
+pub from_front : {A : Type 0} (x : A) (xs : List A) → tied.Among xs x → Among xs x
 from_front x [] h = h
 from_front x (y ∷ ys) (inl e) = inl e
 from_front x (y ∷ ys) (inr h) = inr (from_front x ys h)
@@ -102,7 +103,7 @@ asks_there may m up = subst (λ (f : Facts). ReadsWith (after_ages f) (after_age
 
 heard_none : (es : Table Heard) (m : ℕ) → HeardAs (λ n r. n ≡ m → ⊥) es → at es m ≡ None
 heard_none [] m h = refl
-heard_none (e ∷ es) m h = ap (λ (b : Bool). cond b (Some e.1) (at es m)) (ties m e.0 ∙ number_isnt m e.0 (λ s. h.0 (sym s))) ∙ heard_none es m h.1
+heard_none (e ∷ es) m h = ap (λ (b : Bool). cond b (Some e.1) (at es m)) (ties m e.0 ∙ apart m e.0 (λ s. h.0 (sym s))) ∙ heard_none es m h.1
 
 -- it doesn't hear itself
 pub not_itself : {w : World} (may : MayTake w []) (m : ℕ) → look (w.facts m).hearing.heard m ≡ None

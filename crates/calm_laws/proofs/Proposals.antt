@@ -26,10 +26,12 @@ use Rattle.node_rules.specs.Notes.{note, noted, reached, sent, all_sent, in_view
 use Rattle.node_rules.specs.Tables.{contains}
 use Rattle.cluster_rules.specs.Network.{client, are_apart}
 use Rattle.cluster_rules.specs.World.{World, is_up}
+use Rattle.cluster_laws.proofs.At.{differ}
 use Rattle.key_laws.proofs.Order.{same_self}
+use Rattle.run_laws.specs.Tied.{Among}
 use Rattle.calm_laws.specs.Acts.{Input, Ticks, Gets, read_to, as_read, sent_at, acted, outbox}
 use Rattle.calm_laws.specs.Letters.{letters_from, arriving_at}
-use Rattle.calm_laws.specs.Flows.{Occurs, Base, Flowed, Near, Rounded, inbox}
+use Rattle.calm_laws.specs.Flows.{Base, Flowed, Near, Rounded, inbox}
 use Rattle.calm_laws.specs.Group.{kind}
 use Rattle.calm_laws.proofs.Flow.{among_behind, Open, arrives}
 use Rattle.calm_laws.proofs.Hearing.{gets_inbox}
@@ -37,7 +39,6 @@ use Rattle.calm_laws.proofs.Inputs.{Keeps, Along, served_kept, served_each, Any,
 use Rattle.calm_laws.proofs.KindLaws.{NoneOf, none_read}
 use Rattle.calm_laws.proofs.Own.{Steady, AllSteady, message_steady}
 use Rattle.calm_laws.proofs.Sent.{asks, AllGets, message_none}
-use Rattle.calm_laws.proofs.Took.{differ}
 
 -- ---- proposals that shrink
 
@@ -193,7 +194,7 @@ got_shrunk k m None y h i = tt
 got_shrunk k m (Some p) None h i = absurd h
 got_shrunk k m (Some p) (Some q) h i = (h.key ∙ i.0, h.missing m i.1)
 
-pub all_gets : (is : List Input) (i : Input) → AllGets is → Occurs i is → (P : Input → Type 0) → ((from : ℕ) (m : Message) → P (Gets from m)) → P i
+pub all_gets : (is : List Input) (i : Input) → AllGets is → Among is i → (P : Input → Type 0) → ((from : ℕ) (m : Message) → P (Gets from m)) → P i
 all_gets [] i g h P f = absurd h
 all_gets (Ticks ∷ is) i g h P f = absurd g
 all_gets (Gets from m ∷ is) i g (inl e) P f = subst P e (f from m)
@@ -251,10 +252,10 @@ votes n c k a ms f v = go (key_lt k f.agreement.promised) refl
     go : (b : Bool) → key_lt k f.agreement.promised ≡ b → Any (VoteTo k a) (as_read (voting f a k b).sends)
     go true e =
         let l : ℕ × Message = (a, message.Refuse k f.agreement.promised) in
-        record { which = l; among = subst (λ (o : Option Message). Occurs l (cons_option (read_to a o) [])) (sym (v.refuses e)) (inl refl); good = record { to = refl; vote = refl } }
+        record { which = l; among = subst (λ (o : Option Message). Among (cons_option (read_to a o) []) l) (sym (v.refuses e)) (inl refl); good = record { to = refl; vote = refl } }
     go false e =
         let l : ℕ × Message = (a, message.Accept k) in
-        record { which = l; among = subst (λ (o : Option Message). Occurs l (cons_option (read_to a o) [])) (sym v.accepts) (inl refl); good = record { to = refl; vote = refl } }
+        record { which = l; among = subst (λ (o : Option Message). Among (cons_option (read_to a o) []) l) (sym v.accepts) (inl refl); good = record { to = refl; vote = refl } }
 
 -- ---- a round
 
@@ -270,18 +271,18 @@ opened w u a m groups ups up together node = record {
 
 -- a node whose tick proposed a key to another one doesn't miss it at the round's end, if that proposal stands by then
 pub answered : (n : ℕ) (ns : List ℕ) (w v : World) (r : Rounded n w v) → Base ns w → (a m : ℕ) → Near ns w a m → Near ns w m a → (k : ClusterKey) (ms : List Member)
-    → Of k (prop (r.ticks_end.facts a)) → Occurs (m, message.Propose k ms) (letters_from a r.ticks.posted)
+    → Of k (prop (r.ticks_end.facts a)) → Among (letters_from a r.ticks.posted) (m, message.Propose k ms)
     → Along n (r.ticks_end.clocks m) (Votes k) (r.ticks_end.facts m) (inbox r.ticks_end m) → Got k m (prop (v.facts a))
 answered n ns w v r b a m am ma k ms stands proposed fit =
     let t : World = r.ticks_end in
     let one : World = r.first_end in
-    let comes : Occurs (Gets a (message.Propose k ms)) (inbox t m) = subst (λ (is : List Input). Occurs (Gets a (message.Propose k ms)) is) (sym (r.ticks.inbox m))
+    let comes : Among (inbox t m) (Gets a (message.Propose k ms)) = subst (λ (is : List Input). Among is (Gets a (message.Propose k ms))) (sym (r.ticks.inbox m))
     (among_behind (Gets a (message.Propose k ms)) (inbox w m) (arriving_at t m r.ticks.posted)
     (arrives t a m (message.Propose k ms) r.ticks.posted (opened w t a m r.ticks.groups (r.ticks.ups m) (b.up m am.receiver) am.together am.node) proposed)) in
     let vote : Any (VoteTo k a) (outbox n (t.clocks m) (t.facts m) (inbox t m)) = outbox_any n (t.clocks m) (Votes k) (VoteTo k a) (inbox t m) (t.facts m) (Gets a (message.Propose k ms)) fit (votes n (t.clocks m) k a ms) comes in
     let x : Message = vote.which.1 in
-    let letter : Occurs (a, x) (letters_from m r.first.posted) = subst (λ (y : ℕ). Occurs (y, x) (letters_from m r.first.posted)) vote.good.to (subst (λ (ls : List (ℕ × Message)). Occurs vote.which ls) (sym (r.first.from m)) vote.among) in
-    let answer : Occurs (Gets m x) (inbox one a) = subst (λ (is : List Input). Occurs (Gets m x) is) (sym (r.first.inbox a))
+    let letter : Among (letters_from m r.first.posted) (a, x) = subst (λ (y : ℕ). Among (letters_from m r.first.posted) (y, x)) vote.good.to (subst (λ (ls : List (ℕ × Message)). Among ls vote.which) (sym (r.first.from m)) vote.among) in
+    let answer : Among (inbox one a) (Gets m x) = subst (λ (is : List Input). Among is (Gets m x)) (sym (r.first.inbox a))
     (arrives one m a x r.first.posted (opened w one m a (r.first.groups ∙ r.ticks.groups) (r.first.ups a ∙ r.ticks.ups a) (b.up a ma.receiver) ma.together ma.node) letter) in
     let of_one : Of k (prop (one.facts a)) = subst (λ (g : Facts). Of k (prop g)) (sym (r.first.facts a)) (served_kept n (t.clocks a) (λ g. Of k (prop g)) (inbox t a) (t.facts a) (keeps_of n (t.clocks a) k (inbox t a) (gets_inbox t a)) stands) in
     let got : Got k m (prop (r.second_end.facts a)) = subst (λ (g : Facts). Got k m (prop g)) (sym (r.second.facts a))

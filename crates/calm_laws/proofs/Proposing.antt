@@ -5,6 +5,7 @@ use Rattle.cluster_types.specs.declared.member.Member.{Member}
 use Rattle.cluster_types.specs.Members.{ids_of}
 use Rattle.wire_messages.specs.declared.message.Message.{Message}
 use Rattle.wire_messages.specs.declared.message.Message.TheVariants as message
+use Rattle.partition_lists.proofs.InOrderLaws.{equal}
 use Rattle.node_rules.specs.Agreement as agreement
 use Rattle.node_rules.specs.Agreement.{Proposal, others, proposes, without_missing}
 use Rattle.node_rules.specs.Copies.{is_nil}
@@ -17,10 +18,14 @@ use Rattle.node_rules.specs.Notes.{after_ages}
 use Rattle.node_rules.specs.Tables.{contains}
 use Rattle.journal_readings.specs.Lines.{has_node}
 use Rattle.cluster_rules.specs.World.{World, is_up}
+use Rattle.cluster_rules.proofs.KeptFacts.{num_same}
+use Rattle.cluster_laws.proofs.At.{differ}
+use Rattle.key_laws.proofs.Addressed.{not_gone}
 use Rattle.key_laws.proofs.Order.{at_most_lt, same_self}
+use Rattle.run_laws.specs.Tied.{Among}
 use Rattle.calm_laws.specs.Laws.{is_to_propose}
 use Rattle.calm_laws.specs.Acts.{Input, Ticks, Gets, acted, as_read, outbox, sent_at, served}
-use Rattle.calm_laws.specs.Flows.{Occurs, Flowed, Near, Rounded, Ticked, inbox}
+use Rattle.calm_laws.specs.Flows.{Flowed, Near, Rounded, Ticked, inbox}
 use Rattle.calm_laws.specs.Group.{Group}
 use Rattle.calm_laws.specs.Letters.{arriving_at}
 use Rattle.calm_laws.specs.Stances.{Stance, stance_of}
@@ -32,34 +37,33 @@ use Rattle.calm_laws.proofs.Hearing.{Framed, flow_frame, frame_on, gets_inbox, o
 use Rattle.calm_laws.proofs.Inputs.{Along, kept_along, outbox_each, served_each, served_kept}
 use Rattle.calm_laws.proofs.Passing.{AllOnly, Parties, Party, Readable, flow_each, flow_kept, flow_only, flow_parties, keeps_turned, party_kept, party_promised}
 use Rattle.calm_laws.proofs.Proposals.{Got, Of, Shrunk, acted_shrinks, all_gets, keeps_got, keeps_of, prop, shrunk_on, shrunk_refl, vote_gives}
-use Rattle.calm_laws.proofs.Rolls.{contains_among, member_here, nothing_there, other_here, other_in, without_other}
+use Rattle.calm_laws.proofs.Rolls.{contains_among, member_here, nothing_there, other_here, other_in}
 use Rattle.calm_laws.proofs.Same.{acted_same}
 use Rattle.calm_laws.proofs.Sent.{AllGets, each_among}
 use Rattle.calm_laws.proofs.Ticking.{tick_proposes}
-use Rattle.calm_laws.proofs.Took.{differ, number_is, same_number}
 use Rattle.calm_laws.proofs.Turning.{acted_turns}
 use Rattle.calm_laws.proofs.Turns.{Led, Votes, committed, follows_kept, inside_kept, leads_counted, leads_stay, led_kept, votes_kept, votes_made}
 
 -- ---- what is sent
 
-accept_sent : (n c : ℕ) (k : ClusterKey) (ms : List Member) (r : Readable k ms) (f : Facts) (from : ℕ) → Party k ms (stance_of f) → Occurs (from, message.Accept k) (sent_at n c f (Gets from (message.Propose k ms)))
+accept_sent : (n c : ℕ) (k : ClusterKey) (ms : List Member) (r : Readable k ms) (f : Facts) (from : ℕ) → Party k ms (stance_of f) → Among (sent_at n c f (Gets from (message.Propose k ms))) (from, message.Accept k)
 accept_sent n c k ms r f from h =
-    subst (λ (b : Bool). Occurs (from, message.Accept k) (as_read (voting f from k b).sends)) (sym (at_most_lt k f.agreement.promised (party_promised k ms (stance_of f) h)))
+    subst (λ (b : Bool). Among (as_read (voting f from k b).sends) (from, message.Accept k)) (sym (at_most_lt k f.agreement.promised (party_promised k ms (stance_of f) h)))
     (each_among (message.Accept k) r.accepts (from ∷ []) from (inl refl))
 
 -- the commits to all others
 abbrev Commits : ℕ → ClusterKey → List Member → List (ℕ × Message) → Type 0
-Commits me k ms out = (x : ℕ) → contains (others me ms) x ≡ true → Occurs (x, message.Commit k ms) out
+Commits me k ms out = (x : ℕ) → contains (others me ms) x ≡ true → Among out (x, message.Commit k ms)
 
 commit_sent : (n c : ℕ) (k : ClusterKey) (ms : List Member) (r : Readable k ms) (me : ℕ) (f : Facts) → f.me ≡ me → (from : ℕ) (l : ClusterKey) → l ≡ k → (h : Leads k ms (stance_of f)) → is_nil (without_missing h.stands from).missing ≡ true
     → Commits me k ms (sent_at n c f (Gets from (message.Accept l)))
 commit_sent n c k ms r me f name from l e h last x there =
-    subst (λ (o : Option Proposal). Occurs (x, message.Commit k ms) (as_read (counting f from l o (proposes o l)).sends)) (sym h.is)
-    (subst (λ (b : Bool). Occurs (x, message.Commit k ms) (as_read (counting f from l (Some h.stands) b).sends)) (sym mine)
-    (subst (λ (b : Bool). Occurs (x, message.Commit k ms) (as_read (committing f h.stands b).sends)) (sym last)
-    (subst (λ (y : ClusterKey). Occurs (x, message.Commit k ms) (as_read (to_each (others f.me h.stands.members) (message.Commit y h.stands.members)))) (sym h.key)
-    (subst (λ (ys : List Member). Occurs (x, message.Commit k ms) (as_read (to_each (others f.me ys) (message.Commit k ys)))) (sym h.members)
-    (subst (λ (y : ℕ). Occurs (x, message.Commit k ms) (as_read (to_each (others y ms) (message.Commit k ms)))) (sym name)
+    subst (λ (o : Option Proposal). Among (as_read (counting f from l o (proposes o l)).sends) (x, message.Commit k ms)) (sym h.is)
+    (subst (λ (b : Bool). Among (as_read (counting f from l (Some h.stands) b).sends) (x, message.Commit k ms)) (sym mine)
+    (subst (λ (b : Bool). Among (as_read (committing f h.stands b).sends) (x, message.Commit k ms)) (sym last)
+    (subst (λ (y : ClusterKey). Among (as_read (to_each (others f.me h.stands.members) (message.Commit y h.stands.members))) (x, message.Commit k ms)) (sym h.key)
+    (subst (λ (ys : List Member). Among (as_read (to_each (others f.me ys) (message.Commit k ys))) (x, message.Commit k ms)) (sym h.members)
+    (subst (λ (y : ℕ). Among (as_read (to_each (others y ms) (message.Commit k ms))) (x, message.Commit k ms)) (sym name)
     (each_among (message.Commit k ms) r.commits (others me ms) x (contains_among (others me ms) x there)))))))
   where
     mine : proposes (Some h.stands) l ≡ true
@@ -79,7 +83,7 @@ module _ (n c : ℕ) (k : ClusterKey) (ms : List Member) (r : Readable k ms) (me
   turn_one f name from (message.Commit l ns) o h = differ o.0 refl
   turn_one f name from m o h = inl (subst (λ (s : Stance). Leads k ms s) (sym (acted_turns n c f from m)) h)
 
-  turns_all : (is : List Input) → AllGets is → ((from : ℕ) (m : Message) → Occurs (Gets from m) is → Only false true false k ms m) → (f : Facts) → f.me ≡ me → Leads k ms (stance_of f) → Leads k ms (stance_of (served n c f is)) ⊎ Commits me k ms (outbox n c f is)
+  turns_all : (is : List Input) → AllGets is → ((from : ℕ) (m : Message) → Among is (Gets from m) → Only false true false k ms m) → (f : Facts) → f.me ≡ me → Leads k ms (stance_of f) → Leads k ms (stance_of (served n c f is)) ⊎ Commits me k ms (outbox n c f is)
   turns_all [] gets only f name h = inl h
   turns_all (Ticks ∷ is) gets only f name h = absurd gets
   turns_all (Gets from m ∷ is) gets only f name h = go (turn_one f name from m (only from m (inl refl)) h) (turns_all is gets (λ b y t. only b y (inr t)) g ((acted_same n c f (Gets from m)).me ∙ name))
@@ -99,21 +103,21 @@ module _ (n c : ℕ) (k : ClusterKey) (ms : List Member) (r : Readable k ms) (me
 -- ---- what arrives
 
 pub flow_arrives : (n : ℕ) (ns gs : List ℕ) (u v : World) → Group ns gs v → ((m : ℕ) → has_node ns m ≡ true → is_up v m ≡ true) → Flowed n u v → (a m : ℕ) → has_node gs a ≡ true → has_node gs m ≡ true → (a ≡ m → ⊥)
-    → (x : Message) → Occurs (m, x) (outbox n (u.clocks a) (u.facts a) (inbox u a)) → Occurs (Gets a x) (inbox v m)
+    → (x : Message) → Among (outbox n (u.clocks a) (u.facts a) (inbox u a)) (m, x) → Among (inbox v m) (Gets a x)
 flow_arrives n ns gs u v g ups f a m sender receiver d x h =
     let near : Near ns v a m = g.near a m sender receiver d in
-    subst (λ (is : List Input). Occurs (Gets a x) is) (sym (f.inbox m))
+    subst (λ (is : List Input). Among is (Gets a x)) (sym (f.inbox m))
     (arrives v a m x f.posted (record { up = ups m (g.up m receiver); together = near.together; node = near.node })
-    (subst (λ (ls : List (ℕ × Message)). Occurs (m, x) ls) (sym (f.from a)) h))
+    (subst (λ (ls : List (ℕ × Message)). Among ls (m, x)) (sym (f.from a)) h))
 
 pub tick_arrives : (n : ℕ) (ns gs : List ℕ) (w t : World) → Group ns gs t → ((m : ℕ) → has_node ns m ≡ true → is_up t m ≡ true) → Ticked n w t ns → (a m : ℕ) → has_node gs a ≡ true → has_node gs m ≡ true → (a ≡ m → ⊥)
-    → (x : Message) → Occurs (m, x) (sent_at n (w.clocks a) (w.facts a) Ticks) → Occurs (Gets a x) (inbox t m)
+    → (x : Message) → Among (sent_at n (w.clocks a) (w.facts a) Ticks) (m, x) → Among (inbox t m) (Gets a x)
 tick_arrives n ns gs w t g ups k a m sender receiver d x h =
     let near : Near ns t a m = g.near a m sender receiver d in
-    subst (λ (is : List Input). Occurs (Gets a x) is) (sym (k.inbox m))
+    subst (λ (is : List Input). Among is (Gets a x)) (sym (k.inbox m))
     (among_behind (Gets a x) (inbox w m) (arriving_at t m k.posted)
     (arrives t a m x k.posted (record { up = ups m (g.up m receiver); together = near.together; node = near.node })
-    (subst (λ (ls : List (ℕ × Message)). Occurs (m, x) ls) (sym (k.from a ∙ outbox_ticks n (w.clocks a) (w.facts a) (has_node ns a) (g.up a sender))) h)))
+    (subst (λ (ls : List (ℕ × Message)). Among ls (m, x)) (sym (k.from a ∙ outbox_ticks n (w.clocks a) (w.facts a) (has_node ns a) (g.up a sender))) h)))
 
 -- ---- a proposal in a flow
 
@@ -184,7 +188,7 @@ module _ (n : ℕ) (ns gs : List ℕ) (g : ℕ) (set : List Member) (w v : World
   apart_from : (m : ℕ) → (m ≡ g → ⊥) → g ≡ m → ⊥
   apart_from m d e = d (sym e)
 
-  propose_comes : (m : ℕ) → has_node gs m ≡ true → (m ≡ g → ⊥) → Occurs (Gets g (message.Propose k set)) (inbox r.ticks_end m)
+  propose_comes : (m : ℕ) → has_node gs m ≡ true → (m ≡ g → ⊥) → Among (inbox r.ticks_end m) (Gets g (message.Propose k set))
   propose_comes m here d =
       tick_arrives n ns gs w r.ticks_end (group_in r.ticks_end framed_ticks) (ups_in r.ticks_end framed_ticks) ticked g m h.ready.roll.lead here (apart_from m d) (message.Propose k set)
       (tick_proposes n (w.clocks g) (w.facts g) (h.ready.base.up g (h.ready.group.up g h.ready.roll.lead)) k set (others g set) (leader_sends ns gs g set w h.ready h.proposes) reads.proposes m
@@ -211,7 +215,7 @@ module _ (n : ℕ) (ns gs : List ℕ) (g : ℕ) (set : List Member) (w v : World
       kept_along n (r.ticks_end.clocks m) (λ f. Party k set (stance_of f)) (inbox r.ticks_end m) (r.ticks_end.facts m)
       (keeps_turned n (r.ticks_end.clocks m) (Party k set) (inbox r.ticks_end m) (gets_inbox r.ticks_end m) (λ me s from x there. party_kept true false false k set me s from x (only_ticks m here from x there))) (parties_ticks m here)
 
-  accept_comes : (m : ℕ) → has_node gs m ≡ true → (m ≡ g → ⊥) → Occurs (Gets m (message.Accept k)) (inbox r.first_end g)
+  accept_comes : (m : ℕ) → has_node gs m ≡ true → (m ≡ g → ⊥) → Among (inbox r.first_end g) (Gets m (message.Accept k))
   accept_comes m here d =
       flow_arrives n ns gs r.ticks_end r.first_end (group_in r.first_end framed_first) (ups_in r.first_end framed_first) r.first m g here h.ready.roll.lead d (message.Accept k)
       (outbox_each n (r.ticks_end.clocks m) (λ f. Party k set (stance_of f)) (inbox r.ticks_end m) (r.ticks_end.facts m) (Gets g (message.Propose k set)) (g, message.Accept k) (along_first m here)
@@ -243,7 +247,7 @@ module _ (n : ℕ) (ns gs : List ℕ) (g : ℕ) (set : List Member) (w v : World
       where
         lacks : (x : ℕ) (b : Bool) → contains (others g set) x ≡ b → contains p.missing x ≡ false
         lacks x false s = (subst (λ (o : Option Proposal). Shrunk o (Some (agreement.proposal_of g k set))) e shrunk_second).missing x s
-        lacks x true s = (subst (λ (o : Option Proposal). Got k x o) e (got_second x (other_here gs g set h.ready.roll g x s) (λ i. without_other (ids_of set) g x s i))).1
+        lacks x true s = (subst (λ (o : Option Proposal). Got k x o) e (got_second x (other_here gs g set h.ready.roll g x s) (λ i. not_gone (ids_of set) g x s i))).1
 
     gone : Leads k set (stance_of (r.second_end.facts g)) → ⊥
     gone l = differ (none_lacks l.stands l.is) l.some
@@ -262,7 +266,7 @@ module _ (n : ℕ) (ns gs : List ℕ) (g : ℕ) (set : List Member) (w v : World
         go (inl l) = absurd (gone (subst (λ (f : Facts). Leads k set (stance_of f)) (sym (r.second.facts g)) l))
         go (inr s) = s
 
-    commit_comes : (m : ℕ) → has_node gs m ≡ true → (m ≡ g → ⊥) → Occurs (Gets g (message.Commit k set)) (inbox r.second_end m)
+    commit_comes : (m : ℕ) → has_node gs m ≡ true → (m ≡ g → ⊥) → Among (inbox r.second_end m) (Gets g (message.Commit k set))
     commit_comes m here d =
         flow_arrives n ns gs r.first_end r.second_end (group_in r.second_end framed_second) (ups_in r.second_end framed_second) r.second g m h.ready.roll.lead here (apart_from m d) (message.Commit k set)
         (commits_sent m (other_in gs g set h.ready.roll g m here d))
@@ -298,7 +302,7 @@ module _ (n : ℕ) (ns gs : List ℕ) (g : ℕ) (set : List Member) (w v : World
   proposal_passes m here = go (leader_begins n ns gs g set w r.ticks_end h.ready ticked h.proposes) (m == g) refl
     where
       go : Alone g set k (stance_of (r.ticks_end.facts g)) ⊎ Begins g set k (stance_of (r.ticks_end.facts g)) → (b : Bool) → (m == g) ≡ b → Inside k set (stance_of (v.facts m))
-      go (inl a) true s = subst (λ (x : ℕ). Inside k set (stance_of (v.facts x))) (sym (same_number m g s)) (inside_alone a.inside)
-      go (inl a) false s = differ (other_in gs g set h.ready.roll g m here (λ i. differ (number_is m g i) s)) (ap (λ (os : List ℕ). contains os m) a.alone)
-      go (inr b) true s = subst (λ (x : ℕ). Inside k set (stance_of (v.facts x))) (sym (same_number m g s)) (inside_leader b)
-      go (inr b) false s = inside_end b m here (λ i. differ (number_is m g i) s)
+      go (inl a) true s = subst (λ (x : ℕ). Inside k set (stance_of (v.facts x))) (sym (num_same m g s)) (inside_alone a.inside)
+      go (inl a) false s = differ (other_in gs g set h.ready.roll g m here (λ i. differ (equal m g i) s)) (ap (λ (os : List ℕ). contains os m) a.alone)
+      go (inr b) true s = subst (λ (x : ℕ). Inside k set (stance_of (v.facts x))) (sym (num_same m g s)) (inside_leader b)
+      go (inr b) false s = inside_end b m here (λ i. differ (equal m g i) s)

@@ -24,6 +24,7 @@ use Rattle.node_rules.specs.Transactions.{Transaction}
 use Rattle.cluster_types.specs.Partitions.{partition_count}
 use Rattle.cluster_rules.specs.Steps.{all_marks}
 use Rattle.cluster_rules.specs.World.{World}
+use Rattle.cluster_laws.proofs.At.{differ}
 use Rattle.key_laws.specs.Traced.{Traced, facts_of}
 use Rattle.key_laws.proofs.Addressed as addressed
 use Rattle.key_laws.proofs.Addressed.{AllAwait, NodeGoes, TargetsGo, in_without, not_gone}
@@ -31,12 +32,12 @@ use Rattle.key_laws.proofs.AllowedRuns.{reached_by}
 use Rattle.run_laws.specs.Ranges.{FitsFacts}
 use Rattle.run_laws.specs.Steps.{Rests}
 use Rattle.run_laws.specs.Taken.{first}
-use Rattle.run_laws.specs.Tied.{Each, key_in}
+use Rattle.run_laws.specs.Tied.{Among, Each, key_in}
 use Rattle.run_laws.proofs.AllRead.{Spells}
 use Rattle.run_laws.proofs.Journal.{traced_all}
 use Rattle.run_laws.proofs.WorldSends.{spells}
 use Rattle.calm_laws.specs.Exchanges.{LacksRow, Rows}
-use Rattle.calm_laws.specs.Flows.{Occurs, Once}
+use Rattle.calm_laws.specs.Flows.{Once}
 use Rattle.calm_laws.specs.Handing.{Handing, PendingHeld}
 use Rattle.calm_laws.specs.Onward.{MayTake}
 use Rattle.calm_laws.specs.Transacting.{Waiting}
@@ -45,7 +46,6 @@ use Rattle.calm_laws.proofs.Onward.{taken_before}
 use Rattle.calm_laws.proofs.Parted.{once_of}
 use Rattle.calm_laws.proofs.Premises.{law_of, to_front, waits_there}
 use Rattle.calm_laws.proofs.Shaped.{shaped}
-use Rattle.calm_laws.proofs.Took.{differ}
 use Rattle.calm_laws.proofs.Walks.{named_of}
 
 -- ---- what is known of a node
@@ -85,12 +85,12 @@ row_fits (r ∷ rs) n h e = go (r.node == n) e (row_fits rs n h.1)
 
 -- ---- a group in one view
 
-await_among : (os : List ℕ) (ts : List Transaction) (t : Transaction) → AllAwait os ts → Occurs t ts → addressed.Among os t.awaiting
+await_among : (os : List ℕ) (ts : List Transaction) (t : Transaction) → AllAwait os ts → Among ts t → addressed.Among os t.awaiting
 await_among os [] t h i = absurd i
 await_among os (x ∷ xs) t h (inl e) = subst (λ (y : Transaction). addressed.Among os y.awaiting) e h.0
 await_among os (x ∷ xs) t h (inr i) = await_among os xs t h.1 i
 
-target_other : (u : Traced) (me : ℕ) (os : List ℕ) (ts : List Target) (t : Target) → TargetsGo u me os ts → Occurs t ts → contains os t.node ≡ true
+target_other : (u : Traced) (me : ℕ) (os : List ℕ) (ts : List Target) (t : Target) → TargetsGo u me os ts → Among ts t → contains os t.node ≡ true
 target_other u me os [] t h i = absurd i
 target_other u me os (x ∷ xs) t h (inl e) = subst (λ (y : Target). contains os y.node ≡ true) e h.0.other
 target_other u me os (x ∷ xs) t h (inr i) = target_other u me os xs t h.1 i

@@ -2,6 +2,7 @@
 use Rattle.std.proofs.Common.{◌≡◌, ℕ, ◌==◌, ◌||◌, ◌&&◌, arith, not, Bool, true, false, List, [], ◌∷◌, Option, None, refl, sym, ap, subst, ◌∙◌, inl, inr}
 use Rattle.std.specs.Prelude.{filter_map, flat_map}
 use Rattle.std.specs.List.{cons_option}
+use Rattle.std.proofs.lemmas.Bool.{not-false}
 use Rattle.cluster_types.specs.declared.cluster_key.ClusterKey.{ClusterKey}
 use Rattle.wire_messages.specs.declared.message.Batch.{Batch}
 use Rattle.wire_messages.specs.declared.message.Message.{Message}
@@ -16,26 +17,27 @@ use Rattle.node_rules.specs.Notes.{after_ages, all_sent, sent}
 use Rattle.node_rules.specs.Standing.{knows_all_settled}
 use Rattle.node_rules.specs.Tick.{batch_to, batches, beat, progress, progress_if, propose, propose_new, propose_with, rows, sends_again, state, transactions}
 use Rattle.node_rules.specs.Transactions.{Transaction}
+use Rattle.cluster_rules.proofs.KeptFacts.{num_same}
+use Rattle.cluster_laws.proofs.At.{differ}
+use Rattle.run_laws.specs.Tied.{Among}
 use Rattle.calm_laws.specs.Acts.{Gets, Input, Ticks, acted, as_read, sent_at, served}
 use Rattle.calm_laws.specs.Calming.{Idle, LeavesAsIs}
-use Rattle.calm_laws.specs.Flows.{Occurs}
 use Rattle.calm_laws.specs.Group.{kind}
 use Rattle.calm_laws.specs.Progresses.{BitsGrow}
 use Rattle.calm_laws.proofs.Growing.{all_sent_bits, rests_grow}
 use Rattle.calm_laws.proofs.KindLaws.{NoneOf, none_append, none_read}
 use Rattle.calm_laws.proofs.Knowing.{all_settled_grows}
-use Rattle.calm_laws.proofs.Replies.{each_in, is_inside, outside}
+use Rattle.calm_laws.proofs.Replies.{each_in, outside}
 use Rattle.calm_laws.proofs.Sent.{AllGets, none_among}
 use Rattle.calm_laws.proofs.Taking.{rests_proposed, settled_exchange}
 use Rattle.calm_laws.proofs.Ticking.{progressing, proposed, tick_facts, tick_list, tick_sent}
-use Rattle.calm_laws.proofs.Took.{differ, same_number}
 
 -- ---- what a tick sends
 
 abbrev Beats : List (ℕ × Message) → Type 0
 Beats ms = NoneOf (outside (1 ∷ [])) ms
 
-batches_none : (k : ClusterKey) (c : Content) (ts : Targets) → ((t : Target) → Occurs t ts → (t.pending ≡ []) × (t.out ≡ None)) → Beats (filter_map (λ (t : Target). batch_to t.node (next_batch k c t)) ts)
+batches_none : (k : ClusterKey) (c : Content) (ts : Targets) → ((t : Target) → Among ts t → (t.pending ≡ []) × (t.out ≡ None)) → Beats (filter_map (λ (t : Target). batch_to t.node (next_batch k c t)) ts)
 batches_none k c [] h = tt
 batches_none k c (t ∷ ts) h =
     subst (λ (o : Option Batch). Beats (cons_option (batch_to t.node o) (filter_map (λ (t : Target). batch_to t.node (next_batch k c t)) ts)))
@@ -74,11 +76,11 @@ quiet_list n f h =
         (sym (ap (λ (b : Bool). (progressing n f).exchange.exchanged && not b) (knows_telling n f h) ∙ never (progressing n f).exchange.exchanged)) tt
 
 -- such a node sends beats alone
-pub tick_quiet : (n c : ℕ) (f : Facts) → Idle n f → (to : ℕ) (x : Message) → Occurs (to, x) (sent_at n c f Ticks) → kind x ≡ 1
+pub tick_quiet : (n c : ℕ) (f : Facts) → Idle n f → (to : ℕ) (x : Message) → Among (sent_at n c f Ticks) (to, x) → kind x ≡ 1
 tick_quiet n c f h to x i =
-    sym (same_number 1 (kind x) (first (1 == kind x)
-    (is_inside ((1 == kind x) || false)
-    (none_among (outside (1 ∷ [])) (as_read (tick_list n f)) to x (none_read (outside (1 ∷ [])) (tick_list n f) (quiet_list n f h)) (subst (λ (ms : List (ℕ × Message)). Occurs (to, x) ms) (tick_sent n c f h.up) i)))))
+    sym (num_same 1 (kind x) (first (1 == kind x)
+    (not-false ((1 == kind x) || false)
+    (none_among (outside (1 ∷ [])) (as_read (tick_list n f)) to x (none_read (outside (1 ∷ [])) (tick_list n f) (quiet_list n f h)) (subst (λ (ms : List (ℕ × Message)). Among ms (to, x)) (tick_sent n c f h.up) i)))))
   where
     first : (b : Bool) → (b || false) ≡ true → b ≡ true
     first true e = refl
@@ -119,7 +121,7 @@ beat_stays n c f from (message.Heartbeat view promised hears role) e = record { 
 beat_stays n c f from _ e = absurd (omega (arith, e))
 
 -- what beats make of a node
-pub beats_stay : (n c : ℕ) (is : List Input) (f : Facts) → AllGets is → ((from : ℕ) (x : Message) → Occurs (Gets from x) is → kind x ≡ 1) → LeavesAsIs f (served n c f is)
+pub beats_stay : (n c : ℕ) (is : List Input) (f : Facts) → AllGets is → ((from : ℕ) (x : Message) → Among is (Gets from x) → kind x ≡ 1) → LeavesAsIs f (served n c f is)
 beats_stay n c [] f gets h = stays_itself f
 beats_stay n c (Ticks ∷ is) f gets h = absurd gets
 beats_stay n c (Gets from x ∷ is) f gets h =

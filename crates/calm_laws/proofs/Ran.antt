@@ -7,6 +7,7 @@ use Rattle.cluster_types.specs.Groups.{apart}
 use Rattle.wire_messages.specs.declared.message.Message.{Message}
 use Rattle.wire_messages.specs.Decoding.{message_of}
 use Rattle.wire_messages.specs.Spelling.{spelling}
+use Rattle.partition_lists.proofs.InOrderLaws.{equal}
 use Rattle.node_rules.specs.Facts.{Facts}
 use Rattle.cluster_rules.specs.declared.event.Event.{Event}
 use Rattle.cluster_rules.specs.declared.event.Event.TheVariants as event
@@ -16,13 +17,13 @@ use Rattle.journal_readings.specs.Messages.{Posting}
 use Rattle.cluster_rules.specs.Network.{client, posting_at, flying_at, flying_if, are_apart}
 use Rattle.cluster_rules.specs.Steps.{play, play_all}
 use Rattle.cluster_rules.specs.World.{World, is_up}
+use Rattle.cluster_rules.proofs.KeptFacts.{num_same}
 use Rattle.calm_laws.specs.Acts.{Input, Ticks, read_to, as_read, effects, sent_at, served, outbox, acted}
 use Rattle.calm_laws.specs.Letters.{posting_from, postings, new_numbers, letter_if, letter_from, letters_from, unblocked, input_of, input, given, given_if, ins, left_flying, outs}
 use Rattle.calm_laws.specs.Flows.{Clear, Named}
 use Rattle.calm_laws.proofs.Lists.{posting_stays, posting_there, without_new, has_front, numbers_append}
 use Rattle.calm_laws.proofs.Same.{served_same}
 use Rattle.calm_laws.proofs.Stepped.{Stepped, step_tick, step_deliver}
-use Rattle.calm_laws.proofs.Took.{number_is, same_number}
 
 -- ---- acts in turn
 
@@ -58,7 +59,7 @@ outs_from n w (Some x) a = go (x.0 == a) refl
     go : (b : Bool) → (x.0 == a) ≡ b → letters_from a (outs n w (Some x)) ≡ outbox n (w.clocks a) (w.facts a) (given_if x.1 b)
     go true e =
         letters_own (effects n (w.clocks x.0) (w.facts x.0) x.1).sends x.0 a e
-        ∙ ap (λ (y : ℕ). sent_at n (w.clocks y) (w.facts y) x.1) (same_number x.0 a e)
+        ∙ ap (λ (y : ℕ). sent_at n (w.clocks y) (w.facts y) x.1) (num_same x.0 a e)
         ∙ sym (append-nil (sent_at n (w.clocks a) (w.facts a) x.1))
     go false e = letters_others (effects n (w.clocks x.0) (w.facts x.0) x.1).sends x.0 a e
 
@@ -73,7 +74,7 @@ nil_behind (x ∷ xs) ys e = absurd (grind (arith, e))
 -- where nothing comes to anybody, nothing is posted
 outs_still : (n : ℕ) (w : World) (o : Option (ℕ × Input)) → ((m : ℕ) → given m o ≡ []) → outs n w o ≡ []
 outs_still n w None h = refl
-outs_still n w (Some x) h = go (subst (λ (b : Bool). given_if x.1 b ≡ []) (number_is x.0 x.0 refl) (h x.0))
+outs_still n w (Some x) h = go (subst (λ (b : Bool). given_if x.1 b ≡ []) (equal x.0 x.0 refl) (h x.0))
   where
     go : x.1 ∷ [] ≡ [] → outs n w (Some x) ≡ []
     go e = absurd (grind (arith, e))

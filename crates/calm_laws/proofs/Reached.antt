@@ -39,10 +39,11 @@ use Rattle.cluster_rules.specs.Steps.{Step, marks_of, all_marks, AreDue, play}
 use Rattle.cluster_rules.specs.World.{World, opened}
 use Rattle.cluster_rules.proofs.KeptFacts.{Kept, kept_of, own_step, is_own, kept_step, marks_kept}
 use Rattle.cluster_rules.proofs.MarkLaws.{after_all-append}
+use Rattle.cluster_laws.proofs.At.{differ}
+use Rattle.run_laws.proofs.Carried.{taken_sent}
 use Rattle.calm_laws.specs.Flows.{Named, AreGiven, InOrder}
 use Rattle.calm_laws.proofs.Flow.{numbered_more}
 use Rattle.calm_laws.proofs.Own.{OwnLines, tick_own, message_own}
-use Rattle.calm_laws.proofs.Took.{differ}
 
 -- ---- lines that post in order
 
@@ -259,12 +260,6 @@ lines_order (line.Cut i a b size ∷ ls) w f h =
     lines_order ls (after_line w (line.Cut i a b size)) (subst (λ (x : Network). Fits (length x.sent) ls) (sym same) f) (subst NetOrder (sym same) h)
 lines_order (l ∷ ls) w f h = lines_order ls (after_line w l) f h
 
-begun_sent : (net : Network) (e : Event) → (taken_by net e).sent ≡ net.sent
-begun_sent net (event.Deliver i) = refl
-begun_sent net (event.Lose i) = refl
-begun_sent net (event.Cut i size) = refl
-begun_sent net e = refl
-
 begun_order : (net : Network) (e : Event) → NetOrder net → NetOrder (taken_by net e)
 begun_order net (event.Deliver i) h = numbered_without (length net.sent) net.flying i h
 begun_order net (event.Lose i) h = numbered_without (length net.sent) net.flying i h
@@ -274,7 +269,7 @@ begun_order net e h = h
 -- each event keeps the order
 pub step_order : (n : ℕ) (w : World) (e : Event) → InOrder w → InOrder (play n e w).world
 step_order n w e h =
-    lines_order (due_of n w e) (begun w e) (subst (λ (ps : List Posting). Fits (length ps) (due_of n w e)) (sym (begun_sent w.network e)) (due_fits n w e)) (begun_order w.network e h)
+    lines_order (due_of n w e) (begun w e) (subst (λ (ps : List Posting). Fits (length ps) (due_of n w e)) (sym (taken_sent w.network e)) (due_fits n w e)) (begun_order w.network e h)
 
 pub steps_order : (n : ℕ) (ss : List Step) (w : World) → AreDue n w ss → InOrder w → InOrder (after_all w (all_marks ss))
 steps_order n [] w d h = h

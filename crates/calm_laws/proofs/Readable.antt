@@ -16,6 +16,7 @@ use Rattle.cluster_rules.specs.Network.{client, are_apart, flying_at, flying_if,
 use Rattle.cluster_rules.specs.NodeSteps.{AreRead}
 use Rattle.cluster_rules.specs.Steps.{Played, flow, flows, play, play_all, round}
 use Rattle.cluster_rules.specs.World.{World, is_up, up_nodes}
+use Rattle.cluster_rules.proofs.KeptFacts.{num_same}
 use Rattle.cluster_rules.proofs.MarkLaws as marks
 use Rattle.run_laws.specs.Worlds.{SendsAreRead}
 use Rattle.calm_laws.specs.Acts.{Input, Gets, as_read, effects, read_to, served}
@@ -30,7 +31,6 @@ use Rattle.calm_laws.proofs.Onward.{may_front, may_here, may_on}
 use Rattle.calm_laws.proofs.Ran.{Alike, Ready, ins_alike, named_on, ready_on, ups_on}
 use Rattle.calm_laws.proofs.Rounds.{NoFull, clear_of, full_behind, full_front, rounded}
 use Rattle.calm_laws.proofs.Stepped.{Stepped, step_deliver}
-use Rattle.calm_laws.proofs.Took.{same_number}
 use Rattle.calm_laws.proofs.Walks.{named_of, order_of}
 
 -- ---- one act
@@ -63,7 +63,7 @@ posting_read w read i p stands m x = go (is_blocked w p) refl
 
     here : (y : Message) → message_of p.bytes ≡ Some y → is_up w p.to ≡ true → (x : ℕ × Input) → (p.to, Gets p.from y) ≡ x → (x.0 == m) ≡ true → ReadAct (w.clocks m) (w.facts m) x.1
     here y is up x e = subst (λ (z : ℕ × Input). (z.0 == m) ≡ true → ReadAct (w.clocks m) (w.facts m) z.1) e
-        (λ s. subst (λ (a : ℕ). ReadAct (w.clocks a) (w.facts a) (Gets p.from y)) (same_number p.to m s) (as_read_is _ (read.message i p y stands is up)))
+        (λ s. subst (λ (a : ℕ). ReadAct (w.clocks a) (w.facts a) (Gets p.from y)) (num_same p.to m s) (as_read_is _ (read.message i p y stands is up)))
 
     opens : (o : Option Message) (c : Bool) → message_of p.bytes ≡ o → (p.to == client) ≡ c → is_blocked w p ≡ false → arriving_input p o c ≡ Some x → (x.0 == m) ≡ true → ReadAct (w.clocks m) (w.facts m) x.1
     opens None c is at free e = cc

@@ -1,6 +1,7 @@
 -- Which kinds of messages answer which.
 use Rattle.std.proofs.Common.{◌≡◌, ℕ, ◌==◌, ◌||◌, not, Bool, true, false, List, [], ◌∷◌, ◌++◌, Option, Some, None, refl, ap, ◌∙◌}
 use Rattle.std.specs.Prelude.{flat_map}
+use Rattle.std.proofs.lemmas.Bool.{not-false}
 use Rattle.conflict_order.specs.declared.version.Version.{Version}
 use Rattle.conflict_order.specs.declared.version.Body.TheVariants as body
 use Rattle.conflict_order.specs.declared.want.Want.{Want}
@@ -23,12 +24,13 @@ use Rattle.node_rules.specs.Resolving.{writing, resolving_want}
 use Rattle.node_rules.specs.Standing.{other_replicas}
 use Rattle.node_rules.specs.Tables.{contains}
 use Rattle.node_rules.specs.Transactions.{Transaction, transaction, awaits_answer, awaits_ack, answered, is_last_awaited}
+use Rattle.cluster_rules.proofs.KeptFacts.{num_same}
+use Rattle.cluster_laws.proofs.At.{differ}
+use Rattle.run_laws.specs.Tied.{Among}
 use Rattle.calm_laws.specs.Acts.{Gets, sent_at}
-use Rattle.calm_laws.specs.Flows.{Occurs}
 use Rattle.calm_laws.specs.Group.{replies, kind}
 use Rattle.calm_laws.proofs.KindLaws.{NoneOf, none_read}
 use Rattle.calm_laws.proofs.Sent.{none_among}
-use Rattle.calm_laws.proofs.Took.{differ, same_number}
 
 -- whether the kind is none of these
 abbrev pub outside : List ℕ → ℕ → Bool
@@ -157,14 +159,10 @@ message_in_replies n f clock from _ = tt
 
 -- ---- what is sent
 
-pub is_inside : (b : Bool) → not b ≡ false → b ≡ true
-is_inside true e = refl
-is_inside false e = differ refl e
-
 -- a message that is sent on another one is of a kind that may answer it
-pub answers : (n c : ℕ) (f : Facts) (from : ℕ) (m : Message) (to : ℕ) (x : Message) → Occurs (to, x) (sent_at n c f (Gets from m)) → contains (replies (kind m)) (kind x) ≡ true
+pub answers : (n c : ℕ) (f : Facts) (from : ℕ) (m : Message) (to : ℕ) (x : Message) → Among (sent_at n c f (Gets from m)) (to, x) → contains (replies (kind m)) (kind x) ≡ true
 answers n c f from m to x h =
-    is_inside (contains (replies (kind m)) (kind x))
+    not-false (contains (replies (kind m)) (kind x))
     (none_among (outside (replies (kind m))) (sent_at n c f (Gets from m)) to x (none_read (outside (replies (kind m))) (due_message_of n f c from m).sends (message_in_replies n f c from m)) h)
 
 contains_front : (xs ys : List ℕ) (x : ℕ) → contains xs x ≡ true → contains (xs ++ ys) x ≡ true
@@ -189,5 +187,5 @@ answers_all [] j k e h = differ e refl
 answers_all (i ∷ ks) j k e h = go (i == j) refl e (λ f. answers_all ks j k f h)
   where
     go : (b : Bool) → (i == j) ≡ b → (b || contains ks j) ≡ true → (contains ks j ≡ true → contains (flat_map replies ks) k ≡ true) → contains (replies i ++ flat_map replies ks) k ≡ true
-    go true s f rest = contains_front (replies i) (flat_map replies ks) k (ap (λ (y : ℕ). contains (replies y) k) (same_number i j s) ∙ h)
+    go true s f rest = contains_front (replies i) (flat_map replies ks) k (ap (λ (y : ℕ). contains (replies y) k) (num_same i j s) ∙ h)
     go false s f rest = contains_behind (replies i) (flat_map replies ks) k (rest f)

@@ -17,8 +17,8 @@ use Rattle.node_rules.specs.Standing.{is_to_drop, is_to_learn}
 use Rattle.node_rules.specs.Tables.{contains}
 use Rattle.node_rules.specs.Tick.{sends_again}
 use Rattle.node_rules.specs.Transactions.{Transaction}
+use Rattle.run_laws.specs.Tied.{Among}
 use Rattle.calm_laws.specs.Acts.{Input, Ticks, Gets, acted, as_read, outbox, sent_at, served}
-use Rattle.calm_laws.specs.Flows.{Occurs}
 use Rattle.calm_laws.specs.Group.{kind}
 use Rattle.calm_laws.specs.Handing.{Legibly}
 use Rattle.calm_laws.specs.Laws.{is_to_propose}
@@ -43,7 +43,7 @@ pub record Wrote (k : ClusterKey) (set : List Member) (m number : ℕ) (out : Li
   pub members : (x : ℕ) → contains others x ≡ true → (contains (ids_of set) x ≡ true) × (x ≡ m → ⊥)
   pub write : Message
   pub writes : WritesFor k number write
-  pub goes : (x : ℕ) → contains others x ≡ true → Occurs (x, write) out
+  pub goes : (x : ℕ) → contains others x ≡ true → Among out (x, write)
 
 module _ (n c : ℕ) (k : ClusterKey) (set : List Member) (m number : ℕ) (S : ℕ → Type 0) where
   pub waits_turns : (f : Facts) (x : ℕ) (ms : List (ℕ × Message)) (o z : Option Transaction) → In k set m f → Turns k number f x ms o z → Such (Awaits false S) o → Such (Awaits false S) z ⊎ Wrote k set m number ms z
@@ -59,7 +59,7 @@ module _ (n c : ℕ) (k : ClusterKey) (set : List Member) (m number : ℕ) (S : 
     goes = r.goes;
   })
 
-  pub resolves : (is : List Input) → AllGets is → ((from : ℕ) (x : Message) → Occurs (Gets from x) is → is_agreeing (kind x) ≡ false) → (f : Facts) → Legibly n c f is → In k set m f → Such (Awaits false S) (open_at f number)
+  pub resolves : (is : List Input) → AllGets is → ((from : ℕ) (x : Message) → Among is (Gets from x) → is_agreeing (kind x) ≡ false) → (f : Facts) → Legibly n c f is → In k set m f → Such (Awaits false S) (open_at f number)
       → Such (Awaits false S) (open_at (served n c f is) number) ⊎ Wrote k set m number (outbox n c f is) (open_at (served n c f is) number)
   resolves [] gets free f l i h = inl h
   resolves (Ticks ∷ is) gets free f l i h = absurd gets
@@ -84,7 +84,7 @@ module _ (n c : ℕ) (k : ClusterKey) (set : List Member) (m number : ℕ) (S : 
         members = w.members;
         write = w.write;
         writes = w.writes;
-        goes = λ y s. among_front (y, w.write) (sent_at n c f (Gets from x)) (outbox n c (acted n c f (Gets from x)) is) (subst (λ (ms : List (ℕ × Message)). Occurs (y, w.write) ms) (sym l.0) (w.goes y s));
+        goes = λ y s. among_front (y, w.write) (sent_at n c f (Gets from x)) (outbox n c (acted n c f (Gets from x)) is) (subst (λ (ms : List (ℕ × Message)). Among ms (y, w.write)) (sym l.0) (w.goes y s));
       })
 
 -- ---- a tick leaves the transactions
@@ -127,15 +127,15 @@ rests_transactions n c f up none e =
     ∙ ap (λ (g : Facts). g.transactions) (rests_proposed f none e)
 
 -- what is sent again for a transaction
-pub again_among : (f : Facts) (ts : List Transaction) (t : Transaction) (l : ℕ × Message) → Occurs t ts → Occurs l (sends_again f t t.applied) → Occurs l (flat_map (λ (t : Transaction). sends_again f t t.applied) ts)
+pub again_among : (f : Facts) (ts : List Transaction) (t : Transaction) (l : ℕ × Message) → Among ts t → Among (sends_again f t t.applied) l → Among (flat_map (λ (t : Transaction). sends_again f t t.applied) ts) l
 again_among f [] t l h i = absurd h
-again_among f (s ∷ ts) t l (inl e) i = among_front l (sends_again f s s.applied) _ (subst (λ (x : Transaction). Occurs l (sends_again f x x.applied)) (sym e) i)
+again_among f (s ∷ ts) t l (inl e) i = among_front l (sends_again f s s.applied) _ (subst (λ (x : Transaction). Among (sends_again f x x.applied) l) (sym e) i)
 again_among f (s ∷ ts) t l (inr h) i = among_behind l (sends_again f s s.applied) _ (again_among f ts t l h i)
 
-pub found_among : (ts : List Transaction) (number : ℕ) (t : Transaction) → find (at_number number) ts ≡ Some t → Occurs t ts
+pub found_among : (ts : List Transaction) (number : ℕ) (t : Transaction) → find (at_number number) ts ≡ Some t → Among ts t
 found_among [] number t e = absurd (none-some t e)
 found_among (s ∷ ts) number t e = go (s.number == number) e (found_among ts number t)
   where
-    go : (b : Bool) → cond b (Some s) (find (at_number number) ts) ≡ Some t → (find (at_number number) ts ≡ Some t → Occurs t ts) → (s ≡ t) ⊎ Occurs t ts
+    go : (b : Bool) → cond b (Some s) (find (at_number number) ts) ≡ Some t → (find (at_number number) ts ≡ Some t → Among ts t) → (s ≡ t) ⊎ Among ts t
     go true f rest = inl (ap (λ (o : Option Transaction). unwrap_or o s) f)
     go false f rest = inr (rest f)

@@ -4,6 +4,7 @@ use Rattle.std.proofs.Common.{◌≡◌, ℕ, zero, suc, ◌+◌, ◌≤◌, ◌
 use Rattle.std.specs.Prelude.{filter}
 use Rattle.cluster_types.specs.declared.cluster_key.ClusterKey.{ClusterKey}
 use Rattle.cluster_types.specs.declared.member.Member.{Member}
+use Rattle.partition_lists.proofs.InOrderLaws.{equal}
 use Rattle.node_rules.specs.Agreement as agreement
 use Rattle.node_rules.specs.Batches.{Targets}
 use Rattle.node_rules.specs.Bits.{Bits}
@@ -17,10 +18,13 @@ use Rattle.node_rules.specs.Standing.{has_nothing_to_learn_or_drop, is_to_drop, 
 use Rattle.node_rules.specs.Tables.{contains}
 use Rattle.journal_readings.specs.Lines.{has_node}
 use Rattle.cluster_rules.specs.World.{World}
+use Rattle.cluster_rules.proofs.KeptFacts.{num_same}
+use Rattle.cluster_laws.proofs.At.{differ}
+use Rattle.run_laws.specs.Tied.{Among}
 use Rattle.calm_laws.specs.Acts.{Gets, Input, Ticks, sent_at, served}
 use Rattle.calm_laws.specs.Calming.{Idle, Learning, Settling, LeavesAsIs}
 use Rattle.calm_laws.specs.Exchanges.{Exchanged, RowsThere}
-use Rattle.calm_laws.specs.Flows.{Occurs, Flowed, Rounded, inbox, ticks_if}
+use Rattle.calm_laws.specs.Flows.{Flowed, Rounded, inbox, ticks_if}
 use Rattle.calm_laws.specs.Group.{kind}
 use Rattle.calm_laws.specs.Handing.{AtMostPending, NothingOut}
 use Rattle.calm_laws.specs.Letters.{arriving_at}
@@ -40,14 +44,13 @@ use Rattle.calm_laws.proofs.Silence.{nothing_comes}
 use Rattle.calm_laws.proofs.Steadying.{steady_rests}
 use Rattle.calm_laws.proofs.Taking.{rests_proposed}
 use Rattle.calm_laws.proofs.Ticking.{progressing}
-use Rattle.calm_laws.proofs.Took.{differ, number_is, same_number}
 
 -- ---- lists
 
 none_pass : (test : ℕ → Bool) (xs : List ℕ) → ((x : ℕ) → contains xs x ≡ true → test x ≡ false) → filter test xs ≡ []
 none_pass test [] h = refl
 none_pass test (x ∷ xs) h =
-    ap (λ (b : Bool). cond b (x ∷ filter test xs) (filter test xs)) (h x (ap (λ (b : Bool). b || contains xs x) (number_is x x refl)))
+    ap (λ (b : Bool). cond b (x ∷ filter test xs) (filter test xs)) (h x (ap (λ (b : Bool). b || contains xs x) (equal x x refl)))
     ∙ none_pass test xs (λ y e. h y (behind (x == y) (contains xs y) e))
   where
     behind : (b c : Bool) → c ≡ true → (b || c) ≡ true
@@ -117,12 +120,12 @@ module _ (n : ℕ) (ns gs : List ℕ) (g : ℕ) (set : List Member) (k : Cluster
 
   kinds_ticks : KindsIn gs (1 ∷ []) r.ticks_end
   kinds_ticks m here a x there =
-      go (among_either (Gets a x) (inbox w m) (arriving_at r.ticks_end m calm.ticked.posted) (subst (λ (is : List Input). Occurs (Gets a x) is) (calm.ticked.inbox m) there))
+      go (among_either (Gets a x) (inbox w m) (arriving_at r.ticks_end m calm.ticked.posted) (subst (λ (is : List Input). Among is (Gets a x)) (calm.ticked.inbox m) there))
     where
       sent : FromGroup gs a m x (sent_at n (w.clocks a) (w.facts a) Ticks) → contains (1 ∷ []) (kind x) ≡ true
       sent s = ap (λ (y : ℕ). contains (1 ∷ []) y) (tick_quiet n (w.clocks a) (w.facts a) (idle a s.sender) m x s.sent)
 
-      go : Occurs (Gets a x) (inbox w m) ⊎ Occurs (Gets a x) (arriving_at r.ticks_end m calm.ticked.posted) → contains (1 ∷ []) (kind x) ≡ true
+      go : Among (inbox w m) (Gets a x) ⊎ Among (arriving_at r.ticks_end m calm.ticked.posted) (Gets a x) → contains (1 ∷ []) (kind x) ≡ true
       go (inl i) = differ (h.silent m here a x i) refl
       go (inr i) = sent (from_ticks n ns gs w r.ticks_end h.ready.group calm.ticked a m x here i)
 
@@ -150,7 +153,7 @@ module _ (n : ℕ) (ns gs : List ℕ) (g : ℕ) (set : List Member) (k : Cluster
       ∙ quiet_facts n (w.clocks m) (w.facts m) (idle m here)
 
   one_kind : (j : ℕ) → contains (1 ∷ []) j ≡ true → j ≡ 1
-  one_kind j e = sym (same_number 1 j (first (1 == j) e))
+  one_kind j e = sym (num_same 1 j (first (1 == j) e))
     where
       first : (b : Bool) → (b || false) ≡ true → b ≡ true
       first true i = refl

@@ -5,13 +5,17 @@ use Rattle.std.specs.List.{list_all}
 use Rattle.cluster_types.specs.declared.member.Member.{Member}
 use Rattle.wire_messages.specs.declared.message.Message.{Message}
 use Rattle.wire_messages.specs.declared.message.Message.TheVariants as message
+use Rattle.partition_lists.proofs.InOrderLaws.{equal}
 use Rattle.node_rules.specs.Notes.{after_ages}
 use Rattle.node_rules.specs.Tables.{contains}
 use Rattle.journal_readings.specs.Lines.{has_node}
 use Rattle.cluster_rules.specs.World.{World, is_up, up_nodes}
+use Rattle.cluster_rules.proofs.KeptFacts.{num_same}
+use Rattle.cluster_laws.proofs.At.{differ}
+use Rattle.run_laws.specs.Tied.{Among}
 use Rattle.calm_laws.specs.Laws.{is_to_propose}
 use Rattle.calm_laws.specs.Acts.{Input, outbox, sent_at}
-use Rattle.calm_laws.specs.Flows.{Occurs, Flowed, Rounded, Ticked, inbox}
+use Rattle.calm_laws.specs.Flows.{Flowed, Rounded, Ticked, inbox}
 use Rattle.calm_laws.specs.Group.{Group, kind, replies}
 use Rattle.calm_laws.specs.Stances.{Stance, stance_of, turned}
 use Rattle.calm_laws.specs.Turns.{Cleared, Ready, is_agreeing}
@@ -22,7 +26,6 @@ use Rattle.calm_laws.proofs.Inputs.{SentBy, kept_along, outbox_only}
 use Rattle.calm_laws.proofs.Passing.{flow_kept, free_replies}
 use Rattle.calm_laws.proofs.Proposals.{all_gets}
 use Rattle.calm_laws.proofs.Replies.{answers}
-use Rattle.calm_laws.proofs.Took.{differ, number_is, same_number}
 
 -- ---- what is left of agreement
 
@@ -32,14 +35,14 @@ flow_cleared n ns gs u v g f cleared m here from x there =
     let sent : FromGroup gs from m x (outbox n (u.clocks from) (u.facts from) (inbox u from)) = from_group n ns gs u v g f from m x here there in
     let is : List Input = inbox u from in
     let by : SentBy n (u.clocks from) (λ f. Unit {0}) is (m, x) = outbox_only n (u.clocks from) (λ f. Unit {0}) is (u.facts from) (m, x) (kept_along n (u.clocks from) (λ f. Unit {0}) is (u.facts from) (λ f i j p. tt) tt) sent.sent in
-    all_gets is by.act (gets_inbox u from) by.came (λ i. Occurs i is → Occurs (m, x) (sent_at n (u.clocks from) by.facts i) → is_agreeing (kind x) ≡ false)
+    all_gets is by.act (gets_inbox u from) by.came (λ i. Among is i → Among (sent_at n (u.clocks from) by.facts i) (m, x) → is_agreeing (kind x) ≡ false)
     (λ b y came i. free_replies y (kind x) (cleared from sent.sender b y came) (answers n (u.clocks from) by.facts b y m x i)) by.came by.sent
 
 -- all kinds of messages
 abbrev all_kinds : List ℕ
 all_kinds = 1 ∷ 2 ∷ 3 ∷ 4 ∷ 5 ∷ 6 ∷ 7 ∷ 8 ∷ 9 ∷ 10 ∷ 11 ∷ 12 ∷ 13 ∷ 14 ∷ 15 ∷ 19 ∷ 20 ∷ 21 ∷ 22 ∷ 23 ∷ 24 ∷ 25 ∷ []
 
-each_kind : (x : Message) → contains all_kinds (kind x) ≡ true
+pub each_kind : (x : Message) → contains all_kinds (kind x) ≡ true
 each_kind (message.Heartbeat view promised hears role) = refl
 each_kind (message.Propose key members) = refl
 each_kind (message.Accept key) = refl
@@ -69,7 +72,7 @@ free_list (k ∷ ks) j all e = go (k == j) refl e (is_agreeing k) refl all (λ r
   where
     go : (b : Bool) → (k == j) ≡ b → (b || contains ks j) ≡ true → (c : Bool) → is_agreeing k ≡ c → (not c && list_all (λ k. not (is_agreeing k)) ks) ≡ true → (list_all (λ k. not (is_agreeing k)) ks ≡ true → contains ks j ≡ true → is_agreeing j ≡ false) → is_agreeing j ≡ false
     go b s f true i all rest = differ all refl
-    go true s f false i all rest = ap is_agreeing (sym (same_number k j s)) ∙ i
+    go true s f false i all rest = ap is_agreeing (sym (num_same k j s)) ∙ i
     go false s f false i all rest = rest all f
 
 -- after a round nothing of agreement is on its way, whatever was before it
@@ -162,8 +165,8 @@ undisturbed n ns gs g set w v r h e = record {
     k = subst (λ (xs : List ℕ). Ticked n w r.ticks_end xs) h.base.ups r.ticks
 
     resting : (m : ℕ) → has_node gs m ≡ true → (b : Bool) → (m == g) ≡ b → is_to_propose (after_ages (w.facts m)) ≡ false
-    resting m here true i = subst (λ (y : ℕ). is_to_propose (after_ages (w.facts y)) ≡ false) (sym (same_number m g i)) e
-    resting m here false i = others_rest ns gs g set w h m here (λ j. differ (number_is m g j) i)
+    resting m here true i = subst (λ (y : ℕ). is_to_propose (after_ages (w.facts y)) ≡ false) (sym (num_same m g i)) e
+    resting m here false i = others_rest ns gs g set w h m here (λ j. differ (equal m g j) i)
 
     ticks : Framed w r.ticks_end
     ticks = tick_frame n w r.ticks_end ns k

@@ -1,42 +1,35 @@
 -- Lists of numbers and of members: who stands in them, and who is the greatest.
-use Rattle.std.proofs.Common.{◌≡◌, ℕ, ◌≤◌, ◌==◌, ◌||◌, ◌&&◌, not, nat_le, Bool, true, false, cond, List, [], ◌∷◌, refl, sym, ap, subst, ◌∙◌, ◌⊎◌, inl, inr, arith}
+use Rattle.std.proofs.Common.{◌≡◌, ℕ, ◌≤◌, ◌==◌, ◌||◌, ◌&&◌, not, nat_le, Bool, true, false, cond, List, [], ◌∷◌, refl, sym, ap, ◌∙◌, ◌⊎◌, inl, inr, arith}
 use Rattle.std.proofs.lemmas.Bool.Decides.{nat_tests}
 use Rattle.cluster_types.specs.declared.member.Member.{Member}
 use Rattle.cluster_types.specs.Distinct.{without}
 use Rattle.cluster_types.specs.Members.{ids_of}
+use Rattle.partition_lists.proofs.InOrderLaws.{equal}
 use Rattle.node_rules.specs.Agreement.{others}
 use Rattle.node_rules.specs.Copies.{is_nil}
 use Rattle.node_rules.specs.Exchange.{is_member}
 use Rattle.node_rules.specs.Hearing.{is_greatest}
 use Rattle.node_rules.specs.Tables.{contains}
 use Rattle.journal_readings.specs.Lines.{has_node}
-use Rattle.calm_laws.specs.Flows.{Occurs}
+use Rattle.cluster_rules.proofs.KeptFacts.{num_same}
+use Rattle.cluster_laws.proofs.At.{differ}
+use Rattle.key_laws.proofs.Addressed.{in_without}
+use Rattle.run_laws.specs.Tied.{Among}
 use Rattle.calm_laws.specs.Turns.{Roll}
-use Rattle.calm_laws.proofs.Proposals.{without_hasnt, without_itself}
-use Rattle.calm_laws.proofs.Took.{differ, number_is, same_number}
 
 -- ---- numbers
 
-pub contains_among : (xs : List ℕ) (x : ℕ) → contains xs x ≡ true → Occurs x xs
+pub contains_among : (xs : List ℕ) (x : ℕ) → contains xs x ≡ true → Among xs x
 contains_among [] x e = differ e refl
 contains_among (y ∷ xs) x e = go (y == x) refl e (contains_among xs x)
   where
-    go : (b : Bool) → (y == x) ≡ b → (b || contains xs x) ≡ true → (contains xs x ≡ true → Occurs x xs) → (y ≡ x) ⊎ Occurs x xs
-    go true s f rest = inl (same_number y x s)
+    go : (b : Bool) → (y == x) ≡ b → (b || contains xs x) ≡ true → (contains xs x ≡ true → Among xs x) → (y ≡ x) ⊎ Among xs x
+    go true s f rest = inl (num_same y x s)
     go false s f rest = inr (rest f)
-
-pub among_contains : (xs : List ℕ) (x : ℕ) → Occurs x xs → contains xs x ≡ true
-among_contains [] x h = absurd h
-among_contains (y ∷ xs) x (inl e) = ap (λ (b : Bool). b || contains xs x) (number_is y x e)
-among_contains (y ∷ xs) x (inr h) = go (y == x) (among_contains xs x h)
-  where
-    go : (b : Bool) → contains xs x ≡ true → (b || contains xs x) ≡ true
-    go true e = refl
-    go false e = e
 
 pub nothing_there : (xs : List ℕ) → ((x : ℕ) → contains xs x ≡ false) → is_nil xs ≡ true
 nothing_there [] h = refl
-nothing_there (x ∷ xs) h = differ (ap (λ (b : Bool). b || contains xs x) (number_is x x refl)) (h x)
+nothing_there (x ∷ xs) h = differ (ap (λ (b : Bool). b || contains xs x) (equal x x refl)) (h x)
 
 pub without_keeps : (xs : List ℕ) (y x : ℕ) → (x ≡ y → ⊥) → contains xs x ≡ true → contains (without xs y) x ≡ true
 without_keeps [] y x d e = differ e refl
@@ -51,22 +44,12 @@ without_keeps (z ∷ xs) y x d e = go (z == x) refl e (without_keeps xs y x d)
         later false f = f
 
     here : (b : Bool) → (z == y) ≡ b → z ≡ x → contains (cond (not b) (z ∷ without xs y) (without xs y)) x ≡ true
-    here true s f = absurd (d (sym f ∙ same_number z y s))
-    here false s f = ap (λ (b : Bool). b || contains (without xs y) x) (number_is z x f)
+    here true s f = absurd (d (sym f ∙ num_same z y s))
+    here false s f = ap (λ (b : Bool). b || contains (without xs y) x) (equal z x f)
 
     go : (b : Bool) → (z == x) ≡ b → (b || contains xs x) ≡ true → (contains xs x ≡ true → contains (without xs y) x ≡ true) → contains (without (z ∷ xs) y) x ≡ true
-    go true s f rest = here (z == y) refl (same_number z x s)
+    go true s f rest = here (z == y) refl (num_same z x s)
     go false s f rest = behind (z == y) (rest f)
-
-pub without_from : (xs : List ℕ) (y x : ℕ) → contains (without xs y) x ≡ true → contains xs x ≡ true
-without_from xs y x e = go (contains xs x) refl
-  where
-    go : (b : Bool) → contains xs x ≡ b → contains xs x ≡ true
-    go true f = f
-    go false f = differ e (without_hasnt xs y x f)
-
-pub without_other : (xs : List ℕ) (y x : ℕ) → contains (without xs y) x ≡ true → x ≡ y → ⊥
-without_other xs y x e s = differ (subst (λ (z : ℕ). contains (without xs y) z ≡ true) s e) (without_itself xs y)
 
 -- ---- members
 
@@ -83,13 +66,13 @@ not_greatest (m ∷ ms) me x e above = go (m.id == x) refl e (λ f. not_greatest
     later false f = refl
 
     go : (b : Bool) → (m.id == x) ≡ b → (b || contains (ids_of ms) x) ≡ true → (contains (ids_of ms) x ≡ true → is_greatest me ms ≡ false) → (nat_le m.id me && is_greatest me ms) ≡ false
-    go true s f rest = ap (λ (b : Bool). b && is_greatest me ms) (ap (λ (z : ℕ). nat_le z me) (same_number m.id x s) ∙ above)
+    go true s f rest = ap (λ (b : Bool). b && is_greatest me ms) (ap (λ (z : ℕ). nat_le z me) (num_same m.id x s) ∙ above)
     go false s f rest = later (nat_le m.id me) (rest f)
 
 pub greatest_is : (ms : List Member) (me : ℕ) → ((x : ℕ) → contains (ids_of ms) x ≡ true → nat_le x me ≡ true) → is_greatest me ms ≡ true
 greatest_is [] me h = refl
 greatest_is (m ∷ ms) me h =
-    ap (λ (b : Bool). b && is_greatest me ms) (h m.id (ap (λ (b : Bool). b || contains (ids_of ms) m.id) (number_is m.id m.id refl)))
+    ap (λ (b : Bool). b && is_greatest me ms) (h m.id (ap (λ (b : Bool). b || contains (ids_of ms) m.id) (equal m.id m.id refl)))
     ∙ greatest_is ms me (λ x e. h x (behind x (m.id == x) e))
   where
     behind : (x : ℕ) (b : Bool) → contains (ids_of ms) x ≡ true → (b || contains (ids_of ms) x) ≡ true
@@ -122,7 +105,7 @@ pub other_in : (gs : List ℕ) (g : ℕ) (set : List Member) → Roll gs g set �
 other_in gs g set r a m here d = without_keeps (ids_of set) a m d (r.ids m ∙ here)
 
 pub other_here : (gs : List ℕ) (g : ℕ) (set : List Member) → Roll gs g set → (a m : ℕ) → contains (others a set) m ≡ true → has_node gs m ≡ true
-other_here gs g set r a m e = sym (r.ids m) ∙ without_from (ids_of set) a m e
+other_here gs g set r a m e = sym (r.ids m) ∙ in_without (ids_of set) a m e
 
 pub member_here : (gs : List ℕ) (g : ℕ) (set : List Member) → Roll gs g set → (m : ℕ) → has_node gs m ≡ true → is_member set m ≡ true
 member_here gs g set r m here = member_listed set m ∙ r.ids m ∙ here

@@ -9,24 +9,27 @@ use Rattle.cluster_types.specs.declared.member.Role.{Role}
 use Rattle.cluster_types.specs.Distinct.{IsDescending}
 use Rattle.cluster_types.specs.Members.{ids_of}
 use Rattle.partition_lists.specs.Lists.{in_order, put_in_order}
-use Rattle.partition_lists.proofs.InOrderLaws.{DifferBy, Each, Has, IsStrictOrder, each_has, has_in_order, in_order_has, rises_in_order}
+use Rattle.partition_lists.proofs.InOrderLaws.{DifferBy, Each, each_has, equal, Has, has_in_order, in_order_has, IsStrictOrder, rises_in_order}
 use Rattle.partition_lists.proofs.InOrderLaws as orders
 use Rattle.wire_messages.specs.Nodes.{IsId}
-use Rattle.node_rules.specs.Exchange.{is_member}
 use Rattle.node_rules.specs.Hearing.{member_of}
 use Rattle.node_rules.specs.Tables.{Table, at, contains}
 use Rattle.journal_readings.specs.Lines.{has_node}
 use Rattle.cluster_rules.specs.Calm.{as_members}
 use Rattle.cluster_rules.specs.World.{World, members_now}
+use Rattle.cluster_rules.proofs.KeptFacts.{num_same}
+use Rattle.cluster_laws.proofs.At.{differ}
+use Rattle.cluster_laws.proofs.GroundLaws.{apart}
 use Rattle.key_laws.specs.Ends.{IsOneOf}
 use Rattle.key_laws.specs.Sound.{GoodList, IsUnder, Rises}
 use Rattle.key_laws.proofs.Neighbours.{all_cons, all_none}
 use Rattle.key_laws.proofs.NamedLines.{MembersAs, all_members}
 use Rattle.key_laws.proofs.Peopled.{FitsRack}
 use Rattle.run_laws.proofs.AllRead.{members_proper}
+use Rattle.run_laws.proofs.Words.{both_ways}
 use Rattle.calm_laws.specs.Turns.{Roll, Roster}
 use Rattle.calm_laws.proofs.Hears.{ties}
-use Rattle.calm_laws.proofs.Took.{differ, number_is, number_isnt, same_number}
+use Rattle.calm_laws.proofs.Rolls.{member_listed}
 
 -- ---- numbers in falling order
 
@@ -67,23 +70,17 @@ has_number [] n e = differ e refl
 has_number (x ∷ ns) n e = go (x == n) refl e (has_number ns n)
   where
     go : (b : Bool) → (x == n) ≡ b → (b || has_node ns n) ≡ true → (has_node ns n ≡ true → Has ns n) → Has (x ∷ ns) n
-    go true s f rest = inl (same_number x n s)
+    go true s f rest = inl (num_same x n s)
     go false s f rest = inr (rest f)
 
 pub number_has : (ns : List ℕ) (n : ℕ) → Has ns n → has_node ns n ≡ true
 number_has [] n h = absurd h
-number_has (x ∷ ns) n (inl e) = ap (λ (b : Bool). b || has_node ns n) (number_is x n e)
+number_has (x ∷ ns) n (inl e) = ap (λ (b : Bool). b || has_node ns n) (equal x n e)
 number_has (x ∷ ns) n (inr h) = later (x == n) (number_has ns n h)
   where
     later : (b : Bool) → has_node ns n ≡ true → (b || has_node ns n) ≡ true
     later true e = refl
     later false e = e
-
--- two tests are one where each gives the other
-pub both_ways : (b c : Bool) → (b ≡ true → c ≡ true) → (c ≡ true → b ≡ true) → b ≡ c
-both_ways true c f g = sym (f refl)
-both_ways false true f g = g refl
-both_ways false false f g = refl
 
 ordered_same : (gs : List ℕ) (m : ℕ) → has_node (in_order falling gs) m ≡ has_node gs m
 ordered_same gs m = both_ways _ _
@@ -196,8 +193,8 @@ table_rises ms h = rises_onto (map pair ms) [] (subst (orders.Rises falling) (sy
 -- what the table has under a number
 found : (t : Table Role) (m : ℕ) (r : Role) → Rises t → Has t (m, r) → at t m ≡ Some r
 found [] m r h i = absurd i
-found (e ∷ t) m r h (inl i) = ap (λ (b : Bool). cond b (Some e.1) (at t m)) (ties m e.0 ∙ number_is m e.0 (sym (ap (λ (x : ℕ × Role). x.0) i))) ∙ ap (λ (x : ℕ × Role). Some x.1) i
-found (e ∷ t) m r h (inr i) = ap (λ (b : Bool). cond b (Some e.1) (at t m)) (ties m e.0 ∙ number_isnt m e.0 (λ s. above t h.0 i (sym s))) ∙ found t m r h.1 i
+found (e ∷ t) m r h (inl i) = ap (λ (b : Bool). cond b (Some e.1) (at t m)) (ties m e.0 ∙ equal m e.0 (sym (ap (λ (x : ℕ × Role). x.0) i))) ∙ ap (λ (x : ℕ × Role). Some x.1) i
+found (e ∷ t) m r h (inr i) = ap (λ (b : Bool). cond b (Some e.1) (at t m)) (ties m e.0 ∙ apart m e.0 (λ s. above t h.0 i (sym s))) ∙ found t m r h.1 i
   where
     above : (es : Table Role) → IsUnder e.0 es → Has es (m, r) → e.0 ≡ m → ⊥
     above [] u j s = absurd j
@@ -206,7 +203,7 @@ found (e ∷ t) m r h (inr i) = ap (λ (b : Bool). cond b (Some e.1) (at t m)) (
 
 absent : (t : Table Role) (m : ℕ) → ((r : Role) → Has t (m, r) → ⊥) → at t m ≡ None
 absent [] m h = refl
-absent (e ∷ t) m h = ap (λ (b : Bool). cond b (Some e.1) (at t m)) (ties m e.0 ∙ number_isnt m e.0 (λ s. h e.1 (inl (ap (λ (n : ℕ). (n, e.1)) (sym s))))) ∙ absent t m (λ r i. h r (inr i))
+absent (e ∷ t) m h = ap (λ (b : Bool). cond b (Some e.1) (at t m)) (ties m e.0 ∙ apart m e.0 (λ s. h e.1 (inl (ap (λ (n : ℕ). (n, e.1)) (sym s))))) ∙ absent t m (λ r i. h r (inr i))
 
 -- ---- both
 
@@ -215,12 +212,12 @@ listed w [] m h e = differ e refl
 listed w (x ∷ ms) m h e = go (x.id == m) refl e (listed w ms m h.1)
   where
     go : (b : Bool) → (x.id == m) ≡ b → (b || contains (ids_of ms) m) ≡ true → (contains (ids_of ms) m ≡ true → Has (map pair ms) (m, (w.facts m).role)) → Has (map pair (x ∷ ms)) (m, (w.facts m).role)
-    go true s f rest = inl (ap (λ (r : Role). (x.id, r)) h.0 ∙ ap (λ (n : ℕ). (n, (w.facts n).role)) (same_number x.id m s))
+    go true s f rest = inl (ap (λ (r : Role). (x.id, r)) h.0 ∙ ap (λ (n : ℕ). (n, (w.facts n).role)) (num_same x.id m s))
     go false s f rest = inr (rest f)
 
 unlisted : (ms : List Member) (m : ℕ) (r : Role) → Has (map pair ms) (m, r) → contains (ids_of ms) m ≡ true
 unlisted [] m r h = absurd h
-unlisted (x ∷ ms) m r (inl e) = ap (λ (b : Bool). b || contains (ids_of ms) m) (number_is x.id m (ap (λ (y : ℕ × Role). y.0) e))
+unlisted (x ∷ ms) m r (inl e) = ap (λ (b : Bool). b || contains (ids_of ms) m) (equal x.id m (ap (λ (y : ℕ × Role). y.0) e))
 unlisted (x ∷ ms) m r (inr h) = later (x.id == m) (unlisted ms m r h)
   where
     later : (b : Bool) → contains (ids_of ms) m ≡ true → (b || contains (ids_of ms) m) ≡ true
@@ -271,19 +268,19 @@ greater n ns g = go (nat_le n g.lead) refl
     go true e = record { lead = g.lead; here = later (n == g.lead) g.here; most = λ m h. one m (n == m) refl h }
       where
         one : (m : ℕ) (b : Bool) → (n == m) ≡ b → (b || has_node ns m) ≡ true → m ≤ g.lead
-        one m true s h = omega (arith, same_number n m s, at_most e)
+        one m true s h = omega (arith, num_same n m s, at_most e)
         one m false s h = g.most m h
-    go false e = record { lead = n; here = ap (λ (b : Bool). b || has_node ns n) (number_is n n refl); most = λ m h. one m (n == m) refl h }
+    go false e = record { lead = n; here = ap (λ (b : Bool). b || has_node ns n) (equal n n refl); most = λ m h. one m (n == m) refl h }
       where
         one : (m : ℕ) (b : Bool) → (n == m) ≡ b → (b || has_node ns m) ≡ true → m ≤ n
-        one m true s h = omega (arith, same_number n m s)
+        one m true s h = omega (arith, num_same n m s)
         one m false s h = omega (arith, g.most m h, above e)
 
 pub greatest : (n : ℕ) (ns : List ℕ) → Greatest (n ∷ ns)
-greatest n [] = record { lead = n; here = ap (λ (b : Bool). b || false) (number_is n n refl); most = λ m e. one m (n == m) refl e }
+greatest n [] = record { lead = n; here = ap (λ (b : Bool). b || false) (equal n n refl); most = λ m e. one m (n == m) refl e }
   where
     one : (m : ℕ) (b : Bool) → (n == m) ≡ b → (b || false) ≡ true → m ≤ n
-    one m true s e = omega (arith, same_number n m s)
+    one m true s e = omega (arith, num_same n m s)
     one m false s e = differ e refl
 greatest n (x ∷ ns) = greater n (x ∷ ns) (greatest x ns)
 
@@ -293,13 +290,9 @@ racks : (w : World) (ms : List Member) → ((n : ℕ) → FitsRack n (w.facts n)
 racks w [] fit h = tt
 racks w (m ∷ ms) fit h = (subst (λ (r : Role). FitsRack m.id r) (sym h.0) (fit m.id), racks w ms fit h.1)
 
-members_id : (ms : List Member) (m : ℕ) → is_member ms m ≡ contains (ids_of ms) m
-members_id [] m = refl
-members_id (x ∷ ms) m = ap (λ (b : Bool). (x.id == m) || b) (members_id ms m)
-
 ids_fit : (ms : List Member) → ((n : ℕ) → contains (ids_of ms) n ≡ true → IsId n) → All (λ (m : Member). IsId m.id) ms
 ids_fit [] h = all_none (λ (m : Member). IsId m.id)
-ids_fit (m ∷ ms) h = all_cons (λ (m : Member). IsId m.id) m ms (h m.id (ap (λ (b : Bool). b || contains (ids_of ms) m.id) (number_is m.id m.id refl))) (ids_fit ms (λ n e. h n (later (m.id == n) n e)))
+ids_fit (m ∷ ms) h = all_cons (λ (m : Member). IsId m.id) m ms (h m.id (ap (λ (b : Bool). b || contains (ids_of ms) m.id) (equal m.id m.id refl))) (ids_fit ms (λ n e. h n (later (m.id == n) n e)))
   where
     later : (b : Bool) (n : ℕ) → contains (ids_of ms) n ≡ true → (b || contains (ids_of ms) n) ≡ true
     later true n e = refl
@@ -311,7 +304,7 @@ roll_of w gs ns g d few one id fit = record {
   ids = members_are w gs;
   lead = g.here;
   greatest = g.most;
-  fit = members_proper ns g.lead set few good (all_members (IsOneOf ns) set (λ n e. one n (sym (members_are w gs n) ∙ sym (members_id set n) ∙ e))) (racks w set fit (roles_are w gs));
+  fit = members_proper ns g.lead set few good (all_members (IsOneOf ns) set (λ n e. one n (sym (members_are w gs n) ∙ sym (member_listed set n) ∙ e))) (racks w set fit (roles_are w gs));
   each = id;
 }
   where
@@ -320,7 +313,7 @@ roll_of w gs ns g d few one id fit = record {
 
     good : GoodList g.lead set
     good = record {
-      led = members_id set g.lead ∙ members_are w gs g.lead ∙ g.here;
+      led = member_listed set g.lead ∙ members_are w gs g.lead ∙ g.here;
       fit = ids_fit set (λ n e. id n (sym (members_are w gs n) ∙ e));
       falls = ids_fall w gs d;
     }

@@ -9,9 +9,10 @@ use Rattle.cluster_rules.specs.CalmBound.{is_full_line}
 use Rattle.cluster_rules.specs.DueEvents.{due_of}
 use Rattle.cluster_rules.specs.Steps.{Step, Played, play, play_all, flow, flows, round, all_lines}
 use Rattle.cluster_rules.specs.World.{World, up_nodes}
+use Rattle.cluster_laws.proofs.At.{differ}
 use Rattle.calm_laws.proofs.Flow.{flowed, ticked}
 use Rattle.calm_laws.specs.Flows.{Clear, Flowed, InOrder, Named, Once, Rounded, Ticked}
-use Rattle.calm_laws.proofs.Took.{differ, any_behind}
+use Rattle.calm_laws.proofs.Took.{any_behind}
 
 -- no message lacked a place among these steps
 abbrev pub NoFull : List Step → Type 0

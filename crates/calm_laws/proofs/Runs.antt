@@ -2,6 +2,7 @@
 use Rattle.std.proofs.Common.{◌≡◌, ◌⊎◌, inl, inr, ℕ, zero, suc, ◌+◌, ◌-◌, ◌<◌, ◌≤◌, nat_lt, Bool, true, false, List, ◌++◌, length, refl, sym, ap, subst, ◌∙◌, append_assoc, arith}
 use Rattle.std.specs.List.{concat, list_any}
 use Rattle.std.proofs.lemmas.Bool.Decides.{nat_tests}
+use Rattle.std.proofs.lemmas.List.Elements.{All-append, All-from_recursion, recursion_from_All}
 use Rattle.cluster_types.specs.Distinct.{AreDistinct}
 use Rattle.cluster_types.specs.Partitions.{partition_count}
 use Rattle.cluster_rules.specs.declared.event.Event.TheVariants as event
@@ -10,13 +11,16 @@ use Rattle.cluster_rules.specs.Calm.{is_calm, up_in}
 use Rattle.cluster_rules.specs.CalmBound.{IsBehindFull, IsWithinCalm, is_full_line, is_full_round, open_transactions, records_held}
 use Rattle.cluster_rules.specs.Opening.{Header}
 use Rattle.cluster_rules.specs.Runs.{Calms}
-use Rattle.cluster_rules.specs.Steps.{Played, Step, all_lines, play, round, rounds}
+use Rattle.cluster_rules.specs.Steps.{Played, Step, all_lines, all_marks, play, round, rounds}
 use Rattle.cluster_rules.specs.World.{World, opened, up_nodes}
-use Rattle.cluster_rules.proofs.AllowedLaws.{allowed_due}
-use Rattle.run_laws.specs.Taken.{Taken, line_bound}
+use Rattle.cluster_rules.proofs.AllowedLaws.{allowed_append, allowed_due, nodes_stay, rounds_allowed}
+use Rattle.key_laws.proofs.Runs.{AreIds, declared_ids}
+use Rattle.run_laws.specs.Taken.{IsProperEvent, Taken, line_bound}
+use Rattle.run_laws.specs.Tied.{Among}
 use Rattle.run_laws.specs.Worlds.{world_after}
-use Rattle.calm_laws.specs.Claims.{AreFew, AreWithin, CalmComes, MayComeIn, OfBegun, OfCalms}
-use Rattle.calm_laws.specs.Flows.{Occurs, world_at}
+use Rattle.run_laws.proofs.EventRanges.{proper_rounds}
+use Rattle.calm_laws.specs.Claims.{BegunAreInTime, CalmComes, MayComeIn, NoneIsFull, WholeAreInTime, enough}
+use Rattle.calm_laws.specs.Flows.{world_at}
 use Rattle.calm_laws.specs.Handing.{AtMostPending}
 use Rattle.calm_laws.specs.Onward.{MayTake}
 use Rattle.calm_laws.specs.Schedules.{Schedule}
@@ -24,7 +28,7 @@ use Rattle.calm_laws.proofs.Bounded.{begun_few, begun_within, later_world}
 use Rattle.calm_laws.proofs.Calming.{calm_then}
 use Rattle.calm_laws.proofs.Dividing.{apart_behind}
 use Rattle.calm_laws.proofs.Grounding.{schedule_there}
-use Rattle.calm_laws.proofs.Onward.{front_lines, taken_front}
+use Rattle.calm_laws.proofs.Onward.{front_lines}
 use Rattle.calm_laws.proofs.Shrinking.{groups_stay}
 use Rattle.calm_laws.proofs.Stretch.{may_rounds}
 use Rattle.calm_laws.proofs.Witnesses.{few_pending}
@@ -70,26 +74,42 @@ scheduled w from rest may distinct placed = schedule_there (world_at partition_c
     placed_there : (k : ℕ) → k < rest → is_full_round partition_count (world_at partition_count w from) k ≡ false
     placed_there k lt = ap (λ (v : World). list_any is_full_line (all_lines (round partition_count v).steps)) (later_world partition_count from w k) ∙ placed k lt
 
-    pending : (group : List ℕ) → Occurs group (world_at partition_count w from).network.groups → 17 ≤ rest → AtMostPending (records_held w + open_transactions w) (up_in (world_at partition_count w from) group) (world_at partition_count (world_at partition_count w from) 17)
+    pending : (group : List ℕ) → Among (world_at partition_count w from).network.groups group → 17 ≤ rest → AtMostPending (records_held w + open_transactions w) (up_in (world_at partition_count w from) group) (world_at partition_count (world_at partition_count w from) 17)
     pending group among le = subst (λ (v : World). AtMostPending (records_held w + open_transactions w) (up_in (world_at partition_count w from) group) v) (sym (later_world partition_count from w 17)) (few_pending w (from + 17) (from + rest) (omega (arith, le)) may (up_in (world_at partition_count w from) group))
 
 -- ---- runs
 
-may_begun : (h : Header) (ss : List Step) (x : Played) (b : AreBegun partition_count (world_after h ss) x) → MayComeIn h ss x.steps → MayTake (world_after h ss) (rounds partition_count b.number (world_after h ss)).steps
-may_begun h ss x b m = record {
-  header = h;
-  before = ss;
-  leads = refl;
-  taken = subst (λ (y : Played). Taken h (ss ++ y.steps)) b.played m.taken;
-  few = m.few;
-  room = subst (λ (y : Played). length (all_lines (ss ++ y.steps)) + 1 < line_bound) b.played m.room;
+-- rounds may be taken where their lines have numbers
+taken_on : (h : Header) (ss : List Step) (k : ℕ) → Taken h ss → length (all_lines (ss ++ (rounds partition_count k (world_after h ss)).steps)) < line_bound → Taken h (ss ++ (rounds partition_count k (world_after h ss)).steps)
+taken_on h ss k t short = record {
+  header = t.header;
+  declared = t.declared;
+  allowed = allowed_append partition_count ss (rounds partition_count k (world_after h ss)).steps (opened h) t.allowed (rounds_allowed partition_count k (world_after h ss));
+  ranges = All-append (λ (s : Step). IsProperEvent s.event) ss (rounds partition_count k (world_after h ss)).steps t.ranges
+      (All-from_recursion (λ (s : Step). IsProperEvent s.event) (rounds partition_count k (world_after h ss)).steps
+      (proper_rounds partition_count k (world_after h ss) (subst AreIds (sym (nodes_stay (all_marks ss) (opened h))) (declared_ids h t.header))));
+  short = short;
 }
+
+one_more_line : (n b : ℕ) → n + 1 < b → n < b
+one_more_line n b h = omega (arith, h)
+
+may_begun : (h : Header) (ss : List Step) (x : Played) (b : AreBegun partition_count (world_after h ss) x) → MayComeIn h ss x.steps → MayTake (world_after h ss) (rounds partition_count b.number (world_after h ss)).steps
+may_begun h ss x b m =
+    let room : length (all_lines (ss ++ (rounds partition_count b.number (world_after h ss)).steps)) + 1 < line_bound = subst (λ (y : Played). length (all_lines (ss ++ y.steps)) + 1 < line_bound) b.played m.room in
+    record {
+      header = h;
+      before = ss;
+      leads = refl;
+      taken = taken_on h ss b.number m.taken (one_more_line _ line_bound room);
+      room = room;
+    }
 
 -- no node stands in two groups there
 apart_there : (h : Header) (ss more : List Step) → MayComeIn h ss more → AreDistinct (concat (world_after h ss).network.groups)
 apart_there h ss more m =
-    let t : Taken h ss = taken_front h ss more m.taken in
-    apart_behind partition_count h ss t.declared (allowed_due partition_count ss (opened h) t.allowed) m.divided
+    apart_behind partition_count h ss m.taken.declared.distinct (allowed_due partition_count ss (opened h) m.taken.allowed)
+    (recursion_from_All (λ (s : Step). IsProperEvent s.event) ss m.taken.ranges)
 
 none : (n : ℕ) → 0 + n ≡ n
 none n = omega arith
@@ -102,7 +122,7 @@ pub comes : CalmComes
 comes h ss m placed =
     let w : World = world_after h ss in
     let q : ℕ = records_held w + open_transactions w in
-    let may : MayTake w (rounds partition_count (21 + q) w).steps = record { header = h; before = ss; leads = refl; taken = m.taken; few = m.few; room = m.room } in
+    let may : MayTake w (rounds partition_count (21 + q) w).steps = record { header = h; before = ss; leads = refl; taken = taken_on h ss (21 + q) m.taken (one_more_line _ line_bound m.room); room = m.room } in
     let plan : Schedule (up_nodes (world_at partition_count w 0)) (world_at partition_count w 0) (21 + q) q =
     scheduled w 0 (21 + q) (subst (λ (k : ℕ). MayTake w (rounds partition_count k w).steps) (sym (none (21 + q))) may) (apart_there h ss (rounds partition_count (21 + q) w).steps m) (λ k lt. ap (is_full_round partition_count w) (none k) ∙ placed k lt) in
     record {
@@ -112,7 +132,7 @@ comes h ss m placed =
           (calm_then (up_nodes (world_at partition_count w 0)) (world_at partition_count w 0) (21 + q) q (omega arith) plan);
     }
 
-pub few_begun : OfBegun AreFew
+few_begun : (h : Header) (ss : List Step) (x : Played) (b : AreBegun partition_count (world_after h ss) x) → MayComeIn h ss x.steps → NoneIsFull (world_after h ss) b.number → b.number ≤ enough (world_after h ss)
 few_begun h ss x b m placed =
     let w : World = world_after h ss in
     begun_few (up_nodes (world_at partition_count w 0)) w (records_held w + open_transactions w) x b 0 b.number (none b.number)
@@ -130,8 +150,8 @@ within_from h ss x b m l =
     whole : (a c : ℕ) → a ≤ c → a + (c - a) ≡ c
     whole a c le = omega (arith, le)
 
-pub within_calm : OfBegun AreWithin
-within_calm h ss x b m = within_from h ss x b m (behind_last partition_count (world_after h ss) b.number)
+pub begun_in_time : BegunAreInTime
+begun_in_time h ss x b m = record { within = within_from h ss x b m (behind_last partition_count (world_after h ss) b.number); few = few_begun h ss x b m }
 
 -- ---- whole calms
 
@@ -145,14 +165,9 @@ module _ (h : Header) (ss : List Step) (x : Played) (c : Calms partition_count (
 
   may_come : MayComeIn h ss (rounds partition_count c.number (world_after h ss)).steps
   may_come = record {
-    taken = taken_front h (ss ++ only.steps) (play partition_count (event.Calmed c.number) only.world).steps (subst (λ (us : List Step). Taken h us) parts m.taken);
-    few = m.few;
+    taken = m.taken;
     room = omega (arith, front_lines (ss ++ only.steps) (play partition_count (event.Calmed c.number) only.world).steps, ap (λ (us : List Step). length (all_lines us)) parts, m.room);
-    divided = m.divided;
   }
 
-pub few_calm : OfCalms AreFew
-few_calm h ss x c m = few_begun h ss (rounds partition_count c.number (world_after h ss)) (record { number = c.number; uneasy = c.reached.before; played = refl }) (may_come h ss x c m)
-
-pub calm_within : OfCalms AreWithin
-calm_within h ss x c m = within_calm h ss (rounds partition_count c.number (world_after h ss)) (record { number = c.number; uneasy = c.reached.before; played = refl }) (may_come h ss x c m)
+pub whole_in_time : WholeAreInTime
+whole_in_time h ss x c m = begun_in_time h ss (rounds partition_count c.number (world_after h ss)) (record { number = c.number; uneasy = c.reached.before; played = refl }) (may_come h ss x c m)

@@ -5,6 +5,7 @@ use Rattle.cluster_types.specs.declared.member.Member.{Member}
 use Rattle.cluster_types.specs.ClusterKeys.{key_lt}
 use Rattle.wire_messages.specs.declared.message.Message.{Message}
 use Rattle.wire_messages.specs.declared.message.Message.TheVariants as message
+use Rattle.partition_lists.proofs.InOrderLaws.{equal}
 use Rattle.node_rules.specs.Agreement as agreement
 use Rattle.node_rules.specs.Agreement.{Agreement, Proposal, may_enter, proposes, seen_round, without_missing}
 use Rattle.node_rules.specs.Copies.{is_nil}
@@ -12,10 +13,13 @@ use Rattle.node_rules.specs.Facts.{Facts}
 use Rattle.node_rules.specs.Notes.{after_ages}
 use Rattle.journal_readings.specs.Lines.{has_node}
 use Rattle.cluster_rules.specs.World.{World}
+use Rattle.cluster_rules.proofs.KeptFacts.{num_same}
+use Rattle.cluster_laws.proofs.At.{differ}
 use Rattle.key_laws.proofs.Order.{lt_below}
+use Rattle.run_laws.specs.Tied.{Among}
 use Rattle.calm_laws.specs.Laws.{is_to_propose}
 use Rattle.calm_laws.specs.Acts.{Input, Gets, outbox}
-use Rattle.calm_laws.specs.Flows.{Occurs, Flowed, Near, Rounded, Speaks, Ticked, beat_of, inbox}
+use Rattle.calm_laws.specs.Flows.{Flowed, Near, Rounded, Speaks, Ticked, beat_of, inbox}
 use Rattle.calm_laws.specs.Group.{kind}
 use Rattle.calm_laws.specs.Letters.{arriving_at}
 use Rattle.calm_laws.specs.Stances.{Stance, stance_of, enters_if, counts, turned}
@@ -25,7 +29,6 @@ use Rattle.calm_laws.proofs.Flow.{among_behind, Came, came}
 use Rattle.calm_laws.proofs.Hearing.{gets_inbox, same_message, tick_beat}
 use Rattle.calm_laws.proofs.Passing.{flow_each, flow_kept}
 use Rattle.calm_laws.proofs.Sent.{asks, none_among, outbox_none}
-use Rattle.calm_laws.proofs.Took.{differ, number_is, same_number}
 use Rattle.calm_laws.proofs.Turns.{Led}
 
 -- ---- what was seen only rises
@@ -113,12 +116,12 @@ bound_kept x me s from (message.Commit key ms) l h = go (may_enter me s.agreemen
 bound_kept x me s from _ l h = h
 
 -- what came in the flow after a flow asks nothing
-pub not_asked : (n : ℕ) (u v : World) → Flowed n u v → (m a : ℕ) (x : Message) → Occurs (Gets a x) (inbox v m) → asks (kind x) ≡ false
+pub not_asked : (n : ℕ) (u v : World) → Flowed n u v → (m a : ℕ) (x : Message) → Among (inbox v m) (Gets a x) → asks (kind x) ≡ false
 not_asked n u v f m a x h =
-    let c : Came v m f.posted (Gets a x) = came v m f.posted (Gets a x) (subst (λ (is : List Input). Occurs (Gets a x) is) (f.inbox m) h) in
+    let c : Came v m f.posted (Gets a x) = came v m f.posted (Gets a x) (subst (λ (is : List Input). Among is (Gets a x)) (f.inbox m) h) in
     ap (λ (y : Message). asks (kind y)) (sym (same_message c.from a c.message x c.is))
     ∙ none_among asks (outbox n (u.clocks c.from) (u.facts c.from) (inbox u c.from)) m c.message (outbox_none n (u.clocks c.from) (u.facts c.from) (inbox u c.from) (gets_inbox u c.from))
-    (subst (λ (ls : List (ℕ × Message)). Occurs (m, c.message) ls) (f.from c.from) c.letter)
+    (subst (λ (ls : List (ℕ × Message)). Among ls (m, c.message)) (f.from c.from) c.letter)
 
 low_answer : (x : ℕ) (m : Message) → asks (kind m) ≡ false → Low x m
 low_answer x (message.Propose key ms) e = differ refl e
@@ -132,7 +135,7 @@ low_free : (x : ℕ) (m : Message) → is_agreeing (kind m) ≡ false → Low x 
 low_free x (message.Propose key ms) e = differ refl e
 low_free x _ e = tt
 
-flow_bound : (n : ℕ) (u v : World) (m x : ℕ) → Flowed n u v → ((a : ℕ) (y : Message) → Occurs (Gets a y) (inbox u m) → Low x y) → Bound x (stance_of (u.facts m)) → Bound x (stance_of (v.facts m))
+flow_bound : (n : ℕ) (u v : World) (m x : ℕ) → Flowed n u v → ((a : ℕ) (y : Message) → Among (inbox u m) (Gets a y) → Low x y) → Bound x (stance_of (u.facts m)) → Bound x (stance_of (v.facts m))
 flow_bound n u v m x f low h = flow_kept n u v m (Bound x) f (λ me s from y there. bound_kept x me s from y (low from y there)) h
 
 -- ---- the round
@@ -164,7 +167,7 @@ seen_after n ns gs g set w v r h speaks m here = go (m == g) refl
         at_least : (a : Agreement) (l : ClusterKey) → a.promised ≡ l → l.round ≤ max a.promised.round a.seen
         at_least a l e = subst (λ (y : ClusterKey). y.round ≤ max a.promised.round a.seen) e (omega arith)
 
-    low : (b : Bool) → is_to_propose (after_ages (w.facts g)) ≡ b → (a : ℕ) (y : Message) → Occurs (Gets a y) (inbox r.ticks_end m) → Low (seen_round (v.facts g).agreement) y
+    low : (b : Bool) → is_to_propose (after_ages (w.facts g)) ≡ b → (a : ℕ) (y : Message) → Among (inbox r.ticks_end m) (Gets a y) → Low (seen_round (v.facts g).agreement) y
     low true e a y there =
         low_only (seen_round (v.facts g).agreement) (key_next g w) set y (from_ticks (key_next g w).round (led (leader_leads n ns gs g set w r.ticks_end h k e)))
         (only_begins n ns gs g set w r.ticks_end h k m here a y there)
@@ -186,13 +189,13 @@ seen_after n ns gs g set w v r h speaks m here = go (m == g) refl
         from_first (w.facts m).agreement.promised.round
         (flow_each n r.ticks_end r.first_end g (λ s. Unit {0}) (Seen (w.facts m).agreement.promised.round) r.first (λ me s from y there p. tt) (λ me s from y there. seen_kept (w.facts m).agreement.promised.round me s from y)
         m (beat_of f) (λ me s name p. omega arith)
-        (subst (λ (is : List Input). Occurs (Gets m (beat_of f)) is) (sym (k.inbox g)) (among_behind (Gets m (beat_of f)) (inbox w g) (arriving_at r.ticks_end g k.posted) (tick_beat n ns w r.ticks_end k h.base.up m g near (speaks m near.sender)))) tt)
+        (subst (λ (is : List Input). Among is (Gets m (beat_of f))) (sym (k.inbox g)) (among_behind (Gets m (beat_of f)) (inbox w g) (arriving_at r.ticks_end g k.posted) (tick_beat n ns w r.ticks_end k h.base.up m g near (speaks m near.sender)))) tt)
 
     go : (b : Bool) → (m == g) ≡ b → (v.facts m).agreement.promised.round ≤ seen_round (v.facts g).agreement
-    go true s = subst (λ (y : ℕ). (v.facts y).agreement.promised.round ≤ seen_round (v.facts g).agreement) (sym (same_number m g s)) (own (v.facts g).agreement)
+    go true s = subst (λ (y : ℕ). (v.facts y).agreement.promised.round ≤ seen_round (v.facts g).agreement) (sym (num_same m g s)) (own (v.facts g).agreement)
       where
         own : (a : Agreement) → a.promised.round ≤ max a.promised.round a.seen
         own a = omega arith
     go false s =
-        let d : m ≡ g → ⊥ = λ i. differ (number_is m g i) s in
+        let d : m ≡ g → ⊥ = λ i. differ (equal m g i) s in
         bound (subst (λ (z : Stance). Bound (seen_round (v.facts g).agreement) z) (sym (rests_tick n ns gs g set w r.ticks_end h k m here (others_rest ns gs g set w h m here d))) (told d))

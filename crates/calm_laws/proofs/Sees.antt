@@ -9,12 +9,15 @@ use Rattle.std.proofs.lemmas.Option.{none-some}
 use Rattle.cluster_types.specs.declared.cluster_key.ClusterKey.{ClusterKey}
 use Rattle.cluster_types.specs.declared.member.Member.{Member}
 use Rattle.cluster_types.specs.declared.member.Role.{Role}
+use Rattle.partition_lists.proofs.InOrderLaws.{equal}
 use Rattle.node_rules.specs.Hearing.{Heard, aged, all_show, member_of, names, neighbours_of, older, timeout}
 use Rattle.node_rules.specs.Keys.{same_key}
 use Rattle.node_rules.specs.Notes.{after_ages, neighbours}
 use Rattle.node_rules.specs.Tables.{Table, at, contains, with_entry}
 use Rattle.journal_readings.specs.Lines.{has_node}
 use Rattle.cluster_rules.specs.World.{World}
+use Rattle.cluster_rules.proofs.KeptFacts.{num_same}
+use Rattle.cluster_laws.proofs.At.{differ}
 use Rattle.key_laws.specs.Sound.{Rises}
 use Rattle.calm_laws.specs.Flows.{Fresh, HeardAs, look}
 use Rattle.calm_laws.specs.Turns.{Listens, Roster}
@@ -22,7 +25,6 @@ use Rattle.calm_laws.proofs.Groups.{look_aged}
 use Rattle.calm_laws.proofs.Hears.{ties}
 use Rattle.calm_laws.proofs.SetStays.{none_aged, rises_aged}
 use Rattle.calm_laws.proofs.Sets.{find_roles, not_under, rises_roles, rises_sorted, roles, shown, tied}
-use Rattle.calm_laws.proofs.Took.{differ, number_is, same_number}
 
 -- ---- neighbours
 
@@ -44,8 +46,8 @@ module _ (gs : List ℕ) (set : List Member) (w : World) (o : Roster gs set w) (
       ∙ go (x == m) refl
     where
       go : (b : Bool) → (x == m) ≡ b → cond b (Some (w.facts m).role) (find nat_cmp x (roles m (aged (w.facts m).hearing.heard))) ≡ at o.table x
-      go true e = sym (ap (λ (y : ℕ). at o.table y) (same_number x m e) ∙ o.here m here)
-      go false e = find_roles m x (aged (w.facts m).hearing.heard) (rises_aged (w.facts m).hearing.heard (h.rises m here)) ∙ shows x (λ i. differ (number_is x m (sym i)) e) (has_node gs x) refl
+      go true e = sym (ap (λ (y : ℕ). at o.table y) (num_same x m e) ∙ o.here m here)
+      go false e = find_roles m x (aged (w.facts m).hearing.heard) (rises_aged (w.facts m).hearing.heard (h.rises m here)) ∙ shows x (λ i. differ (equal x m (sym i)) e) (has_node gs x) refl
 
   same_table : with_entry (roles m (aged (w.facts m).hearing.heard)) m (w.facts m).role ≡ o.table
   same_table =
@@ -98,11 +100,11 @@ shows_all me key [] r each = refl
 shows_all me key (x ∷ t) r each = go (names me x) (shows_all me key t r.1 (λ a h e. each a h (later a h e (a == x.0) refl)))
   where
     here : same_key x.1.beat.view key ≡ true
-    here = each x.0 x.1 (ap (λ (b : Bool). cond b (Some x.1) (look t x.0)) (ties x.0 x.0 ∙ number_is x.0 x.0 refl))
+    here = each x.0 x.1 (ap (λ (b : Bool). cond b (Some x.1) (look t x.0)) (ties x.0 x.0 ∙ equal x.0 x.0 refl))
 
     later : (a : ℕ) (h : Heard) → look t a ≡ Some h → (b : Bool) → (a == x.0) ≡ b → look (x ∷ t) a ≡ Some h
     later a h e false s = ap (λ (b : Bool). cond b (Some x.1) (look t a)) (ties a x.0 ∙ s) ∙ e
-    later a h e true s = absurd (none-some h (sym (not_under x.0 t r.0) ∙ ap (λ (y : ℕ). look t y) (sym (same_number a x.0 s)) ∙ e))
+    later a h e true s = absurd (none-some h (sym (not_under x.0 t r.0) ∙ ap (λ (y : ℕ). look t y) (sym (num_same a x.0 s)) ∙ e))
 
     go : (b : Bool) → all_show me t key ≡ true → list_all (λ (e : ℕ × Heard). same_key e.1.beat.view key) (cond b (x ∷ filter (names me) t) (filter (names me) t)) ≡ true
     go true rest = ap (λ (b : Bool). b && all_show me t key) here ∙ rest

@@ -27,8 +27,9 @@ use Rattle.node_rules.specs.Resolving.{writing, resolving_want, repl}
 use Rattle.node_rules.specs.Standing.{other_replicas, others}
 use Rattle.node_rules.specs.Tick.{Part, in_order, propose, proposing_to, propose_new, propose_with, rows, transactions, sends_again, batches, batch_to, settlings, progress, progress_if, state, tick_if}
 use Rattle.node_rules.specs.Transactions.{Transaction, Write, transaction, awaits_answer, awaits_ack, answered, is_last_awaited}
+use Rattle.run_laws.specs.Tied.{Among}
 use Rattle.calm_laws.specs.Acts.{Input, Ticks, Gets, reading, read_to, as_read, sent_at, acted, outbox}
-use Rattle.calm_laws.specs.Flows.{Occurs, beat_of}
+use Rattle.calm_laws.specs.Flows.{beat_of}
 use Rattle.calm_laws.specs.Group.{kind}
 use Rattle.calm_laws.proofs.KindLaws.{NoneOf, none_append, none_read}
 
@@ -252,22 +253,22 @@ unfolding as_read
 read_append xs ys = filter_map-append reading xs ys
 
 -- it goes to each of these, as it can be read
-pub each_among : (m : Message) → message_of (spelling m) ≡ Some m → (ns : List ℕ) (to : ℕ) → Occurs to ns → Occurs (to, m) (as_read (to_each ns m))
+pub each_among : (m : Message) → message_of (spelling m) ≡ Some m → (ns : List ℕ) (to : ℕ) → Among ns to → Among (as_read (to_each ns m)) (to, m)
 unfolding as_read
 each_among m r [] to h = absurd h
-each_among m r (n ∷ ns) to (inl e) = subst (λ (o : Option Message). Occurs (to, m) (cons_option (read_to n o) (as_read (to_each ns m)))) (sym r) (inl (ap (λ (k : ℕ). (k, m)) e))
-each_among m r (n ∷ ns) to (inr h) = subst (λ (o : Option Message). Occurs (to, m) (cons_option (read_to n o) (as_read (to_each ns m)))) (sym r) (inr (each_among m r ns to h))
+each_among m r (n ∷ ns) to (inl e) = subst (λ (o : Option Message). Among (cons_option (read_to n o) (as_read (to_each ns m))) (to, m)) (sym r) (inl (ap (λ (k : ℕ). (k, m)) e))
+each_among m r (n ∷ ns) to (inr h) = subst (λ (o : Option Message). Among (cons_option (read_to n o) (as_read (to_each ns m))) (to, m)) (sym r) (inr (each_among m r ns to h))
 
-pub among_each : (m : Message) → message_of (spelling m) ≡ Some m → (ns : List ℕ) (to : ℕ) (x : Message) → Occurs (to, x) (as_read (to_each ns m)) → m ≡ x
+pub among_each : (m : Message) → message_of (spelling m) ≡ Some m → (ns : List ℕ) (to : ℕ) (x : Message) → Among (as_read (to_each ns m)) (to, x) → m ≡ x
 unfolding as_read
 among_each m r [] to x h = absurd h
-among_each m r (n ∷ ns) to x h = go (subst (λ (o : Option Message). Occurs (to, x) (cons_option (read_to n o) (as_read (to_each ns m)))) r h) (among_each m r ns to x)
+among_each m r (n ∷ ns) to x h = go (subst (λ (o : Option Message). Among (cons_option (read_to n o) (as_read (to_each ns m))) (to, x)) r h) (among_each m r ns to x)
   where
-    go : Occurs (to, x) ((n, m) ∷ as_read (to_each ns m)) → (Occurs (to, x) (as_read (to_each ns m)) → m ≡ x) → m ≡ x
+    go : Among ((n, m) ∷ as_read (to_each ns m)) (to, x) → (Among (as_read (to_each ns m)) (to, x) → m ≡ x) → m ≡ x
     go (inl e) rest = ap (λ (q : ℕ × Message). q.1) e
     go (inr i) rest = rest i
 
-pub none_among : (test : ℕ → Bool) (ms : List (ℕ × Message)) (to : ℕ) (x : Message) → NoneOf test ms → Occurs (to, x) ms → test (kind x) ≡ false
+pub none_among : (test : ℕ → Bool) (ms : List (ℕ × Message)) (to : ℕ) (x : Message) → NoneOf test ms → Among ms (to, x) → test (kind x) ≡ false
 none_among test [] to x h i = absurd i
 none_among test (m ∷ ms) to x h (inl e) = ap (λ (q : ℕ × Message). test (kind q.1)) (sym e) ∙ h.0
 none_among test (m ∷ ms) to x h (inr i) = none_among test ms to x h.1 i

@@ -8,10 +8,11 @@ use Rattle.std.proofs.lemmas.Bool.Decides.{nat_tests}
 use Rattle.cluster_types.specs.declared.member.Role.{Role}
 use Rattle.node_rules.specs.Hearing.{Heard, names}
 use Rattle.node_rules.specs.Tables.{Table, contains}
+use Rattle.cluster_rules.proofs.KeptFacts.{num_same}
+use Rattle.cluster_laws.proofs.GroundLaws.{apart}
 use Rattle.key_laws.specs.Sound.{Rises, IsUnder}
 use Rattle.calm_laws.proofs.Hears.{ties}
 use Rattle.calm_laws.specs.Flows.{look}
-use Rattle.calm_laws.proofs.Took.{same_number, number_isnt}
 
 -- ---- tables in order
 
@@ -64,7 +65,7 @@ above_not m x lt e = omega (arith, lt, e)
 
 pub not_under : (m : ℕ) (t : Table Heard) → IsUnder m t → look t m ≡ None
 not_under m [] h = refl
-not_under m (e ∷ t) h = ap (λ (b : Bool). cond b (Some e.1) (look t m)) (ties m e.0 ∙ number_isnt m e.0 (above_not m e.0 h.0)) ∙ not_under m t h.1
+not_under m (e ∷ t) h = ap (λ (b : Bool). cond b (Some e.1) (look t m)) (ties m e.0 ∙ apart m e.0 (above_not m e.0 h.0)) ∙ not_under m t h.1
 
 pub find_roles : (me m : ℕ) (t : Table Heard) → Rises t → find nat_cmp m (roles me t) ≡ shown me (look t m)
 find_roles me m [] h = refl
@@ -82,12 +83,12 @@ find_roles me m (e ∷ t) h = go (names me e) refl (m == e.0) refl (find_roles m
         ∙ ap (λ (b : Bool). shown me (cond b (Some e.1) (look t m))) (sym (ties m e.0 ∙ c))
     go false n true c rest =
         rest
-        ∙ ap (λ (o : Option Heard). shown me o) (subst (λ (x : ℕ). look t x ≡ None) (sym (same_number m e.0 c)) (not_under e.0 t h.0))
+        ∙ ap (λ (o : Option Heard). shown me o) (subst (λ (x : ℕ). look t x ≡ None) (sym (num_same m e.0 c)) (not_under e.0 t h.0))
         ∙ ap (λ (b : Bool). cond b (Some e.1.beat.role) None) (sym n)
         ∙ ap (λ (b : Bool). shown me (cond b (Some e.1) (look t m))) (sym (ties m e.0 ∙ c))
     go false n false c rest = rest ∙ ap (λ (b : Bool). shown me (cond b (Some e.1) (look t m))) (sym (ties m e.0 ∙ c))
 
 pub tied : (x y : ℕ) → nat_cmp x y ≡ Equal → x ≡ y
-tied x y e = same_number x y (sym (ties x y) ∙ ap is_eq e)
+tied x y e = num_same x y (sym (ties x y) ∙ ap is_eq e)
 
 -- ---- the neighbours of an up node stay

@@ -4,11 +4,14 @@ use Rattle.cluster_types.specs.declared.member.Member.{Member}
 use Rattle.cluster_types.specs.Partitions.{partition_count}
 use Rattle.cluster_types.specs.Rows.{bit}
 use Rattle.partition_lists.specs.Lists.{list}
+use Rattle.partition_lists.proofs.InOrderLaws.{equal}
 use Rattle.node_rules.specs.Facts.{Facts}
 use Rattle.node_rules.specs.Map.{acting, master}
 use Rattle.node_rules.specs.Standing.{are_all_done, is_acting, is_all_empty, knows_all_settled, knows_settled}
 use Rattle.journal_readings.specs.Lines.{has_node}
 use Rattle.cluster_rules.specs.World.{World}
+use Rattle.cluster_rules.proofs.KeptFacts.{num_same}
+use Rattle.cluster_laws.proofs.At.{differ}
 use Rattle.calm_laws.specs.Calming.{Reaches, Settling}
 use Rattle.calm_laws.specs.Flows.{world_at}
 use Rattle.calm_laws.specs.Footing.{Footing}
@@ -29,7 +32,6 @@ use Rattle.calm_laws.proofs.Spreading.{answers_bit, bit_end, knows_end, tells_bi
 use Rattle.calm_laws.proofs.Steadying.{steady_rests}
 use Rattle.calm_laws.proofs.Telling.{TellRound}
 use Rattle.calm_laws.proofs.Ticking.{progressing}
-use Rattle.calm_laws.proofs.Took.{differ, number_is, same_number}
 use Rattle.calm_laws.proofs.SettlingRound.{done_by, grown, hands_round, is_acting_by, knows_at, knows_each, settles_round}
 
 -- ---- the rounds
@@ -212,7 +214,7 @@ module _ (ns gs : List ℕ) (g : ℕ) (set : List Member) (w : World) (most : �
               (bit_of (16 + suc (suc (suc q))) (omega arith) (omega arith) (foot.actor r) acted_by
               (subst (λ (i : ℕ). knows_all_settled ((world_at partition_count w i).facts (foot.actor r)) partition_count 0 ≡ true) (next (suc (suc q))) (ends_knowing (suc q) l2 e2 (foot.actor r) acted_by e))))
           over done other false e =
-              inr (ends_told (suc q) l2 e2 (foot.actor r) leader acted_by led (λ i. differ (number_is leader (foot.actor r) i) other) e true r
+              inr (ends_told (suc q) l2 e2 (foot.actor r) leader acted_by led (λ i. differ (equal leader (foot.actor r) i) other) e true r
               (tick_hands (suc q) l2 e2 (foot.actor r) r acted_by lt acts other done (foot.places (16 + suc (suc q)) (omega arith) (omega arith) (foot.actor r) acted_by r lt).0 (foot.own (16 + suc (suc q)) (omega arith) (omega arith) (foot.actor r) acted_by r)))
 
           -- or is the list master, and settles
@@ -229,7 +231,7 @@ module _ (ns gs : List ℕ) (g : ℕ) (set : List Member) (w : World) (most : �
               both false c d i j = ap (λ (z : Bool). z && d) i ∙ j
 
           open_to : are_all_done (second.facts (foot.actor r)) r ≡ true → (b : Bool) → (leader == foot.actor r) ≡ b → After
-          open_to done true e = same done (same_number leader (foot.actor r) e)
+          open_to done true e = same done (num_same leader (foot.actor r) e)
           open_to done false e = over done e (knows (suc q) l2 e2 (foot.actor r)) refl
 
           go : Knowing second (foot.actor r) → After
@@ -251,9 +253,9 @@ module _ (ns gs : List ℕ) (g : ℕ) (set : List Member) (w : World) (most : �
       heard m here e = go (m == leader) refl (knows (suc (suc q)) l3 e3 leader) refl
         where
           go : (b : Bool) → (m == leader) ≡ b → (c : Bool) → knows (suc (suc q)) l3 e3 leader ≡ c → Has false r (last.facts m).bits
-          go true s c f = subst (λ (y : ℕ). Has false r (last.facts y).bits) (sym (same_number m leader s)) (ends_bit (suc (suc q)) l3 e3 leader led false r settled_told)
-          go false s false f = ends_told (suc (suc q)) l3 e3 leader m led here (λ i. differ (number_is m leader i) s) f false r settled_told
-          go false s true f = ends_answered (suc (suc q)) l3 e3 leader m led here (λ i. differ (number_is m leader i) s) f e r settled_told
+          go true s c f = subst (λ (y : ℕ). Has false r (last.facts y).bits) (sym (num_same m leader s)) (ends_bit (suc (suc q)) l3 e3 leader led false r settled_told)
+          go false s false f = ends_told (suc (suc q)) l3 e3 leader m led here (λ i. differ (equal m leader i) s) f false r settled_told
+          go false s true f = ends_answered (suc (suc q)) l3 e3 leader m led here (λ i. differ (equal m leader i) s) f e r settled_told
 
     all_know : Settling partition_count gs last
     all_know m here = go (knows (suc (suc q)) l3 e3 m) refl

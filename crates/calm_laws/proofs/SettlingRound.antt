@@ -1,5 +1,5 @@
 -- What a node knows settled, and what the tick of a round in which nothing is pending hands over and settles.
-use Rattle.std.proofs.Common.{◌≡◌, ℕ, zero, suc, ◌+◌, ◌<◌, ◌≤◌, ◌==◌, ◌||◌, ◌&&◌, Bool, true, false, List, [], ◌∷◌, Option, None, refl, sym, ap, subst, ◌∙◌, arith}
+use Rattle.std.proofs.Common.{◌≡◌, ℕ, zero, suc, ◌+◌, ◌<◌, ◌≤◌, ◌==◌, ◌||◌, ◌&&◌, Bool, true, false, List, [], Option, None, refl, sym, ap, subst, ◌∙◌, arith}
 use Rattle.std.specs.Prelude.{unwrap_or}
 use Rattle.std.specs.List.{list_all, list_any}
 use Rattle.cluster_types.specs.declared.cluster_key.ClusterKey.{ClusterKey}
@@ -8,6 +8,7 @@ use Rattle.cluster_types.specs.Members.{ids_of}
 use Rattle.cluster_types.specs.Partitions.{partition_count}
 use Rattle.cluster_types.specs.Rows.{bit}
 use Rattle.partition_lists.specs.Lists.{list}
+use Rattle.partition_lists.proofs.InOrderLaws.{equal}
 use Rattle.node_rules.specs.Agreement as agreement
 use Rattle.node_rules.specs.Bits.{Bits, knows_done}
 use Rattle.node_rules.specs.Copies.{is_of}
@@ -21,6 +22,10 @@ use Rattle.node_rules.specs.Tables.{contains}
 use Rattle.node_rules.specs.Transactions.{Transaction, is_busy}
 use Rattle.journal_readings.specs.Lines.{has_node}
 use Rattle.cluster_rules.specs.World.{World}
+use Rattle.cluster_rules.proofs.KeptFacts.{num_same}
+use Rattle.cluster_laws.proofs.At.{differ}
+use Rattle.cluster_laws.proofs.ReadingClaims.{all_from}
+use Rattle.key_laws.proofs.Addressed.{not_gone}
 use Rattle.calm_laws.specs.Acts.{as_read}
 use Rattle.calm_laws.specs.Calming.{Reaches}
 use Rattle.calm_laws.specs.Flows.{Rounded}
@@ -31,11 +36,10 @@ use Rattle.calm_laws.proofs.Beginning.{aged_none}
 use Rattle.calm_laws.proofs.Bitwise.{Has, has_grows}
 use Rattle.calm_laws.proofs.Growing.{all_sent_bits, rests_grow}
 use Rattle.calm_laws.proofs.Placing.{hands_over, next_above, settles_it}
-use Rattle.calm_laws.proofs.Rolls.{other_here, without_other}
+use Rattle.calm_laws.proofs.Rolls.{other_here}
 use Rattle.calm_laws.proofs.Taking.{rests_proposed}
 use Rattle.calm_laws.proofs.Telling.{TellRound, all_done, calm}
 use Rattle.calm_laws.proofs.Ticking.{progressing, tick_facts, tick_list}
-use Rattle.calm_laws.proofs.Took.{differ, number_is, same_number}
 
 -- ---- who knows all settled
 
@@ -53,23 +57,13 @@ knows_at f (suc n) p q e le lt = go (p == q) refl (λ ge. knows_at f n (p + 1) q
     second false b i = differ i refl
 
     go : (b : Bool) → (p == q) ≡ b → (p + 1 ≤ q → knows_settled f q ≡ true) → knows_settled f q ≡ true
-    go true s rest = subst (λ (y : ℕ). knows_settled f y ≡ true) (same_number p q s) (first (knows_settled f p) (knows_all_settled f n (p + 1)) e)
-    go false s rest = rest (next_above p q le (λ i. differ (number_is p q i) s))
+    go true s rest = subst (λ (y : ℕ). knows_settled f y ≡ true) (num_same p q s) (first (knows_settled f p) (knows_all_settled f n (p + 1)) e)
+    go false s rest = rest (next_above p q le (λ i. differ (equal p q i) s))
 
 pub knows_each : (f : Facts) (n p : ℕ) → ((q : ℕ) → p ≤ q → q < p + n → knows_settled f q ≡ true) → knows_all_settled f n p ≡ true
 unfolding knows_all_settled
 knows_each f zero p h = refl
 knows_each f (suc n) p h = ap (λ (b : Bool). b && knows_all_settled f n (p + 1)) (h p (omega arith) (omega arith)) ∙ knows_each f n (p + 1) (λ q ge lt. h q (omega (arith, ge)) (omega (arith, lt)))
-
-each_passes : (test : ℕ → Bool) (xs : List ℕ) → ((x : ℕ) → contains xs x ≡ true → test x ≡ true) → list_all test xs ≡ true
-each_passes test [] h = refl
-each_passes test (x ∷ xs) h =
-    ap (λ (b : Bool). b && list_all test xs) (h x (ap (λ (b : Bool). b || contains xs x) (number_is x x refl)))
-    ∙ each_passes test xs (λ m e. h m (behind (x == m) (contains xs m) e))
-  where
-    behind : (b c : Bool) → c ≡ true → (b || c) ≡ true
-    behind true c e = refl
-    behind false c e = e
 
 -- ---- one round
 
@@ -108,14 +102,14 @@ module _ (ns gs : List ℕ) (g : ℕ) (set : List Member) (k : ClusterKey) (w v 
   done_by m here known p lt =
       ap (λ (b : Bool). b && list_all (knows_done (w.facts m).bits p) (others (w.facts m))) (all_done (w.facts m) (h.hands.over m here) (h.empty m here) p)
       ∙ ap (λ (xs : List ℕ). list_all (knows_done (w.facts m).bits p) xs) same
-      ∙ each_passes (knows_done (w.facts m).bits p) (agreement.others m set) one
+      ∙ all_from (knows_done (w.facts m).bits p) (agreement.others m set) one
     where
       same : others (w.facts m) ≡ agreement.others m set
       same = ap (λ (y : ℕ). agreement.others y (members_of (w.facts m).exchange.view)) (h.hands.ready.base.named m) ∙ ap (λ (o : Option View). agreement.others m (members_of o)) (h.hands.steady.views m here)
 
       one : (y : ℕ) → contains (agreement.others m set) y ≡ true → knows_done (w.facts m).bits p y ≡ true
       one y e =
-          let z : KnowsDone partition_count y (w.facts m).bits = known y (other_here gs g set h.hands.ready.roll m y e) (λ i. without_other (ids_of set) m y e (sym i)) in
+          let z : KnowsDone partition_count y (w.facts m).bits = known y (other_here gs g set h.hands.ready.roll m y e) (λ i. not_gone (ids_of set) m y e (sym i)) in
           ap (λ (o : Option (List Bool)). bit (unwrap_or o []) p) z.told ∙ z.full p lt
 
   -- the acting master hands over what it doesn't keep
@@ -126,7 +120,7 @@ module _ (ns gs : List ℕ) (g : ℕ) (set : List Member) (k : ClusterKey) (w v 
       (hands_over partition_count p (list set p) (after_ages (w.facts m)) lt
       (record {
         list_is = list_of m here p;
-        acting = ap (λ (y : ℕ). acting (list set p) (w.facts m).exchange.rows p == y) (h.hands.ready.base.named m) ∙ number_is (acting (list set p) (w.facts m).exchange.rows p) m acts;
+        acting = ap (λ (y : ℕ). acting (list set p) (w.facts m).exchange.rows p == y) (h.hands.ready.base.named m) ∙ equal (acting (list set p) (w.facts m).exchange.rows p) m acts;
         master = ap (λ (y : ℕ). master (list set p) == y) (h.hands.ready.base.named m) ∙ other;
         done = done;
         free = free m here p;
@@ -142,7 +136,7 @@ module _ (ns gs : List ℕ) (g : ℕ) (set : List Member) (k : ClusterKey) (w v 
       (settles_it partition_count p (list set p) (after_ages (w.facts m)) lt
       (record {
         list_is = list_of m here p;
-        master = ap (λ (y : ℕ). master (list set p) == y) (h.hands.ready.base.named m) ∙ number_is (master (list set p)) m mine;
+        master = ap (λ (y : ℕ). master (list set p) == y) (h.hands.ready.base.named m) ∙ equal (master (list set p)) m mine;
         some = some;
         free = free m here p;
         may = may;
@@ -150,4 +144,4 @@ module _ (ns gs : List ℕ) (g : ℕ) (set : List Member) (k : ClusterKey) (w v 
       }))
 
   pub is_acting_by : (m p : ℕ) → acting (list set p) (w.facts m).exchange.rows p ≡ m → is_acting (w.facts m) (list set p) p ≡ true
-  is_acting_by m p acts = ap (λ (y : ℕ). acting (list set p) (w.facts m).exchange.rows p == y) (h.hands.ready.base.named m) ∙ number_is (acting (list set p) (w.facts m).exchange.rows p) m acts
+  is_acting_by m p acts = ap (λ (y : ℕ). acting (list set p) (w.facts m).exchange.rows p == y) (h.hands.ready.base.named m) ∙ equal (acting (list set p) (w.facts m).exchange.rows p) m acts

@@ -26,10 +26,10 @@ use Rattle.cluster_rules.specs.Marks.{Mark, Begins, Writes, after_all, after_lin
 use Rattle.cluster_rules.specs.Network.{client, posting, posting_at}
 use Rattle.cluster_rules.specs.Steps.{all_marks}
 use Rattle.cluster_rules.specs.World.{World, at, new_if, opened}
+use Rattle.cluster_laws.proofs.At.{differ}
 use Rattle.run_laws.proofs.NodeLaws.{clear_length, set_length}
 use Rattle.calm_laws.specs.Onward.{MayTake}
 use Rattle.calm_laws.specs.Shaped.{Shaped, Within}
-use Rattle.calm_laws.proofs.Took.{differ}
 
 -- ---- targets
 

@@ -27,7 +27,8 @@ use Rattle.cluster_rules.specs.Network.{Network, client, flying_at, has_place, l
 use Rattle.cluster_rules.specs.Steps.{Step, all_marks, flow, flows, marks_of, play, play_all, round, rounds}
 use Rattle.cluster_rules.specs.World.{World, at, new_if, up_nodes}
 use Rattle.cluster_rules.proofs.MarkLaws.{rounds_follow}
-use Rattle.calm_laws.specs.Flows.{Occurs, world_at}
+use Rattle.run_laws.specs.Tied.{Among}
+use Rattle.calm_laws.specs.Flows.{world_at}
 use Rattle.calm_laws.proofs.Own.{OwnLine, OwnLines, message_own, tick_own}
 
 -- ---- lines of rounds
@@ -184,7 +185,7 @@ groups_stay n k w = ap (λ (u : World). u.network.groups) (sym (rounds_follow n 
 
 -- each open transaction is on such a digest
 abbrev pub RunsOn : (List ℕ → Type 0) → List Transaction → Type 0
-RunsOn S ts = (y : Transaction) → Occurs y ts → S y.digest
+RunsOn S ts = (y : Transaction) → Among ts y → S y.digest
 
 abbrev pub AllRunOn : (List ℕ → Type 0) → World → Type 0
 AllRunOn S w = (m : ℕ) → RunsOn S (w.facts m).transactions.running
@@ -336,10 +337,10 @@ module _ (S : List ℕ → Type 0) where
   line_runs w l u h = h
 
 -- the open transaction of a number is one of them
-pub found_among : (ts : List Transaction) (t : ℕ) (y : Transaction) → find (λ (x : Transaction). x.number == t) ts ≡ Some y → Occurs y ts
+pub found_among : (ts : List Transaction) (t : ℕ) (y : Transaction) → find (λ (x : Transaction). x.number == t) ts ≡ Some y → Among ts y
 found_among [] t y e = cc
 found_among (x ∷ xs) t y e = go (x.number == t) e (found_among xs t y)
   where
-    go : (b : Bool) → (if b then Some x else find (λ (x : Transaction). x.number == t) xs) ≡ Some y → (find (λ (x : Transaction). x.number == t) xs ≡ Some y → Occurs y xs) → Occurs y (x ∷ xs)
+    go : (b : Bool) → (if b then Some x else find (λ (x : Transaction). x.number == t) xs) ≡ Some y → (find (λ (x : Transaction). x.number == t) xs ≡ Some y → Among xs y) → Among (x ∷ xs) y
     go true e rest = inl (some_same e)
     go false e rest = inr (rest e)

@@ -19,8 +19,9 @@ use Rattle.node_rules.specs.Tick.{progress_message}
 use Rattle.journal_readings.specs.Lines.{has_node}
 use Rattle.cluster_rules.specs.World.{World}
 use Rattle.key_laws.proofs.Order.{same_self}
+use Rattle.run_laws.specs.Tied.{Among}
 use Rattle.calm_laws.specs.Acts.{Gets, acted, as_read, effects, outbox}
-use Rattle.calm_laws.specs.Flows.{Occurs, Flowed, Rounded, inbox}
+use Rattle.calm_laws.specs.Flows.{Flowed, Rounded, inbox}
 use Rattle.calm_laws.specs.Group.{Group, kind}
 use Rattle.calm_laws.specs.Progresses.{FullInbox}
 use Rattle.calm_laws.specs.Turns.{is_agreeing}
@@ -90,14 +91,14 @@ module _ (ns gs : List ℕ) (g : ℕ) (set : List Member) (k : ClusterKey) (w v 
           subst (Has b p) (sym (ap (λ (y : Facts). y.bits) (ticked_from ns gs g set k w v r h left j x here) ∙ all_sent_bits (progressing partition_count (w.facts x)) (as_read (tick_list partition_count (w.facts x))))) has
 
   -- who knows all settled does so as it ends
-  knows_flow : (u z : World) (x : ℕ) (rows : List MemberRow) → Flowed partition_count u z → ((from : ℕ) (y : Message) → Occurs (Gets from y) (inbox u x) → is_agreeing (kind y) ≡ false) → ((from : ℕ) (y : Message) → Occurs (Gets from y) (inbox u x) → lacks rows from ≡ false)
+  knows_flow : (u z : World) (x : ℕ) (rows : List MemberRow) → Flowed partition_count u z → ((from : ℕ) (y : Message) → Among (inbox u x) (Gets from y) → is_agreeing (kind y) ≡ false) → ((from : ℕ) (y : Message) → Among (inbox u x) (Gets from y) → lacks rows from ≡ false)
       → Settles k set rows (u.facts x) → Settles k set rows (z.facts x)
   knows_flow u z x rows f free there s =
       subst (Settles k set rows) (sym (f.facts x))
       (served_kept partition_count (u.clocks x) (Settles k set rows) (inbox u x) (u.facts x)
-      (λ f i among p. all_gets (inbox u x) i (gets_inbox u x) among (λ a. Occurs a (inbox u x) → Settles k set rows (acted partition_count (u.clocks x) f a)) (λ from y t. settles_acted partition_count (u.clocks x) k set rows f from y (free from y t) (there from y t) p) among) s)
+      (λ f i among p. all_gets (inbox u x) i (gets_inbox u x) among (λ a. Among (inbox u x) a → Settles k set rows (acted partition_count (u.clocks x) f a)) (λ from y t. settles_acted partition_count (u.clocks x) k set rows f from y (free from y t) (there from y t) p) among) s)
 
-  row_of_sender : (u z : World) → Group ns gs u → Flowed partition_count u z → (x : ℕ) → has_node gs x ≡ true → (from : ℕ) (y : Message) → Occurs (Gets from y) (inbox z x) → lacks (w.facts x).exchange.rows from ≡ false
+  row_of_sender : (u z : World) → Group ns gs u → Flowed partition_count u z → (x : ℕ) → has_node gs x ≡ true → (from : ℕ) (y : Message) → Among (inbox z x) (Gets from y) → lacks (w.facts x).exchange.rows from ≡ false
   row_of_sender u z group f x here from y i = j.rows x from here (from_group partition_count ns gs u z group f from x y here i).sender
 
   pub knows_end : (x : ℕ) → has_node gs x ≡ true → knows_all_settled (progressing partition_count (w.facts x)) partition_count 0 ≡ true → knows_all_settled (v.facts x) partition_count 0 ≡ true
@@ -147,7 +148,7 @@ module _ (ns gs : List ℕ) (g : ℕ) (set : List Member) (k : ClusterKey) (w v 
       along : Along partition_count (r.ticks_end.clocks x) (Knower k set (w.facts x).exchange.rows p) (r.ticks_end.facts x) (inbox r.ticks_end x)
       along =
           kept_along partition_count (r.ticks_end.clocks x) (Knower k set (w.facts x).exchange.rows p) (inbox r.ticks_end x) (r.ticks_end.facts x)
-          (λ f i among s. all_gets (inbox r.ticks_end x) i (gets_inbox r.ticks_end x) among (λ a. Occurs a (inbox r.ticks_end x) → Knower k set (w.facts x).exchange.rows p (acted partition_count (r.ticks_end.clocks x) f a))
+          (λ f i among s. all_gets (inbox r.ticks_end x) i (gets_inbox r.ticks_end x) among (λ a. Among (inbox r.ticks_end x) a → Knower k set (w.facts x).exchange.rows p (acted partition_count (r.ticks_end.clocks x) f a))
           (λ from y t. knower_acted partition_count (r.ticks_end.clocks x) k set (w.facts x).exchange.rows p f from y ((calm ns gs g set k w v r h).ticks x here from y t) (j.rows x from here (senders_ticks ns gs g set k w v r h left j x here from y t)) s) among) knower
 
       told : Any (SettledTo k m p) (outbox partition_count (r.ticks_end.clocks x) (r.ticks_end.facts x) (inbox r.ticks_end x))
@@ -156,10 +157,10 @@ module _ (ns gs : List ℕ) (g : ℕ) (set : List Member) (k : ClusterKey) (w v 
           (λ f s. answers_settled (r.ticks_end.clocks x) k set (w.facts x).exchange.rows p f s m (view_key (progressing partition_count (w.facts m))) (key_of_telling ns gs g set k w v r h left m there) _ _ _)
           (told_all ns gs g set k w v r h left m x there here (λ i. d (sym i)) e)
 
-      comes : Occurs (Gets x told.which.1) (inbox r.first_end m)
+      comes : Among (inbox r.first_end m) (Gets x told.which.1)
       comes =
           flow_arrives partition_count ns gs r.ticks_end r.first_end (calm ns gs g set k w v r h).group_first (calm ns gs g set k w v r h).ups_first r.first x m here there (λ i. d (sym i)) told.which.1
-          (subst (λ (y : ℕ). Occurs (y, told.which.1) (outbox partition_count (r.ticks_end.clocks x) (r.ticks_end.facts x) (inbox r.ticks_end x))) told.good.to told.among)
+          (subst (λ (y : ℕ). Among (outbox partition_count (r.ticks_end.clocks x) (r.ticks_end.facts x) (inbox r.ticks_end x)) (y, told.which.1)) told.good.to told.among)
 
       second : Has false p (r.second_end.facts m).bits
       second =

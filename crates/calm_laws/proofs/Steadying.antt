@@ -1,11 +1,13 @@
 -- All of a group come into one view of just it, and stay in it.
 use Rattle.std.proofs.Common.{◌≡◌, ℕ, ◌+◌, ◌<◌, ◌==◌, ◌||◌, ◌&&◌, not, min, nat_lt, Bool, true, false, List, Option, Some, None, refl, sym, ap, subst, ◌∙◌, ◌⊎◌, inl, inr, arith}
 use Rattle.std.specs.Prelude.{unwrap_or}
+use Rattle.std.proofs.lemmas.Bool.{not-false}
 use Rattle.std.proofs.lemmas.Option.{none-some}
 use Rattle.cluster_types.specs.declared.cluster_key.ClusterKey.{ClusterKey}
 use Rattle.cluster_types.specs.declared.member.Member.{Member}
 use Rattle.cluster_types.specs.ClusterKeys as keys
 use Rattle.cluster_types.specs.MembersEqual.{same_members, same_members_decides}
+use Rattle.partition_lists.proofs.InOrderLaws.{equal}
 use Rattle.node_rules.specs.Agreement.{has_round}
 use Rattle.node_rules.specs.Exchange.{View, key_of}
 use Rattle.node_rules.specs.Facts.{Facts, view_key}
@@ -16,6 +18,9 @@ use Rattle.node_rules.specs.Tables.{contains}
 use Rattle.node_rules.specs.Tick.{differs_from, wants_view}
 use Rattle.journal_readings.specs.Lines.{has_node}
 use Rattle.cluster_rules.specs.World.{World}
+use Rattle.cluster_rules.proofs.KeptFacts.{num_same}
+use Rattle.cluster_laws.proofs.At.{differ}
+use Rattle.cluster_laws.proofs.ReadingLines.{or_left_false, or_right_false}
 use Rattle.key_laws.specs.Sound.{Listed, Sound, Views}
 use Rattle.key_laws.specs.Traced.{Traced, facts_of}
 use Rattle.key_laws.proofs.Order.{same_is, same_self}
@@ -30,7 +35,6 @@ use Rattle.calm_laws.proofs.Proposing.{proposal_passes}
 use Rattle.calm_laws.proofs.Resting.{rests}
 use Rattle.calm_laws.proofs.Rolls.{leader_is}
 use Rattle.calm_laws.proofs.Sees.{show_look, shows_aged, shows_all}
-use Rattle.calm_laws.proofs.Took.{differ, number_is, same_number}
 
 -- ---- when a node proposes
 
@@ -73,7 +77,7 @@ twice_quiet : (q r : ℕ) (b c : Bool) → b ≡ true → c ≡ true → r ≡ q
 twice_quiet q r b c eb ec er = ap (λ (x : ℕ). quieter x c == quiet_ticks) (er ∙ ap (λ (y : Bool). quieter q y) eb) ∙ ap (λ (y : Bool). quieter (quieter q true) y == quiet_ticks) ec ∙ number q
   where
     number : (q : ℕ) → (min (min (q + 1) 2 + 1) 2 == 2) ≡ true
-    number q = number_is (min (min (q + 1) 2 + 1) 2) 2 (omega arith)
+    number q = equal (min (min (q + 1) 2 + 1) 2) 2 (omega arith)
 
 -- ---- steady
 
@@ -119,9 +123,9 @@ told_shows n ns gs g set k w v r h speaks l views = shows_all g k (v.facts g).he
   where
     each : (a : ℕ) (x : Heard) → look (v.facts g).hearing.heard a ≡ Some x → (b : Bool) → has_node gs a ≡ b → (c : Bool) → (a == g) ≡ c → same_key x.beat.view k ≡ true
     each a x e false s c t = absurd (none-some x (sym (l.others a g s h.roll.lead) ∙ e))
-    each a x e true s true t = absurd (none-some x (sym (l.own g h.roll.lead) ∙ ap (λ (y : ℕ). look (v.facts g).hearing.heard y) (sym (same_number a g t)) ∙ e))
+    each a x e true s true t = absurd (none-some x (sym (l.own g h.roll.lead) ∙ ap (λ (y : ℕ). look (v.facts g).hearing.heard y) (sym (num_same a g t)) ∙ e))
     each a x e true s false t =
-        let new : HeardAs (λ y. beat_entry (w.facts a) ≡ y) (v.facts g).hearing.heard a = fresh n ns w v h.base r a g (h.group.near a g s h.roll.lead (λ i. differ (number_is a g i) t)) (speaks a (h.group.up a s)) in
+        let new : HeardAs (λ y. beat_entry (w.facts a) ≡ y) (v.facts g).hearing.heard a = fresh n ns w v h.base r a g (h.group.near a g s h.roll.lead (λ i. differ (equal a g i) t)) (speaks a (h.group.up a s)) in
         let is : beat_entry (w.facts a) ≡ x = new.good ∙ ap (λ (o : Option Heard). unwrap_or o x) (sym new.stands ∙ e) in
         ap (λ (y : Heard). same_key y.beat.view k) (sym is) ∙ ap (λ (q : ClusterKey). same_key q k) (views a s) ∙ same_self k
 
@@ -180,28 +184,16 @@ pub record Content (me : ℕ) (set : List Member) (f : Facts) : Type 0 where
   pub members : view.members ≡ set
   pub shown : all_show me (aged f.hearing.heard) view.key ≡ true
 
-or_left : (a b : Bool) → (a || b) ≡ false → a ≡ false
-or_left true b e = e
-or_left false b e = refl
-
-or_right : (a b : Bool) → (a || b) ≡ false → b ≡ false
-or_right true b e = differ refl e
-or_right false b e = e
-
-is_true : (b : Bool) → not b ≡ false → b ≡ true
-is_true true e = refl
-is_true false e = differ refl e
-
 content_is : (me : ℕ) (set : List Member) (f : Facts) → f.me ≡ me → neighbours (after_ages f) ≡ set → wants_view (after_ages f) ≡ false → Content me set f
-content_is me set f name near e = go f.exchange.view refl (or_left (differs_from (neighbours (after_ages f)) f.exchange.view) _ e) (or_right (differs_from (neighbours (after_ages f)) f.exchange.view) _ e)
+content_is me set f name near e = go f.exchange.view refl (or_left_false (differs_from (neighbours (after_ages f)) f.exchange.view) _ e) (or_right_false (differs_from (neighbours (after_ages f)) f.exchange.view) _ e)
   where
     go : (o : Option View) → f.exchange.view ≡ o → differs_from (neighbours (after_ages f)) f.exchange.view ≡ false → not (all_show f.me (aged f.hearing.heard) (view_key f)) ≡ false → Content me set f
     go None i a b = differ refl (ap (λ (o : Option View). differs_from (neighbours (after_ages f)) o) (sym i) ∙ a)
     go (Some v) i a b = record {
       view = v;
       is = i;
-      members = sym ((same_members_decides (neighbours (after_ages f)) v.members).0 (is_true (same_members (neighbours (after_ages f)) v.members) (ap (λ (o : Option View). differs_from (neighbours (after_ages f)) o) (sym i) ∙ a))) ∙ near;
-      shown = ap (λ (x : ℕ). all_show x (aged f.hearing.heard) v.key) (sym name) ∙ ap (λ (o : Option View). all_show f.me (aged f.hearing.heard) (key_of o)) (sym i) ∙ is_true (all_show f.me (aged f.hearing.heard) (view_key f)) b;
+      members = sym ((same_members_decides (neighbours (after_ages f)) v.members).0 (not-false (same_members (neighbours (after_ages f)) v.members) (ap (λ (o : Option View). differs_from (neighbours (after_ages f)) o) (sym i) ∙ a))) ∙ near;
+      shown = ap (λ (x : ℕ). all_show x (aged f.hearing.heard) v.key) (sym name) ∙ ap (λ (o : Option View). all_show f.me (aged f.hearing.heard) (key_of o)) (sym i) ∙ not-false (all_show f.me (aged f.hearing.heard) (view_key f)) b;
     }
 
 -- in two rounds without a proposal the greatest is content, and all are in its view
@@ -246,8 +238,8 @@ steady_quiet n ns gs g set w u v r q h j speaks speaks_on l m lawful set_before 
     in_view a here = go (a == g) refl
       where
         go : (b : Bool) → (a == g) ≡ b → (u.facts a).exchange.view ≡ Some c.view
-        go true s = ap (λ (x : ℕ). (u.facts x).exchange.view) (same_number a g s) ∙ c.is
-        go false s = shared u lawful g a c.view c.is (hears a here (λ y. differ (number_is a g y) s))
+        go true s = ap (λ (x : ℕ). (u.facts x).exchange.view) (num_same a g s) ∙ c.is
+        go false s = shared u lawful g a c.view c.is (hears a here (λ y. differ (equal a g y) s))
 
     in_set : (a : ℕ) → has_node gs a ≡ true → (u.facts a).exchange.view ≡ Some (record { key = c.view.key; members = set })
     in_set a here = in_view a here ∙ ap (λ (ms : List Member). Some (record { key = c.view.key; members = ms })) c.members

@@ -8,6 +8,7 @@ use Rattle.wire_messages.specs.declared.message.Message.TheVariants as message
 use Rattle.wire_messages.specs.Decoding.{message_of}
 use Rattle.journal_lines.specs.declared.line.Line.{Line}
 use Rattle.journal_lines.specs.declared.line.Line.TheVariants as line
+use Rattle.partition_lists.proofs.InOrderLaws.{equal}
 use Rattle.node_rules.specs.Effects.{Effects}
 use Rattle.node_rules.specs.Facts.{Facts}
 use Rattle.node_rules.specs.Messages.{due_message_of}
@@ -21,11 +22,13 @@ use Rattle.journal_readings.specs.Messages.{Posting, arrived}
 use Rattle.cluster_rules.specs.Network.{Network, client, posting_at, posting_if, flying_at, landed}
 use Rattle.cluster_rules.specs.Steps.{play}
 use Rattle.cluster_rules.specs.World.{World}
+use Rattle.cluster_rules.proofs.KeptFacts.{num_same}
+use Rattle.cluster_laws.proofs.At.{differ}
 use Rattle.calm_laws.specs.Acts.{Input, Ticks, Gets, carried, acted, served}
 use Rattle.calm_laws.specs.Letters.{postings, new_numbers, arriving_input, unblocked, input_of, given, given_if, outs}
 use Rattle.calm_laws.specs.Flows.{Named}
 use Rattle.calm_laws.proofs.Own.{OwnLines, message_own, tick_own}
-use Rattle.calm_laws.proofs.Took.{same_number, number_is, at_itself, at_other, differ, Took, took_written}
+use Rattle.calm_laws.proofs.Took.{at_itself, at_other, Took, took_written}
 
 -- from a world to the next: what came to a node made it act, and these numbers stayed in flight
 pub record Stepped (n : ℕ) (w v : World) (o : Option (ℕ × Input)) (left : List ℕ) : Type 0 where
@@ -60,11 +63,11 @@ stepped_act n w u v a i left others nodes clocks net t = record {
 }
   where
     go : (m : ℕ) (b : Bool) → (a == m) ≡ b → v.facts m ≡ served n (w.clocks m) (w.facts m) (given_if i b)
-    go m true e = subst (λ (x : ℕ). v.facts x ≡ acted n (w.clocks x) (w.facts x) i) (same_number a m e) t.here
+    go m true e = subst (λ (x : ℕ). v.facts x ≡ acted n (w.clocks x) (w.facts x) i) (num_same a m e) t.here
     go m false e = t.others m (λ s. differ (s_true s) e) ∙ others m (λ s. differ (s_true s) e)
       where
         s_true : a ≡ m → (a == m) ≡ true
-        s_true s = number_is a m s
+        s_true s = equal a m s
 
 -- ---- a tick
 

@@ -6,6 +6,7 @@ use Rattle.cluster_rules.specs.World.{World}
 use Rattle.cluster_rules.proofs.MarkLaws.{round_follows}
 use Rattle.calm_laws.specs.Flows.{world_at}
 use Rattle.calm_laws.specs.Onward.{MayTake}
+use Rattle.calm_laws.proofs.Footed.{again}
 use Rattle.calm_laws.proofs.Onward.{may_front, may_here, may_on}
 
 pub may_rounds : (k rest : ℕ) (w : World) → MayTake w (rounds partition_count (k + rest) w).steps → MayTake (world_at partition_count w k) (rounds partition_count rest (world_at partition_count w k)).steps
@@ -21,9 +22,6 @@ may_rounds (suc k) rest w may =
   where
     more : (a b : ℕ) → suc a + b ≡ suc (a + b)
     more a b = omega arith
-
-again : (k most : ℕ) → k ≤ most → most ≡ k + (most - k)
-again k most le = omega (arith, le)
 
 -- the world after some of them
 pub may_at : (w : World) (most : ℕ) → MayTake w (rounds partition_count most w).steps → (k : ℕ) → k ≤ most → MayTake (world_at partition_count w k) []

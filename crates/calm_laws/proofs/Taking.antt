@@ -17,6 +17,7 @@ use Rattle.node_rules.specs.Notes as notes
 use Rattle.node_rules.specs.Notes.{after_ages, all_sent, in_view, note, noted, reached, sent}
 use Rattle.node_rules.specs.Settling.{line_if, settling}
 use Rattle.node_rules.specs.Tick.{propose_new, propose_with}
+use Rattle.cluster_laws.proofs.At.{differ}
 use Rattle.key_laws.proofs.DueViews.{AllOfView, OfView, settling_of_view}
 use Rattle.calm_laws.specs.Acts.{Gets, Ticks, acted, as_read}
 use Rattle.calm_laws.specs.Exchanges.{finished_if, taken_if, took}
@@ -24,7 +25,6 @@ use Rattle.calm_laws.specs.Group.{kind}
 use Rattle.calm_laws.specs.Laws.{is_to_propose}
 use Rattle.calm_laws.specs.Turns.{is_agreeing}
 use Rattle.calm_laws.proofs.Ticking.{proposed, progressing, tick_facts, tick_list}
-use Rattle.calm_laws.proofs.Took.{differ}
 use Rattle.calm_laws.proofs.Words.{Each, Ends, Words, agrees, is_state, message_words}
 
 -- the line leaves every exchange

@@ -25,8 +25,11 @@ use Rattle.node_rules.specs.Tick.{batch_to, batches, beat, done_from, progress, 
 use Rattle.node_rules.specs.Transactions.{Transaction, Write}
 use Rattle.journal_readings.specs.Lines.{has_node}
 use Rattle.cluster_rules.specs.World.{World}
+use Rattle.cluster_rules.proofs.KeptFacts.{num_same}
+use Rattle.cluster_laws.proofs.At.{differ}
+use Rattle.run_laws.specs.Tied.{Among}
 use Rattle.calm_laws.specs.Acts.{Gets, Input, Ticks, acted, as_read, effects, outbox, sent_at}
-use Rattle.calm_laws.specs.Flows.{Occurs, Flowed, Rounded, inbox}
+use Rattle.calm_laws.specs.Flows.{Flowed, Rounded, inbox}
 use Rattle.calm_laws.specs.Group.{Group, kind, replies}
 use Rattle.calm_laws.specs.Handing.{Legibly, acked_by, acked_if, target_begun, begun_with}
 use Rattle.calm_laws.specs.Laws.{is_to_propose}
@@ -45,7 +48,6 @@ use Rattle.calm_laws.proofs.Sent.{AllGets}
 use Rattle.calm_laws.proofs.Steadying.{steady_rests}
 use Rattle.calm_laws.proofs.Taking.{settled_exchange}
 use Rattle.calm_laws.proofs.Ticking.{progressing, proposed, tick_list, tick_sent}
-use Rattle.calm_laws.proofs.Took.{differ, same_number}
 
 -- ---- targets
 
@@ -94,13 +96,13 @@ full_row f done (suc n) at (suc p) lt = full_row f done n (at + 1) p (omega (ari
 
 -- ---- what is sent
 
-full_answer : (n : ℕ) (f : Facts) → ((p : ℕ) → is_done f p ≡ true) → (from : ℕ) (b : Bool) (to : ℕ) (x : Message) → Occurs (to, x) (answer_progress n f from b).sends → FullProgress n x
+full_answer : (n : ℕ) (f : Facts) → ((p : ℕ) → is_done f p ≡ true) → (from : ℕ) (b : Bool) (to : ℕ) (x : Message) → Among (answer_progress n f from b).sends (to, x) → FullProgress n x
 full_answer n f done from false to x i = absurd i
 full_answer n f done from true to x (inr i) = absurd i
 full_answer n f done from true to x (inl e) = subst (λ (y : Message). FullProgress n y) (ap (λ (l : ℕ × Message). l.1) e) (full_row f done n 0)
 
 -- the answer to a Progress tells that each partition is done
-pub full_came : (n : ℕ) (f now : Facts) → ((p : ℕ) → is_done now p ≡ true) → (from : ℕ) (wants b : Bool) (to : ℕ) (x : Message) → Occurs (to, x) (progress_came n f now from wants b).sends → FullProgress n x
+pub full_came : (n : ℕ) (f now : Facts) → ((p : ℕ) → is_done now p ≡ true) → (from : ℕ) (wants b : Bool) (to : ℕ) (x : Message) → Among (progress_came n f now from wants b).sends (to, x) → FullProgress n x
 full_came n f now done from wants false to x i = absurd i
 full_came n f now done from wants true to x i = full_answer n now done from (wants && knows_all_settled now n 0) to x i
 
@@ -121,7 +123,7 @@ one_kind : (i j : ℕ) → (i == 9) ≡ false → contains (i ∷ []) j ≡ true
 one_kind i j e h = go (i == j) refl h
   where
     go : (b : Bool) → (i == j) ≡ b → (b || false) ≡ true → (j == 9) ≡ false
-    go true s f = ap (λ (y : ℕ). y == 9) (sym (same_number i j s)) ∙ e
+    go true s f = ap (λ (y : ℕ). y == 9) (sym (num_same i j s)) ∙ e
     go false s f = differ f refl
 
 -- only a Progress is answered by one
@@ -141,9 +143,9 @@ other_replies _ j free e h = no_kind j h
 
 -- a node that has nothing pending tells so whatever it is asked
 full_sent : (n c : ℕ) (k : ClusterKey) (set : List Member) (f : Facts) → Over k set f → Emptied f.batches → (from : ℕ) (y : Message) → is_agreeing (kind y) ≡ false → as_read (effects n c f (Gets from y)).sends ≡ (effects n c f (Gets from y)).sends
-    → (to : ℕ) (x : Message) → Occurs (to, x) (sent_at n c f (Gets from y)) → FullProgress n x
+    → (to : ℕ) (x : Message) → Among (sent_at n c f (Gets from y)) (to, x) → FullProgress n x
 full_sent n c k set f o empty from (message.Progress key wants done handed settled) free read to x i =
-    full_came n f (reached f from (message.Progress key wants done handed settled)) (still (in_view f key)) from wants (in_view f key) to x (subst (λ (ms : List (ℕ × Message)). Occurs (to, x) ms) read i)
+    full_came n f (reached f from (message.Progress key wants done handed settled)) (still (in_view f key)) from wants (in_view f key) to x (subst (λ (ms : List (ℕ × Message)). Among ms (to, x)) read i)
   where
     still : (b : Bool) (p : ℕ) → is_done (notes.progress_came f from done handed settled b) p ≡ true
     still true p = all_done f o.exchanged empty p
@@ -154,8 +156,8 @@ full_sent n c k set f o empty from y free read to x i = go (kind y == 9) refl
     go false e = not_nine n x (other_replies y (kind x) free e (answers n c f from y to x i))
     go true e = differ e refl
 
-full_outbox : (n c : ℕ) (k : ClusterKey) (set : List Member) (is : List Input) → AllGets is → ((from : ℕ) (x : Message) → Occurs (Gets from x) is → is_agreeing (kind x) ≡ false) → (f : Facts) → Legibly n c f is → Over k set f → Emptied f.batches
-    → (to : ℕ) (x : Message) → Occurs (to, x) (outbox n c f is) → FullProgress n x
+full_outbox : (n c : ℕ) (k : ClusterKey) (set : List Member) (is : List Input) → AllGets is → ((from : ℕ) (x : Message) → Among is (Gets from x) → is_agreeing (kind x) ≡ false) → (f : Facts) → Legibly n c f is → Over k set f → Emptied f.batches
+    → (to : ℕ) (x : Message) → Among (outbox n c f is) (to, x) → FullProgress n x
 full_outbox n c k set [] gets free f l o empty to x i = absurd i
 full_outbox n c k set (Ticks ∷ is) gets free f l o empty to x i = absurd gets
 full_outbox n c k set (Gets from y ∷ is) gets free f l o empty to x i =
@@ -163,7 +165,7 @@ full_outbox n c k set (Gets from y ∷ is) gets free f l o empty to x i =
     (full_outbox n c k set is gets (λ a z t. free a z (inr t)) (acted n c f (Gets from y)) l.1 (over_acted n c k set f from y (free from y (inl refl)) o)
     (subst Emptied (sym (acted_acks n c k set f o from y (free from y (inl refl)))) (emptied_acked k f.batches from y empty)) to x)
   where
-    go : Occurs (to, x) (sent_at n c f (Gets from y)) ⊎ Occurs (to, x) (outbox n c (acted n c f (Gets from y)) is) → (Occurs (to, x) (outbox n c (acted n c f (Gets from y)) is) → FullProgress n x) → FullProgress n x
+    go : Among (sent_at n c f (Gets from y)) (to, x) ⊎ Among (outbox n c (acted n c f (Gets from y)) is) (to, x) → (Among (outbox n c (acted n c f (Gets from y)) is) (to, x) → FullProgress n x) → FullProgress n x
     go (inl h) rest = full_sent n c k set f o empty from y (free from y (inl refl)) l.0 to x h
     go (inr h) rest = rest h
 
@@ -177,7 +179,7 @@ flow_full n ns gs k set u v g f cleared legible empty m here from x there =
 -- ---- ticks
 
 abbrev AllSuch : (Message → Type 0) → List (ℕ × Message) → Type 0
-AllSuch C ms = (to : ℕ) (x : Message) → Occurs (to, x) ms → C x
+AllSuch C ms = (to : ℕ) (x : Message) → Among ms (to, x) → C x
 
 such_each : (C : Message → Type 0) (ns : List ℕ) (m : Message) → C m → AllSuch C (to_each ns m)
 such_each C [] m h to x i = absurd i
@@ -187,7 +189,7 @@ such_each C (n ∷ ns) m h to x (inr i) = such_each C ns m h to x i
 such_append : (C : Message → Type 0) (ms ns : List (ℕ × Message)) → AllSuch C ms → AllSuch C ns → AllSuch C (ms ++ ns)
 such_append C ms ns h j to x i = go (among_either (to, x) ms ns i)
   where
-    go : Occurs (to, x) ms ⊎ Occurs (to, x) ns → C x
+    go : Among ms (to, x) ⊎ Among ns (to, x) → C x
     go (inl k) = h to x k
     go (inr k) = j to x k
 
@@ -214,7 +216,7 @@ progress_full n f done false = λ to x i. absurd i
 -- a tick of a node that has nothing pending and proposes nothing
 pub tick_full : (n c : ℕ) (f : Facts) → f.up ≡ true → (after_ages f).agreement.proposal ≡ None → is_to_propose (after_ages f) ≡ false → as_read (effects n c f Ticks).sends ≡ (effects n c f Ticks).sends
     → f.exchange.exchanged ≡ true → Emptied f.batches → AllSuch (FullProgress n) (sent_at n c f Ticks)
-tick_full n c f up none e read over empty to x i = listed to x (subst (λ (ms : List (ℕ × Message)). Occurs (to, x) ms) (tick_sent n c f up ∙ plain) i)
+tick_full n c f up none e read over empty to x i = listed to x (subst (λ (ms : List (ℕ × Message)). Among ms (to, x)) (tick_sent n c f up ∙ plain) i)
   where
     plain : as_read (tick_list n f) ≡ tick_list n f
     plain = subst (λ (b : Bool). as_read (tick_if n f b).sends ≡ (tick_if n f b).sends) up read
@@ -228,7 +230,7 @@ tick_full n c f up none e read over empty to x i = listed to x (subst (λ (ms : 
     listed : AllSuch (FullProgress n) (tick_list n f)
     listed =
         such_append (FullProgress n) (beat (after_ages f)).sends _ (such_each (FullProgress n) (after_ages f).peers _ tt)
-        (such_append (FullProgress n) (propose (after_ages f)).sends _ (λ to x i. absurd (subst (λ (ms : List (ℕ × Message)). Occurs (to, x) ms) nothing i))
+        (such_append (FullProgress n) (propose (after_ages f)).sends _ (λ to x i. absurd (subst (λ (ms : List (ℕ × Message)). Among ms (to, x)) nothing i))
         (such_append (FullProgress n) (rows (proposed f)).sends _ (such_each (FullProgress n) _ (state (proposed f) true) tt)
         (such_append (FullProgress n) (transactions (proposed f)).sends _ (transactions_full n (proposed f) (proposed f).transactions.running)
         (such_append (FullProgress n) (batches (proposed f)).sends _ (batches_full n (view_key (proposed f)) (proposed f).store.content (proposed f).batches)
@@ -277,13 +279,13 @@ module _ (ns gs : List ℕ) (g : ℕ) (set : List Member) (k : ClusterKey) (w v 
   -- and from the first flow on, where what was in flight did so
   pub full_ticks : FullInbox partition_count gs w → FullInbox partition_count gs r.ticks_end
   full_ticks left m here from x there =
-      go (among_either (Gets from x) (inbox w m) (arriving_at r.ticks_end m calm.ticked.posted) (subst (λ (is : List Input). Occurs (Gets from x) is) (calm.ticked.inbox m) there))
+      go (among_either (Gets from x) (inbox w m) (arriving_at r.ticks_end m calm.ticked.posted) (subst (λ (is : List Input). Among is (Gets from x)) (calm.ticked.inbox m) there))
     where
       told : FromGroup gs from m x (sent_at partition_count (w.clocks from) (w.facts from) Ticks) → FullProgress partition_count x
       told s =
           tick_full partition_count (w.clocks from) (w.facts from) (h.hands.ready.base.up from (h.hands.ready.group.up from s.sender)) (aged_none (w.facts from) (h.hands.ready.none from s.sender)) (calm.asks from s.sender)
           (h.hands.legible.ticks from s.sender) (h.hands.over from s.sender) (h.empty from s.sender) m x s.sent
 
-      go : Occurs (Gets from x) (inbox w m) ⊎ Occurs (Gets from x) (arriving_at r.ticks_end m calm.ticked.posted) → FullProgress partition_count x
+      go : Among (inbox w m) (Gets from x) ⊎ Among (arriving_at r.ticks_end m calm.ticked.posted) (Gets from x) → FullProgress partition_count x
       go (inl i) = left m here from x i
       go (inr i) = told (from_ticks partition_count ns gs w r.ticks_end h.hands.ready.group calm.ticked from m x here i)

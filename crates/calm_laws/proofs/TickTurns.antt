@@ -23,21 +23,22 @@ use Rattle.node_rules.specs.Settling.{settling}
 use Rattle.node_rules.specs.Standing.{others}
 use Rattle.node_rules.specs.Tick.{beat, propose, propose_new, propose_with, proposing_to, rows, transactions, sends_again, batches, batch_to, progress, progress_if, state}
 use Rattle.node_rules.specs.Transactions.{Transaction, Write}
+use Rattle.node_rules.proofs.NoteLaws.{all_sent-append}
+use Rattle.cluster_rules.proofs.OwnLines.{noted_me}
+use Rattle.cluster_laws.proofs.At.{differ}
 use Rattle.key_laws.proofs.DueViews.{OfView, AllOfView, settling_of_view}
 use Rattle.key_laws.proofs.Order.{same_self}
+use Rattle.run_laws.specs.Tied.{Among}
 use Rattle.calm_laws.specs.Acts.{Ticks, as_read, read_to, sent_at, acted}
-use Rattle.calm_laws.specs.Flows.{Occurs}
 use Rattle.calm_laws.specs.Group.{kind}
 use Rattle.calm_laws.specs.Stances.{Stance, stance_of, promises_to, proposes_to, promises_if, proposes_if, promises, ticks}
 use Rattle.calm_laws.specs.Turns.{is_agreeing}
 use Rattle.calm_laws.specs.Laws.{CanBeRead, ReadsWith, is_to_propose}
 use Rattle.calm_laws.proofs.Flow.{among_either}
 use Rattle.calm_laws.proofs.KindLaws.{NoneOf, none_append, none_read}
-use Rattle.calm_laws.proofs.Own.{noted_me}
 use Rattle.calm_laws.proofs.Same.{all_sent_same}
 use Rattle.calm_laws.proofs.Sent.{none_among, read_append}
 use Rattle.calm_laws.proofs.Ticking.{proposed, progressing, tick_sent, tick_facts}
-use Rattle.calm_laws.proofs.Took.{differ}
 use Rattle.calm_laws.proofs.Turning.{Calm, entering_turns, noted_calm}
 use Rattle.calm_laws.proofs.Words.{Each}
 
@@ -91,27 +92,23 @@ tick_parts n c f up =
     ∙ ap (λ (xs : List (ℕ × Message)). as_read (beat (after_ages f)).sends ++ xs) (read_append (propose (after_ages f)).sends (later_sends n f))
 
 -- of agreement a tick sends its proposal alone
-pub tick_only : (n c : ℕ) (f : Facts) → f.up ≡ true → (C : Message → Type 0) → ((x : Message) → is_agreeing (kind x) ≡ false → C x) → ((to : ℕ) (x : Message) → Occurs (to, x) (as_read (propose (after_ages f)).sends) → C x)
-    → (to : ℕ) (x : Message) → Occurs (to, x) (sent_at n c f Ticks) → C x
+pub tick_only : (n c : ℕ) (f : Facts) → f.up ≡ true → (C : Message → Type 0) → ((x : Message) → is_agreeing (kind x) ≡ false → C x) → ((to : ℕ) (x : Message) → Among (as_read (propose (after_ages f)).sends) (to, x) → C x)
+    → (to : ℕ) (x : Message) → Among (sent_at n c f Ticks) (to, x) → C x
 tick_only n c f up C other here to x h =
-    first (among_either (to, x) (as_read (beat (after_ages f)).sends) (as_read (propose (after_ages f)).sends ++ as_read (later_sends n f)) (subst (λ (xs : List (ℕ × Message)). Occurs (to, x) xs) (tick_parts n c f up) h))
+    first (among_either (to, x) (as_read (beat (after_ages f)).sends) (as_read (propose (after_ages f)).sends ++ as_read (later_sends n f)) (subst (λ (xs : List (ℕ × Message)). Among xs (to, x)) (tick_parts n c f up) h))
   where
-    free : (xs : List (ℕ × Message)) → Free xs → Occurs (to, x) (as_read xs) → C x
+    free : (xs : List (ℕ × Message)) → Free xs → Among (as_read xs) (to, x) → C x
     free xs none i = other x (none_among is_agreeing (as_read xs) to x (none_read is_agreeing xs none) i)
 
-    second : Occurs (to, x) (as_read (propose (after_ages f)).sends) ⊎ Occurs (to, x) (as_read (later_sends n f)) → C x
+    second : Among (as_read (propose (after_ages f)).sends) (to, x) ⊎ Among (as_read (later_sends n f)) (to, x) → C x
     second (inl i) = here to x i
     second (inr i) = free (later_sends n f) (later_free n f) i
 
-    first : Occurs (to, x) (as_read (beat (after_ages f)).sends) ⊎ Occurs (to, x) (as_read (propose (after_ages f)).sends ++ as_read (later_sends n f)) → C x
+    first : Among (as_read (beat (after_ages f)).sends) (to, x) ⊎ Among (as_read (propose (after_ages f)).sends ++ as_read (later_sends n f)) (to, x) → C x
     first (inl i) = free (beat (after_ages f)).sends (beat_free (after_ages f)) i
     first (inr i) = second (among_either (to, x) (as_read (propose (after_ages f)).sends) (as_read (later_sends n f)) i)
 
 -- ---- what was sent
-
-pub all_sent_append : (f : Facts) (xs ys : List (ℕ × Message)) → all_sent f (xs ++ ys) ≡ all_sent (all_sent f xs) ys
-all_sent_append f [] ys = refl
-all_sent_append f (x ∷ xs) ys = all_sent_append (sent f x.0 x.1) xs ys
 
 sent_free : (f : Facts) (to : ℕ) (m : Message) → is_agreeing (kind m) ≡ false → stance_of (sent f to m) ≡ stance_of f
 sent_free f to (message.Propose key members) h = differ refl h
@@ -220,6 +217,6 @@ tick_turns n c f up r =
     ∙ lines_turn g g.agreement.proposal in
     ap (λ (x : Facts). stance_of x) (tick_facts n c f up)
     ∙ ap (λ (xs : List (ℕ × Message)). stance_of (all_sent (progressing n f) xs)) (sym (tick_sent n c f up) ∙ tick_parts n c f up)
-    ∙ ap (λ (x : Facts). stance_of x) (all_sent_append (progressing n f) told (asked ++ rest) ∙ all_sent_append h asked rest)
+    ∙ ap (λ (x : Facts). stance_of x) (all_sent-append (progressing n f) told (asked ++ rest) ∙ all_sent-append h asked rest)
     ∙ all_sent_free (all_sent h asked) rest (none_read is_agreeing (later_sends n f) (later_free n f))
     ∙ sends_turn g h g.agreement.proposal me refl r lines

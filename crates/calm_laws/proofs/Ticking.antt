@@ -1,7 +1,6 @@
 -- A tick part by part, and its proposal.
-use Rattle.std.proofs.Common.{◌≡◌, ℕ, Bool, true, false, List, [], ◌∷◌, ◌++◌, Option, Some, None, refl, sym, ap, subst, ◌∙◌}
+use Rattle.std.proofs.Common.{◌≡◌, ℕ, Bool, true, false, List, [], ◌++◌, Some, None, refl, sym, ap, subst, ◌∙◌}
 use Rattle.std.specs.Prelude.{filter}
-use Rattle.conflict_order.specs.declared.want.Want.{Want}
 use Rattle.cluster_types.specs.declared.cluster_key.ClusterKey.{ClusterKey}
 use Rattle.cluster_types.specs.declared.member.Member.{Member}
 use Rattle.wire_messages.specs.declared.message.Message.{Message}
@@ -12,12 +11,13 @@ use Rattle.journal_lines.specs.declared.line.Line.{Line}
 use Rattle.node_rules.specs.Effects.{to_each}
 use Rattle.node_rules.specs.Facts.{Facts}
 use Rattle.node_rules.specs.Map.{lacks}
-use Rattle.node_rules.specs.Notes.{note, noted, all_sent, after_ages}
+use Rattle.node_rules.specs.Notes.{noted, all_sent, after_ages}
 use Rattle.node_rules.specs.Settling.{settling}
 use Rattle.node_rules.specs.Standing.{others}
 use Rattle.node_rules.specs.Tick.{beat, propose, rows, transactions, batches, progress, progress_if, state, tick_if}
+use Rattle.node_rules.proofs.NoteLaws.{noted-append}
+use Rattle.run_laws.specs.Tied.{Among}
 use Rattle.calm_laws.specs.Acts.{Ticks, as_read, sent_at, acted}
-use Rattle.calm_laws.specs.Flows.{Occurs}
 use Rattle.calm_laws.proofs.Flow.{among_front, among_behind}
 use Rattle.calm_laws.proofs.Sent.{read_append, each_among}
 
@@ -30,10 +30,6 @@ proposed f = noted None (proposing f) (propose (proposing f)).lines
 
 abbrev pub progressing : ℕ → Facts → Facts
 progressing n f = noted None (proposed f) (settling n (proposed f))
-
-pub noted_append : (q : Option Want) (f : Facts) (a b : List Line) → noted q f (a ++ b) ≡ noted q (noted q f a) b
-noted_append q f [] b = refl
-noted_append q f (l ∷ a) b = noted_append q (note q f l) a b
 
 progress_lines : (n : ℕ) (f : Facts) (b : Bool) → (progress_if n f b).lines ≡ []
 progress_lines n f true = refl
@@ -54,29 +50,29 @@ tick_facts n c f up =
     let end : List Line = (progress n (progressing n f)).lines ++ [] in
     ap (λ (b : Bool). all_sent (noted None f (tick_if n f b).lines) (as_read (tick_if n f b).sends)) up
     ∙ ap (λ (h : Facts). all_sent h (as_read (tick_list n f)))
-    (noted_append None g (propose g).lines (ls ++ end)
-    ∙ noted_append None (proposed f) ls end
+    (noted-append None g (propose g).lines (ls ++ end)
+    ∙ noted-append None (proposed f) ls end
     ∙ ap (λ (xs : List Line). noted None (progressing n f) (xs ++ [])) (progress_lines n (progressing n f) _))
 
 -- a row goes to each other member whose row is lacking
-pub tick_rows : (n c : ℕ) (f : Facts) → f.up ≡ true → message_of (spelling (state (proposed f) true)) ≡ Some (state (proposed f) true) → (m : ℕ) → Occurs m (filter (lacks (proposed f).exchange.rows) (others (proposed f)))
-    → Occurs (m, state (proposed f) true) (sent_at n c f Ticks)
+pub tick_rows : (n c : ℕ) (f : Facts) → f.up ≡ true → message_of (spelling (state (proposed f) true)) ≡ Some (state (proposed f) true) → (m : ℕ) → Among (filter (lacks (proposed f).exchange.rows) (others (proposed f))) m
+    → Among (sent_at n c f Ticks) (m, state (proposed f) true)
 tick_rows n c f up reads m h =
     let x : ℕ × Message = (m, state (proposed f) true) in
     let later : List (ℕ × Message) = (transactions (proposed f)).sends ++ ((batches (proposed f)).sends ++ ((progress n (progressing n f)).sends ++ [])) in
-    let here : Occurs x (as_read (rows (proposed f)).sends) = each_among (state (proposed f) true) reads _ m h in
-    let third : Occurs x (as_read ((rows (proposed f)).sends ++ later)) = subst (λ (xs : List (ℕ × Message)). Occurs x xs) (sym (read_append (rows (proposed f)).sends later)) (among_front x (as_read (rows (proposed f)).sends) (as_read later) here) in
-    let second : Occurs x (as_read ((propose (proposing f)).sends ++ ((rows (proposed f)).sends ++ later))) = subst (λ (xs : List (ℕ × Message)). Occurs x xs) (sym (read_append (propose (proposing f)).sends ((rows (proposed f)).sends ++ later))) (among_behind x (as_read (propose (proposing f)).sends) (as_read ((rows (proposed f)).sends ++ later)) third) in
-    subst (λ (xs : List (ℕ × Message)). Occurs x xs) (sym (tick_sent n c f up ∙ read_append (beat (proposing f)).sends ((propose (proposing f)).sends ++ ((rows (proposed f)).sends ++ later))))
+    let here : Among (as_read (rows (proposed f)).sends) x = each_among (state (proposed f) true) reads _ m h in
+    let third : Among (as_read ((rows (proposed f)).sends ++ later)) x = subst (λ (xs : List (ℕ × Message)). Among xs x) (sym (read_append (rows (proposed f)).sends later)) (among_front x (as_read (rows (proposed f)).sends) (as_read later) here) in
+    let second : Among (as_read ((propose (proposing f)).sends ++ ((rows (proposed f)).sends ++ later))) x = subst (λ (xs : List (ℕ × Message)). Among xs x) (sym (read_append (propose (proposing f)).sends ((rows (proposed f)).sends ++ later))) (among_behind x (as_read (propose (proposing f)).sends) (as_read ((rows (proposed f)).sends ++ later)) third) in
+    subst (λ (xs : List (ℕ × Message)). Among xs x) (sym (tick_sent n c f up ∙ read_append (beat (proposing f)).sends ((propose (proposing f)).sends ++ ((rows (proposed f)).sends ++ later))))
     (among_behind x (as_read (beat (proposing f)).sends) (as_read ((propose (proposing f)).sends ++ ((rows (proposed f)).sends ++ later))) second)
 
 -- a proposal goes to each who is missed
-pub tick_proposes : (n c : ℕ) (f : Facts) → f.up ≡ true → (k : ClusterKey) (ms : List Member) (ns : List ℕ) → (propose (proposing f)).sends ≡ to_each ns (message.Propose k ms) → message_of (spelling (message.Propose k ms)) ≡ Some (message.Propose k ms) → (m : ℕ) → Occurs m ns
-    → Occurs (m, message.Propose k ms) (sent_at n c f Ticks)
+pub tick_proposes : (n c : ℕ) (f : Facts) → f.up ≡ true → (k : ClusterKey) (ms : List Member) (ns : List ℕ) → (propose (proposing f)).sends ≡ to_each ns (message.Propose k ms) → message_of (spelling (message.Propose k ms)) ≡ Some (message.Propose k ms) → (m : ℕ) → Among ns m
+    → Among (sent_at n c f Ticks) (m, message.Propose k ms)
 tick_proposes n c f up k ms ns is reads m h =
     let x : ℕ × Message = (m, message.Propose k ms) in
     let later : List (ℕ × Message) = (rows (proposed f)).sends ++ ((transactions (proposed f)).sends ++ ((batches (proposed f)).sends ++ ((progress n (progressing n f)).sends ++ []))) in
-    let here : Occurs x (as_read (propose (proposing f)).sends) = subst (λ (xs : List (ℕ × Message)). Occurs x (as_read xs)) (sym is) (each_among (message.Propose k ms) reads ns m h) in
-    let second : Occurs x (as_read ((propose (proposing f)).sends ++ later)) = subst (λ (xs : List (ℕ × Message)). Occurs x xs) (sym (read_append (propose (proposing f)).sends later)) (among_front x (as_read (propose (proposing f)).sends) (as_read later) here) in
-    subst (λ (xs : List (ℕ × Message)). Occurs x xs) (sym (tick_sent n c f up ∙ read_append (beat (proposing f)).sends ((propose (proposing f)).sends ++ later)))
+    let here : Among (as_read (propose (proposing f)).sends) x = subst (λ (xs : List (ℕ × Message)). Among (as_read xs) x) (sym is) (each_among (message.Propose k ms) reads ns m h) in
+    let second : Among (as_read ((propose (proposing f)).sends ++ later)) x = subst (λ (xs : List (ℕ × Message)). Among xs x) (sym (read_append (propose (proposing f)).sends later)) (among_front x (as_read (propose (proposing f)).sends) (as_read later) here) in
+    subst (λ (xs : List (ℕ × Message)). Among xs x) (sym (tick_sent n c f up ∙ read_append (beat (proposing f)).sends ((propose (proposing f)).sends ++ later)))
     (among_behind x (as_read (beat (proposing f)).sends) (as_read ((propose (proposing f)).sends ++ later)) second)

@@ -1,6 +1,5 @@
 -- What a step of one node makes of the world.
-use Rattle.std.proofs.Common.{◌≡◌, ℕ, ◌+◌, ◌==◌, ◌||◌, Bool, true, false, List, [], ◌∷◌, ◌++◌, map, length, Option, Some, None, refl, sym, ap, subst, ◌∙◌, append_assoc, append-nil, arith}
-use Rattle.std.proofs.lemmas.Bool.Decides.{nat_tests}
+use Rattle.std.proofs.Common.{◌≡◌, ℕ, ◌+◌, ◌||◌, Bool, true, false, List, [], ◌∷◌, ◌++◌, map, length, Option, Some, None, refl, sym, ap, subst, ◌∙◌, append_assoc, append-nil}
 use Rattle.std.specs.List.{list_any, cons_option}
 use Rattle.conflict_order.specs.declared.want.Want.{Want}
 use Rattle.wire_messages.specs.declared.message.Message.{Message}
@@ -8,6 +7,7 @@ use Rattle.wire_messages.specs.Decoding.{message_of}
 use Rattle.wire_messages.specs.Spelling.{spelling}
 use Rattle.journal_lines.specs.declared.line.Line.{Line}
 use Rattle.journal_lines.specs.declared.line.Line.TheVariants as line
+use Rattle.partition_lists.proofs.InOrderLaws.{equal}
 use Rattle.node_rules.specs.Effects.{Effects}
 use Rattle.node_rules.specs.Facts.{Facts}
 use Rattle.node_rules.specs.Notes.{note, noted, sent, all_sent}
@@ -18,33 +18,19 @@ use Rattle.journal_readings.specs.Messages.{Posting}
 use Rattle.cluster_rules.specs.Network.{Network, has_place, posting}
 use Rattle.cluster_rules.specs.World.{World, at, new_if}
 use Rattle.cluster_rules.proofs.MarkLaws.{after_all-append}
+use Rattle.cluster_laws.proofs.At.{differ}
+use Rattle.cluster_laws.proofs.GroundLaws.{apart}
 use Rattle.calm_laws.specs.Acts.{read_to, as_read, carried}
 use Rattle.calm_laws.specs.Letters.{posting_from, postings, new_numbers}
 use Rattle.calm_laws.proofs.Own.{OwnLine, OwnLines}
 
 -- ---- one place of a function
 
-pub same_number : (n m : ℕ) → (n == m) ≡ true → n ≡ m
-same_number n m e = grind (arith, nat_tests)
-
-pub number_is : (n m : ℕ) → n ≡ m → (n == m) ≡ true
-number_is n m e = grind (arith, nat_tests)
-
-pub number_isnt : (n m : ℕ) → (n ≡ m → ⊥) → (n == m) ≡ false
-number_isnt n m d = go (n == m) refl
-  where
-    go : (b : Bool) → (n == m) ≡ b → b ≡ false
-    go true e = absurd (d (same_number n m e))
-    go false e = refl
-
-pub differ : {C : Type 0} {b : Bool} → b ≡ true → b ≡ false → C
-differ {C} {b} p q = absurd (grind arith)
-
 pub at_itself : {A : Type 0} (f : ℕ → A) (n : ℕ) (new : A) → at f n new n ≡ new
-at_itself f n new = ap (λ (b : Bool). new_if new f n b) (number_is n n refl)
+at_itself f n new = ap (λ (b : Bool). new_if new f n b) (equal n n refl)
 
 pub at_other : {A : Type 0} (f : ℕ → A) (n : ℕ) (new : A) (m : ℕ) → (n ≡ m → ⊥) → at f n new m ≡ f m
-at_other f n new m d = ap (λ (b : Bool). new_if new f m b) (number_isnt n m d)
+at_other f n new m d = ap (λ (b : Bool). new_if new f m b) (apart n m d)
 
 -- ---- what a node's lines make of the world
 

@@ -13,6 +13,7 @@ use Rattle.cluster_types.specs.declared.cluster_key.ClusterKey.{ClusterKey}
 use Rattle.cluster_types.specs.Members.{ids_of}
 use Rattle.cluster_types.specs.Partitions.{partition_of}
 use Rattle.partition_lists.specs.Lists.{replicas}
+use Rattle.partition_lists.proofs.InOrderLaws.{equal}
 use Rattle.partition_lists.proofs.ListLaws.{list_contains}
 use Rattle.wire_messages.specs.declared.message.Message.{Message}
 use Rattle.wire_messages.specs.declared.message.Message.TheVariants as message
@@ -31,16 +32,19 @@ use Rattle.node_rules.specs.Standing.{other_replicas}
 use Rattle.node_rules.specs.Tables.{changed_if, contains}
 use Rattle.node_rules.specs.Transactions as transactions
 use Rattle.node_rules.specs.Transactions.{Transaction, Transactions, acknowledged, answered, awaits_ack, awaits_answer, is_last_awaited, transaction}
+use Rattle.cluster_rules.proofs.KeptFacts.{num_same}
+use Rattle.cluster_laws.proofs.At.{differ}
+use Rattle.key_laws.proofs.Addressed.{in_without, not_gone}
+use Rattle.run_laws.specs.Tied.{Among}
+use Rattle.run_laws.proofs.Among.{among_contains}
 use Rattle.calm_laws.specs.Acts.{Gets, acted, as_read}
-use Rattle.calm_laws.specs.Flows.{Occurs}
 use Rattle.calm_laws.specs.Group.{kind}
 use Rattle.calm_laws.specs.Transacting.{Awaits, MovesOn, HeardFrom, Lost, Such, Turns, open_at}
 use Rattle.calm_laws.specs.Turns.{is_agreeing}
 use Rattle.calm_laws.proofs.Proposals.{without_itself}
-use Rattle.calm_laws.proofs.Rolls.{among_contains, contains_among, without_from, without_other}
+use Rattle.calm_laws.proofs.Rolls.{contains_among}
 use Rattle.calm_laws.proofs.Numbered.{at_number, changed_number, find_changed, find_closed, find_other}
 use Rattle.calm_laws.proofs.Taking.{free_agrees}
-use Rattle.calm_laws.proofs.Took.{differ, number_is, same_number}
 use Rattle.calm_laws.proofs.Words.{Each, Words, is_answer, message_words}
 
 -- ---- messages that answer no transaction
@@ -105,7 +109,7 @@ found_number [] number t e = absurd (none-some t e)
 found_number (s ∷ ts) number t e = go (s.number == number) refl e (found_number ts number t)
   where
     go : (b : Bool) → (s.number == number) ≡ b → cond b (Some s) (find (at_number number) ts) ≡ Some t → (find (at_number number) ts ≡ Some t → t.number ≡ number) → t.number ≡ number
-    go true i f rest = ap (λ (o : Option Transaction). (unwrap_or o s).number) (sym f) ∙ same_number s.number number i
+    go true i f rest = ap (λ (o : Option Transaction). (unwrap_or o s).number) (sym f) ∙ num_same s.number number i
     go false i f rest = rest f
 
 abbrev Change : Type 0
@@ -119,7 +123,7 @@ changed_here : (ts : Transactions) (number : ℕ) (g : Change) → Keeps g → (
 changed_here ts number g keeps t e =
     find_changed ts.running number (λ t. changed_if g t (t.number == number)) (changed_number g keeps number)
     ∙ ap (λ (o : Option Transaction). option_map (λ t. changed_if g t (t.number == number)) o) e
-    ∙ ap (λ (b : Bool). Some (changed_if g t b)) (number_is t.number number (found_number ts.running number t e))
+    ∙ ap (λ (b : Bool). Some (changed_if g t b)) (equal t.number number (found_number ts.running number t e))
 
 changed_none : (ts : Transactions) (number at : ℕ) (g : Change) → Keeps g → transaction ts number ≡ None → transaction (transactions.changing ts at g) number ≡ None
 changed_none ts number at g keeps e =
@@ -130,7 +134,7 @@ changed_other : (ts : Transactions) (number at : ℕ) (g : Change) → Keeps g �
 changed_other ts number at g keeps d = find_changed ts.running number (λ t. changed_if g t (t.number == at)) (changed_number g keeps at) ∙ go (transaction ts number) refl
   where
     isnt : (t : Transaction) → t.number ≡ number → (b : Bool) → (t.number == at) ≡ b → b ≡ false
-    isnt t i true e = differ (number_is at number (sym (same_number t.number at e) ∙ i)) d
+    isnt t i true e = differ (equal at number (sym (num_same t.number at e) ∙ i)) d
     isnt t i false e = refl
 
     go : (o : Option Transaction) → transaction ts number ≡ o → option_map (λ t. changed_if g t (t.number == at)) (transaction ts number) ≡ transaction ts number
@@ -208,7 +212,7 @@ answer_gone : (f : Facts) (c x number : ℕ) (v : Option Version) → open_at f 
 answer_gone f c x number v e = changed_none f.transactions number number (λ t. changed_if (answered f.store.by x v) t (awaits_answer t x)) (answer_keeps f x v) e
 
 -- numbers of a list, in two words
-to_contains : (xs : List ℕ) (x : ℕ) → Occurs x xs → Contains xs x
+to_contains : (xs : List ℕ) (x : ℕ) → Among xs x → Contains xs x
 to_contains [] x h = absurd h
 to_contains (y ∷ xs) x (inl e) = Contains-append_left (y ∷ []) xs x (subst (λ (z : ℕ). Contains (y ∷ []) z) e (Contains-push [] y))
 to_contains (y ∷ xs) x (inr h) = Contains-append_right (y ∷ []) xs x (to_contains xs x h)
@@ -216,15 +220,15 @@ to_contains (y ∷ xs) x (inr h) = Contains-append_right (y ∷ []) xs x (to_con
 none_contained : (x : ℕ) → Contains [] x → ⊥
 none_contained x c = omega (arith, c.1)
 
-from_contains : (xs : List ℕ) (x : ℕ) → Contains xs x → Occurs x xs
+from_contains : (xs : List ℕ) (x : ℕ) → Contains xs x → Among xs x
 from_contains [] x c = none_contained x c
 from_contains (y ∷ xs) x c = go (Contains-append_cases (y ∷ []) xs x c) (from_contains xs x)
   where
-    head : Contains [] x ⊎ (y ≡ x) → (y ≡ x) ⊎ Occurs x xs
+    head : Contains [] x ⊎ (y ≡ x) → (y ≡ x) ⊎ Among xs x
     head (inl n) = absurd (none_contained x n)
     head (inr e) = inl e
 
-    go : Contains (y ∷ []) x ⊎ Contains xs x → (Contains xs x → Occurs x xs) → (y ≡ x) ⊎ Occurs x xs
+    go : Contains (y ∷ []) x ⊎ Contains xs x → (Contains xs x → Among xs x) → (y ≡ x) ⊎ Among xs x
     go (inl h) rest = head (Contains-push_cases [] y x h)
     go (inr h) rest = inr (rest h)
 
@@ -239,11 +243,11 @@ replica_member f p x e = (
       ((list_contains (members f) p x).0
       (among_taken f.factor (list_at f p) x
       (to_contains (replicas (list_at f p) f.factor) x
-      (contains_among (replicas (list_at f p) f.factor) x (without_from (replicas (list_at f p) f.factor) f.me x e)))))),
-  without_other (replicas (list_at f p) f.factor) f.me x e,
+      (contains_among (replicas (list_at f p) f.factor) x (in_without (replicas (list_at f p) f.factor) f.me x e)))))),
+  not_gone (replicas (list_at f p) f.factor) f.me x e,
 )
 
-pub to_each_among : (ns : List ℕ) (y : ℕ) (m : Message) → Occurs y ns → Occurs (y, m) (to_each ns m)
+pub to_each_among : (ns : List ℕ) (y : ℕ) (m : Message) → Among ns y → Among (to_each ns m) (y, m)
 to_each_among [] y m h = absurd h
 to_each_among (n ∷ ns) y m (inl e) = inl (ap (λ (z : ℕ). (z, m)) e)
 to_each_among (n ∷ ns) y m (inr h) = inr (to_each_among ns y m h)
@@ -386,7 +390,7 @@ module _ (n c : ℕ) (k : ClusterKey) (f : Facts) (view : view_key f ≡ k) (x n
   came_ack key at true = go (at == number) refl
     where
       go : (b : Bool) → (at == number) ≡ b → Turns k number f x (due.ack_of f x (open_at f at)).sends (open_at f number) (open_at (noted None (acked f x at) (due.ack_of f x (open_at f at)).lines) number)
-      go true e = subst (λ (y : ℕ). Turns k number f x (due.ack_of f x (open_at f y)).sends (open_at f number) (open_at (noted None (acked f x y) (due.ack_of f x (open_at f y)).lines) number)) (sym (same_number at number e)) (ack_turns k f x number (due.ack_of f x (open_at f number)).sends (open_at f number) refl)
+      go true e = subst (λ (y : ℕ). Turns k number f x (due.ack_of f x (open_at f y)).sends (open_at f number) (open_at (noted None (acked f x y) (due.ack_of f x (open_at f y)).lines) number)) (sym (num_same at number e)) (ack_turns k f x number (due.ack_of f x (open_at f number)).sends (open_at f number) refl)
       go false e = inl (ack_other f x number at e (open_at f at) refl)
 
   came_answer : (key : ClusterKey) (at : ℕ) (v : Option Version) (b : Bool) → Turns k number f x (due.answer_came f c x at v b).sends (open_at f number) (open_at (noted None (notes.answer_came f x at v b) (due.answer_came f c x at v b).lines) number)
@@ -394,7 +398,7 @@ module _ (n c : ℕ) (k : ClusterKey) (f : Facts) (view : view_key f ≡ k) (x n
   came_answer key at v true = go (at == number) refl
     where
       go : (b : Bool) → (at == number) ≡ b → Turns k number f x (due.answer_of f c x v (open_at f at)).sends (open_at f number) (open_at (noted None (replied f x at v) (due.answer_of f c x v (open_at f at)).lines) number)
-      go true e = subst (λ (y : ℕ). Turns k number f x (due.answer_of f c x v (open_at f y)).sends (open_at f number) (open_at (noted None (replied f x y v) (due.answer_of f c x v (open_at f y)).lines) number)) (sym (same_number at number e)) (answer_turns c k f view x number v (open_at f number) refl)
+      go true e = subst (λ (y : ℕ). Turns k number f x (due.answer_of f c x v (open_at f y)).sends (open_at f number) (open_at (noted None (replied f x y v) (due.answer_of f c x v (open_at f y)).lines) number)) (sym (num_same at number e)) (answer_turns c k f view x number v (open_at f number) refl)
       go false e = inl (answer_other f c x at v number e (open_at f at) refl)
 
   -- what a message that isn't of agreement makes of the transaction of a number

@@ -22,14 +22,14 @@ use Rattle.node_rules.specs.Notes as notes
 use Rattle.node_rules.specs.Notes.{note, noted, reached, sent, all_sent, in_view}
 use Rattle.node_rules.specs.Settling.{line_if}
 use Rattle.node_rules.specs.Transactions.{Transaction, Write}
+use Rattle.node_rules.proofs.NoteLaws.{noted-append}
+use Rattle.cluster_laws.proofs.At.{differ}
 use Rattle.key_laws.proofs.Order.{lt_below, at_most_lt, below_at_most}
 use Rattle.calm_laws.specs.Acts.{Gets, as_read, acted}
 use Rattle.calm_laws.specs.Group.{kind}
 use Rattle.calm_laws.specs.Stances.{Stance, stance_of, enters_view, enters_if, counts, turned}
 use Rattle.calm_laws.proofs.KindLaws.{NoneOf, none_read}
 use Rattle.calm_laws.proofs.Sent.{asks, message_none}
-use Rattle.calm_laws.proofs.Ticking.{noted_append}
-use Rattle.calm_laws.proofs.Took.{differ}
 use Rattle.calm_laws.proofs.Words.{Each, Ends, Words, agrees, message_words}
 
 -- ---- what leaves it
@@ -82,7 +82,7 @@ exchanging_calm a k false = tt
 pub entering_turns : (f g : Facts) (k : ClusterKey) (ms : List Member) → stance_of (noted None g (entering f k ms)) ≡ enters_view (stance_of g) k ms
 entering_turns f g k ms =
     let closed : Facts = noted None g (closing f) in
-    ap (λ (h : Facts). stance_of h) (noted_append None g (closing f) (line.Enter f.me k ms ∷ exchanging f.me k (is_single ms)))
+    ap (λ (h : Facts). stance_of h) (noted-append None g (closing f) (line.Enter f.me k ms ∷ exchanging f.me k (is_single ms)))
     ∙ noted_calm None (note None closed (line.Enter f.me k ms)) (exchanging f.me k (is_single ms)) (exchanging_calm f.me k (is_single ms))
     ∙ ap (λ (s : Stance). enters_view s k ms) (noted_calm None g (closing f) (closing_calm f.me (view_key f) f.transactions.running))
 

@@ -5,16 +5,17 @@ use Rattle.cluster_types.specs.declared.member.Member.{Member}
 use Rattle.cluster_types.specs.ClusterKeys.{IsBelow, key_lt}
 use Rattle.wire_messages.specs.declared.message.Message.{Message}
 use Rattle.wire_messages.specs.declared.message.Message.TheVariants as message
+use Rattle.journal_readings.proofs.Fronts.{and_left}
 use Rattle.node_rules.specs.Agreement as agreement
 use Rattle.node_rules.specs.Agreement.{Agreement, Proposal, proposes, without_missing, accepted_by, kept_if, may_enter}
 use Rattle.node_rules.specs.Copies.{is_nil}
 use Rattle.node_rules.specs.Exchange.{View, is_member}
 use Rattle.node_rules.specs.Keys.{same_key}
+use Rattle.cluster_laws.proofs.At.{differ}
 use Rattle.key_laws.specs.Order.{AtMost}
 use Rattle.key_laws.proofs.Order.{at_most_eq, at_most_lt, below_lt, neither_lt, same_is, same_self}
 use Rattle.calm_laws.specs.Stances.{Stance, enters_view, enters_if, counts, turned}
 use Rattle.calm_laws.specs.Turns.{Only, Inside, Follows, Leads}
-use Rattle.calm_laws.proofs.Took.{differ}
 
 -- ---- keys
 
@@ -27,10 +28,6 @@ and_false false c = refl
 
 no_entry : (me : ℕ) (a : Agreement) (k l : ClusterKey) (ms : List Member) → a.last ≡ k → l ≡ k → may_enter me a l ms ≡ false
 no_entry me a k l ms e i = ap (λ (b : Bool). same_key l a.promised && (b && is_member ms me)) (not_above_itself a.last k l e i) ∙ and_false (same_key l a.promised) (is_member ms me)
-
-and_left : (a b : Bool) → (a && b) ≡ true → a ≡ true
-and_left true b e = refl
-and_left false b e = e
 
 promised_key : (me : ℕ) (a : Agreement) (l : ClusterKey) (ms : List Member) → may_enter me a l ms ≡ true → l ≡ a.promised
 promised_key me a l ms e = same_is l a.promised (and_left (same_key l a.promised) _ e)

@@ -17,6 +17,7 @@ use Rattle.wire_messages.specs.declared.message.Message.TheVariants as message
 use Rattle.journal_lines.specs.declared.line.Line.{Line}
 use Rattle.journal_lines.specs.declared.line.Line.TheVariants as line
 use Rattle.journal_lines.specs.declared.refusal.Refusal.{Refusal}
+use Rattle.partition_lists.proofs.InOrderLaws.{equal}
 use Rattle.node_rules.specs.Agreement as agreement
 use Rattle.node_rules.specs.Agreement.{Agreement, Proposal, accepted_by, is_accepted_with, kept_if, may_enter, others, proposes, proposes_anew, proposes_set, without_missing}
 use Rattle.node_rules.specs.ByParts.{asked_or_resolved, closed_if, exchanged_if, merged_if, proposed_facts, requested, resolved, resolved_by, resolved_with, view_entered, with_applied_write}
@@ -41,10 +42,11 @@ use Rattle.node_rules.proofs.Ticking.{tick_agrees}
 use Rattle.node_rules.specs.Tables.{changed_if}
 use Rattle.cluster_rules.specs.declared.event.Event.{Event}
 use Rattle.cluster_rules.specs.World.{World}
+use Rattle.cluster_rules.proofs.KeptFacts.{num_same}
+use Rattle.cluster_laws.proofs.At.{differ}
+use Rattle.run_laws.specs.Tied.{Among}
 use Rattle.calm_laws.specs.Becoming.{Became, stayed, ticked, heard, asked, stopped, started, quiesced}
-use Rattle.calm_laws.specs.Flows.{Occurs}
 use Rattle.calm_laws.specs.Waits.{AwaitSome, LacksSome, Waits}
-use Rattle.calm_laws.proofs.Took.{differ, number_is, same_number}
 
 -- ---- proposals
 
@@ -106,46 +108,46 @@ ticking_lacks me a set candidate h = go (proposes_anew still candidate) refl
 
 -- ---- lists of transactions
 
-among_filter : (test : Transaction → Bool) (ts : List Transaction) (t : Transaction) → Occurs t (filter test ts) → Occurs t ts × (test t ≡ true)
+among_filter : (test : Transaction → Bool) (ts : List Transaction) (t : Transaction) → Among (filter test ts) t → Among ts t × (test t ≡ true)
 among_filter test [] t i = absurd i
 among_filter test (x ∷ ts) t i = go (test x) refl i (among_filter test ts t)
   where
-    go : (b : Bool) → test x ≡ b → Occurs t (cond b (x ∷ filter test ts) (filter test ts)) → (Occurs t (filter test ts) → Occurs t ts × (test t ≡ true)) → Occurs t (x ∷ ts) × (test t ≡ true)
+    go : (b : Bool) → test x ≡ b → Among (cond b (x ∷ filter test ts) (filter test ts)) t → (Among (filter test ts) t → Among ts t × (test t ≡ true)) → Among (x ∷ ts) t × (test t ≡ true)
     go true e (inl s) rest = (inl s, ap test (sym s) ∙ e)
     go true e (inr j) rest = (inr (rest j).0, (rest j).1)
     go false e j rest = (inr (rest j).0, (rest j).1)
 
 -- each but the one of that number awaits somebody
 abbrev AwaitBut : ℕ → List Transaction → Type 0
-AwaitBut number ts = (t : Transaction) → Occurs t ts → (t.number ≡ number → ⊥) → is_nil t.awaiting ≡ false
+AwaitBut number ts = (t : Transaction) → Among ts t → (t.number ≡ number → ⊥) → is_nil t.awaiting ≡ false
 
 unset : {b : Bool} → not b ≡ true → b ≡ false
 unset {b} e = grind arith
 
 -- that one is closed
 closed_awaits : (number : ℕ) (ts : List Transaction) → AwaitBut number ts → AwaitSome (filter (λ t. not (t.number == number)) ts)
-closed_awaits number ts h t i = let f : Occurs t ts × (not (t.number == number) ≡ true) = among_filter (λ t. not (t.number == number)) ts t i in h t f.0 (λ e. differ (number_is t.number number e) (unset f.1))
+closed_awaits number ts h t i = let f : Among ts t × (not (t.number == number) ≡ true) = among_filter (λ t. not (t.number == number)) ts t i in h t f.0 (λ e. differ (equal t.number number e) (unset f.1))
 
 record Origin (change : Transaction → Transaction) (number : ℕ) (ts : List Transaction) (t : Transaction) : Type 0 where
   from : Transaction
-  among : Occurs from ts
+  among : Among ts from
   is : changed_if change from (from.number == number) ≡ t
 
-origin : (change : Transaction → Transaction) (number : ℕ) (ts : List Transaction) (t : Transaction) → Occurs t (map (λ x. changed_if change x (x.number == number)) ts) → Origin change number ts t
+origin : (change : Transaction → Transaction) (number : ℕ) (ts : List Transaction) (t : Transaction) → Among (map (λ x. changed_if change x (x.number == number)) ts) t → Origin change number ts t
 origin change number [] t i = absurd i
 origin change number (x ∷ ts) t (inl e) = record { from = x; among = inl refl; is = e }
 origin change number (x ∷ ts) t (inr i) = let o : Origin change number ts t = origin change number ts t i in record { from = o.from; among = inr o.among; is = o.is }
 
 -- it is changed, and awaits somebody then
-changed_awaits : (change : Transaction → Transaction) (number : ℕ) (ts : List Transaction) → AwaitBut number ts → ((x : Transaction) → Occurs x ts → x.number ≡ number → is_nil (change x).awaiting ≡ false)
+changed_awaits : (change : Transaction → Transaction) (number : ℕ) (ts : List Transaction) → AwaitBut number ts → ((x : Transaction) → Among ts x → x.number ≡ number → is_nil (change x).awaiting ≡ false)
     → AwaitSome (map (λ x. changed_if change x (x.number == number)) ts)
 changed_awaits change number ts h good t i =
     let o : Origin change number ts t = origin change number ts t i in
     subst (λ (y : Transaction). is_nil y.awaiting ≡ false) o.is (one o.from o.among (o.from.number == number) refl)
   where
-    one : (x : Transaction) → Occurs x ts → (b : Bool) → (x.number == number) ≡ b → is_nil (changed_if change x b).awaiting ≡ false
-    one x i true e = good x i (same_number x.number number e)
-    one x i false e = h x i (λ s. differ (number_is x.number number s) e)
+    one : (x : Transaction) → Among ts x → (b : Bool) → (x.number == number) ≡ b → is_nil (changed_if change x b).awaiting ≡ false
+    one x i true e = good x i (num_same x.number number e)
+    one x i false e = h x i (λ s. differ (equal x.number number s) e)
 
 -- it is changed, and keeps its number
 changed_but : (change : Transaction → Transaction) (number : ℕ) (ts : List Transaction) → ((x : Transaction) → (change x).number ≡ x.number) → AwaitBut number ts → AwaitBut number (map (λ x. changed_if change x (x.number == number)) ts)
@@ -153,16 +155,16 @@ changed_but change number ts same h t i d =
     let o : Origin change number ts t = origin change number ts t i in
     subst (λ (y : Transaction). is_nil y.awaiting ≡ false) o.is (one o.from o.among (o.from.number == number) refl o.is)
   where
-    one : (x : Transaction) → Occurs x ts → (b : Bool) → (x.number == number) ≡ b → changed_if change x b ≡ t → is_nil (changed_if change x b).awaiting ≡ false
-    one x i true e is = absurd (d (ap (λ (y : Transaction). y.number) (sym is) ∙ same x ∙ same_number x.number number e))
-    one x i false e is = h x i (λ s. differ (number_is x.number number s) e)
+    one : (x : Transaction) → Among ts x → (b : Bool) → (x.number == number) ≡ b → changed_if change x b ≡ t → is_nil (changed_if change x b).awaiting ≡ false
+    one x i true e is = absurd (d (ap (λ (y : Transaction). y.number) (sym is) ∙ same x ∙ num_same x.number number e))
+    one x i false e is = h x i (λ s. differ (equal x.number number s) e)
 
 some_but : (number : ℕ) (ts : List Transaction) → AwaitSome ts → AwaitBut number ts
 some_but number ts h t i d = h t i
 
 -- each is found by its number
 abbrev pub Found : Transactions → Type 0
-Found ts = (t : Transaction) → Occurs t ts.running → transaction ts t.number ≡ Some t
+Found ts = (t : Transaction) → Among ts.running t → transaction ts t.number ≡ Some t
 
 -- ---- acknowledgements and answers
 
@@ -175,7 +177,7 @@ ack_awaits ts from number found h true e =
     closed_awaits number _ (changed_but (λ t. changed_if (acknowledged from) t (awaits_ack t from)) number ts.running (λ x. acked_number from x (awaits_ack x from)) (some_but number ts.running h))
 ack_awaits ts from number found h false e = changed_awaits (λ t. changed_if (acknowledged from) t (awaits_ack t from)) number ts.running (some_but number ts.running h) one
   where
-    one : (x : Transaction) → Occurs x ts.running → x.number ≡ number → is_nil (changed_if (acknowledged from) x (awaits_ack x from)).awaiting ≡ false
+    one : (x : Transaction) → Among ts.running x → x.number ≡ number → is_nil (changed_if (acknowledged from) x (awaits_ack x from)).awaiting ≡ false
     one x i s = go (awaits_ack x from) refl (ap (λ (o : Option Transaction). ends_by_ack o from) (sym (found x i) ∙ ap (transaction ts) s) ∙ e)
       where
         go : (b : Bool) → awaits_ack x from ≡ b → (awaits_ack x from && is_last_awaited x from) ≡ false → is_nil (changed_if (acknowledged from) x b).awaiting ≡ false
@@ -209,7 +211,7 @@ found_number (x ∷ ts) number t e = go (x.number == number) refl e (found_numbe
     same q = cc
 
     go : (b : Bool) → (x.number == number) ≡ b → cond b (Some x) (find (λ x. x.number == number) ts) ≡ Some t → (find (λ x. x.number == number) ts ≡ Some t → t.number ≡ number) → t.number ≡ number
-    go true i q rest = subst (λ (y : Transaction). y.number ≡ number) (same q) (same_number x.number number i)
+    go true i q rest = subst (λ (y : Transaction). y.number ≡ number) (same q) (num_same x.number number i)
     go false i q rest = rest q
 
 answer_awaits : (f : Facts) (clock from number : ℕ) (v : Option Version) → Found f.transactions → AwaitSome f.transactions.running
@@ -226,7 +228,7 @@ answer_awaits f clock from number v found h = go (transaction f.transactions num
     more : (o : Option Transaction) → transaction f.transactions number ≡ o → ((t : Transaction) → o ≡ Some t → (awaits_answer t from && is_last_awaited t from) ≡ false) → AwaitSome (answering f.store.by f.transactions from number v).running
     more o e good = changed_awaits told number f.transactions.running (some_but number f.transactions.running h) one
       where
-        one : (x : Transaction) → Occurs x f.transactions.running → x.number ≡ number → is_nil (told x).awaiting ≡ false
+        one : (x : Transaction) → Among f.transactions.running x → x.number ≡ number → is_nil (told x).awaiting ≡ false
         one x i s = deep (awaits_answer x from) refl (good x (sym e ∙ ap (transaction f.transactions) (sym s) ∙ found x i))
           where
             deep : (b : Bool) → awaits_answer x from ≡ b → (awaits_answer x from && is_last_awaited x from) ≡ false → is_nil (changed_if (answered f.store.by from v) x b).awaiting ≡ false

@@ -71,7 +71,7 @@ module _ (P : ℕ → World → Type 0) (begins : (h : Header) → P 0 (opened h
   -- in every such world, with as many lines as stand there
   pub reaches : (w : World) (m : MayTake w []) → P (length (all_lines m.before)) w
   reaches w m =
-      let start : MayTake (opened m.header) m.before = record { header = m.header; before = []; leads = refl; taken = taken_before m; few = m.few; room = room m } in
+      let start : MayTake (opened m.header) m.before = record { header = m.header; before = []; leads = refl; taken = taken_before m; room = room m } in
       subst (λ (u : World). P (length (all_lines m.before)) u) m.leads
       (subst (λ (k : ℕ). P k (world_after m.header m.before)) (none (length (all_lines m.before))) (on m.before 0 (opened m.header) start (begins m.header)))
     where

@@ -9,6 +9,7 @@ use Rattle.cluster_types.specs.MembersEqual.{same_members_decides}
 use Rattle.wire_messages.specs.declared.message.Message.{Message}
 use Rattle.wire_messages.specs.declared.message.Message.TheVariants as message
 use Rattle.wire_messages.specs.Keys.{IsKeyField, IsKeyOrNone}
+use Rattle.journal_readings.proofs.Fronts.{and_right}
 use Rattle.node_rules.specs.Agreement as agreement
 use Rattle.node_rules.specs.Agreement.{Agreement, Proposal, kept_if, may_enter, next_key, others, proposal_of, proposes, proposes_set, without_missing}
 use Rattle.node_rules.specs.Copies.{is_nil}
@@ -19,14 +20,18 @@ use Rattle.node_rules.specs.Tables.{contains}
 use Rattle.node_rules.specs.Tick.{is_candidate, propose, propose_new, propose_with, proposing_to}
 use Rattle.journal_readings.specs.Lines.{has_node}
 use Rattle.cluster_rules.specs.World.{World}
+use Rattle.cluster_laws.proofs.At.{differ}
+use Rattle.key_laws.proofs.Addressed.{not_gone}
+use Rattle.key_laws.proofs.DueTick.{next_is_key}
+use Rattle.run_laws.specs.Tied.{Among}
 use Rattle.calm_laws.specs.Laws.{CanBeRead, ReadsWith, is_to_propose}
 use Rattle.calm_laws.specs.Acts.{Input, Gets, acted, as_read}
-use Rattle.calm_laws.specs.Flows.{Occurs, Flowed, Rounded, Ticked, inbox}
+use Rattle.calm_laws.specs.Flows.{Flowed, Rounded, Ticked, inbox}
 use Rattle.calm_laws.specs.Group.{kind}
 use Rattle.calm_laws.specs.Letters.{letters_from}
 use Rattle.calm_laws.specs.Stances.{Stance, counts, enters_if, proposes_to, stance_of, ticks, turned}
 use Rattle.calm_laws.specs.Turns.{Joined, Lacking, is_agreeing}
-use Rattle.calm_laws.proofs.Beginning.{and_right, comes_after, key_fits, nothing_asked, sends_to, ticked_facts}
+use Rattle.calm_laws.proofs.Beginning.{comes_after, nothing_asked, sends_to, ticked_facts}
 use Rattle.calm_laws.proofs.Hearing.{gets_inbox, outbox_ticks}
 use Rattle.calm_laws.proofs.Inputs.{Along, kept_along}
 use Rattle.calm_laws.proofs.Lacks.{lacks_aged, lacks_kept}
@@ -34,11 +39,10 @@ use Rattle.calm_laws.proofs.Lawful.{votes_fit}
 use Rattle.calm_laws.proofs.Passing.{flow_kept, keeps_turned}
 use Rattle.calm_laws.proofs.Proposals.{Got, Of, Shrunk, Votes, answered, prop, shrunk_on}
 use Rattle.calm_laws.proofs.Proposing.{flow_shrunk}
-use Rattle.calm_laws.proofs.Rolls.{contains_among, nothing_there, other_here, without_other}
+use Rattle.calm_laws.proofs.Rolls.{contains_among, nothing_there, other_here}
 use Rattle.calm_laws.proofs.Sent.{among_each}
 use Rattle.calm_laws.proofs.Ticking.{tick_proposes}
 use Rattle.calm_laws.proofs.TickTurns.{tick_turns}
-use Rattle.calm_laws.proofs.Took.{differ}
 
 -- ---- a node after its tick
 
@@ -59,7 +63,7 @@ pub record Asking (m : ℕ) (set : List Member) (f : Facts) (s : Stance) : Type 
 -- it proposes nothing, and asks for nothing
 pub record Silent (f : Facts) (s : Stance) : Type 0 where
   pub none : s.agreement.proposal ≡ None
-  pub quiet : (to : ℕ) (x : Message) → Occurs (to, x) (as_read (propose (after_ages f)).sends) → ⊥
+  pub quiet : (to : ℕ) (x : Message) → Among (as_read (propose (after_ages f)).sends) (to, x) → ⊥
 
 -- ---- keys that have a spelling
 
@@ -169,8 +173,8 @@ module _ (n : ℕ) (ns gs : List ℕ) (g : ℕ) (set : List Member) (w t : World
           (subst (λ (ms : List Member). CanBeRead (message.Propose (next_key h.me h.agreement) ms)) (j.sees m here)
           ((subst (λ (o : Option Proposal). ReadsWith h o) e (asks m here)) b))
 
-      nothing : (os : List ℕ) → os ≡ [] → (to : ℕ) (x : Message) → Occurs (to, x) (as_read (proposing_to h (next_key m h.agreement) set os).sends) → ⊥
-      nothing os is to x i = nothing_asked h to x (subst (λ (xs : List ℕ). Occurs (to, x) (as_read (proposing_to h (next_key m h.agreement) set xs).sends)) is i)
+      nothing : (os : List ℕ) → os ≡ [] → (to : ℕ) (x : Message) → Among (as_read (proposing_to h (next_key m h.agreement) set os).sends) (to, x) → ⊥
+      nothing os is to x i = nothing_asked h to x (subst (λ (xs : List ℕ). Among (as_read (proposing_to h (next_key m h.agreement) set xs).sends) (to, x)) is i)
 
       proposed : (o : Option Proposal) → o ≡ None → (agreement.proposing (record s.agreement { promised = next_key m h.agreement; proposal = kept_if (proposes o (next_key m h.agreement)) o }) m (next_key m h.agreement) set).proposal ≡ Some (proposal_of m (next_key m h.agreement) set)
       proposed o is = ap (λ (o : Option Proposal). (agreement.proposing (record s.agreement { promised = next_key m h.agreement; proposal = kept_if (proposes o (next_key m h.agreement)) o }) m (next_key m h.agreement) set).proposal) is
@@ -178,13 +182,13 @@ module _ (n : ℕ) (ns gs : List ℕ) (g : ℕ) (set : List Member) (w t : World
       go : (os : List ℕ) → others m set ≡ os → Silent f (stance_of (t.facts m)) ⊎ Asking m set f (stance_of (t.facts m))
       go [] is = inl (record {
         none = ap (λ (x : Stance). x.agreement.proposal) (now ∙ ap (λ (os : List ℕ). proposes_to m s (next_key m h.agreement) set os) is);
-        quiet = λ to x i. nothing (others m set) is to x (subst (λ (ms : List (ℕ × Message)). Occurs (to, x) (as_read ms)) sent i);
+        quiet = λ to x i. nothing (others m set) is to x (subst (λ (ms : List (ℕ × Message)). Among (as_read ms) (to, x)) sent i);
       })
       go (x ∷ xs) is = inr (record {
         stands = proposal_of m (next_key m h.agreement) set;
         is = ap (λ (y : Stance). y.agreement.proposal) (now ∙ ap (λ (os : List ℕ). proposes_to m s (next_key m h.agreement) set os) is) ∙ proposed s.agreement.proposal e;
         members = refl;
-        key = key_fits m h.agreement (j.roll.each m here) (and_right (is_candidate h) _ b);
+        key = next_is_key m h.agreement (j.roll.each m here) (and_right (is_candidate h) _ b);
         reads = read;
         sends = sent ∙ sends_to h (next_key m h.agreement) set (others m set);
         lacking = (ap (λ (os : List ℕ). is_nil os) is, λ y e. e);
@@ -206,8 +210,8 @@ module _ (n : ℕ) (ns gs : List ℕ) (g : ℕ) (set : List Member) (w t : World
             ap (λ (x : Stance). x.agreement.proposal) (stance_then m here ∙ ap (λ (o : Option Proposal). ticks m (stance_of (after_ages (w.facts m))) set o (is_to_propose (after_ages (w.facts m)))) e ∙ ap (λ (c : Bool). ticks m (stance_of (after_ages (w.facts m))) set None c) b)
             ∙ e;
         quiet = λ to x i. nothing_asked (after_ages (w.facts m)) to x
-            (subst (λ (c : Bool). Occurs (to, x) (as_read (propose_new (after_ages (w.facts m)) c).sends)) b
-            (subst (λ (o : Option Proposal). Occurs (to, x) (as_read (propose_with (after_ages (w.facts m)) o).sends)) e i));
+            (subst (λ (c : Bool). Among (as_read (propose_new (after_ages (w.facts m)) c).sends) (to, x)) b
+            (subst (λ (o : Option Proposal). Among (as_read (propose_with (after_ages (w.facts m)) o).sends) (to, x)) e i));
       })
       go (Some p) e b i =
           let of : (p.members ≡ set) × ((w.facts m).agreement.proposal ≡ Some p) = stands_of m here p e in
@@ -223,22 +227,22 @@ module _ (n : ℕ) (ns gs : List ℕ) (g : ℕ) (set : List Member) (w t : World
 
   -- ---- votes can be read
 
-  keyed : (a : ℕ) → has_node gs a ≡ true → (to : ℕ) (x : Message) → Occurs (to, x) (as_read (propose (after_ages (w.facts a))).sends) → Keyed x
+  keyed : (a : ℕ) → has_node gs a ≡ true → (to : ℕ) (x : Message) → Among (as_read (propose (after_ages (w.facts a))).sends) (to, x) → Keyed x
   keyed a here to x i = go (after_tick a here)
     where
       go : Silent (w.facts a) (stance_of (t.facts a)) ⊎ Asking a set (w.facts a) (stance_of (t.facts a)) → Keyed x
       go (inl s) = absurd (s.quiet to x i)
       go (inr s) =
-          subst (λ (y : Message). Keyed y) (among_each (message.Propose s.stands.key s.stands.members) s.reads s.stands.missing to x (subst (λ (ms : List (ℕ × Message)). Occurs (to, x) (as_read ms)) s.sends i)) s.key
+          subst (λ (y : Message). Keyed y) (among_each (message.Propose s.stands.key s.stands.members) s.reads s.stands.missing to x (subst (λ (ms : List (ℕ × Message)). Among (as_read ms) (to, x)) s.sends i)) s.key
 
-  keyed_inbox : (m : ℕ) → has_node gs m ≡ true → (from : ℕ) (x : Message) → Occurs (Gets from x) (inbox t m) → Keyed x
+  keyed_inbox : (m : ℕ) → has_node gs m ≡ true → (from : ℕ) (x : Message) → Among (inbox t m) (Gets from x) → Keyed x
   keyed_inbox m here from x there = comes_after n ns gs w t j.base j.group j.cleared k Keyed keyed_free keyed m here from x there
 
   promised_fits : (m : ℕ) → has_node gs m ≡ true → IsKeyOrNone (t.facts m).agreement.promised
   promised_fits m here =
       subst (λ (s : Stance). IsKeyOrNone s.agreement.promised) (sym (stance_then m here))
       (ticks_promised m (stance_of (after_ages (w.facts m))) set (after_ages (w.facts m)).agreement.proposal (is_to_propose (after_ages (w.facts m))) (j.fit.promised m here)
-      (λ b. inr (key_fits m (after_ages (w.facts m)).agreement (j.roll.each m here) (and_right (is_candidate (after_ages (w.facts m))) _ b))))
+      (λ b. inr (next_is_key m (after_ages (w.facts m)).agreement (j.roll.each m here) (and_right (is_candidate (after_ages (w.facts m))) _ b))))
 
   pub votes_fit_along : (q : ClusterKey) → IsKeyField q → (m : ℕ) → has_node gs m ≡ true → Along n (t.clocks m) (Votes q) (t.facts m) (inbox t m)
   votes_fit_along q key m here =
@@ -262,9 +266,9 @@ module _ (n : ℕ) (ns gs : List ℕ) (g : ℕ) (set : List Member) (w v : World
   gets : (x : ℕ) → contains (others m set) x ≡ true → contains a.stands.missing x ≡ true → Got a.stands.key x (prop (v.facts m))
   gets x other missed =
       let sender : has_node gs x ≡ true = other_here gs g set j.roll m x other in
-      let d : x ≡ m → ⊥ = without_other (ids_of set) m x other in
-      let letter : Occurs (x, message.Propose a.stands.key a.stands.members) (letters_from m r.ticks.posted) =
-      subst (λ (ls : List (ℕ × Message)). Occurs (x, message.Propose a.stands.key a.stands.members) ls) (sym (r.ticks.from m ∙ outbox_ticks n (w.clocks m) (w.facts m) _ (ap (λ (xs : List ℕ). has_node xs m) j.base.ups ∙ j.group.up m here)))
+      let d : x ≡ m → ⊥ = not_gone (ids_of set) m x other in
+      let letter : Among (letters_from m r.ticks.posted) (x, message.Propose a.stands.key a.stands.members) =
+      subst (λ (ls : List (ℕ × Message)). Among ls (x, message.Propose a.stands.key a.stands.members)) (sym (r.ticks.from m ∙ outbox_ticks n (w.clocks m) (w.facts m) _ (ap (λ (xs : List ℕ). has_node xs m) j.base.ups ∙ j.group.up m here)))
       (tick_proposes n (w.clocks m) (w.facts m) (j.base.up m (j.group.up m here)) a.stands.key a.stands.members a.stands.missing a.sends a.reads x (contains_among a.stands.missing x missed)) in
       answered n ns w v r j.base m x (j.group.near m x here sender (λ e. d (sym e))) (j.group.near x m sender here d) a.stands.key a.stands.members
       (subst (λ (o : Option Proposal). Of a.stands.key o) (sym a.is) refl) letter (votes_fit_along n ns gs g set w r.ticks_end j k asks a.stands.key a.key x sender)

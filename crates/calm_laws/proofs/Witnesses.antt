@@ -33,17 +33,18 @@ use Rattle.cluster_rules.specs.Steps.{Step, all_marks, marks_of, round, rounds}
 use Rattle.cluster_rules.specs.World.{World}
 use Rattle.cluster_rules.proofs.MarkLaws.{rounds_follow}
 use Rattle.cluster_laws.specs.Ground.{Ground}
-use Rattle.cluster_laws.proofs.At.{digests, number_same}
+use Rattle.cluster_laws.proofs.At.{differ, digests, number_same}
 use Rattle.cluster_laws.proofs.Settled.{no_loss}
 use Rattle.run_laws.specs.Fronts.{Front, after, after_all, facts_at, world_of}
 use Rattle.run_laws.specs.LineOk.{Goes, LineOk}
 use Rattle.run_laws.specs.Ranges as ranges
 use Rattle.run_laws.specs.Taken.{Taken, first, ground_of}
+use Rattle.run_laws.specs.Tied.{Among}
 use Rattle.run_laws.specs.Worlds.{world_after}
 use Rattle.run_laws.proofs.Grounded.{entered_view}
 use Rattle.run_laws.proofs.Journal.{world_all}
 use Rattle.run_laws.proofs.Tables as tables
-use Rattle.calm_laws.specs.Flows.{Occurs, world_at}
+use Rattle.calm_laws.specs.Flows.{world_at}
 use Rattle.calm_laws.specs.Handing.{AtMostPending}
 use Rattle.calm_laws.specs.Onward.{MayTake}
 use Rattle.calm_laws.proofs.Flow.{among_behind, among_front}
@@ -56,29 +57,28 @@ use Rattle.calm_laws.proofs.Premises.{to_front}
 use Rattle.calm_laws.proofs.Provided.{held_there, ranged_there, rests_there}
 use Rattle.calm_laws.proofs.Shrinking.{AllRunOn, QuietMarks, found_among, line_runs, rounds_quiet}
 use Rattle.calm_laws.proofs.Stretch.{may_at}
-use Rattle.calm_laws.proofs.Took.{differ}
 
 -- ---- more items than places
 
 -- the list without one of its items
-abbrev dropped : (d : List ℕ) (ds : List (List ℕ)) → Occurs d ds → List (List ℕ)
+abbrev dropped : (d : List ℕ) (ds : List (List ℕ)) → Among ds d → List (List ℕ)
 dropped d [] h = []
 dropped d (e ∷ es) (inl s) = es
 dropped d (e ∷ es) (inr h) = e ∷ dropped d es h
 
-one_less : (d : List ℕ) (ds : List (List ℕ)) (h : Occurs d ds) → suc (length (dropped d ds h)) ≡ length ds
+one_less : (d : List ℕ) (ds : List (List ℕ)) (h : Among ds d) → suc (length (dropped d ds h)) ≡ length ds
 one_less d [] h = absurd h
 one_less d (e ∷ es) (inl s) = refl
 one_less d (e ∷ es) (inr h) = ap suc (one_less d es h)
 
-left_in : (d c : List ℕ) (ds : List (List ℕ)) (h : Occurs d ds) → (d ≡ c → ⊥) → Occurs c ds → Occurs c (dropped d ds h)
+left_in : (d c : List ℕ) (ds : List (List ℕ)) (h : Among ds d) → (d ≡ c → ⊥) → Among ds c → Among (dropped d ds h) c
 left_in d c [] h apart i = absurd i
 left_in d c (e ∷ es) (inl s) apart (inl t) = absurd (apart (sym s ∙ t))
 left_in d c (e ∷ es) (inl s) apart (inr i) = i
 left_in d c (e ∷ es) (inr h) apart (inl t) = inl t
 left_in d c (e ∷ es) (inr h) apart (inr i) = inr (left_in d c es h apart i)
 
-below_apart : (d c : List ℕ) (ds : List (List ℕ)) → AllByRecursion (λ (e : List ℕ). slice_cmp nat_cmp d e ≡ Less) ds → Occurs c ds → d ≡ c → ⊥
+below_apart : (d c : List ℕ) (ds : List (List ℕ)) → AllByRecursion (λ (e : List ℕ). slice_cmp nat_cmp d e ≡ Less) ds → Among ds c → d ≡ c → ⊥
 below_apart d c [] h i s = absurd i
 below_apart d c (e ∷ es) h (inl t) s = not_below d (subst (λ (x : List ℕ). slice_cmp nat_cmp d x ≡ Less) (t ∙ sym s) h.0)
   where
@@ -86,7 +86,7 @@ below_apart d c (e ∷ es) h (inl t) s = not_below d (subst (λ (x : List ℕ). 
     not_below d l = differ (ap is_eq (tied_itself nat_list_cmp_total d)) (ap is_eq l)
 below_apart d c (e ∷ es) h (inr i) s = below_apart d c es h.1 i s
 
-fit_in : (ds ws : List (List ℕ)) → ranges.Rises ds → ((d : List ℕ) → Occurs d ds → Occurs d ws) → length ds ≤ length ws
+fit_in : (ds ws : List (List ℕ)) → ranges.Rises ds → ((d : List ℕ) → Among ds d → Among ws d) → length ds ≤ length ws
 fit_in [] ws r h = omega arith
 fit_in (d ∷ ds) ws r h =
     omega (arith, one_less d ws (h d (inl refl)), fit_in ds (dropped d ws (h d (inl refl))) r.1 (λ c i. left_in d c ws (h d (inl refl)) (below_apart d c ds r.0 i) (h c (inr i))))
@@ -121,29 +121,29 @@ counted w (n ∷ ns) = omega (
 )
 
 -- of one of the nodes
-in_digests : (w : World) (ns : List ℕ) (n : ℕ) (d : List ℕ) → has_node ns n ≡ true → Occurs d (digests_of (w.facts n)) → Occurs d (digests_in w ns)
+in_digests : (w : World) (ns : List ℕ) (n : ℕ) (d : List ℕ) → has_node ns n ≡ true → Among (digests_of (w.facts n)) d → Among (digests_in w ns) d
 in_digests w [] n d e h = differ e refl
 in_digests w (x ∷ ns) n d e h = go (x == n) refl e (in_digests w ns n d)
   where
     same : (x == n) ≡ true → x ≡ n
     same i = number_same x n i
 
-    go : (b : Bool) → (x == n) ≡ b → (b || has_node ns n) ≡ true → (has_node ns n ≡ true → Occurs d (digests_of (w.facts n)) → Occurs d (digests_in w ns)) → Occurs d (digests_of (w.facts x) ++ digests_in w ns)
-    go true i z rest = among_front d (digests_of (w.facts x)) (digests_in w ns) (subst (λ (m : ℕ). Occurs d (digests_of (w.facts m))) (sym (same i)) h)
+    go : (b : Bool) → (x == n) ≡ b → (b || has_node ns n) ≡ true → (has_node ns n ≡ true → Among (digests_of (w.facts n)) d → Among (digests_in w ns) d) → Among (digests_of (w.facts x) ++ digests_in w ns) d
+    go true i z rest = among_front d (digests_of (w.facts x)) (digests_in w ns) (subst (λ (m : ℕ). Among (digests_of (w.facts m)) d) (sym (same i)) h)
     go false i z rest = among_behind d (digests_of (w.facts x)) (digests_in w ns) (rest z h)
 
-any_among : (ds : List (List ℕ)) (d : List ℕ) → list_any (λ (e : List ℕ). bytes_eq e d) ds ≡ true → Occurs d ds
+any_among : (ds : List (List ℕ)) (d : List ℕ) → list_any (λ (e : List ℕ). bytes_eq e d) ds ≡ true → Among ds d
 any_among [] d e = differ e refl
 any_among (x ∷ ds) d e = go (bytes_eq x d) refl e (any_among ds d)
   where
-    go : (b : Bool) → bytes_eq x d ≡ b → (b || list_any (λ (e : List ℕ). bytes_eq e d) ds) ≡ true → (list_any (λ (e : List ℕ). bytes_eq e d) ds ≡ true → Occurs d ds) → Occurs d (x ∷ ds)
+    go : (b : Bool) → bytes_eq x d ≡ b → (b || list_any (λ (e : List ℕ). bytes_eq e d) ds) ≡ true → (list_any (λ (e : List ℕ). bytes_eq e d) ds ≡ true → Among ds d) → Among (x ∷ ds) d
     go true i z rest = inl (digests.same x d i)
     go false i z rest = inr (rest z)
 
-held_among : (f : Facts) (d : List ℕ) → is_some (finite.get f.store.content d) ≡ true → Occurs d (digests_of f)
+held_among : (f : Facts) (d : List ℕ) → is_some (finite.get f.store.content d) ≡ true → Among (digests_of f) d
 held_among f d e = among_front d (finite.keys f.store.content) _ (any_among (finite.keys f.store.content) d (sym (tables.tests_same (finite.keys f.store.content) d) ∙ sym (contains_key-keys f.store.content d) ∙ e))
 
-run_among : (ts : List Transaction) (y : Transaction) → Occurs y ts → Occurs y.digest (map (λ (x : Transaction). x.digest) ts)
+run_among : (ts : List Transaction) (y : Transaction) → Among ts y → Among (map (λ (x : Transaction). x.digest) ts) y.digest
 run_among [] y i = absurd i
 run_among (x ∷ ts) y (inl e) = inl (ap (λ (z : Transaction). z.digest) e)
 run_among (x ∷ ts) y (inr i) = inr (run_among ts y i)
@@ -209,13 +209,13 @@ applied_held G ns j w p d e =
     (x.0, p.told.holders x.0 d o.0 x.1, ap (λ (u : World). is_some (finite.get (u.facts x.0).store.content d)) (sym p.world) ∙ ap is_some (sym ((p.tied.nodes x.0).seen.content d) ∙ x.1))
 
 -- who has an open transaction is declared
-runs_declared : {w : World} (may : MayTake w []) (n : ℕ) (y : Transaction) → Occurs y (w.facts n).transactions.running → has_node w.nodes n ≡ true
+runs_declared : {w : World} (may : MayTake w []) (n : ℕ) (y : Transaction) → Among (w.facts n).transactions.running y → has_node w.nodes n ≡ true
 runs_declared {w} may n y i = subst (λ (ns : List ℕ). has_node ns n ≡ true) (sym (nodes_are may)) (go (facts_at (front_of may) n).exchange.view refl)
   where
     same : facts_at (front_of may) n ≡ w.facts n
     same = facts_are may n
 
-    none : (ts : List Transaction) → ts ≡ [] → Occurs y ts → ⊥
+    none : (ts : List Transaction) → ts ≡ [] → Among ts y → ⊥
     none [] e i = i
     none (t ∷ ts) e i = cc
 
@@ -276,7 +276,7 @@ few_pending w k most le may gs m e t i =
     subst (λ (x : ℕ). length t.pending ≤ x) (counted w w.nodes)
     (fit_in t.pending (digests_in w w.nodes) ((ranged_there later m).each_target t (to_front t _ i)).rises
     (λ d j. witnessed may.header may.before (rounds partition_count k w).steps (rounds partition_count (most - k) (world_at partition_count w k)).steps w (world_at partition_count w k) may.leads (world_on may.header may.before w (rounds partition_count k w) (rounds_follow partition_count k w) may.leads) taken
-    (rounds_quiet partition_count k w) (λ (c : List ℕ). Occurs c (digests_in w w.nodes)) runs holds m d (held_there later gs m e t i d j)))
+    (rounds_quiet partition_count k w) (λ (c : List ℕ). Among (digests_in w w.nodes) c) runs holds m d (held_there later gs m e t i d j)))
   where
     start : MayTake w []
     start = may_here w _ may
@@ -290,8 +290,8 @@ few_pending w k most le may gs m e t i =
     taken : Taken may.header (may.before ++ ((rounds partition_count k w).steps ++ (rounds partition_count (most - k) (world_at partition_count w k)).steps))
     taken = subst (λ (ss : List Step). Taken may.header (may.before ++ ss)) (ap (λ (j : ℕ). (rounds partition_count j w).steps) again ∙ rounds_parts partition_count k (most - k) w) may.taken
 
-    runs : AllRunOn (λ (d : List ℕ). Occurs d (digests_in w w.nodes)) w
+    runs : AllRunOn (λ (d : List ℕ). Among (digests_in w w.nodes) d) w
     runs n y i = in_digests w w.nodes n y.digest (runs_declared start n y i) (among_behind y.digest (finite.keys (w.facts n).store.content) _ (run_among (w.facts n).transactions.running y i))
 
-    holds : (n : ℕ) (d : List ℕ) → has_node (declared_nodes may.header) n ≡ true → is_some (finite.get (w.facts n).store.content d) ≡ true → Occurs d (digests_in w w.nodes)
+    holds : (n : ℕ) (d : List ℕ) → has_node (declared_nodes may.header) n ≡ true → is_some (finite.get (w.facts n).store.content d) ≡ true → Among (digests_in w w.nodes) d
     holds n d x j = in_digests w w.nodes n d (subst (λ (ns : List ℕ). has_node ns n ≡ true) (sym (nodes_are may)) x) (held_among (w.facts n) d j)

@@ -21,7 +21,7 @@ use Rattle.node_rules.specs.Resolving.{done_if, writing, resolving_want}
 use Rattle.node_rules.specs.Settling.{line_if}
 use Rattle.node_rules.specs.Standing.{other_replicas}
 use Rattle.node_rules.specs.Transactions.{Transaction, transaction, awaits_answer, awaits_ack, answered, is_last_awaited}
-use Rattle.calm_laws.proofs.Took.{differ}
+use Rattle.cluster_laws.proofs.At.{differ}
 
 -- what holds of each of the lines
 abbrev pub Each : (Line → Type 0) → List Line → Type 0

@@ -9,7 +9,7 @@ use Rattle.node_rules.specs.Notes.{after_ages}
 use Rattle.node_rules.specs.Standing.{knows_all_settled, others}
 use Rattle.journal_readings.specs.Lines.{has_node}
 use Rattle.cluster_rules.specs.World.{World}
-use Rattle.calm_laws.specs.Flows.{Occurs}
+use Rattle.run_laws.specs.Tied.{Among}
 use Rattle.calm_laws.specs.Laws.{is_to_propose}
 
 -- the node has nothing to send at its tick but beats: it proposes nothing, lacks no row, has no open transaction, hands
@@ -20,7 +20,7 @@ pub record Idle (n : ℕ) (f : Facts) : Type 0 where
   pub asks : is_to_propose (after_ages f) ≡ false
   pub rows : filter (lacks f.exchange.rows) (others f) ≡ []
   pub closed : f.transactions.running ≡ []
-  pub targets : (t : Target) → Occurs t f.batches → (t.pending ≡ []) × (t.out ≡ None)
+  pub targets : (t : Target) → Among f.batches t → (t.pending ≡ []) × (t.out ≡ None)
   pub settled : knows_all_settled f n 0 ≡ true
 
 -- what a beat leaves as it is

@@ -1,22 +1,18 @@
 -- The laws of flows and rounds, and of the calm that they come to.
-use Rattle.std.specs.Prelude.{◌≡◌, ◌⊎◌, ℕ, ◌+◌, ◌<◌, ◌≤◌, suc, List, [], ◌∷◌, ◌++◌, None, true, false, length, map}
-use Rattle.std.specs.List.{concat}
+use Rattle.std.specs.Prelude.{◌≡◌, ◌⊎◌, ℕ, ◌+◌, ◌<◌, ◌≤◌, suc, List, ◌++◌, None, true, false, length, map}
 use Rattle.cluster_types.specs.declared.member.Member.{Member}
-use Rattle.cluster_types.specs.Distinct.{AreDistinct}
-use Rattle.cluster_types.specs.NodeLists.{IsNodeList}
 use Rattle.cluster_types.specs.Partitions.{partition_count}
 use Rattle.journal_lines.specs.declared.line.Line.{Line}
 use Rattle.script_lang.specs.declared.script.Script.{Script}
 use Rattle.script_lang.specs.Proper.{IsProper}
 use Rattle.journal_readings.specs.Lines.{has_node}
 use Rattle.node_rules.specs.Standing.{is_done}
-use Rattle.cluster_rules.specs.declared.event.Event.{Event}
 use Rattle.cluster_rules.specs.declared.event.Event.TheVariants as event
 use Rattle.cluster_rules.specs.Begun.{AreBegun}
 use Rattle.cluster_rules.specs.Calm.{is_calm}
 use Rattle.cluster_rules.specs.CalmBound.{ComesInTime, IsBehindFull, IsWithinCalm, calm_limit, is_full_round, open_transactions, records_held}
 use Rattle.cluster_rules.specs.FrontRuns.{FrontRun}
-use Rattle.cluster_rules.specs.Opening.{Header, declared_nodes}
+use Rattle.cluster_rules.specs.Opening.{Header}
 use Rattle.cluster_rules.specs.Runs.{Calms}
 use Rattle.cluster_rules.specs.Steps.{Played, Step, all_lines, flow, play_all, rounds}
 use Rattle.cluster_rules.specs.World.{World}
@@ -108,36 +104,10 @@ BegunAreWithin = (ns : List ℕ) (w : World) (q : ℕ) (x : Played) (b : AreBegu
 
 -- ---- runs
 
--- groups of an event that divides the network have no node twice
-abbrev pub DividesWell : Event → Type 0
-DividesWell (event.Groups groups) = AreDistinct (concat groups)
-DividesWell e = Unit {0}
-
-abbrev pub AllDivideWell : List Step → Type 0
-AllDivideWell [] = Unit {0}
-AllDivideWell (s ∷ ss) = DividesWell s.event × AllDivideWell ss
-
--- a run may go on so after those steps: no more than sixteen nodes are declared, whatever divided the network had no
--- node in two groups, and a number is left for one line more
+-- a run may go on so after those taken steps: a number is left for one line more
 pub record MayComeIn (h : Header) (ss more : List Step) : Type 0 where
-  pub taken : Taken h (ss ++ more)
-  pub few : IsNodeList (declared_nodes h)
+  pub taken : Taken h ss
   pub room : length (all_lines (ss ++ more)) + 1 < line_bound
-  pub divided : AllDivideWell ss
-
--- it is so of the world in which rounds of calm are begun in a run, and of their number
-abbrev pub OfBegun : (World → ℕ → Type 0) → Type 0
-OfBegun P = (h : Header) (ss : List Step) (x : Played) (b : AreBegun partition_count (world_after h ss) x) → MayComeIn h ss x.steps → P (world_after h ss) b.number
-
--- and of that in which a calm begins that is played whole, and of the number of its rounds
-abbrev pub OfCalms : (World → ℕ → Type 0) → Type 0
-OfCalms P = (h : Header) (ss : List Step) (x : Played) (c : Calms partition_count (world_after h ss) x) → MayComeIn h ss x.steps → P (world_after h ss) c.number
-
--- wherever rounds of calm are begun in a front of a proper script's run, it is so of the world there, and of their
--- number
-abbrev pub OfScripts : (World → ℕ → Type 0) → Type 0
-OfScripts P = (s : Script) → IsProper s → (lines : List Line) (r : FrontRun s lines) → length lines + 1 < line_bound
-    → (ss : List Step) (x : Played) → r.taken ≡ ss ++ x.steps → (b : AreBegun partition_count (world_after s.header ss) x) → P (world_after s.header ss) b.number
 
 -- so many rounds are enough: 21, and one for each record that is held and for each transaction that is open
 abbrev pub enough : World → ℕ
@@ -147,13 +117,27 @@ enough w = 21 + (records_held w + open_transactions w)
 abbrev pub NoneIsFull : World → ℕ → Type 0
 NoneIsFull w number = (k : ℕ) → k < number → is_full_round partition_count w k ≡ false
 
--- where none of them does, they are no more than are enough
-abbrev pub AreFew : World → ℕ → Type 0
-AreFew w number = NoneIsFull w number → number ≤ enough w
+-- so many rounds of calm that begin in that world are in time: whatever was lost, they are no more than calm may take, and
+-- where nothing was, no more than are enough
+pub record AreInTime (w : World) (number : ℕ) : Type 0 where
+  pub within : IsWithinCalm partition_count w number
+  pub few : NoneIsFull w number → number ≤ enough w
 
--- whatever was lost, they are no more than calm may take
-abbrev pub AreWithin : World → ℕ → Type 0
-AreWithin w number = IsWithinCalm partition_count w number
+-- rounds of calm that are begun in a run are in time
+abbrev pub BegunAreInTime : Type 0
+BegunAreInTime = (h : Header) (ss : List Step) (x : Played) (b : AreBegun partition_count (world_after h ss) x) → MayComeIn h ss x.steps → AreInTime (world_after h ss) b.number
+
+-- so are those of a calm that is played whole
+abbrev pub WholeAreInTime : Type 0
+WholeAreInTime = (h : Header) (ss : List Step) (x : Played) (c : Calms partition_count (world_after h ss) x) → MayComeIn h ss x.steps → AreInTime (world_after h ss) c.number
+
+-- wherever among these steps rounds of calm are begun, they are in time
+abbrev pub CalmsInTime : Header → List Step → Type 0
+CalmsInTime h taken = (ss others : List Step) (x : Played) (b : AreBegun partition_count (world_after h ss) x) → taken ≡ ss ++ (x.steps ++ others) → AreInTime (world_after h ss) b.number
+
+-- it is so in as much of a proper script's run as a journal has
+abbrev pub ScriptsCalmInTime : Type 0
+ScriptsCalmInTime = (s : Script) → IsProper s → (lines : List Line) (r : FrontRun s lines) → length lines + 1 < line_bound → CalmsInTime s.header r.taken
 
 -- whatever steps a run has taken, the world is calm after enough rounds more of which none loses a message for want of
 -- a place

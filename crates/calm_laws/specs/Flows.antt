@@ -21,6 +21,7 @@ use Rattle.journal_readings.specs.Messages.{Posting}
 use Rattle.cluster_rules.specs.Network.{client, are_apart}
 use Rattle.cluster_rules.specs.Steps.{play, rounds}
 use Rattle.cluster_rules.specs.World.{World, is_up, up_nodes}
+use Rattle.run_laws.specs.Tied.{Among}
 use Rattle.calm_laws.specs.Acts.{Input, Ticks, served, outbox}
 use Rattle.calm_laws.specs.Letters.{letters_from, ins, arriving_at}
 
@@ -93,10 +94,6 @@ pub record Rounded (n : ℕ) (w v : World) : Type 0 where
   pub third : Flowed n second_end third_end
   pub fourth : Flowed n third_end v
 
-abbrev pub Occurs : {A : Type 0} → A → List A → Type 0
-Occurs x [] = ⊥
-Occurs x (y ∷ ys) = (y ≡ x) ⊎ Occurs x ys
-
 -- the beat's entry
 abbrev pub new_heard : ClusterKey → ClusterKey → List ℕ → Role → Heard
 new_heard view promised hears role = record { age = 0; beat = record { view = view; promised = promised; hears = hears; role = role } }
@@ -135,7 +132,7 @@ pub record Near (ns : List ℕ) (w : World) (a m : ℕ) : Type 0 where
   pub receiver : has_node ns m ≡ true
   pub together : are_apart w.network a m ≡ false
   pub node : (m == client) ≡ false
-  pub peer : Occurs m (w.facts a).peers
+  pub peer : Among (w.facts a).peers m
 
 abbrev pub Foreign : List ℕ → World → ℕ → ℕ → Type 0
 Foreign ns w a m = (has_node ns a ≡ false) ⊎ (are_apart w.network a m ≡ true)

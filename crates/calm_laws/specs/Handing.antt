@@ -11,8 +11,9 @@ use Rattle.node_rules.specs.Facts.{Facts}
 use Rattle.node_rules.specs.Keys.{same_key}
 use Rattle.journal_readings.specs.Lines.{has_node}
 use Rattle.cluster_rules.specs.World.{World}
+use Rattle.run_laws.specs.Tied.{Among}
 use Rattle.calm_laws.specs.Acts.{Input, Ticks, acted, as_read, effects}
-use Rattle.calm_laws.specs.Flows.{Occurs, Once, Rounded, inbox}
+use Rattle.calm_laws.specs.Flows.{Once, Rounded, inbox}
 
 -- what is sent at each of the acts is read as it was sent
 abbrev pub Legibly : ℕ → ℕ → Facts → List Input → Type 0
@@ -55,20 +56,20 @@ target_acked t = settled_out t t.out
 -- the targets of a group in the view: one for each other node, and what is out is of the view
 pub record Handing (gs : List ℕ) (k : ClusterKey) (w : World) : Type 0 where
   pub once : (m : ℕ) → has_node gs m ≡ true → Once (map (λ (t : Target). t.node) (w.facts m).batches)
-  pub to : (m : ℕ) → has_node gs m ≡ true → (t : Target) → Occurs t (w.facts m).batches → (has_node gs t.node ≡ true) × (t.node ≡ m → ⊥)
-  pub key : (m : ℕ) → has_node gs m ≡ true → (t : Target) (b : Batch) → Occurs t (w.facts m).batches → t.out ≡ Some b → b.key ≡ k
+  pub to : (m : ℕ) → has_node gs m ≡ true → (t : Target) → Among (w.facts m).batches t → (has_node gs t.node ≡ true) × (t.node ≡ m → ⊥)
+  pub key : (m : ℕ) → has_node gs m ≡ true → (t : Target) (b : Batch) → Among (w.facts m).batches t → t.out ≡ Some b → b.key ≡ k
 
 -- nothing is out to anybody
 abbrev pub NothingOut : List ℕ → World → Type 0
-NothingOut gs w = (m : ℕ) → has_node gs m ≡ true → (t : Target) → Occurs t (w.facts m).batches → t.out ≡ None
+NothingOut gs w = (m : ℕ) → has_node gs m ≡ true → (t : Target) → Among (w.facts m).batches t → t.out ≡ None
 
 -- no target has more digests pending
 abbrev pub AtMostPending : ℕ → List ℕ → World → Type 0
-AtMostPending p gs w = (m : ℕ) → has_node gs m ≡ true → (t : Target) → Occurs t (w.facts m).batches → length t.pending ≤ p
+AtMostPending p gs w = (m : ℕ) → has_node gs m ≡ true → (t : Target) → Among (w.facts m).batches t → length t.pending ≤ p
 
 -- the node holds a record of each digest that is pending
 abbrev pub PendingHeld : List ℕ → World → Type 0
-PendingHeld gs w = (m : ℕ) → has_node gs m ≡ true → (t : Target) → Occurs t (w.facts m).batches → (d : List ℕ) → Occurs d t.pending → is_some (finite.get (w.facts m).store.content d) ≡ true
+PendingHeld gs w = (m : ℕ) → has_node gs m ≡ true → (t : Target) → Among (w.facts m).batches t → (d : List ℕ) → Among t.pending d → is_some (finite.get (w.facts m).store.content d) ≡ true
 
 -- a round in which what the group sends is read as it was sent
 pub record LegibleRound (n : ℕ) (gs : List ℕ) (w v : World) : Type 0 where

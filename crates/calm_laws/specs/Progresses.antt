@@ -8,8 +8,9 @@ use Rattle.node_rules.specs.Bits.{Bits}
 use Rattle.node_rules.specs.Tables.{at}
 use Rattle.journal_readings.specs.Lines.{has_node}
 use Rattle.cluster_rules.specs.World.{World}
+use Rattle.run_laws.specs.Tied.{Among}
 use Rattle.calm_laws.specs.Acts.{Gets}
-use Rattle.calm_laws.specs.Flows.{Occurs, inbox}
+use Rattle.calm_laws.specs.Flows.{inbox}
 
 -- each bit that the first have the second have
 pub record BitsGrow (b c : Bits) : Type 0 where
@@ -28,11 +29,11 @@ FullProgress n _ = Unit {0}
 
 -- nothing is pending to any target
 abbrev pub Emptied : Targets → Type 0
-Emptied ts = (t : Target) → Occurs t ts → t.pending ≡ []
+Emptied ts = (t : Target) → Among ts t → t.pending ≡ []
 
 -- what tells of progress and comes to the group tells that each partition is done
 abbrev pub FullInbox : ℕ → List ℕ → World → Type 0
-FullInbox n gs w = (m : ℕ) → has_node gs m ≡ true → (from : ℕ) (x : Message) → Occurs (Gets from x) (inbox w m) → FullProgress n x
+FullInbox n gs w = (m : ℕ) → has_node gs m ≡ true → (from : ℕ) (x : Message) → Among (inbox w m) (Gets from x) → FullProgress n x
 
 -- the node knows of that one that each partition is done
 pub record KnowsDone (n : ℕ) (x : ℕ) (b : Bits) : Type 0 where

@@ -5,7 +5,8 @@ use Rattle.cluster_types.specs.Partitions.{partition_count}
 use Rattle.cluster_rules.specs.Calm.{as_members, up_in}
 use Rattle.journal_readings.specs.Lines.{has_node}
 use Rattle.cluster_rules.specs.World.{World, is_up}
-use Rattle.calm_laws.specs.Flows.{Occurs, Plain, world_at}
+use Rattle.run_laws.specs.Tied.{Among}
+use Rattle.calm_laws.specs.Flows.{Plain, world_at}
 use Rattle.calm_laws.specs.Footing.{Footing}
 use Rattle.calm_laws.specs.Ground.{Agreed, Basis, Provisions}
 use Rattle.calm_laws.specs.Handing.{AtMostPending}
@@ -23,13 +24,13 @@ pub record Party (ns group : List ℕ) (w : World) (most q : ℕ) : Type 0 where
 -- the node is up in a group of the network
 pub record Home (w : World) (a : ℕ) : Type 0 where
   pub group : List ℕ
-  pub among : Occurs group w.network.groups
+  pub among : Among w.network.groups group
   pub here : has_node (up_in w group) a ≡ true
 
 -- each group of the network has no up node or is such a party, if the timetable is played whole; each up node is in one
 -- of the groups, and nobody else is up
 pub record Schedule (ns : List ℕ) (w : World) (most q : ℕ) : Type 0 where
   pub plain : Plain partition_count ns w most
-  pub parties : 21 + q ≤ most → (group : List ℕ) → Occurs group w.network.groups → (up_in w group ≡ []) ⊎ Party ns group w most q
+  pub parties : 21 + q ≤ most → (group : List ℕ) → Among w.network.groups group → (up_in w group ≡ []) ⊎ Party ns group w most q
   pub homes : (a : ℕ) → has_node ns a ≡ true → Home w a
   pub others : (a : ℕ) → has_node ns a ≡ false → is_up w a ≡ false

@@ -13,7 +13,7 @@ use Rattle.node_rules.specs.Tables.{contains}
 use Rattle.node_rules.specs.Transactions.{Transaction, transaction}
 use Rattle.journal_readings.specs.Lines.{has_node}
 use Rattle.cluster_rules.specs.World.{World}
-use Rattle.calm_laws.specs.Flows.{Occurs}
+use Rattle.run_laws.specs.Tied.{Among}
 
 -- the open transaction of that number
 abbrev pub open_at : Facts → ℕ → Option Transaction
@@ -57,7 +57,7 @@ pub record Resolved (k : ClusterKey) (number : ℕ) (f : Facts) (sent : List (�
   pub members : (x : ℕ) → contains now.awaiting x ≡ true → (contains (ids_of (members_of f.exchange.view)) x ≡ true) × (x ≡ f.me → ⊥)
   pub write : Message
   pub writes : WritesFor k number write
-  pub goes : (x : ℕ) → contains now.awaiting x ≡ true → Occurs (x, write) sent
+  pub goes : (x : ℕ) → contains now.awaiting x ≡ true → Among sent (x, write)
 
 -- it is closed, awaits one less, or is resolved
 abbrev pub MovesOn : ClusterKey → ℕ → Facts → ℕ → List (ℕ × Message) → Option Transaction → Option Transaction → Type 0
@@ -82,7 +82,7 @@ pub record In (k : ClusterKey) (set : List Member) (m : ℕ) (f : Facts) : Type 
 
 -- each open transaction of the group awaits somebody, and other nodes of the group alone
 abbrev pub Waiting : List ℕ → World → Type 0
-Waiting gs w = (m : ℕ) → has_node gs m ≡ true → (t : Transaction) → Occurs t (w.facts m).transactions.running → (is_nil t.awaiting ≡ false) × ((x : ℕ) → contains t.awaiting x ≡ true → (has_node gs x ≡ true) × (x ≡ m → ⊥))
+Waiting gs w = (m : ℕ) → has_node gs m ≡ true → (t : Transaction) → Among (w.facts m).transactions.running t → (is_nil t.awaiting ≡ false) × ((x : ℕ) → contains t.awaiting x ≡ true → (has_node gs x ≡ true) × (x ≡ m → ⊥))
 
 -- no transaction is open
 abbrev pub NoneOpen : List ℕ → World → Type 0

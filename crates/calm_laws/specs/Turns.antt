@@ -18,8 +18,9 @@ use Rattle.journal_readings.specs.Lines.{has_node}
 use Rattle.cluster_rules.specs.World.{World}
 use Rattle.key_laws.specs.Order.{AtMost}
 use Rattle.key_laws.specs.Sound.{Rises}
+use Rattle.run_laws.specs.Tied.{Among}
 use Rattle.calm_laws.specs.Acts.{Gets}
-use Rattle.calm_laws.specs.Flows.{Occurs, Base, Fresh, HeardAs, inbox, look}
+use Rattle.calm_laws.specs.Flows.{Base, Fresh, HeardAs, inbox, look}
 use Rattle.calm_laws.specs.Group.{Group, kind}
 use Rattle.calm_laws.specs.Stances.{Stance}
 
@@ -80,7 +81,7 @@ NoneProposes gs w = (m : ℕ) → has_node gs m ≡ true → (w.facts m).agreeme
 
 -- nothing of agreement is on its way
 abbrev pub Cleared : List ℕ → World → Type 0
-Cleared gs w = (m : ℕ) → has_node gs m ≡ true → (from : ℕ) (x : Message) → Occurs (Gets from x) (inbox w m) → is_agreeing (kind x) ≡ false
+Cleared gs w = (m : ℕ) → has_node gs m ≡ true → (from : ℕ) (x : Message) → Among (inbox w m) (Gets from x) → is_agreeing (kind x) ≡ false
 
 -- no key that was entered is above the one that was promised
 abbrev pub Ordered : List ℕ → World → Type 0

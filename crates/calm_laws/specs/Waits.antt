@@ -4,7 +4,7 @@ use Rattle.node_rules.specs.Agreement.{Proposal}
 use Rattle.node_rules.specs.Copies.{is_nil}
 use Rattle.node_rules.specs.Facts.{Facts}
 use Rattle.node_rules.specs.Transactions.{Transaction}
-use Rattle.calm_laws.specs.Flows.{Occurs}
+use Rattle.run_laws.specs.Tied.{Among}
 
 -- some other member hasn't accepted the proposal, if there is one
 abbrev pub LacksSome : Option Proposal → Type 0
@@ -13,7 +13,7 @@ LacksSome (Some p) = is_nil p.missing ≡ false
 
 -- each of the open transactions awaits somebody
 abbrev pub AwaitSome : List Transaction → Type 0
-AwaitSome ts = (t : Transaction) → Occurs t ts → is_nil t.awaiting ≡ false
+AwaitSome ts = (t : Transaction) → Among ts t → is_nil t.awaiting ≡ false
 
 -- a proposal lacks some member's answer, and an open transaction awaits somebody
 pub record Waits (f : Facts) : Type 0 where

@@ -4,7 +4,7 @@ ghost use Rattle.calm_laws.specs.Claims.{FlowsGo, TicksGo, NearAreHeard, OthersA
 ghost use Rattle.calm_laws.specs.Claims.{GroupsAgree, OfAgreed, ExchangeEnds, TransactionsEnd};
 ghost use Rattle.calm_laws.specs.Claims.{BatchesArrive, PendingEnds, AllAreDone};
 ghost use Rattle.calm_laws.specs.Claims.{GroupsSettle, SchedulesCalm, FewAreBegun, BegunAreWithin};
-ghost use Rattle.calm_laws.specs.Claims.{CalmComes, OfBegun, OfCalms, OfScripts, AreFew, AreWithin};
+ghost use Rattle.calm_laws.specs.Claims.{CalmComes, BegunAreInTime, WholeAreInTime, ScriptsCalmInTime};
 
 /// After a flow in which no message lacks a place each node has made what it makes of what came to
 /// it, in the order of the flow; and what it sent of that is what comes in the next flow.
@@ -61,17 +61,13 @@ pub fn a_calm_schedule_ends()
 
 /// Calm is reached: whatever steps a run has taken, the world is calm after 21 rounds more, one
 /// for each record that is held in any store and one for each transaction that is open, if none
-/// of them loses a message for want of a place (`comes`). So where rounds of calm are begun, each
-/// where the world isn't calm, they are no more than that (`few`); and whatever was lost, no more
-/// than the limit are begun after the last of them in which a message lacked a place (`within`).
-/// The same holds of a calm that is played whole, and wherever one is begun in a proper script's
-/// run.
+/// of them loses a message for want of a place (`comes`). So rounds of calm that are begun, each
+/// where the world isn't calm, are no more than that (`begun`); and whatever was lost, no more
+/// than the limit are begun after the last of them in which a message lacked a place. The same
+/// holds of a calm that is played whole, and wherever one is begun in a proper script's run.
 pub fn calm_is_reached()
     ensures comes { CalmComes }
-    ensures few { OfBegun AreFew }
-    ensures within { OfBegun AreWithin }
-    ensures few_whole { OfCalms AreFew }
-    ensures whole { OfCalms AreWithin }
-    ensures few_of_scripts { OfScripts AreFew }
-    ensures of_scripts { OfScripts AreWithin }
+    ensures begun { BegunAreInTime }
+    ensures whole { WholeAreInTime }
+    ensures scripts { ScriptsCalmInTime }
 {}

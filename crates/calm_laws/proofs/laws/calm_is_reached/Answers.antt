@@ -1,24 +1,15 @@
-use Rattle.calm_laws.proofs.Runs.{calm_within, comes, few_begun, few_calm, within_calm}
-use Rattle.calm_laws.proofs.ScriptRuns.{few_in_scripts, within_in_scripts}
+use Rattle.calm_laws.proofs.Runs.{begun_in_time, comes, whole_in_time}
+use Rattle.calm_laws.proofs.ScriptRuns.{scripts_calm_in_time}
 use Rattle.calm_laws.proofs.laws.calm_is_reached.Goals as goal
 
 pub returns-clause-comes : goal.returns-clause-comes
 returns-clause-comes c = comes
 
-pub returns-clause-few : goal.returns-clause-few
-returns-clause-few c = few_begun
-
-pub returns-clause-within : goal.returns-clause-within
-returns-clause-within c = within_calm
-
-pub returns-clause-few_whole : goal.returns-clause-few_whole
-returns-clause-few_whole c = few_calm
+pub returns-clause-begun : goal.returns-clause-begun
+returns-clause-begun c = begun_in_time
 
 pub returns-clause-whole : goal.returns-clause-whole
-returns-clause-whole c = calm_within
+returns-clause-whole c = whole_in_time
 
-pub returns-clause-few_of_scripts : goal.returns-clause-few_of_scripts
-returns-clause-few_of_scripts c = few_in_scripts
-
-pub returns-clause-of_scripts : goal.returns-clause-of_scripts
-returns-clause-of_scripts c = within_in_scripts
+pub returns-clause-scripts : goal.returns-clause-scripts
+returns-clause-scripts c = scripts_calm_in_time
