@@ -4,3 +4,4 @@ pub mod RoundLaws
 pub mod RoundLines
 pub mod CommandLaws
 pub mod MoreLines
+pub mod InTime

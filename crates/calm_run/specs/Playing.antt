@@ -7,6 +7,7 @@ use Rattle.cluster_rules.specs.Begun.{IsBegun}
 use Rattle.cluster_rules.specs.FrontRuns.{IsFrontOf}
 use Rattle.cluster_rules.specs.Runs.{Plays, ComesToCalm, calming}
 use Rattle.cluster_rules.specs.Steps.{Step, Played}
+use Rattle.calm_laws.specs.Claims.{AreInTime}
 use Rattle.world.specs.Steps.{Run, standing, written}
 
 -- the run with more steps
@@ -23,6 +24,12 @@ pub record PlaysOn (old new : Run) (c : Command) : Type 0 where
 pub record ComesToRest (old new : Run) (rounds : ℕ) : Type 0 where
   pub least : ComesToCalm partition_count (standing old) rounds
   pub steps : new ≡ followed old (calming partition_count rounds (standing old)).steps
+
+-- calm was played whole, and its rounds are in time
+pub record RestsInTime (old new : Run) : Type 0 where
+  pub rounds : ℕ
+  pub rest : ComesToRest old new rounds
+  pub in_time : AreInTime (standing old) rounds
 
 -- the command was begun; the lines of the step that comes next don't fit behind those of the steps that were taken
 pub record StopsIn (old new : Run) (c : Command) : Type 0 where

@@ -4,7 +4,8 @@ ghost use Rattle.script_lang.specs.declared.script.Command.TheVariants as comman
 ghost use Rattle.cluster_rules.specs.Allowed.{is_playable};
 ghost use Rattle.cluster_rules.specs.Calm.{is_calm};
 ghost use Rattle.cluster_rules.specs.Opening.{declared_nodes};
-ghost use Rattle.calm_run.specs.Playing.{PlaysOn, ComesToRest, StopsIn, StandsIn, WritesMore};
+ghost use Rattle.calm_laws.specs.Claims.{AreInTime};
+ghost use Rattle.calm_run.specs.Playing.{PlaysOn, ComesToRest, RestsInTime, StopsIn, StandsIn, WritesMore};
 ghost use Rattle.world.specs.Claims.{HasClaims};
 ghost use Rattle.world.specs.Steps.{standing, written};
 
@@ -22,6 +23,7 @@ const FLOWS: usize = 4;
 pub fn play(alloc: Global, world: &mut World, command: &Command) -> Result<(), StepFault>
     requires { IsTrue (is_playable (declared_nodes world.old.header) command.now) }
     ensures played { OnOk result (PlaysOn world.old world.new command.now) }
+    ensures rests { command.now ≡ command_of.Calm → OnOk result (RestsInTime world.old world.new) }
     ensures too_long { IsErrOf result StepFault.RunTooLong → StopsIn world.old world.new command.now }
     ensures err { OnErr result (StandsIn world.old world.new command.now) }
     ensures claims { HasClaims (written world.new) }
@@ -53,9 +55,12 @@ fn play_command(alloc: Global, world: &mut World, command: &Command) -> Result<(
 }
 
 /// Does rounds until the world is calm, and then the event that tells their number, which it
-/// answers. After a fault the events before it stand.
+/// answers. They are at most 21, the records held and the transactions open as it begins, where none
+/// of them loses a message for want of a place; otherwise at most 256 and these, counted behind the
+/// last that does. After a fault the events before it stand.
 pub fn calm(alloc: Global, world: &mut World) -> Result<u64, StepFault>
     ensures calm { IfOk result (ComesToRest world.old world.new) }
+    ensures in_time { IfOk result (AreInTime (standing world.old)) }
     ensures too_long { IsErrOf result StepFault.RunTooLong → StopsIn world.old world.new command_of.Calm }
     ensures err { OnErr result (StandsIn world.old world.new command_of.Calm) }
     ensures claims { HasClaims (written world.new) }

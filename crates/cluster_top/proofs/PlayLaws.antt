@@ -23,10 +23,11 @@ use Rattle.cluster_rules.specs.Steps.{Played, Step, all_marks, and_then, marks_o
 use Rattle.cluster_rules.specs.World.{World, opened}
 use Rattle.cluster_rules.proofs.MarkLaws.{after_all-append}
 use Rattle.cluster_rules.proofs.RunLaws.{commands_follow}
+use Rattle.calm_laws.proofs.ScriptRuns.{scripts_calm_in_time}
 use Rattle.world.specs.Claims.{HasClaims}
 use Rattle.world.specs.Steps.{Run, begun, standing, written}
 use Rattle.calm_run.specs.Playing.{PlaysOn, StandsIn, StopsIn, followed}
-use Rattle.cluster_top.specs.Outcome.{IsCut}
+use Rattle.cluster_top.specs.Outcome.{CalmsAreInTime, IsCut}
 use Rattle.cluster_top.specs.Playing.{ArePlayable, PlaysAllOn, StandsAmong, StopsAmong}
 use Rattle.cluster_top.proofs.EmptyClaims.{no_claims_fail}
 use Rattle.run_laws.proofs.Named.{all_playable, same_nodes}
@@ -182,11 +183,17 @@ cut_of s first last commands lines is same p w =
 
 -- ---- no line at all
 
-pub cut_at_once : (s : Script) (j : List Line) → j ≡ [] → ¬ IsWithin (header_lines s.header) → IsCut s j
-cut_at_once s j none passes = inl (record { lines = none; passes = passes })
-
 pub nothing_within : (j : List Line) → j ≡ [] → IsWithin j
 nothing_within j none = subst IsWithin (sym none) (record { lines_fit = omega arith; text_fits = omega arith })
 
 pub nothing_claimed : (j : List Line) → j ≡ [] → HasClaims j
 nothing_claimed j none = subst HasClaims (sym none) no_claims_fail
+
+-- ---- calm
+
+-- a journal within its limits has fewer lines than a number in a message can count
+pub calms_within : (j : List Line) → IsWithin j → CalmsAreInTime j
+calms_within j within s proper r = scripts_calm_in_time s proper j r (omega (arith, within.lines_fit))
+
+pub nothing_calms : (j : List Line) → j ≡ [] → CalmsAreInTime j
+nothing_calms j none = calms_within j (nothing_within j none)

@@ -7,8 +7,10 @@ use Rattle.script_lang.specs.Proper.{IsProper}
 use Rattle.journal_lines.specs.declared.line.Line.{Line}
 use Rattle.journal_text.specs.Journals.{IsWithin}
 use Rattle.cluster_rules.specs.Begun.{BegunRun}
+use Rattle.cluster_rules.specs.FrontRuns.{FrontRun}
 use Rattle.cluster_rules.specs.Opening.{header_lines}
 use Rattle.cluster_rules.specs.Runs.{Run}
+use Rattle.calm_laws.specs.Claims.{CalmsInTime}
 use Rattle.cluster_top.specs.declared.status.Status.{Status}
 use Rattle.cluster_top.specs.declared.status.Status.TheVariants as status
 use Rattle.cluster_top.specs.declared.words.Words.{Words}
@@ -93,6 +95,10 @@ Ended words status.ReadFault journal had left old new = Unplayed journal old new
 Ended words status.WriteFault journal had left old new = Replayed words had left journal × WroteFront old new (transcript words journal)
 Ended words status.ScriptTooLong journal had left old new = Unplayed journal old new × IfSome had (λ bytes. Overlong bytes left) × (words.generate ≡ None)
 Ended words status.RunTooLong journal had left old new = (new ≡ old) × Outgrown words had left journal
+
+-- wherever the run of a proper script that has this journal begins rounds of calm, they are in time
+abbrev pub CalmsAreInTime : List Line → Type 0
+CalmsAreInTime journal = (script : Script) → IsProper script → (r : FrontRun script journal) → CalmsInTime script.header r.taken
 
 -- ---- on the way
 

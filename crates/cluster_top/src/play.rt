@@ -4,7 +4,7 @@ ghost use Rattle.journal_text.specs.Journals.{IsWithin};
 ghost use Rattle.script_lang.specs.Proper.{IsProper};
 ghost use Rattle.cluster_rules.specs.Runs.{Run};
 ghost use Rattle.world.specs.Claims.{HasClaims};
-ghost use Rattle.cluster_top.specs.Outcome.{IsCut};
+ghost use Rattle.cluster_top.specs.Outcome.{CalmsAreInTime, IsCut};
 ghost use Rattle.cluster_top.specs.Playing.{ArePlayable, PlaysAllOn, StandsAmong, StopsAmong};
 
 use journal_text::Journal;
@@ -23,6 +23,7 @@ pub fn play_script(alloc: Global, script: &Script, journal: &mut Journal) -> Res
     ensures refused { IsErrOf result StepFault.NoMemory → journal.new ≡ journal.old }
     ensures within { IsWithin journal.new.lines }
     ensures claims { HasClaims journal.new.lines }
+    ensures calms { CalmsAreInTime journal.new.lines }
 {
     let mut world = World::new(alloc, &script.header)?;
     match play_all(alloc, &mut world, script.commands.as_slice()) {

@@ -6,7 +6,7 @@ ghost use Rattle.journal_readings.specs.Claims.{NoLoss, ReadJoin, SettledJoin, E
 ghost use Rattle.script_lang.specs.Grammar.{script_of};
 ghost use Rattle.script_lang.specs.Proper.{IsProper};
 ghost use Rattle.world.specs.Claims.{HasClaims};
-ghost use Rattle.cluster_top.specs.Outcome.{Ended, HadScript, IsDecided, IsRefusal, IsWritten};
+ghost use Rattle.cluster_top.specs.Outcome.{CalmsAreInTime, Ended, HadScript, IsDecided, IsRefusal, IsWritten};
 ghost use Rattle.cluster_top.specs.Transcripts as transcripts;
 ghost use Rattle.cluster_top.specs.Words.{AreBad, Asks};
 
@@ -55,6 +55,7 @@ pub fn run<S: Source, K: Sink>(
     ensures equal_classes { EqualClasses result.journal.lines }
     ensures keys_rise { KeysRise result.journal.lines }
     ensures calm_end { CalmEnd result.journal.lines }
+    ensures calms { CalmsAreInTime result.journal.lines }
 
     // The cause of each status. Bad words are refused before anything is pulled or written, also for want of memory.
     ensures bad_words { result.status ≡ Status.BadWords → AreBad (map string_bytes words.now) }
@@ -81,6 +82,7 @@ fn unplayed(alloc: Global, status: Status) -> Outcome
     ensures status { result.status ≡ status }
     ensures empty { result.journal.lines ≡ [] }
     ensures claims { HasClaims result.journal.lines }
+    ensures calms { CalmsAreInTime result.journal.lines }
 {
     Outcome {
         status,
@@ -92,6 +94,7 @@ fn unplayed(alloc: Global, status: Status) -> Outcome
 fn replay<S: Source, K: Sink>(alloc: Global, words: Words, source: &mut S, out: &mut K) -> Outcome
     ensures ended { Ended words result.status result.journal.lines (S.left source.old) (S.left source.new) (K.taken out.old) (K.taken out.new) }
     ensures claims { HasClaims result.journal.lines }
+    ensures calms { CalmsAreInTime result.journal.lines }
     ensures read_fault { result.status ≡ Status.ReadFault → Rose (S.faults source.old) (S.faults source.new) }
     ensures write_fault { result.status ≡ Status.WriteFault → Rose (K.faults out.old) (K.faults out.new) }
     ensures unread { IsSome words.generate → source.new ≡ source.old }
@@ -112,6 +115,7 @@ fn replay_source<S: Source, K: Sink>(
     requires { words.generate ≡ None }
     ensures ended { Ended words result.status result.journal.lines (S.left source.old) (S.left source.new) (K.taken out.old) (K.taken out.new) }
     ensures claims { HasClaims result.journal.lines }
+    ensures calms { CalmsAreInTime result.journal.lines }
     ensures read_fault { result.status ≡ Status.ReadFault → Rose (S.faults source.old) (S.faults source.new) }
     ensures write_fault { result.status ≡ Status.WriteFault → Rose (K.faults out.old) (K.faults out.new) }
 {
@@ -128,6 +132,7 @@ fn replay_generated<K: Sink>(alloc: Global, words: Words, number: u64, out: &mut
     requires { words.generate ≡ Some number }
     ensures ended { (had : Option (List ℕ)) → Ended words result.status result.journal.lines had had (K.taken out.old) (K.taken out.new) }
     ensures claims { HasClaims result.journal.lines }
+    ensures calms { CalmsAreInTime result.journal.lines }
     ensures read_fault { result.status ≢ Status.ReadFault }
     ensures write_fault { result.status ≡ Status.WriteFault → Rose (K.faults out.old) (K.faults out.new) }
 {
@@ -142,6 +147,7 @@ fn replay_bytes<K: Sink>(alloc: Global, words: Words, bytes: &[u8], out: &mut K)
     requires { length bytes.now < 2 ^ 60 }
     ensures ended { (had left : Option (List ℕ)) → HadScript words.generate had left bytes.now → Ended words result.status result.journal.lines had left (K.taken out.old) (K.taken out.new) }
     ensures claims { HasClaims result.journal.lines }
+    ensures calms { CalmsAreInTime result.journal.lines }
     ensures read_fault { result.status ≢ Status.ReadFault }
     ensures write_fault { result.status ≡ Status.WriteFault → Rose (K.faults out.old) (K.faults out.new) }
 {
@@ -157,6 +163,7 @@ fn replay_script<K: Sink>(alloc: Global, words: Words, script: &Script, out: &mu
     requires { IsProper script.now }
     ensures ended { (had left : Option (List ℕ)) (bytes : List ℕ) → HadScript words.generate had left bytes → script_of bytes ≡ Ok script.now → Ended words result.status result.journal.lines had left (K.taken out.old) (K.taken out.new) }
     ensures claims { HasClaims result.journal.lines }
+    ensures calms { CalmsAreInTime result.journal.lines }
     ensures read_fault { result.status ≢ Status.ReadFault }
     ensures write_fault { result.status ≡ Status.WriteFault → Rose (K.faults out.old) (K.faults out.new) }
 {
@@ -173,11 +180,13 @@ fn replay_script<K: Sink>(alloc: Global, words: Words, script: &Script, out: &mu
 
 /// Writes what the words ask for of the journal.
 fn transcribe<K: Sink>(alloc: Global, words: Words, journal: Journal, out: &mut K) -> Outcome
-    requires { HasClaims journal.lines }
+    requires claims { HasClaims journal.lines }
+    requires calms { CalmsAreInTime journal.lines }
     ensures written { IsWritten result.status (K.taken out.old) (K.taken out.new) (transcripts.transcript words journal.lines) }
     ensures kept { result.status ≢ Status.NoMemory → result.journal.lines ≡ journal.lines }
     ensures empty { result.status ≡ Status.NoMemory → result.journal.lines ≡ [] }
     ensures claims { HasClaims result.journal.lines }
+    ensures calms { CalmsAreInTime result.journal.lines }
     ensures write_fault { result.status ≡ Status.WriteFault → Rose (K.faults out.old) (K.faults out.new) }
 {
     match write_transcript(alloc, words, &journal, out) {
