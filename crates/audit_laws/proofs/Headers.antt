@@ -4,6 +4,7 @@ use Rattle.std.proofs.Common.{◌≡◌, ℕ, zero, suc, Bool, true, false, not,
 use Rattle.std.specs.Prelude.{filter_map, take}
 use Rattle.std.specs.List.{list_any, list_all}
 use Rattle.std.proofs.lemmas.List.Elements.{filter_map-append}
+use Rattle.std.proofs.lemmas.Bool.{and_from, not-true, or_cases}
 use Rattle.conflict_order.specs.declared.policy.Policy.{Policy}
 use Rattle.cluster_types.specs.declared.cluster_key.ClusterKey.{ClusterKey}
 use Rattle.journal_lines.specs.declared.line.Line.{Line}
@@ -16,7 +17,8 @@ use Rattle.journal_readings.specs.Views.{master}
 use Rattle.journal_readings.specs.Shape.{is_header, follows_header}
 use Rattle.journal_readings.proofs.StepLaws.{fold-more}
 use Rattle.journal_readings.proofs.Unwritten.{writes, IsUnwritten}
-use Rattle.audit_laws.proofs.Tests.{and_left, and_right, and_both, or_cases, not_true, differ}
+use Rattle.journal_readings.proofs.Fronts.{and_left, and_right}
+use Rattle.audit_laws.proofs.Tests.{differ}
 
 -- ---- behind the header
 
@@ -60,17 +62,17 @@ behind_header j l e = go (is_header l) refl (or_cases (not (is_header l)) (list_
   where
     go : (b : Bool) → is_header l ≡ b → (not (is_header l) ≡ true) ⊎ (list_all is_header j ≡ true) → (is_header l ≡ false) ⊎ (IsBare j × (is_header l ≡ true))
     go false i h = inl i
-    go true i (inl h) = inl (not_true (is_header l) h)
+    go true i (inl h) = inl (not-true (is_header l) h)
     go true i (inr h) = inr (h, i)
 
 pub bare-more : (j : List Line) (l : Line) → IsBare j → is_header l ≡ true → IsBare (j ++ l ∷ [])
-bare-more [] l h e = and_both (is_header l) true e refl
-bare-more (x ∷ j) l h e = and_both (is_header x) _ (and_left (is_header x) _ h) (bare-more j l (and_right (is_header x) _ h) e)
+bare-more [] l h e = and_from (is_header l) true e refl
+bare-more (x ∷ j) l h e = and_from (is_header x) _ (and_left (is_header x) _ h) (bare-more j l (and_right (is_header x) _ h) e)
 
 pub bare_front : (i : ℕ) (j : List Line) → IsBare j → IsBare (take i j)
 bare_front zero j h = refl
 bare_front (suc i) [] h = refl
-bare_front (suc i) (x ∷ j) h = and_both (is_header x) _ (and_left (is_header x) _ h) (bare_front i j (and_right (is_header x) _ h))
+bare_front (suc i) (x ∷ j) h = and_from (is_header x) _ (and_left (is_header x) _ h) (bare_front i j (and_right (is_header x) _ h))
 
 -- no line of it passes a test that no line of a header passes
 pub bare-none : (test : Line → Bool) → ((x : Line) → is_header x ≡ true → test x ≡ false) → (j : List Line) → IsBare j → list_any test j ≡ false

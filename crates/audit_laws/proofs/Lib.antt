@@ -3,7 +3,8 @@ pub mod Places
 pub mod Headers
 pub mod ShapeSteps
 pub mod ReadSteps
-pub mod SettledSteps
 pub mod LossSteps
 pub mod MapSteps
+pub mod Quiet
+pub mod SettledSteps
 pub mod Steps

@@ -1,6 +1,7 @@
 -- No version is lost, as one line more comes.
 use Rattle.std.proofs.Common.{◌≡◌, ℕ, ◌==◌, Bool, true, false, not, ◌&&◌, ◌||◌, cond, List, [], ◌∷◌, ◌++◌, Option, Some, None, ◌⊎◌, inl, inr, refl, sym, ap, ap₂, subst, subst₂, ◌∙◌}
 use Rattle.std.specs.Prelude.{take, map, filter, IsTrue}
+use Rattle.std.proofs.lemmas.Bool.{cases_Bool, or_parts}
 use Rattle.conflict_order.specs.declared.policy.Policy.{Policy}
 use Rattle.conflict_order.specs.declared.version.Version.{Version}
 use Rattle.conflict_order.specs.Join.{join, AtMost}
@@ -16,8 +17,9 @@ use Rattle.journal_readings.specs.Shape.{Shape, is_header, named_nodes, names_de
 use Rattle.journal_readings.proofs.CopyLaws.{same_digest_is, same_digest_itself}
 use Rattle.journal_readings.proofs.StepLaws.{content-more, applied-more}
 use Rattle.journal_readings.proofs.Unwritten.{content-none, applied-none, join_all-none}
+use Rattle.journal_readings.proofs.Fronts.{and_left}
 use Rattle.audit_laws.specs.Fits.{LosesNothing}
-use Rattle.audit_laws.proofs.Tests.{and_left, neither_left, neither_right, differ, number_same, number_here, true_or_false}
+use Rattle.audit_laws.proofs.Tests.{differ, number_same, number_here}
 use Rattle.audit_laws.proofs.Places.{front_cases, front_of_more, whole, last_line}
 use Rattle.audit_laws.proofs.Headers.{policy_stays, nodes_stay, IsBare, bare-more, bare_front, bare-unwritten}
 use Rattle.audit_laws.proofs.ReadSteps.{follows}
@@ -51,7 +53,7 @@ turned m o e = go (m == o) refl
 unjoined : (by : Policy) (f : ℕ → Option Version) (m : ℕ) (v : Version) (ns : List ℕ) → has_node ns m ≡ false
     → join_all by (map (λ n. joined_if (m == n) by (f n) v) ns) ≡ join_all by (map f ns)
 unjoined by f m v [] e = refl
-unjoined by f m v (n ∷ ns) e = ap₂ (join by) (ap (λ (b : Bool). joined_if b by (f n) v) (turned m n (neither_left (n == m) _ e))) (unjoined by f m v ns (neither_right (n == m) _ e))
+unjoined by f m v (n ∷ ns) e = ap₂ (join by) (ap (λ (b : Bool). joined_if b by (f n) v) (turned m n (or_parts (n == m) _ e).0)) (unjoined by f m v ns (or_parts (n == m) _ e).1)
 
 alone : (a b : Bool) → b ≡ false → (a || b) ≡ true → a ≡ true
 alone true b x y = refl
@@ -61,7 +63,7 @@ alone false b x y = differ y x
 joined_at : (by : Policy) (f : ℕ → Option Version) (m : ℕ) (v : Version) (ns : List ℕ) → has_node ns m ≡ true
     → join_all by (map (λ n. joined_if (m == n) by (f n) v) ns) ≡ join by (join_all by (map f ns)) (Some v)
 joined_at by f m v [] e = differ e refl
-joined_at by f m v (n ∷ ns) e = go (true_or_false (has_node ns m)) (joined_at by f m v ns)
+joined_at by f m v (n ∷ ns) e = go (cases_Bool (has_node ns m)) (joined_at by f m v ns)
   where
     rest : Option Version
     rest = join_all by (map f ns)

@@ -4,6 +4,7 @@ use Rattle.std.proofs.Common.{◌≡◌, ℕ, ◌==◌, Bool, true, false, not, 
 use Rattle.std.specs.Prelude.{take, drop, slice_get, find, unwrap_or}
 use Rattle.std.specs.List.{list_any, list_all}
 use Rattle.std.proofs.lemmas.List.{take-append-drop}
+use Rattle.std.proofs.lemmas.Bool.{or_left, or_right}
 use Rattle.cluster_types.specs.declared.cluster_key.ClusterKey.{ClusterKey}
 use Rattle.cluster_types.specs.declared.member.Member.{Member}
 use Rattle.cluster_types.specs.Members.{ids_of}
@@ -19,8 +20,9 @@ use Rattle.journal_readings.specs.Maps.{is_above, is_newest_whole, acting, with_
 use Rattle.journal_readings.specs.Claims.{OneMap, ShowsMap}
 use Rattle.journal_readings.specs.Shape.{Shape, is_header, has_entered, have_all_entered, names_entered, follows_entries}
 use Rattle.journal_readings.proofs.AlongLaws.{one_map}
+use Rattle.journal_readings.proofs.Fronts.{and_left, and_right}
 use Rattle.audit_laws.specs.Fits.{enters_key}
-use Rattle.audit_laws.proofs.Tests.{and_left, and_right, or_left, or_right, differ, number_here, number_same}
+use Rattle.audit_laws.proofs.Tests.{differ, number_here, number_same}
 use Rattle.audit_laws.proofs.Places.{each-more, stands, last_line}
 use Rattle.audit_laws.proofs.Headers.{factor_stays, IsBare}
 use Rattle.audit_laws.proofs.ShapeSteps.{bare_line, shape_front}
@@ -51,7 +53,7 @@ unfolding row
 row-front factor k n p a b e = ap (option_map (λ before. copy_state factor n p before)) (lines_before-front (is_enter k n) a b e)
 
 -- who entered the view entered its key
-enters : (k : ClusterKey) (n : ℕ) (x : Line) → is_enter k n x ≡ true → enters_key k x ≡ true
+pub enters : (k : ClusterKey) (n : ℕ) (x : Line) → is_enter k n x ≡ true → enters_key k x ≡ true
 enters k n (line.Enter m l ms) e = and_right (m == n) (same_key l k) e
 enters k n x e = differ e refl
 

@@ -5,6 +5,7 @@ use Rattle.std.specs.List.{list_any, list_all}
 use Rattle.std.proofs.Math.Seq.{get_or-append_seam}
 use Rattle.std.proofs.lemmas.List.{get_or_append_left}
 use Rattle.std.proofs.lemmas.List.Folds.{list_any-append}
+use Rattle.std.proofs.lemmas.Bool.{and_from, not-true, not_from_false, or_left, or_right}
 use Rattle.cluster_types.specs.declared.cluster_key.ClusterKey.{ClusterKey}
 use Rattle.cluster_types.specs.declared.member.Member.{Member}
 use Rattle.cluster_types.specs.Distinct.{AreDistinct}
@@ -17,9 +18,9 @@ use Rattle.journal_readings.specs.Settings.{nodes, declared_in}
 use Rattle.journal_readings.specs.Views.{members}
 use Rattle.journal_readings.specs.Shape.{Shape, is_header, follows_header, named_nodes, names_declared, EntersFalling, enters_once, names_entered, follows_entries}
 use Rattle.journal_readings.proofs.AlongLaws.{no_some, some_same}
-use Rattle.journal_readings.proofs.Fronts.{same_key_is}
+use Rattle.journal_readings.proofs.Fronts.{same_key_is, and_left, and_right}
 use Rattle.audit_laws.specs.Fits.{declares_new, enters_key, NamesMembers, FitsShape}
-use Rattle.audit_laws.proofs.Tests.{and_left, and_right, or_cases, or_left, or_right, not_true, not_false, differ, number_same, number_here, all-wider, true_or_false, neither_left}
+use Rattle.audit_laws.proofs.Tests.{differ, number_here, all-wider}
 use Rattle.audit_laws.proofs.Places.{more_cases, stands, last_line, each-more, each-front, each-last}
 use Rattle.audit_laws.proofs.Headers.{nodes-more, nodes_stay, IsBare, behind_header}
 
@@ -48,11 +49,11 @@ unless ns n false i fresh = refl
 declared_front : (j : List Line) (l : Line) → AreDistinct (nodes (j ++ l ∷ [])) → AreDistinct (nodes j) × (declares_new j l ≡ true)
 declared_front j (line.Node n rack) h =
     let d : AreDistinct (nodes j ++ n ∷ []) = subst AreDistinct (nodes_node j n rack) h in
-    (distinct_front (nodes j) n d, not_false (has_node (nodes j) n) (unless (nodes j) n (has_node (nodes j) n) refl (last_fresh (nodes j) n d)))
+    (distinct_front (nodes j) n d, not_from_false (has_node (nodes j) n) (unless (nodes j) n (has_node (nodes j) n) refl (last_fresh (nodes j) n d)))
 declared_front j l h = (subst AreDistinct (nodes_other j l refl) h, refl)
 
 declared_more : (j : List Line) (l : Line) → AreDistinct (nodes j) → declares_new j l ≡ true → AreDistinct (nodes (j ++ l ∷ []))
-declared_more j (line.Node n rack) h e = subst AreDistinct (sym (nodes_node j n rack)) (distinct_push (nodes j) n h (λ c. differ ((any_is_contained n (nodes j)).1 c) (not_true (has_node (nodes j) n) e)))
+declared_more j (line.Node n rack) h e = subst AreDistinct (sym (nodes_node j n rack)) (distinct_push (nodes j) n h (λ c. differ ((any_is_contained n (nodes j)).1 c) (not-true (has_node (nodes j) n) e)))
 declared_more j l h e = subst AreDistinct (sym (nodes_other j l refl)) h
 
 -- ---- named nodes
@@ -76,7 +77,7 @@ declared_here (x ∷ j) (suc i) n rack e = go (declared_in x) (declared_here j i
 
 bare_named : (j : List Line) (i : ℕ) (x : Line) → slice_get j i ≡ Some x → is_header x ≡ true → names_declared j x ≡ true
 unfolding nodes named_nodes
-bare_named j i (line.Node n rack) e h = Rattle.audit_laws.proofs.Tests.and_both (has_node (nodes j) n) true (declared_here j i n rack e) refl
+bare_named j i (line.Node n rack) e h = and_from (has_node (nodes j) n) true (declared_here j i n rack e) refl
 bare_named j i (line.Script v) e h = refl
 bare_named j i (line.Factor f) e h = refl
 bare_named j i (line.Policy by) e h = refl
@@ -109,8 +110,8 @@ first_entry k (line.Enter n l ms ∷ j) e = go (same_key l k) refl (first_entry 
     go false i rest q = let h : (i : ℕ) × (n : ℕ) × (slice_get j i ≡ Some (line.Enter n k (members k j))) = rest q in (suc h.0, h.1, h.2)
 first_entry k (x ∷ j) e = let h : (i : ℕ) × (n : ℕ) × (slice_get j i ≡ Some (line.Enter n k (members k j))) = first_entry k j e in (suc h.0, h.1, h.2)
 
-same_key_itself : (k : ClusterKey) → same_key k k ≡ true
-same_key_itself k = Rattle.audit_laws.proofs.Tests.and_both (k.round == k.round) _ (number_here k.round) (number_here k.principal)
+pub same_key_itself : (k : ClusterKey) → same_key k k ≡ true
+same_key_itself k = and_from (k.round == k.round) _ (number_here k.round) (number_here k.principal)
 
 -- a view that has an entry is entered
 entered_here : (k : ClusterKey) (j : List Line) (i n : ℕ) (ms : List Member) → slice_get j i ≡ Some (line.Enter n k ms) → list_any (enters_key k) j ≡ true

@@ -25,7 +25,7 @@ map_step j l s = (map_front j l s, λ h. map_more j l s h.0 h.1)
 pub loss_step : (j : List Line) (l : Line) → Shape (j ++ l ∷ []) → NoLoss (j ++ l ∷ []) ↔ (NoLoss j × LosesNothing j l)
 loss_step j l s = (loss_front j l s, λ h. loss_more j l s h.0 h.1)
 
-pub settled_step : (j : List Line) (l : Line) → Shape (j ++ l ∷ []) → SettledJoin (j ++ l ∷ []) ↔ (SettledJoin j × JoinsReplicas (j ++ l ∷ []))
+pub settled_step : (j : List Line) (l : Line) → Shape (j ++ l ∷ []) → SettledJoin (j ++ l ∷ []) ↔ (SettledJoin j × JoinsReplicas j l)
 settled_step j l s = (settled_front j l s, λ h. settled_more j l s h.0 h.1)
 
 pub read_step : (j : List Line) (l : Line) → Shape (j ++ l ∷ []) → ReadJoin (j ++ l ∷ []) ↔ (ReadJoin j × JoinsView j j l)

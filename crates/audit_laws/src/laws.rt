@@ -12,7 +12,7 @@ pub fn each_law_goes_line_by_line()
     ensures shape { (j : List Line) → (l : Line) → Shape (j ++ l ∷ []) ↔ (Shape j × FitsShape j l) }
     ensures one_map { (j : List Line) → (l : Line) → Shape (j ++ l ∷ []) → OneMap (j ++ l ∷ []) ↔ (OneMap j × ShowsMap j l) }
     ensures no_loss { (j : List Line) → (l : Line) → Shape (j ++ l ∷ []) → NoLoss (j ++ l ∷ []) ↔ (NoLoss j × LosesNothing j l) }
-    ensures settled_join { (j : List Line) → (l : Line) → Shape (j ++ l ∷ []) → SettledJoin (j ++ l ∷ []) ↔ (SettledJoin j × JoinsReplicas (j ++ l ∷ [])) }
+    ensures settled_join { (j : List Line) → (l : Line) → Shape (j ++ l ∷ []) → SettledJoin (j ++ l ∷ []) ↔ (SettledJoin j × JoinsReplicas j l) }
     ensures read_join { (j : List Line) → (l : Line) → Shape (j ++ l ∷ []) → ReadJoin (j ++ l ∷ []) ↔ (ReadJoin j × JoinsView j j l) }
 {}
 
