@@ -10,7 +10,7 @@ use Rattle.sorted_chain.specs.Chain.{key_cmp, has_key, IsAscending}
 use Rattle.sorted_chain.specs.Nodes.{pay, pays, entries, full, IsFull, HasPassed}
 use Rattle.sorted_chain.specs.Places.{IsHere, IsGap}
 use Rattle.sorted_chain.proofs.LinkLaws.{map-get, map-get_none, map-insert}
-use Rattle.sorted_chain.proofs.PlaceLaws.{stops_before, stops_at, goes_past, find_here, put_here, put_gap}
+use Rattle.sorted_chain.proofs.PlaceLaws.{stops_before, stops_at, goes_past, passes_all, find_here, put_here, put_gap}
 
 module _ {V : Type 0} where
   entries-full : (es : List (List ℕ × V)) → entries (map full es) ≡ es
@@ -73,6 +73,9 @@ module _ {V : Type 0} (ns : List (Node V)) (f : IsFull (pays ns)) where
 
       pub passed_at : key_cmp k n.key ≡ Greater → HasPassed k es i → HasPassed k es (i + 1)
       passed_at greater = goes_past k es i entry_at.0 entry_at.1.0 (key_as ∙ greater)
+
+      pub passed_all : IsAscending es → key_cmp k n.key ≡ Greater → HasPassed k es (i + 1)
+      passed_all h greater = passes_all k es i entry_at.0 entry_at.1.0 h (key_as ∙ greater)
 
       -- the value of the key's node
       pub found_at : IsAscending es → IsHere k es i → n.value ≡ find key_cmp k es

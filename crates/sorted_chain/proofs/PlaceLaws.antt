@@ -91,6 +91,14 @@ module _ {V : Type 0} (k : List ℕ) (es : List (List ℕ × V)) (i : ℕ) where
         ap (λ (n : ℕ). key_cmp (get_or es n d).0 k) last ∙ ap (λ (y : List ℕ × V). key_cmp y.0 k) (get_or_from_slice_get es i e d at) ∙ flipped k _ Greater greater)
         (cases_lt j i)
 
+    -- past an entry that is below the key, all before it are
+    pub passes_all : IsAscending es → key_cmp k e.0 ≡ Greater → HasPassed k es (i + 1)
+    passes_all h greater =
+        goes_past greater (λ j d before inside.
+        let within : i < length es = slice_get_within es i e at in
+        let below : key_cmp (get_or es j d).0 e.0 ≡ Less = ap (λ (y : List ℕ × V). key_cmp (get_or es j d).0 y.0) (sym (get_or_from_slice_get es i e d at)) ∙ rises es j i d h before within in
+        total.trans (get_or es j d).0 e.0 k below (flipped k _ Greater greater))
+
   pub stops_past : i ≡ length es → HasPassed k es i → IsGap k es i
   stops_past end passed = record {
     within = omega (arith, end);

@@ -1,7 +1,8 @@
 -- How the nodes of a list lie, and what they hold.
-use Rattle.std.specs.Prelude.{◌≡◌, ◌<◌, ℕ, zero, suc, List, [], ◌∷◌, Option, Some, None, length, map, slice_get, slice_index_or}
+use Rattle.std.specs.Prelude.{◌≡◌, ◌<◌, ◌≤◌, ℕ, IfSome, zero, suc, List, [], ◌∷◌, Option, Some, None, length, map, slice_get, slice_index_or}
 use Rattle.std.specs.declared.cmp.Ordering.TheVariants.{Less}
 use Rattle.sorted_chain.specs.declared.boxes.Place.{Place}
+use Rattle.sorted_chain.specs.declared.linked_list.Here.{Here}
 use Rattle.sorted_chain.specs.declared.linked_list.Node.{Node}
 use Rattle.sorted_chain.specs.Chain.{key_cmp}
 use Rattle.sorted_chain.specs.Places.{IsHere, IsGap}
@@ -51,5 +52,16 @@ pub record IsNodeOf {V : Type 0} (k : List ℕ) (ps : List Place) (ns : List (No
 -- the key has no node, and its node would be the i-th and lie between the two places
 pub record IsGapOf {V : Type 0} (k : List ℕ) (ps : List Place) (ns : List (Node V)) (i : ℕ) (before at : Option Place) : Type 0 where
   pub gap : IsGap k (entries (pays ns)) i
+  pub before_is : before ≡ before_of ps i
+  pub at_is : at ≡ slice_get ps i
+
+-- if it says where a node lies, a node lies there
+abbrev pub LiesIn : List Place → Option Here → Type 0
+LiesIn ps here = IfSome here (λ h. slice_get ps h.index ≡ Some h.at)
+
+-- the gap at the i-th node lies between the two places, and the keys before it are below the key
+pub record IsPast {V : Type 0} (k : List ℕ) (ps : List Place) (ns : List (Node V)) (i : ℕ) (before at : Option Place) : Type 0 where
+  pub within : i ≤ length ns
+  pub passed : HasPassed k (entries (pays ns)) i
   pub before_is : before ≡ before_of ps i
   pub at_is : at ≡ slice_get ps i

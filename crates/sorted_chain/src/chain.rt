@@ -7,7 +7,7 @@ ghost use Rattle.sorted_chain.specs.Chain.{key_cmp, has_key, above, shown, IsAsc
 
 use crate::NoMemory;
 use crate::iter::Iter;
-use crate::linked_list::{LinkedList, Node};
+use crate::linked_list::{Here, LinkedList, Node};
 use std::alloc::Global;
 use std::error::Error;
 use std::fmt;
@@ -20,13 +20,16 @@ const LIMIT: usize = 0x4000_0000_0000_0000;
 pub struct SortedChain<V> {
     alloc: Global,
     records: LinkedList<V>,
+    /// Where the entry lies that was put last, if it is still there: a look-up of a greater key
+    /// begins behind it, so that entries that are put in the order of their keys cost no walk.
+    last: Option<Here>,
     spares: LinkedList<V>,
 }
 
 impl<V> Model for SortedChain<V> {
     ghost use Rattle.std.specs.Prelude.{◌≡◌, ◌+◌, ◌<◌, ◌^◌};
     ghost use Rattle.sorted_chain.specs.Chain.{Chain, chain_code, IsAscending};
-    ghost use Rattle.sorted_chain.specs.Nodes.{pays, entries, IsFull};
+    ghost use Rattle.sorted_chain.specs.Nodes.{pays, entries, IsFull, LiesIn};
 
     ghost Value = { Chain V };
 
@@ -34,7 +37,7 @@ impl<V> Model for SortedChain<V> {
 
     ghost view = { λ c. record { items = entries (pays c.records.boxes.items); spare = c.spares.len } };
 
-    ghost invariant = { λ c. IsFull (pays c.records.boxes.items) × IsAscending (entries (pays c.records.boxes.items)) × (c.records.boxes.alloc ≡ c.alloc) × (c.spares.boxes.alloc ≡ c.alloc) × (c.records.len + c.spares.len < 2 ^ 62) };
+    ghost invariant = { λ c. IsFull (pays c.records.boxes.items) × IsAscending (entries (pays c.records.boxes.items)) × (c.records.boxes.alloc ≡ c.alloc) × (c.spares.boxes.alloc ≡ c.alloc) × (c.records.len + c.spares.len < 2 ^ 62) × LiesIn c.records.boxes.places c.last };
 }
 
 impl<V> fmt::Debug for SortedChain<V> {
@@ -74,6 +77,7 @@ impl<V> SortedChain<V> {
         SortedChain {
             alloc,
             records: LinkedList::new(alloc),
+            last: None,
             spares: LinkedList::new(alloc),
         }
     }
@@ -97,7 +101,7 @@ impl<V> SortedChain<V> {
     pub fn find(&self, k: &[u8; 20]) -> Option<&V>
         ensures { option_copied result ≡ find key_cmp k.now self.now.items }
     {
-        match self.records.seek(k) {
+        match self.records.seek(k, self.last) {
             Ok(here) => self.records.node(here.index, here.at).value.as_ref(),
             Err(_) => None,
         }
@@ -114,7 +118,7 @@ impl<V> SortedChain<V> {
     pub fn iter_after(&self, k: Option<&[u8; 20]>) -> Iter<'_, V>
         ensures { result ≡ above (option_copied k.entry) self.now.items }
     {
-        let (index, at) = self.records.seek_above(k);
+        let (index, at) = self.records.seek_above(k, self.last);
         Iter {
             records: &self.records,
             index,
@@ -129,6 +133,7 @@ impl<V: Drop> SortedChain<V> {
         ensures items { self.new.items ≡ [] }
         ensures spare { self.new.spare ≡ self.old.spare }
     {
+        self.last = None;
         shrink(&mut self.records, self.alloc, 0);
     }
 
@@ -154,18 +159,21 @@ impl<V: Drop> SortedChain<V> {
         ensures present { IsTrue (has_key k self.old.items) → IsOk result }
         ensures spared { 0 < self.old.spare → IsOk result }
     {
-        match self.records.seek(&k) {
-            Ok(here) => Ok(self.records.replace(here.index, here.at, v)),
+        match self.records.seek(&k, self.last) {
+            Ok(here) => {
+                self.last = Some(here);
+                Ok(self.records.replace(here.index, here.at, v))
+            }
             Err(gap) => match take_node(&mut self.spares, self.alloc, self.records.len) {
                 None => Err(PutFault(v)),
                 Some(mut node) => {
                     let filled = Node {
                         key: k,
-                        value: Some(v),
                         next: None,
+                        value: Some(v),
                     };
                     drop(Box::replace(&mut node, filled));
-                    self.records.link(gap, node);
+                    self.last = Some(self.records.link(gap, node));
                     Ok(None)
                 }
             },
@@ -179,6 +187,7 @@ impl<V: Drop> Drop for SortedChain<V> {
         let SortedChain {
             alloc,
             records,
+            last: _,
             mut spares,
         } = self;
         shrink(&mut spares, alloc, 0);
@@ -196,8 +205,8 @@ fn fresh<V: Drop>(alloc: Global, len: usize) -> Option<Box<Node<V>>>
     }
     let blank = Node {
         key: [0; 20],
-        value: None,
         next: None,
+        value: None,
     };
     Box::new(alloc, blank).ok()
 }

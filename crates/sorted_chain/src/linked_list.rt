@@ -8,12 +8,14 @@ use crate::boxes::{Boxes, Place, RawBox};
 use std::alloc::Global;
 use std::cmp::Ordering;
 
-/// A key, its value and where the next node lies. A spare node has no value.
+/// A key, where the next node lies, and the key's value. A spare node has no value.
+///
+/// A look-up reads the first two of each node that it passes, so they lie side by side.
 #[derive(Drop)]
 pub struct Node<V> {
     pub(crate) key: [u8; 20],
-    pub(crate) value: Option<V>,
     pub(crate) next: Option<Place>,
+    pub(crate) value: Option<V>,
 }
 
 /// The nodes, and where the first lies.
@@ -26,14 +28,14 @@ pub struct LinkedList<V> {
     ghost small: { len < 2 ^ 63 },
 }
 
-/// Where the node of a key lies.
-#[derive(Drop)]
+/// Where a node lies.
+#[derive(Clone, Copy)]
 pub(crate) struct Here {
     pub(crate) index: usize,
     pub(crate) at: Place,
 }
 
-/// Between which two nodes that of a key would lie.
+/// Between which two nodes another would lie.
 #[derive(Drop)]
 pub(crate) struct Gap {
     pub(crate) index: usize,
@@ -44,7 +46,7 @@ pub(crate) struct Gap {
 impl<V> LinkedList<V> {
     ghost use Rattle.std.specs.Option.{option_copied};
     ghost use Rattle.sorted_chain.specs.Chain.{above, IsAscending};
-    ghost use Rattle.sorted_chain.specs.Nodes.{pays, before_of, entries, IsFull, IsNodeOf, IsGapOf};
+    ghost use Rattle.sorted_chain.specs.Nodes.{pays, before_of, entries, IsFull, IsNodeOf, IsGapOf, IsPast, LiesIn};
 
     pub(crate) fn new(alloc: Global) -> LinkedList<V>
         ensures { (result.boxes.items ≡ []) × (result.boxes.alloc ≡ alloc) }
@@ -77,23 +79,52 @@ impl<V> LinkedList<V> {
         self.boxes.get(i, at)
     }
 
-    /// Looks for the node of a key, from the first on.
-    pub(crate) fn seek(&self, k: &[u8; 20]) -> Result<Here, Gap>
+    /// Looks for the node of a key: from the last one on where the key is above that node's, and
+    /// from the first on otherwise.
+    pub(crate) fn seek(&self, k: &[u8; 20], last: Option<Here>) -> Result<Here, Gap>
         requires full { IsFull (pays self.now.boxes.items) }
         requires ascending { IsAscending (entries (pays self.now.boxes.items)) }
+        requires last { LiesIn self.now.boxes.places last }
         ensures { MatchResult result (λ here. IsNodeOf k.now self.now.boxes.places self.now.boxes.items here.index here.at) (λ gap. IsGapOf k.now self.now.boxes.places self.now.boxes.items gap.index gap.before gap.at) }
     {
-        let mut before = None;
-        let mut at = self.head;
-        let mut index = 0;
+        let Some(here) = last else {
+            return self.seek_from(k, self.front());
+        };
+        let node = self.node(here.index, here.at);
+        match k.cmp(&node.key) {
+            Ordering::Less => self.seek_from(k, self.front()),
+            Ordering::Equal => Ok(here),
+            Ordering::Greater => {
+                let behind = Gap {
+                    index: here.index + 1,
+                    before: Some(here.at),
+                    at: node.next,
+                };
+                self.seek_from(k, behind)
+            }
+        }
+    }
+
+    /// Looks for the node of a key from a gap on, before which all keys are below it.
+    fn seek_from(&self, k: &[u8; 20], from: Gap) -> Result<Here, Gap>
+        requires full { IsFull (pays self.now.boxes.items) }
+        requires ascending { IsAscending (entries (pays self.now.boxes.items)) }
+        requires from { IsPast k.now self.now.boxes.places self.now.boxes.items from.index from.before from.at }
+        ensures { MatchResult result (λ here. IsNodeOf k.now self.now.boxes.places self.now.boxes.items here.index here.at) (λ gap. IsGapOf k.now self.now.boxes.places self.now.boxes.items gap.index gap.before gap.at) }
+    {
+        let Gap {
+            mut index,
+            mut before,
+            mut at,
+        } = from;
         while let Some(place) = at {
-            let node = self.node(index, place);
-            match k.cmp(&node.key) {
+            let next = self.node(index, place);
+            match k.cmp(&next.key) {
                 Ordering::Less => return Err(Gap { index, before, at }),
                 Ordering::Equal => return Ok(Here { index, at: place }),
                 Ordering::Greater => {
                     before = at;
-                    at = node.next;
+                    at = next.next;
                     index += 1;
                 }
             }
@@ -101,17 +132,35 @@ impl<V> LinkedList<V> {
         Err(Gap { index, before, at })
     }
 
+    /// The gap before the first node.
+    fn front(&self) -> Gap
+        ensures index { result.index ≡ 0 }
+        ensures before { result.before ≡ None }
+        ensures at { result.at ≡ slice_get self.now.boxes.places 0 }
+    {
+        Gap {
+            index: 0,
+            before: None,
+            at: self.head,
+        }
+    }
+
     /// Where the first node lies, or the first above a key.
-    pub(crate) fn seek_above(&self, k: Option<&[u8; 20]>) -> (usize, Option<Place>)
+    pub(crate) fn seek_above(
+        &self,
+        k: Option<&[u8; 20]>,
+        last: Option<Here>,
+    ) -> (usize, Option<Place>)
         requires full { IsFull (pays self.now.boxes.items) }
         requires ascending { IsAscending (entries (pays self.now.boxes.items)) }
+        requires last { LiesIn self.now.boxes.places last }
         ensures rest { drop result.0 (entries (pays self.now.boxes.items)) ≡ above (option_copied k.entry) (entries (pays self.now.boxes.items)) }
         ensures at { result.1 ≡ slice_get self.now.boxes.places result.0 }
     {
         let Some(k) = k else {
             return (0, self.head);
         };
-        match self.seek(k) {
+        match self.seek(k, last) {
             Ok(here) => (here.index + 1, self.node(here.index, here.at).next),
             Err(gap) => (gap.index, gap.at),
         }
@@ -121,6 +170,7 @@ impl<V> LinkedList<V> {
     pub(crate) fn replace(&mut self, i: usize, at: Place, value: V) -> Option<V>
         requires { slice_get self.old.boxes.places i ≡ Some at }
         ensures items { IfSome (slice_get (pays self.old.boxes.items) i) (λ e. (result ≡ e.1) × (pays self.new.boxes.items ≡ slice_set (pays self.old.boxes.items) i (e.0, Some value))) }
+        ensures places { self.new.boxes.places ≡ self.old.boxes.places }
         ensures len { self.new.len ≡ self.old.len }
         ensures alloc { self.new.boxes.alloc ≡ self.old.boxes.alloc }
     {
@@ -132,14 +182,15 @@ impl<V> LinkedList<V> {
 impl<V: Drop> LinkedList<V> {
     ghost use Rattle.sorted_chain.specs.Nodes.{pays, pay, before_of};
 
-    /// Links a node in.
-    pub(crate) fn link(&mut self, gap: Gap, mut node: Box<Node<V>>)
+    /// Links a node in, and answers where it lies.
+    pub(crate) fn link(&mut self, gap: Gap, mut node: Box<Node<V>>) -> Here
         requires before { gap.before ≡ before_of self.old.boxes.places gap.index }
         requires next { gap.at ≡ slice_get self.old.boxes.places gap.index }
         requires within { gap.index ≤ length self.old.boxes.items }
         requires room { self.old.len + 1 < 2 ^ 63 }
         requires alloc { box_allocator node ≡ self.old.boxes.alloc }
         ensures items { pays self.new.boxes.items ≡ insert (pays self.old.boxes.items) gap.index (pay node.value) }
+        ensures here { slice_get self.new.boxes.places result.index ≡ Some result.at }
         ensures len { self.new.len ≡ self.old.len + 1 }
         ensures alloc { self.new.boxes.alloc ≡ self.old.boxes.alloc }
     {
@@ -153,6 +204,10 @@ impl<V: Drop> LinkedList<V> {
                 last.next = Some(place);
             }
         }
+        Here {
+            index: gap.index,
+            at: place,
+        }
     }
 
     /// Links a node in before the first.
@@ -163,11 +218,7 @@ impl<V: Drop> LinkedList<V> {
         ensures len { self.new.len ≡ self.old.len + 1 }
         ensures alloc { self.new.boxes.alloc ≡ self.old.boxes.alloc }
     {
-        let first = Gap {
-            index: 0,
-            before: None,
-            at: self.head,
-        };
+        let first = self.front();
         self.link(first, node);
     }
 

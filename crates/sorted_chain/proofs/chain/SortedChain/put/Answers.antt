@@ -1,4 +1,4 @@
-use Rattle.std.proofs.Common.{◌≡◌, ◌∙◌, ◌-◌, sym, ap, subst, arith, is_some, true, false, if◌then◌else◌}
+use Rattle.std.proofs.Common.{◌≡◌, ◌∙◌, ◌-◌, sym, ap, subst, arith, is_some, slice_get, true, false, if◌then◌else◌}
 use Rattle.std.specs.List.{insert}
 use Rattle.std.specs.FinMap.{find, put as put_entry}
 use Rattle.sorted_chain.specs.Chain.{key_cmp, has_key, IsAscending}
@@ -14,7 +14,7 @@ invariant_of-self g c =
     let v = c.args.v in
     let i = c.self.invariant in
     let made = (replaced k (pays b.items) i.0 c.in-Ok.here.index v c.replace.result (pays c.replace.new.self.boxes.items) i.1 c.in-Ok.ensures.here c.replace.ensures.items).1 in
-    (is_full_of _ _ made, subst IsAscending (sym (full_of _ _ made)) (put_ascends k v (entries (pays b.items)) i.1), c.replace.ensures.alloc ∙ i.2, i.3, omega (arith, c.replace.ensures.len, i.4))
+    (is_full_of _ _ made, subst IsAscending (sym (full_of _ _ made)) (put_ascends k v (entries (pays b.items)) i.1), c.replace.ensures.alloc ∙ i.2, i.3, omega (arith, c.replace.ensures.len, i.4), ap (λ ps. slice_get ps c.in-Ok.here.index) c.replace.ensures.places ∙ c.in-Ok.ensures.at_is)
 
 pub invariant_of-self-in-Some : goal.invariant_of-self-in-Some
 invariant_of-self-in-Some g c =
@@ -24,7 +24,7 @@ invariant_of-self-in-Some g c =
     let i = c.self.invariant in
     let gap = c.in-Err.gap in
     let made = linked_in k (pays b.items) i.0 gap.index v (pays c.link.new.self.boxes.items) c.in-Err.ensures.gap (c.link.ensures.items ∙ ap (λ n. insert (pays b.items) gap.index (pay n)) c.replace-in-Some.ensures.after) in
-    (is_full_of _ _ made, subst IsAscending (sym (full_of _ _ made)) (put_ascends k v (entries (pays b.items)) i.1), c.link.ensures.alloc ∙ i.2, c.take_node.ensures.alloc ∙ i.3, omega (arith, c.link.ensures.len, c.in-Some.ensures.some))
+    (is_full_of _ _ made, subst IsAscending (sym (full_of _ _ made)) (put_ascends k v (entries (pays b.items)) i.1), c.link.ensures.alloc ∙ i.2, c.take_node.ensures.alloc ∙ i.3, omega (arith, c.link.ensures.len, c.in-Some.ensures.some), c.link.ensures.here)
 
 pub returns-in-Ok-clause-items : goal.returns-in-Ok-clause-items
 returns-in-Ok-clause-items g c =

@@ -1,6 +1,6 @@
 use Rattle.std.proofs.Common.{◌≡◌, ◌≤◌, ◌-◌, length, slice_get}
 use Rattle.sorted_chain.specs.Nodes.{pays, entries, before_of, HasPassed}
-use Rattle.sorted_chain.proofs.linked_list.LinkedList.seek.Given as goal
+use Rattle.sorted_chain.proofs.linked_list.LinkedList.seek_from.Given as goal
 
 -- the nodes before this one have keys below the one that is sought
 abbrev pub invariant-loop-at : goal.invariant-loop-at
