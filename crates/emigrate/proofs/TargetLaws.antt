@@ -174,12 +174,6 @@ counts_set ts i d new now next h inside moved = record {
       omega (arith, sum, h.at p within, moved p within);
 }
 
--- what is pending to one is counted
-pub one_counted : (ts : Targets) (i p : ℕ) (d : Target) (now : List ℕ) → AreCounts ts now → i < length ts → p < partition_count → count_by (is_of p) (get_or ts i d).pending ≤ slice_index now p
-one_counted ts i p d now h inside within =
-    let le : count_by (is_of p) (get_or ts i d).pending ≤ pending_count ts p = get_or-le-sum_by (λ (t : Target). count_by (is_of p) t.pending) ts i d inside in
-    omega (arith, le, h.at p within)
-
 node_after : (ts : Targets) (i : ℕ) (d new : Target) → i < length ts → new.node ≡ (get_or ts i d).node → (k : ℕ) (e : Target) → k < length ts → (get_or (set ts i new) k e).node ≡ (get_or ts k e).node
 node_after ts i d new inside same k e within = go (k == i) refl
   where

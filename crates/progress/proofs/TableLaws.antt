@@ -16,9 +16,6 @@ lt_false a b h = grind (arith, nat_tests)
 is_other : (a b : ℕ) → b < a → (a == b) ≡ false
 is_other a b h = grind (arith, nat_tests)
 
-is_other_above : (a b : ℕ) → a < b → (a == b) ≡ false
-is_other_above a b h = grind (arith, nat_tests)
-
 pub is_itself : (a : ℕ) → (a == a) ≡ true
 is_itself a = grind (arith, nat_tests)
 

@@ -161,10 +161,6 @@ clear_telling (t ∷ ts) (suc i) d row h =
     All-cons (λ x. x.came ≡ false → IsClear x.done) t (set ts i (telling (get_or ts i d) row)) (All-head (λ x. x.came ≡ false → IsClear x.done) t ts h)
     (clear_telling ts i d row (All-tail (λ x. x.came ≡ false → IsClear x.done) t ts h))
 
--- there is room for one more in each count
-pub count_room : (ts : List Told) (known : List ℕ) (p : ℕ) → AreTold ts known → p < partition_count → slice_index known p < 255
-count_room ts known p h within = omega (arith, h.counts p within, count_by-le-length (is_done_at p) ts, h.limit)
-
 -- one that is known done is counted
 pub is_counted : (ts : List Told) (known : List ℕ) (i p : ℕ) (d : Told) → AreTold ts known → i < length ts → p < partition_count → one_if (bit (get_or ts i d).done p) ≤ slice_index known p
 is_counted ts known i p d h inside within =
@@ -276,16 +272,6 @@ take_others ms i m me within read =
     ap (λ (xs : List Member). others me xs) (take_more ms i m within ∙ ap (λ (x : Member). take i ms ++ x ∷ []) (sym read))
     ∙ ap (λ ids. without ids me) (map-append (λ (x : Member). x.id) (take i ms) (m ∷ []))
     ∙ filter-append (λ n. not (n == me)) (ids_of (take i ms)) (m.id ∷ [])
-
--- the node itself is left out
-pub others_skip : (ms : List Member) (i : ℕ) (m : Member) (me : ℕ) → i < length ms → m ≡ get_or ms i m → (m.id == me) ≡ true → map silent (others me (take (i + 1) ms)) ≡ map silent (others me (take i ms))
-others_skip ms i m me within read is = ap (map silent) (take_others ms i m me within read ∙ rw is (append-nil (others me (take i ms))))
-
--- another member stands behind those before it
-pub others_push : (ms : List Member) (i : ℕ) (m : Member) (me : ℕ) → i < length ms → m ≡ get_or ms i m → (m.id == me) ≡ false
-    → map silent (others me (take (i + 1) ms)) ≡ map silent (others me (take i ms)) ++ silent m.id ∷ []
-others_push ms i m me within read is =
-    ap (map silent) (take_others ms i m me within read ∙ rw is refl) ∙ map-append silent (others me (take i ms)) (m.id ∷ [])
 
 -- ---- the list master
 

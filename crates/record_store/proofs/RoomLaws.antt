@@ -40,9 +40,6 @@ keeps_refl spare = record { kept = λ p. omega arith }
 pub keeps_trans : (a b c : List ℕ) → KeepsRoom a b → KeepsRoom b c → KeepsRoom a c
 keeps_trans a b c h k = record { kept = λ p. omega (arith, h.kept p, k.kept p) }
 
-pub room_keeps : (ds : List (List ℕ)) (old new : List ℕ) → HasRoom ds old → KeepsRoom old new → HasRoom ds new
-room_keeps ds old new h k = record { room = λ p within. omega (arith, h.room p within, k.kept p) }
-
 keeps_set : (spare : List ℕ) (p r : ℕ) → p < length spare → room_at spare p ≤ r → KeepsRoom spare (set spare p r)
 keeps_set spare p r within more = record {
   kept = λ q. elim (eqb_tells q p) [
@@ -111,15 +108,6 @@ module _ (ds : List (List ℕ)) (i : ℕ) (d : List ℕ) (within : i < length ds
       | inr other ↦ omega (arith, count_by_more_no (is_of p) ds i d within (is_of_at p false other.0), h.room p inside, k.kept p)
     ];
   }
-
--- room for one digest
-pub room_for_one : (d : List ℕ) (spare : List ℕ) → 1 ≤ room_at spare (partition_of d) → HasRoom (d ∷ []) spare
-room_for_one d spare enough = record {
-  room = λ p inside. elim (eqb_tells (partition_of d) p) [
-    | inl same ↦ omega (arith, count_here p d [] same.0, subst (λ q. 1 ≤ room_at spare q) same.1 enough)
-    | inr other ↦ omega (arith, count_apart p d [] other.0)
-  ];
-}
 
 -- what a call that may fail leaves
 pub never_less : {A E : Type 0} (r : Result A E) (s t : ℕ) → OnOk r (s ≤ t) → OnErr r (t ≡ s) → s ≤ t

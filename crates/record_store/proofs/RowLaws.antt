@@ -64,20 +64,6 @@ added (Err e) old new p state h ok err = record {
   states = tt;
 }
 
--- a loop that adds the state of each partition
-pub states_more : (old new : List (ℕ × CopyState)) (n : ℕ) (f : ℕ → CopyState) → ((q : ℕ) → state_of new q ≡ cond (n == q) (f n) (state_of old q)) → ((p : ℕ) → p < n → state_of old p ≡ f p) → (p : ℕ) → p < n + 1 → state_of new p ≡ f p
-states_more old new n f is done p upto = elim (eqb_tells n p) as (λ _. state_of new p ≡ f p) [
-  | inl same ↦ is p ∙ ap (λ b. cond b (f n) (state_of old p)) same.0 ∙ ap f same.1
-  | inr other ↦ is p ∙ ap (λ b. cond b (f n) (state_of old p)) other.0 ∙ done p (omega (arith, upto, other.1))
-]
-
 -- a loop that takes the first elements
 pub taken_more : (n i : ℕ) (done rest : List (List ℕ)) (x : List ℕ) → i < n → done ++ take (n - i) (x ∷ rest) ≡ (done ++ x ∷ []) ++ take (n - (i + 1)) rest
 taken_more n i done rest x before = ap (λ m. done ++ take m (x ∷ rest)) (let more : n - i ≡ suc (n - (i + 1)) = omega (arith, before) in more) ∙ sym (append_assoc done (x ∷ []) (take (n - (i + 1)) rest))
-
-pub taken_all : (n : ℕ) (done : List (List ℕ)) → done ++ take n [] ≡ done
-taken_all zero done = append-nil done
-taken_all (suc n) done = append-nil done
-
-pub taken_enough : (n i : ℕ) (done rest : List (List ℕ)) → n ≤ i → done ++ take (n - i) rest ≡ done
-taken_enough n i done rest upto = ap (λ m. done ++ take m rest) (let none : n - i ≡ 0 = omega (arith, upto) in none) ∙ append-nil done

@@ -97,18 +97,6 @@ keeps_same w v k header ids nodes clocks net entries ledger =
 
 -- ---- a step that was taken or wasn't
 
-pub keeps_either : (w v : Inside) (now : Run) (e : Event) (ms : List Line) (r : Result (Unit {0}) StepFault) → run_of w ≡ now → Keeps w
-    → v.header.items ≡ w.header.items → v.ids ≡ w.ids → v.clocks.items ≡ w.clocks.items → v.client ≡ w.client
-    → ms ≡ next_lines now e → MayCome now e → IsProperEvent e
-    → OnOk r (Wrote w.ledger v.ledger ms e) → OnOk r (IsWithin (w.ledger.journal.lines ++ ms)) → OnOk r (v.net.sent ≤ w.net.sent + length ms)
-    → OnOk r (Stands (after_step (standing now) e) v.ids v.nodes.items v.clocks.items v.net v.client)
-    → OnErr r (map (λ (x : Planning). x.now) v.nodes.items ≡ map (λ (x : Planning). x.now) w.nodes.items) → OnErr r (nets.IsSameNetwork w.net v.net) → OnErr r (IsSameLedger w.ledger v.ledger)
-    → Keeps v
-keeps_either w v now e ms (Ok u) seen k header ids clocks client made comes proper wrote within few after nodes net ledger =
-    keeps_after w v now e ms seen k header made comes proper wrote within few after
-keeps_either w v now e ms (Err x) seen k header ids clocks client made comes proper wrote within few after nodes net ledger =
-    keeps_same w v k header ids nodes clocks net client ledger
-
 -- the event's lines alone were written, and a message may have left
 pub stands_over : (w : Inside) (now : Run) (e : Event) (landing : Option ℕ) (net : nets.Network) → run_of w ≡ now → Keeps w → OnlyLands now e landing → nets.IsSameNetwork (landing_from w.net landing) net
     → Stands (after_step (standing now) e) w.ids w.nodes.items w.clocks.items net w.client
@@ -186,10 +174,6 @@ not_up w now n seen k unknown = go (worlds.is_up (standing now) n) refl
     go : (b : Bool) → worlds.is_up (standing now) n ≡ b → b ≡ false
     go true up = absurd (unknown ((known now (fits_of w now seen k).taken).up n up))
     go false up = refl
-
--- the facts of a declared node are its own
-pub own_facts : (w : Inside) (now : Run) (n : ℕ) (f : Facts) → run_of w ≡ now → Keeps w → f ≡ (standing now).facts n → n ≡ f.me
-own_facts w now n f seen k here = sym (ap (λ (g : Facts). g.me) here ∙ (known now (fits_of w now seen k).taken).me n)
 
 pub its_own : (w : Inside) (now : Run) (n : ℕ) → run_of w ≡ now → Keeps w → ((standing now).facts n).me ≡ n
 its_own w now n seen k = (known now (fits_of w now seen k).taken).me n

@@ -68,10 +68,6 @@ ids_distinct ids h = subst AreDistinct (map_same (in_order nat_lt ids)) (differ_
     map_same [] = refl
     map_same (m ∷ ms) = ap (λ xs. m ∷ xs) (map_same ms)
 
--- a declared node has a place among them
-pub declared_place : (r : Run) (n : ℕ) → Contains (declared_nodes r.header) n → Contains (in_order nat_lt (declared_nodes r.header)) n
-declared_place r n h = has_there (in_order nat_lt (declared_nodes r.header)) n (has_in_order nat_lt (declared_nodes r.header) n (contains_has (declared_nodes r.header) n h))
-
 -- and what has a place is declared
 pub placed_declared : (r : Run) (place n : ℕ) → StandsAt r place n → Contains (declared_nodes r.header) n
 placed_declared r place n h =

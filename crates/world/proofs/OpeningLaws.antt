@@ -41,11 +41,6 @@ next_new xs rest x h =
     subst (λ (ys : List ℕ). ¬ (Contains ys x)) (take-append_seam xs (x ∷ rest))
     (fresh_next (xs ++ x ∷ rest) (length xs) x (omega (arith, count)) (sym (get_or-append_seam xs x rest x)) h.distinct)
 
-pub next_room : (xs rest : List ℕ) (x : ℕ) → IsNodeList (xs ++ x ∷ rest) → length xs < 16
-next_room xs rest x h =
-    let count : length (xs ++ x ∷ rest) ≡ length xs + length (x ∷ rest) = length-append xs (x ∷ rest) in
-    omega (arith, h.limit, count)
-
 -- the next line declares a node
 pub node_next : (h : Header) (k : ℕ) (l : HeaderLine) (n : ℕ) (rack : Option ℕ) → k < length h → l ≡ get_or h k l → l ≡ header.Node n rack → declared_nodes (drop k h) ≡ n ∷ declared_nodes (drop (k + 1) h)
 node_next h k l n rack within at is =

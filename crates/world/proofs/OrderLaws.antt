@@ -94,12 +94,3 @@ list_falling ids sorted h moved down = record {
   limit = let same : length sorted ≡ length ids = length_permutation ids sorted moved in omega (arith, same, h.limit);
   distinct = subst AreDistinct (sym (sorted_falling ids sorted h.distinct moved down)) (distinct_in_order (λ m n. nat_lt n m) ids h.distinct);
 }
-
--- ids in rising order are in falling order what they were before
-pub falling_again : (ids : List ℕ) → AreDistinct ids → in_order (λ m n. nat_lt n m) (in_order nat_lt ids) ≡ in_order (λ m n. nat_lt n m) ids
-falling_again ids h =
-    same_rising falling_order (in_order (λ m n. nat_lt n m) (in_order nat_lt ids)) (in_order (λ m n. nat_lt n m) ids)
-    (rises_in_order falling_order (λ (m : ℕ). m) (in_order nat_lt ids) (differ_in_order nat_lt (λ (m : ℕ). m) ids (differ ids h)))
-    (rises_in_order falling_order (λ (m : ℕ). m) ids (differ ids h))
-    (λ z k. has_in_order (λ m n. nat_lt n m) ids z (in_order_has nat_lt ids z (in_order_has (λ m n. nat_lt n m) (in_order nat_lt ids) z k)))
-    (λ z k. has_in_order (λ m n. nat_lt n m) (in_order nat_lt ids) z (has_in_order nat_lt ids z (in_order_has (λ m n. nat_lt n m) ids z k)))

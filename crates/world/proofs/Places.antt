@@ -66,16 +66,6 @@ pub set_image : {A B : Type 0} (v : B → A) (f g : ℕ → A) (n : ℕ) (ids : 
 set_image {A} v f g n ids xs i x h e others same new =
     map-set v xs i x ∙ ap₂ (λ (zs : List A) z. set zs i z) same new ∙ set_at f g n ids i h e others
 
--- an item is replaced by one of the same image
-pub set_same : {A B : Type 0} (v : B → A) (f : ℕ → A) (ids : List ℕ) (xs : List B) (i n : ℕ) (x : B) → slice_get ids i ≡ Some n → map v xs ≡ map f ids → v x ≡ f n → map v (set xs i x) ≡ map f ids
-set_same {A} v f ids xs i n x e same new =
-    map-set v xs i x ∙ ap₂ (λ (zs : List A) z. set zs i z) same new ∙ back f ids i n e
-  where
-    back : (f : ℕ → A) (ids : List ℕ) (i n : ℕ) → slice_get ids i ≡ Some n → set (map f ids) i (f n) ≡ map f ids
-    back f [] i n e = cc
-    back f (m ∷ ids) zero n e = let same : m ≡ n = cc in ap (λ (x : A). x ∷ map f ids) (ap f (sym same))
-    back f (m ∷ ids) (suc i) n e = ap (λ (xs : List A). f m ∷ xs) (back f ids i n e)
-
 -- an item is replaced once more
 pub set_twice : {A : Type 0} (xs : List A) (i : ℕ) (a b : A) → set (set xs i a) i b ≡ set xs i b
 set_twice [] i a b = refl

@@ -66,11 +66,6 @@ arrives_so r e i how m l ls landing x is flies free read told made lands =
       landing = lands;
     }
 
--- a receiver that isn't declared is the client
-pub to_client : (r : Run) (n : ℕ) → (n ≡ client) ⊎ Contains (declared_nodes r.header) n → ¬ (Contains (declared_nodes r.header) n) → n ≡ client
-to_client r n (inl same) unknown = same
-to_client r n (inr known) unknown = absurd (unknown known)
-
 -- ---- at the client
 
 pub stale_passes : (r : Run) (a : Arriving) (ls : List Line) (x : Arrives r a) → a.to ≡ client → ((t : MapTable) → a.message ≡ message.MapTable t → ⊥) → ls ≡ a.lines ++ line.Stale client ∷ []

@@ -57,26 +57,6 @@ takes_none now e (Err x) none = takes_so x none.1
     takes_so : (x : StepFault) → x ≡ fault.NoMemory → TakesStep now now e (Err x)
     takes_so x is = record { ok = tt; within = tt; too_long = λ long w. cc; err = refl }
 
--- what the world keeps of the journal after the step
-pub fits_written : (h : Header) (old new : Ledger) (e : Event) (sent sent' : ℕ) (ms : List Line) (r : Result (Unit {0}) StepFault)
-    → Fits (run_of_events h old.events.items) sent old.journal.lines → ms ≡ next_lines (run_of_events h old.events.items) e → MayCome (run_of_events h old.events.items) e → IsProperEvent e
-    → OnOk r (Wrote old new ms e) → OnOk r (IsWithin (old.journal.lines ++ ms)) → OnErr r (IsSameLedger old new) → OnOk r (sent' ≤ sent + length ms) → OnErr r (sent' ≡ sent)
-    → Fits (run_of_events h new.events.items) sent' new.journal.lines
-fits_written h old new e sent sent' ms (Ok u) fits made comes proper wrote within same few still =
-    fits_more h old.events.items new.events.items e sent sent' old.journal.lines new.journal.lines ms fits wrote.events wrote.lines made comes proper (subst IsWithin (sym wrote.lines) within) few
-fits_written h old new e sent sent' ms (Err x) fits made comes proper wrote within same few still =
-    fits_same h old.events.items new.events.items sent sent' old.journal.lines new.journal.lines fits same.events still same.lines
-
--- what the parts stand as after it
-pub stands_written : (h : Header) (old new : Ledger) (e : Event) (ms : List Line) (r : Result (Unit {0}) StepFault) (ids : List ℕ) (nodes : List Planning) (clocks : List ℕ) (net : nets.Network) (entries : List (Option Entry))
-    → OnOk r (Wrote old new ms e) → OnErr r (IsSameLedger old new)
-    → OnOk r (Stands (after_step (standing (run_of_events h old.events.items)) e) ids nodes clocks net entries) → OnErr r (Stands (standing (run_of_events h old.events.items)) ids nodes clocks net entries)
-    → Stands (standing (run_of_events h new.events.items)) ids nodes clocks net entries
-stands_written h old new e ms (Ok u) ids nodes clocks net entries wrote same after before =
-    subst (λ w. Stands w ids nodes clocks net entries) (sym (standing_after h old.events.items new.events.items e wrote.events)) after
-stands_written h old new e ms (Err x) ids nodes clocks net entries wrote same after before =
-    subst (λ (es : List Event). Stands (standing (run_of_events h es)) ids nodes clocks net entries) (sym same.events) before
-
 -- ---- what stands in a world
 
 pub ids_are : (r : Run) (ids : List ℕ) (nodes : List Planning) (clocks : List ℕ) (net : nets.Network) (entries : List (Option Entry)) → Stands (standing r) ids nodes clocks net entries → ids ≡ in_order nat_lt (declared_nodes r.header)
