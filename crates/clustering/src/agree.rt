@@ -86,6 +86,13 @@ impl Agree {
         }
     }
 
+    /// Another node told that it promised this key.
+    pub fn see(&mut self, key: ClusterKey)
+        ensures { self.new ≡ with_agreement self.old (seeing self.old.agreement key) }
+    {
+        self.stage = self.stage.seeing(key);
+    }
+
     /// A tick at which the neighbours, the node among them, are these, and the node is a candidate
     /// or not. A proposal of other members is given up. A candidate that then proposes nothing
     /// proposes them, where a round is left for that.

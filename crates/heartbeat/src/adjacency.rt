@@ -141,6 +141,15 @@ impl Adjacency {
         ids_of(self.heard.as_slice())
     }
 
+    /// How many nodes are heard. None is heard twice.
+    pub fn count(&self) -> usize
+        ensures value { result ≡ length (heard_ids self.now.hearing.heard) }
+        ensures order { IsDescending (heard_ids self.now.hearing.heard) }
+        ensures limit { result ≤ heard_limit }
+    {
+        self.heard.as_slice().len()
+    }
+
     /// Whether every other neighbour shows this key as its view.
     pub fn all_show(&self, key: ClusterKey) -> bool
         ensures { result ≡ hearing.all_show self.now.me self.now.hearing.heard key }
