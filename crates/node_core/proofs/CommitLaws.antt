@@ -6,6 +6,7 @@ use Rattle.std.specs.Prelude.{option_map}
 use Rattle.std.specs.Option.{ForSome, IfSome}
 use Rattle.std.proofs.lemmas.List.Elements.{All-nil, All-cons, All-head, All-tail}
 use Rattle.conflict_order.specs.declared.version.Version.{Version}
+use Rattle.cluster_types.specs.declared.member.Role.{Role}
 use Rattle.wire_messages.specs.declared.message.Batch.{Batch}
 use Rattle.record_store.specs.Store as held
 use Rattle.heartbeat.specs.Adjacent.{Adjacent}
@@ -17,7 +18,7 @@ use Rattle.node_rules.specs.ByParts.{sending_all}
 use Rattle.node_rules.specs.Copies.{Content, Store}
 use Rattle.node_rules.specs.Exchange.{Exchange, key_of, outside}
 use Rattle.node_rules.specs.Facts.{Facts, fresh, view_key}
-use Rattle.node_rules.specs.Hearing.{beat_heard, deaf, heard_ids, without_quiet}
+use Rattle.node_rules.specs.Hearing.{beat_heard, deaf, heard_ids, ticked, without_quiet}
 use Rattle.node_rules.specs.Steps.{Planning, unplanned}
 use Rattle.node_rules.specs.Tables.{changed_if}
 use Rattle.node_view.specs.declared.here.Settling.{Settling}
@@ -40,7 +41,7 @@ use Rattle.node_core.specs.declared.planned.Ticked.{Ticked}
 use Rattle.node_core.specs.Nodes.{Agrees, IsPlannedFrom, facts_of, planning_of}
 use Rattle.node_core.specs.Plans.{agreed, next_of, taken, with_sent}
 use Rattle.node_core.specs.Ranges.{HasRanges}
-use Rattle.node_core.proofs.HeardLaws.{heard_put}
+use Rattle.node_core.proofs.HeardLaws.{heard_put, heard_still}
 use Rattle.node_core.proofs.NodeLaws.{IsNode, given_up, node_is_seen, node_seen, node_unseen, none_planned, same_store, step_fits_seen, unplanned_view, view_unseen, with_unseen}
 use Rattle.node_core.proofs.RangeLaws.{keys_of, ranges_agreed, stopped_ranges}
 use Rattle.node_core.proofs.SettledLaws.{kept_all, settled_exchange}
@@ -441,21 +442,30 @@ taking n v u s after h none is a ranges = record {
 
 -- ---- the whole tick
 
--- the node heard what it is to hear, and fits the agreement
-pub fits_aged : (n : Inside) (old : Planning) (t : Ticked) → planning_of n ≡ old → FitsTick old.now t → FitsAgreed (facts_of (aged_node n t.hearing)) t.agree t.entered
-fits_aged n old t seen fits = record {
+-- what a node hears once it is a tick older
+abbrev pub IsOlder : Inside → Adjacent → Type 0
+IsOlder n hearing = hearing ≡ record n.hearing { hearing = ticked n.hearing.me n.hearing.role n.hearing.hearing }
+
+older_so : (n : Inside) (hearing : Adjacent) → Agrees n → IsOlder n hearing → hearing ≡ record { me = n.me; role = n.role; hearing = ticked n.me n.role n.hearing.hearing }
+older_so n hearing h older = older ∙ ap₂ (λ (m : ℕ) (r : Role). record { me = m; role = r; hearing = ticked m r n.hearing.hearing }) h.hearing h.role
+
+-- the node fits the agreement as before
+pub fits_aged : (n : Inside) (old : Planning) (hearing : Adjacent) (t : Ticked) → planning_of n ≡ old → FitsTick old.now t → FitsAgreed (facts_of (aged_node n hearing)) t.agree t.entered
+fits_aged n old hearing t seen fits = record {
   agree_of = fits.agree ∙ sym (ap (λ (p : Planning). p.now.me) seen);
-  view = λ v e. new_view_aged (facts_of n) t.hearing v.value (subst (λ (p : Planning). IsNewView p.now v.value) (sym seen) (fits.entered v e));
+  view = λ v e. new_view_aged (facts_of n) hearing v.value (subst (λ (p : Planning). IsNewView p.now v.value) (sym seen) (fits.entered v e));
 }
 
-pub aged_is : (n : Inside) (old : Planning) (t : Ticked) → planning_of n ≡ old → agreed_after (facts_of (aged_node n t.hearing)) t.agree t.entered ≡ ticked_facts old.now t
-aged_is n old t seen = ap (λ (p : Planning). ticked_facts p.now t) seen
+pub aged_is : (n : Inside) (old : Planning) (hearing : Adjacent) (t : Ticked) → Agrees n → IsOlder n hearing → planning_of n ≡ old
+    → agreed_after (facts_of (aged_node n hearing)) t.agree t.entered ≡ ticked_facts old.now t
+aged_is n old hearing t h older seen =
+    ap (λ (x : Adjacent). agreed_after (facts_of (aged_node n x)) t.agree t.entered) (older_so n hearing h older)
+    ∙ ap (λ (p : Planning). ticked_facts p.now t) seen
 
-pub aging : (n : Inside) (old : Planning) (t : Ticked) → Agrees n → planning_of n ≡ old → old.next ≡ None → FitsTick old.now t → IsNode (aged_node n t.hearing)
-aging n old t h seen none fits =
-    let back : old ≡ planning_of n = sym seen in
-    that_aged n t.hearing h (none_before n old seen none) (fits.hearing ∙ ap (λ (p : Planning). p.now.me) back) (fits.role ∙ ap (λ (p : Planning). p.now.role) back)
-    (subst (λ (p : Planning). All (λ m. Contains p.now.peers m) (heard_ids t.hearing.hearing.heard)) back fits.heard)
+pub aging : (n : Inside) (old : Planning) (hearing : Adjacent) → Agrees n → IsOlder n hearing → planning_of n ≡ old → old.next ≡ None → IsNode (aged_node n hearing)
+aging n old hearing h older seen none =
+    that_aged n hearing h (none_before n old seen none) (ap (λ (x : Adjacent). x.me) older ∙ h.hearing) (ap (λ (x : Adjacent). x.role) older ∙ h.role)
+    (subst (λ (x : Adjacent). All (λ m. Contains n.peers m) (heard_ids x.hearing.heard)) (sym older) (heard_still (λ m. Contains n.peers m) n.hearing.hearing.heard h.heard))
 
 pub ready_to_settle : (m : Inside) (f : Facts) (v : Box View) (ss : List Settling) → Agrees m → planning_of m ≡ unplanned f → m.view ≡ Some v → AreSettlings f ss → IsReadyToSettle v.value m.store ss
 ready_to_settle m f v ss h seen is due =

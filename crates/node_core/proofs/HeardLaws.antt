@@ -1,11 +1,11 @@
--- Whom a node hears, once a heartbeat came.
-use Rattle.std.proofs.Common.{ℕ, [], ◌∷◌, map, reverse, All}
+-- Whom a node hears, once a heartbeat came, and once a tick went by.
+use Rattle.std.proofs.Common.{ℕ, ◌+◌, nat_lt, Bool, true, false, cond, [], ◌∷◌, map, reverse, All}
 use Rattle.std.specs.FinMap.Entries.{by_order}
 use Rattle.std.specs.Ordering.{nat_cmp}
 use Rattle.std.specs.declared.cmp.Ordering.TheVariants.{Less, Equal, Greater}
 use Rattle.std.proofs.lemmas.List.Elements.{All-cons, All-head, All-nil, All-tail}
 use Rattle.std.proofs.lemmas.List.Sorted.{All-permutation, IsPermutation-reverse, IsPermutation-sym}
-use Rattle.node_rules.specs.Hearing.{Heard, heard_ids}
+use Rattle.node_rules.specs.Hearing.{Heard, aged, heard_ids, older, timeout}
 use Rattle.node_rules.specs.Tables.{Table, with_entry}
 
 put_ids : (P : ℕ → Type 0) (n : ℕ) (x : Heard) (es : Table Heard) → P n → All P (map (λ e. e.0) es) → All P (map (λ e. e.0) (with_entry es n x))
@@ -26,3 +26,21 @@ heard_put P n x es p h =
     let after = map (λ (y : ℕ × Heard). y.0) (with_entry es n x) in
     All-permutation P after (reverse after) (IsPermutation-reverse after)
     (put_ids P n x es p (All-permutation P (reverse before) before (IsPermutation-sym before (reverse before) (IsPermutation-reverse before)) h))
+
+-- ---- a tick
+
+older_ids : (P : ℕ → Type 0) (es : Table Heard) → All P (map (λ e. e.0) es) → All P (map (λ e. e.0) (aged es))
+older_ids P [] h = h
+older_ids P (e ∷ es) h = go (nat_lt (e.1.age + 1) timeout) (older_ids P es (All-tail P e.0 (map (λ (x : ℕ × Heard). x.0) es) h))
+  where
+    go : (b : Bool) → All P (map (λ e. e.0) (aged es)) → All P (map (λ (x : ℕ × Heard). x.0) (cond b (older e ∷ aged es) (aged es)))
+    go true later = All-cons P e.0 (map (λ (x : ℕ × Heard). x.0) (aged es)) (All-head P e.0 (map (λ (x : ℕ × Heard). x.0) es) h) later
+    go false later = later
+
+-- what holds of all that are heard holds of those that still are
+pub heard_still : (P : ℕ → Type 0) (es : Table Heard) → All P (heard_ids es) → All P (heard_ids (aged es))
+heard_still P es h =
+    let before = map (λ (x : ℕ × Heard). x.0) es in
+    let after = map (λ (x : ℕ × Heard). x.0) (aged es) in
+    All-permutation P after (reverse after) (IsPermutation-reverse after)
+    (older_ids P es (All-permutation P (reverse before) before (IsPermutation-sym before (reverse before) (IsPermutation-reverse before)) h))

@@ -1,12 +1,11 @@
 -- A planned tick: what it tells and what it changes is what the rules say.
-use Rattle.std.proofs.Common.{◌≡◌, ◌≢◌, ◌<◌, ◌&&◌, ◌^◌, ℕ, ◌+◌, nat_lt, Bool, true, false, List, [], ◌∷◌, Option, Some, None, is_none, is_some, IsSome, All, Contains, cond, map, reverse, inr, refl, sym, ap, ap₂, subst, ◌∙◌, arith, Result, Ok, Err, OnErr}
+use Rattle.std.proofs.Common.{◌≡◌, ◌≢◌, ◌<◌, ◌&&◌, ◌^◌, ℕ, ◌+◌, nat_lt, Bool, true, false, List, [], ◌∷◌, Option, Some, None, is_none, is_some, IsSome, All, inr, refl, sym, ap, ap₂, subst, ◌∙◌, arith, Result, Ok, Err, OnErr}
 use Rattle.std.specs.Borrow.{Bor}
 use Rattle.std.specs.Global.{Box}
 use Rattle.std.specs.Option.{ForSome}
 use Rattle.std.specs.Prelude.{IfSome}
 use Rattle.std.proofs.lemmas.Bool.Decides.{nat_tests}
-use Rattle.std.proofs.lemmas.List.Elements.{All-cons, All-head, All-nil, All-tail}
-use Rattle.std.proofs.lemmas.List.Sorted.{All-permutation, IsPermutation-reverse, IsPermutation-sym}
+use Rattle.std.proofs.lemmas.List.Elements.{All-nil}
 use Rattle.cluster_types.specs.declared.cluster_key.ClusterKey.{ClusterKey}
 use Rattle.cluster_types.specs.declared.member.Member.{Member}
 use Rattle.cluster_types.specs.declared.member.Role.{Role}
@@ -29,11 +28,10 @@ use Rattle.node_rules.specs.Copies.{Content, is_nil}
 use Rattle.node_rules.specs.Effects as rules
 use Rattle.node_rules.specs.Exchange.{is_member, is_single}
 use Rattle.node_rules.specs.Facts.{Facts, view_key}
-use Rattle.node_rules.specs.Hearing.{Heard, Hearing, aged, heard_ids, older, ticked, timeout, without_quiet}
+use Rattle.node_rules.specs.Hearing.{Hearing, ticked, without_quiet}
 use Rattle.node_rules.specs.Notes.{after_ages, neighbours, noted}
 use Rattle.node_rules.specs.Settling.{settling}
 use Rattle.node_rules.specs.Steps.{Planning, after_tick}
-use Rattle.node_rules.specs.Tables.{Table}
 use Rattle.node_rules.specs.Tick as tick
 use Rattle.node_rules.specs.Tick.{due_tick, in_order, is_candidate, propose}
 use Rattle.node_rules.proofs.TickParts.{alone_is, among_others_is, up_is}
@@ -45,7 +43,6 @@ use Rattle.node_view.specs.Plans.{settled_at, settled_by, with_stamps}
 use Rattle.node_view.specs.Views.{IsEntered, IsViewOf, Viewed, view_entered, with_view}
 use Rattle.node_core.specs.declared.effects.Effects.{Effects}
 use Rattle.node_core.specs.declared.node.Node.TheInside.{Inside}
-use Rattle.node_core.specs.declared.planned.Planned.TheVariants as planned
 use Rattle.node_core.specs.declared.planned.Ticked.{Ticked}
 use Rattle.node_core.specs.Counts.{HaveNumbers}
 use Rattle.node_core.specs.Fits.{FitsAgreed, FitsEntered, FitsTick, IsNewView, ticked_facts}
@@ -295,22 +292,6 @@ later_stands f hearing agree answer entered h stands = go (how_enters f hearing 
 
 -- ---- the plan fits
 
-older_ids : (P : ℕ → Type 0) (es : Table Heard) → All P (map (λ e. e.0) es) → All P (map (λ e. e.0) (aged es))
-older_ids P [] h = h
-older_ids P (e ∷ es) h = go (nat_lt (e.1.age + 1) timeout) (older_ids P es (All-tail P e.0 (map (λ (x : ℕ × Heard). x.0) es) h))
-  where
-    go : (b : Bool) → All P (map (λ e. e.0) (aged es)) → All P (map (λ (x : ℕ × Heard). x.0) (cond b (older e ∷ aged es) (aged es)))
-    go true later = All-cons P e.0 (map (λ (x : ℕ × Heard). x.0) (aged es)) (All-head P e.0 (map (λ (x : ℕ × Heard). x.0) es) h) later
-    go false later = later
-
--- what holds of all that are heard holds of those that still are
-heard_still : (P : ℕ → Type 0) (es : Table Heard) → All P (heard_ids es) → All P (heard_ids (aged es))
-heard_still P es h =
-    let before = map (λ (x : ℕ × Heard). x.0) es in
-    let after = map (λ (x : ℕ × Heard). x.0) (aged es) in
-    All-permutation P after (reverse after) (IsPermutation-reverse after)
-    (older_ids P es (All-permutation P (reverse before) before (IsPermutation-sym before (reverse before) (IsPermutation-reverse before)) h))
-
 pub entered_fits : (f : Facts) (hearing : Adjacent) (agree : Agreeing) (answer : answers.Proposal) (entered : Option (Box View))
     → IsTicking f hearing agree answer entered → FitsAgreed f agree entered
 entered_fits f hearing agree answer entered h = record { agree_of = h.agrees; view = go (how_enters f hearing agree answer entered h) }
@@ -325,22 +306,18 @@ entered_fits f hearing agree answer entered h = record { agree_of = h.agrees; vi
         subst (λ (x : Box View). IsNewView f x.value) same
         (new w.value (entered_view (after_ages f) (next_key f.me (after_ages f).agreement) (neighbours (after_ages f)) w.value view))
 
-planned_facts : (f : Facts) (hearing : Adjacent) (agree : Agreeing) (entered : Option (Box View)) (t : Ticked) → TicksFrom f hearing agree entered t
+planned_facts : (f : Facts) (hearing : Adjacent) (agree : Agreeing) (entered : Option (Box View)) (t : Ticked)
+    → hearing ≡ record { me = f.me; role = f.role; hearing = ticked f.me f.role f.hearing } → TicksFrom f hearing agree entered t
     → ticked_facts f t ≡ agreed f hearing agree entered
-planned_facts f hearing agree entered t from =
-    ap₂ (λ (x : Adjacent) (y : Agreeing). agreed f x y t.entered) from.heard from.agreed_on ∙ ap (λ (o : Option (Box View)). agreed f hearing agree o) from.view
+planned_facts f hearing agree entered t heard from =
+    ap₂ (λ (x : Adjacent) (y : Agreeing). agreed f x y t.entered) (sym heard) from.agreed_on ∙ ap (λ (o : Option (Box View)). agreed f hearing agree o) from.view
 
 pub tick_fits : (f : Facts) (hearing : Adjacent) (agree : Agreeing) (answer : answers.Proposal) (entered : Option (Box View)) (t : Ticked)
-    → IsTicking f hearing agree answer entered → TicksFrom f hearing agree entered t → HasRanges f → All (λ m. Contains f.peers m) (heard_ids f.hearing.heard)
-    → FitsTick f t
-tick_fits f hearing agree answer entered t h from r heard =
-    let same : ticked_facts f t ≡ agreed f hearing agree entered = planned_facts f hearing agree entered t from in
+    → IsTicking f hearing agree answer entered → TicksFrom f hearing agree entered t → HasRanges f → FitsTick f t
+tick_fits f hearing agree answer entered t h from r =
+    let same : ticked_facts f t ≡ agreed f hearing agree entered = planned_facts f hearing agree entered t h.heard from in
     let back : agreed f hearing agree entered ≡ ticked_facts f t = sym same in
-    let hears : t.hearing ≡ record { me = f.me; role = f.role; hearing = ticked f.me f.role f.hearing } = from.heard ∙ h.heard in
     record {
-      hearing = ap (λ (x : Adjacent). x.me) hears;
-      role = ap (λ (x : Adjacent). x.role) hears;
-      heard = subst (λ (x : Adjacent). All (λ m. Contains f.peers m) (heard_ids x.hearing.heard)) (sym hears) (heard_still (λ m. Contains f.peers m) f.hearing.heard heard);
       agree = ap (λ (x : Agreeing). x.me) from.agreed_on ∙ h.agrees;
       entered = subst (λ (o : Option (Box View)). FitsEntered f o) (sym from.view) (entered_fits f hearing agree answer entered h).view;
       ranges = subst HasRanges back (later_fit f hearing agree answer entered h r);
@@ -392,7 +369,7 @@ ticked_is f hearing agree answer entered t up h from r =
     let onward : now ≡ s.agreement =
     sym (settled_agreement g t.settlings.items ∙ onward_kept f hearing agree entered ∙ h.proposed.agreement
     ∙ ticking_twice f.me f.agreement (neighbours (after_ages f)) (is_candidate (after_ages f))) in
-    ap (λ (x : Facts). with_sent (settled_by x t.settlings.items) t.batches.items) (planned_facts f hearing agree entered t from)
+    ap (λ (x : Facts). with_sent (settled_by x t.settlings.items) t.batches.items) (planned_facts f hearing agree entered t h.heard from)
     ∙ sym (up_is f up
     ∙ ap₂ (λ (x y : Facts). record x { agreement = now; batches = sending_all x.batches (batches_due (view_key y) y.store.content y.batches) }) settled later
     ∙ ap₂ (λ (x : Agreement) (bs : List (ℕ × Batch)). record s { agreement = x; batches = sending_all s.batches bs }) onward sent)
@@ -447,7 +424,7 @@ taken_fits f hearing agree answer entered t h from stands held numbers r =
     batches_fit g inside (later_held f hearing agree answer entered h held) (later_count f hearing agree answer entered h numbers) fit in
     let sent : batches_due (view_key g) g.store.content g.batches ≡ t.batches.items =
     ap (λ (c : Content). batches_due (view_key g) c g.batches) (content_kept f hearing agree entered) ∙ sym from.batches in
-    subst (λ (x : Facts). HasRanges (with_sent (settled_by x t.settlings.items) t.batches.items)) (sym (planned_facts f hearing agree entered t from))
+    subst (λ (x : Facts). HasRanges (with_sent (settled_by x t.settlings.items) t.batches.items)) (sym (planned_facts f hearing agree entered t h.heard from))
     (sent_ranges (settled_by g t.settlings.items) t.batches.items (subst (λ (bs : List (ℕ × Batch)). All (λ b. IsBatch b.1) bs) sent due)
     (settled_ranges g t.settlings.items (settles_inside g t.settlings.items inside from.due) fit))
 

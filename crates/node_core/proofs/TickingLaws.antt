@@ -352,19 +352,18 @@ later_told f hearing agree entered own is after =
 -- what was planned of what the parts see is planned of the facts
 pub later_plan : (f : Facts) (hearing : Adjacent) (agree : Agreeing) (entered : Option (Box View)) (own : Option Viewed) (t : Ticked) → with_view f own ≡ f
     → HasRanges (agreed f hearing agree entered)
-    → t.hearing ≡ hearing → t.agree ≡ agree → t.entered ≡ entered
+    → t.agree ≡ agree → t.entered ≡ entered
     → t.batches.items ≡ batches_due (view_key (later_ground f hearing agree entered own)) f.store.content (later_ground f hearing agree entered own).batches
     → AreNext (later_ground f hearing agree entered own).exchange.exchanged (view_key (later_ground f hearing agree entered own)) (later_ground f hearing agree entered own).batches t.batches.items
     → AreSettlings (later_ground f hearing agree entered own) t.settlings.items
     → settling_lines (later_ground f hearing agree entered own).me (view_key (later_ground f hearing agree entered own)) t.settlings.items ≡ settling partition_count (later_ground f hearing agree entered own)
     → TicksFrom f hearing agree entered t
-later_plan f hearing agree entered own t is after heard agreed_on viewed sent next due lines =
+later_plan f hearing agree entered own t is after agreed_on viewed sent next due lines =
     let g : Facts = later_ground f hearing agree entered own in
     let h : Hearing = (agreed f hearing agree entered).hearing in
     let stamps : Stamps = (agreed f hearing agree entered).store.stamps in
     let same : with_stamped g h stamps ≡ agreed f hearing agree entered = sym (agreed_on_ground f hearing agree entered own is) in
     record {
-      heard = heard;
       agreed_on = agreed_on;
       view = viewed;
       batches = sent ∙ ap (λ (x : Facts). batches_due (view_key x) f.store.content x.batches) same;

@@ -1,12 +1,11 @@
 -- What a planned step says of the facts that it was planned from. Its commit goes by that, beside the room.
-use Rattle.std.specs.Prelude.{◌≡◌, ◌≢◌, ℕ, All, Contains, Option, Some, IsSome, option_map}
+use Rattle.std.specs.Prelude.{◌≡◌, ◌≢◌, ℕ, Contains, Option, Some, IsSome, option_map}
 use Rattle.std.specs.Global.{Box}
 use Rattle.std.specs.Option.{ForSome}
 use Rattle.heartbeat.specs.Adjacent.{HasRoomFor}
 use Rattle.clustering.specs.Agreeing.{Agreeing}
 use Rattle.node_rules.specs.ByParts.{batches_due}
 use Rattle.node_rules.specs.Facts.{Facts, view_key}
-use Rattle.node_rules.specs.Hearing.{heard_ids}
 use Rattle.node_view.specs.declared.view.View.{View}
 use Rattle.node_view.specs.declared.view_step.ViewStep.{ViewStep}
 use Rattle.node_view.specs.Fits.{AreNext, AreSettlings}
@@ -17,7 +16,7 @@ use Rattle.record_store.specs.Store as held
 use Rattle.node_core.specs.declared.planned.Planned.{Planned}
 use Rattle.node_core.specs.declared.planned.Planned.TheVariants as planned
 use Rattle.node_core.specs.declared.planned.Ticked.{Ticked}
-use Rattle.node_core.specs.Plans.{agreed}
+use Rattle.node_core.specs.Plans.{aged, agreed}
 use Rattle.node_core.specs.Ranges.{HasRanges}
 
 -- a view that is entered is the node's
@@ -31,13 +30,10 @@ FitsEntered f entered = ForSome entered (λ v. IsNewView f v.value)
 
 -- the facts of which the later parts of a planned tick are due
 abbrev pub ticked_facts : Facts → Ticked → Facts
-ticked_facts f t = agreed (record f { hearing = t.hearing.hearing }) t.agree.agreement (option_map (λ v. v.value) t.entered)
+ticked_facts f t = agreed (aged f) t.agree.agreement (option_map (λ v. v.value) t.entered)
 
 -- the tick is the node's: it enters a view of its own, and settles and sends what is due
 pub record FitsTick (f : Facts) (t : Ticked) : Type 0 where
-  pub hearing : t.hearing.me ≡ f.me
-  pub role : t.hearing.role ≡ f.role
-  pub heard : All (λ m. Contains f.peers m) (heard_ids t.hearing.hearing.heard)
   pub agree : t.agree.me ≡ f.me
   pub entered : FitsEntered f t.entered
   pub ranges : HasRanges (ticked_facts f t)

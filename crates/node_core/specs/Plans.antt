@@ -5,6 +5,7 @@ use Rattle.node_rules.specs.Agreement.{Agreement, seeing}
 use Rattle.node_rules.specs.ByParts.{exchanged_if, sending_all}
 use Rattle.node_rules.specs.Copies.{Row}
 use Rattle.node_rules.specs.Facts.{Facts, view_key}
+use Rattle.node_rules.specs.Hearing as hearing
 use Rattle.node_rules.specs.Hearing.{beat_heard, without_quiet}
 use Rattle.node_rules.specs.Messages.{finishes}
 use Rattle.node_rules.specs.Notes.{closed, row_came, stopped}
@@ -47,11 +48,15 @@ after_row f from row = exchanged_if (row_came f from row true) (view_key f) (fin
 abbrev pub with_sent : Facts → List (ℕ × Batch) → Facts
 with_sent f sent = record f { batches = sending_all f.batches sent }
 
+-- what is heard is a tick older
+abbrev pub aged : Facts → Facts
+aged f = record f { hearing = hearing.ticked f.me f.role f.hearing }
+
 -- a tick
 abbrev pub ticked : Facts → Ticked → Facts
 ticked f t =
     with_sent
-    (settled_by (agreed (record f { hearing = t.hearing.hearing }) t.agree.agreement (option_map (λ v. v.value) t.entered)) t.settlings.items)
+    (settled_by (agreed (aged f) t.agree.agreement (option_map (λ v. v.value) t.entered)) t.settlings.items)
     t.batches.items
 
 -- ---- acknowledgements of writes

@@ -50,7 +50,6 @@ EntersBy f proposal.Nothing entered = entered ≡ None
 
 -- what the later parts plan of a tick
 pub record TicksFrom (f : Facts) (hearing : Adjacent) (agree : Agreeing) (entered : Option (Box View)) (t : Ticked) : Type 0 where
-  pub heard : t.hearing ≡ hearing
   pub agreed_on : t.agree ≡ agree
   pub view : t.entered ≡ entered
   pub batches : t.batches.items ≡ batches_due (view_key (agreed f hearing agree entered)) f.store.content (agreed f hearing agree entered).batches

@@ -43,13 +43,12 @@ impl Node {
         ensures { self.new ≡ unplanned (ticked self.old.now tick) }
     {
         let Ticked {
-            hearing,
             agree,
             entered,
             batches,
             settlings,
         } = tick;
-        self.hearing = hearing;
+        self.hearing.tick();
         self.take_agreed(agree, entered);
         if let Some(view) = &mut self.view {
             view.settle_all(&mut self.store, &settlings);
@@ -78,7 +77,7 @@ impl Node {
         ensures { self.new ≡ unplanned (taken self.old.now (planned.Heard from beat.now)) }
     {
         self.hearing.heard(from, beat);
-        self.agree = self.agree.copy().saw(beat.promised);
+        self.agree.see(beat.promised);
     }
 
     fn take_stop(&mut self)

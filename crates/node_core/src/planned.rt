@@ -1,7 +1,6 @@
 //! Planned steps.
 use cluster_types::NodeId;
 use clustering::Agree;
-use heartbeat::Adjacency;
 use node_rules::Beat;
 use node_view::{Settling, View, ViewStep};
 use wire_messages::Batch;
@@ -11,7 +10,7 @@ use wire_messages::Batch;
 pub(crate) enum Planned {
     /// Nothing changes.
     Nothing,
-    /// A tick. It is the largest by far, and boxed so that the others move cheaply.
+    /// A tick. It is boxed so that the others move cheaply.
     Tick(Box<Ticked>),
     /// The agreement goes on.
     Agreed {
@@ -28,10 +27,9 @@ pub(crate) enum Planned {
     Stopped,
 }
 
-/// A tick.
+/// A tick. That what is heard ages needs no memory, and isn't planned.
 #[derive(Drop)]
 pub(crate) struct Ticked {
-    pub hearing: Adjacency,
     pub agree: Agree,
     pub entered: Option<Box<View>>,
     /// The batches that are sent, each with its receiver.

@@ -60,7 +60,7 @@ impl Node {
 
         let (agree, proposal) = self.agree.copy().on_tick(set, candidate);
         let entered = self.propose(alloc, &agree, &proposal, &mut out)?;
-        let ticked = self.plan_rest(alloc, hearing, agree, entered, &mut out)?;
+        let ticked = self.plan_rest(alloc, &hearing, agree, entered, &mut out)?;
         let tick = Box::new(alloc, ticked)?;
         Ok(self.plan(out, Planned::Tick(tick)))
     }
@@ -69,22 +69,22 @@ impl Node {
     fn plan_rest(
         &self,
         alloc: Global,
-        hearing: Adjacency,
+        hearing: &Adjacency,
         agree: Agree,
         entered: Option<Box<View>>,
         out: &mut Effects,
     ) -> Result<Ticked, NoMemory>
         requires up { IsTrue self.now.now.up }
-        requires counts { HaveNumbers (agreed self.now.now hearing agree entered) }
-        requires hearing { hearing.me ≡ self.now.now.me }
+        requires counts { HaveNumbers (agreed self.now.now hearing.now agree entered) }
+        requires hearing { hearing.now.me ≡ self.now.now.me }
         requires view { FitsAgreed self.now.now agree entered }
-        requires ranges { HasRanges (agreed self.now.now hearing agree entered) }
-        ensures lines { OnOk result (out.new ≡ followed_by out.old (in_order (later_parts partition_count) (agreed self.now.now hearing agree entered))) }
-        ensures ticked { IfOk result (λ t. TicksFrom self.now.now hearing agree entered t) }
+        requires ranges { HasRanges (agreed self.now.now hearing.now agree entered) }
+        ensures lines { OnOk result (out.new ≡ followed_by out.old (in_order (later_parts partition_count) (agreed self.now.now hearing.now agree entered))) }
+        ensures ticked { IfOk result (λ t. TicksFrom self.now.now hearing.now agree entered t) }
     {
         let _ = &self.me;
         let (batches, settlings) = {
-            let ground = self.ground(&hearing, &agree, newest(&entered, self.own_view()));
+            let ground = self.ground(hearing, &agree, newest(&entered, self.own_view()));
             rows(alloc, &ground, out)?;
             transactions(alloc, &ground, out)?;
             let batches = batches(alloc, &ground, out)?;
@@ -93,7 +93,6 @@ impl Node {
             (batches, settlings)
         };
         Ok(Ticked {
-            hearing,
             agree,
             entered,
             batches,

@@ -43,7 +43,7 @@ impl Node {
         ensures err { OnErr result (self.new ≡ unplanned self.old.now) }
     {
         // Those that are heard are peers, and none twice: there is a place for this one.
-        let _heard = self.hearing.hears();
+        let _ = self.hearing.count();
         Ok(self.plan(Effects::new(alloc), Planned::Heard { from, beat }))
     }
 

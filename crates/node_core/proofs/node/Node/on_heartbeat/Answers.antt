@@ -1,5 +1,4 @@
 use Rattle.std.proofs.Common.{Contains, sym, subst}
-use Rattle.cluster_types.specs.Distinct.{IsDescending}
 use Rattle.node_rules.specs.Agreement.{seeing}
 use Rattle.node_rules.specs.Hearing.{beat_heard}
 use Rattle.node_rules.specs.Steps.{Planning}
@@ -16,7 +15,7 @@ plan-requires-clause-fits c =
     let peer : Contains now.peers c.args.from = subst (λ (p : Planning). Contains p.now.peers c.args.from) (sym c.self.view_is) c.requires.peer in
     let agrees = c.self.invariant.0 in
     subst (λ (p : Planning). FitsBeat p.now c.args.from) c.self.view_is
-    (fits_beat now c.args.from agrees.peers agrees.heard (subst IsDescending c.hears-heard.ensures.value c.hears-heard.ensures.order) peer)
+    (fits_beat now c.args.from agrees.peers agrees.heard c.count.ensures.order peer)
 
 pub plan-requires-clause-ranges : goal.plan-requires-clause-ranges
 plan-requires-clause-ranges c =

@@ -17,11 +17,11 @@ invariant_of-self c =
     let none : c.self.inside.planned ≡ None = none_planned _ c.self.inside.planned (ap (λ (p : Planning). p.next) c.self.view_is ∙ c.requires.unplanned) in
     let peer : Contains c.self.inside.peers c.args.from = subst (λ (p : Planning). Contains p.now.peers c.args.from) (sym c.self.view_is) c.requires.fits.peer in
     let ranges : HasRanges (taken (facts_of c.self.inside) (planned.Heard c.args.from c.args.beat.now)) = subst (λ (p : Planning). HasRanges (taken p.now (planned.Heard c.args.from c.args.beat.now))) (sym c.self.view_is) c.requires.ranges in
-    rw (c.heard.ensures, c.saw-self-inside.ensures, c.copy.ensures) (that_heard c.self.inside c.args.from c.args.beat.now c.self.invariant.0 none peer ranges)
+    rw (c.heard.ensures, c.see.ensures) (that_heard c.self.inside c.args.from c.args.beat.now c.self.invariant.0 none peer ranges)
 
 pub returns : goal.returns
 returns c =
     let none : c.self.inside.planned ≡ None = none_planned _ c.self.inside.planned (ap (λ (p : Planning). p.next) c.self.view_is ∙ c.requires.unplanned) in
-    rw (c.heard.ensures, c.saw-self-inside.ensures, c.copy.ensures)
+    rw (c.heard.ensures, c.see.ensures)
     (unplanned_view (heard_node c.self.inside c.args.from c.args.beat.now) (taken c.args.self.now.now (planned.Heard c.args.from c.args.beat.now)) none
     (ap (λ (p : Planning). taken p.now (planned.Heard c.args.from c.args.beat.now)) c.self.view_is))

@@ -1,4 +1,4 @@
-use Rattle.std.proofs.Common.{◌≡◌, ◌++◌, ◌∷◌, [], ℕ, List, Option, true, Contains, All, sym, ap, ap₂, subst, ◌∙◌}
+use Rattle.std.proofs.Common.{◌≡◌, ◌++◌, ◌∷◌, [], ℕ, List, Option, true, Contains, sym, ap, ap₂, subst, ◌∙◌}
 use Rattle.std.specs.Global.{Box}
 use Rattle.cluster_types.specs.declared.member.Member.{Member}
 use Rattle.cluster_types.specs.Members.{ids_of}
@@ -10,7 +10,7 @@ use Rattle.journal_lines.specs.declared.line.Line.{Line}
 use Rattle.journal_lines.specs.declared.line.Line.TheVariants as line
 use Rattle.node_rules.specs.Effects as rules
 use Rattle.node_rules.specs.Facts.{Facts}
-use Rattle.node_rules.specs.Hearing.{heard_ids, neighbours_of, ticked}
+use Rattle.node_rules.specs.Hearing.{neighbours_of, ticked}
 use Rattle.node_rules.specs.Notes.{after_ages, neighbours}
 use Rattle.node_rules.specs.Steps.{Planning, after_tick, planning}
 use Rattle.node_rules.specs.Tick as tick
@@ -193,9 +193,7 @@ plan-requires-clause-fits c =
     let t : Ticked = c.in_ok-tick.tick.value in
     let made : TicksFrom c.propose.new.self.now hearing agree entered t = subst (λ (x : Ticked). TicksFrom c.propose.new.self.now hearing agree entered x) (sym c.in_ok-tick.ensures.ok) c.in_ok-ticked.ensures.ticked in
     let from : TicksFrom f hearing agree entered t = subst (λ (p : Planning). TicksFrom p.now hearing agree entered t) c.propose.ensures.same made in
-    let peers : All (λ m. Contains f.peers m) (heard_ids f.hearing.heard) =
-    subst (λ (p : Planning). All (λ m. Contains p.now.peers m) (heard_ids p.now.hearing.heard)) c.self.view_is c.self.invariant.0.heard in
-    subst (λ (p : Planning). FitsTick p.now t) back (tick_fits f hearing agree answer entered t h from ranges peers)
+    subst (λ (p : Planning). FitsTick p.now t) back (tick_fits f hearing agree answer entered t h from ranges)
 
 pub plan-requires-clause-ranges : goal.plan-requires-clause-ranges
 plan-requires-clause-ranges c =
