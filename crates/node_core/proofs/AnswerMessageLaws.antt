@@ -13,7 +13,7 @@ use Rattle.node_rules.specs.Notes.{answer_came, if_view, in_view}
 use Rattle.node_rules.specs.Steps.{after_message}
 use Rattle.node_rules.specs.Transactions.{Transaction, answered, awaits_answer, is_last_awaited, transaction}
 use Rattle.node_rules.proofs.PartLaws.{answer_is}
-use Rattle.node_core.specs.Resolvings.{AwaitsLast}
+use Rattle.node_steps.specs.Resolvings.{AwaitsLast}
 
 -- ---- what is known after it
 

@@ -29,22 +29,23 @@ use Rattle.node_view.specs.declared.view_step.Outcome.TheVariants as outcome
 use Rattle.node_view.specs.declared.view_step.ViewStep.{ViewStep}
 use Rattle.node_view.specs.declared.view_step.ViewStep.TheVariants as step
 use Rattle.node_view.specs.Plans as view
-use Rattle.node_view.specs.Plans.{settled_at, settled_by, with_count, with_newer, with_outcome, with_outcome_if, with_stamps}
+use Rattle.node_view.specs.Plans.{settled_by, with_count, with_newer, with_outcome, with_outcome_if, with_stamps}
 use Rattle.node_view.specs.Fits.{AreNext, AreSettlings, FitsStep, IsReady, IsReadyToSend, IsReadyToSettle}
 use Rattle.node_view.specs.Rooms.{HasRoomIn}
 use Rattle.node_view.specs.Views.{IsNodeOf, Viewed, IsQuiet, facts_in, store_of, with_view}
 use Rattle.node_core.specs.declared.node.Node.TheInside.{Inside}
-use Rattle.node_core.specs.declared.planned.Planned.{Planned}
-use Rattle.node_core.specs.declared.planned.Planned.TheVariants as planned
-use Rattle.node_core.specs.Fits.{FitsAgreed, FitsTick, HasStepped, IsNewView, ticked_facts}
-use Rattle.node_core.specs.declared.planned.Ticked.{Ticked}
+use Rattle.node_steps.specs.declared.planned.Planned.{Planned}
+use Rattle.node_steps.specs.declared.planned.Planned.TheVariants as planned
+use Rattle.node_steps.specs.Fits.{FitsAgreed, FitsTick, HasStepped, IsNewView, ticked_facts}
+use Rattle.node_steps.specs.declared.planned.Ticked.{Ticked}
 use Rattle.node_core.specs.Nodes.{Agrees, IsPlannedFrom, facts_of, planning_of}
-use Rattle.node_core.specs.Plans.{agreed, next_of, taken, with_sent}
-use Rattle.node_core.specs.Ranges.{HasRanges}
+use Rattle.node_steps.specs.Plans.{agreed, next_of, taken, with_sent}
+use Rattle.node_steps.specs.Ranges.{HasRanges}
 use Rattle.node_core.proofs.HeardLaws.{heard_put, heard_still}
-use Rattle.node_core.proofs.NodeLaws.{IsNode, given_up, node_is_seen, node_seen, node_unseen, none_planned, same_store, step_fits_seen, unplanned_view, view_unseen, with_unseen}
-use Rattle.node_core.proofs.RangeLaws.{keys_of, ranges_agreed, stopped_ranges}
-use Rattle.node_core.proofs.SettledLaws.{kept_all, settled_exchange}
+use Rattle.node_core.proofs.NodeLaws.{IsNode, given_up, none_planned, unplanned_view}
+use Rattle.node_steps.proofs.SeenLaws.{node_is_seen, node_seen, node_unseen, same_store, step_fits_seen, view_unseen, with_unseen}
+use Rattle.node_steps.proofs.RangeLaws.{keys_of, ranges_agreed, stopped_ranges}
+use Rattle.node_steps.proofs.SettledLaws.{kept_all, settled_keeps, settled_batches, settled_view}
 
 pub nothing_planned : (n : Inside) → Agrees n → n.planned ≡ None → IsNode n
 nothing_planned n h none = (h, λ p e. cc, λ p e. cc)
@@ -279,18 +280,8 @@ that_aged n hearing h none me role heard =
 pub new_view_aged : (f : Facts) (hearing : Adjacent) (v : Viewed) → IsNewView f v → IsNewView (record f { hearing = hearing.hearing }) v
 new_view_aged f hearing v h = record { view = view_unseen (with_view f (Some v)) (record f { hearing = hearing.hearing }) v h.view; in_one = h.in_one }
 
-pub settled_keeps : {X : Type 0} (of : Facts → X) (f : Facts) (ss : List Settling) → ((g : Facts) (s : Settling) → of (settled_at g s) ≡ of g) → of (settled_by f ss) ≡ of f
-settled_keeps of f [] h = refl
-settled_keeps of f (s ∷ ss) h = settled_keeps of (settled_at f s) ss h ∙ h f s
-
 settled_rest : (f : Facts) (ss : List Settling) → rest_of (settled_by f ss) ≡ rest_of f
 settled_rest f ss = settled_keeps rest_of f ss (λ g s. kept_all rest_of g s (λ x. refl) (λ x. refl) (λ x. refl) (λ x. refl))
-
-pub settled_batches : (f : Facts) (ss : List Settling) → (settled_by f ss).batches ≡ f.batches
-settled_batches f ss = settled_keeps (λ (g : Facts). g.batches) f ss (λ g s. kept_all (λ (x : Facts). x.batches) g s (λ x. refl) (λ x. refl) (λ x. refl) (λ x. refl))
-
-pub settled_view : (f : Facts) (ss : List Settling) → (settled_by f ss).exchange ≡ f.exchange
-settled_view f ss = settled_keeps (λ (g : Facts). g.exchange) f ss settled_exchange
 
 settlings_seen : (f g : Facts) (ss : List Settling) → AreSettlings (with_unseen f g) ss → AreSettlings g ss
 settlings_seen f g ss h = record { exchanged = h.exchanged; each = h.each; rise = h.rise }

@@ -29,14 +29,14 @@ use Rattle.node_rules.specs.Transactions.{Transaction, Write}
 use Rattle.journal_lines.specs.declared.line.Line.{Line}
 use Rattle.journal_lines.specs.declared.line.Line.TheVariants as line
 use Rattle.node_view.specs.Transactions.{kept_of}
-use Rattle.node_core.specs.Viewing.{ending_of}
+use Rattle.node_steps.specs.Viewing.{ending_of}
 use Rattle.node_view.specs.Plans.{with_stamps}
 use Rattle.node_view.specs.Views.{IsEntered, IsLike, IsViewOf, Viewed, view_entered, with_view}
-use Rattle.node_core.specs.Fits.{IsNewView}
-use Rattle.node_core.specs.Plans.{agreed}
-use Rattle.node_core.specs.Ranges.{HasRanges, IsStampField, IsStoreField}
-use Rattle.node_core.proofs.RangeLaws.{HasKeys, no_writes_counted}
-use Rattle.node_core.proofs.StoreRanges.{stamped_fits}
+use Rattle.node_steps.specs.Fits.{IsNewView}
+use Rattle.node_steps.specs.Plans.{agreed}
+use Rattle.node_steps.specs.Ranges.{HasRanges, IsStampField, IsStoreField}
+use Rattle.node_steps.proofs.RangeLaws.{HasKeys, no_writes_counted}
+use Rattle.node_steps.proofs.StoreRanges.{stamped_fits}
 
 -- ---- the view is the node's
 

@@ -1,5 +1,5 @@
 -- What handlers of messages plan and tell.
-use Rattle.std.proofs.Common.{◌≡◌, ℕ, Bool, true, false, not, List, [], ◌∷◌, Option, Some, None, is_some, is_none, inl, inr, refl, sym, ap, ◌∙◌, arith}
+use Rattle.std.proofs.Common.{◌≡◌, ℕ, Bool, true, false, not, List, [], ◌∷◌, Option, Some, None, is_some, inl, inr, refl, sym, ap, ◌∙◌, arith}
 use Rattle.std.proofs.lemmas.Bool.Decides.{nat_tests}
 use Rattle.std.specs.Prelude.{IsSome}
 use Rattle.cluster_types.specs.declared.cluster_key.ClusterKey.{ClusterKey}
@@ -23,15 +23,9 @@ use Rattle.node_rules.specs.Messages as due
 use Rattle.node_rules.specs.Notes.{in_view}
 use Rattle.node_rules.specs.Steps.{Planning, unplanned}
 use Rattle.node_view.specs.Views.{IsInView, Viewed, key_of}
-use Rattle.node_core.specs.declared.effects.Effects.{Effects}
-use Rattle.node_core.specs.Plans.{only_if}
-use Rattle.node_core.specs.Spelled.{message_of, spelled, with_sends}
-
--- ---- the view of a message
-
-pub absent : {X : Type 0} → (o : Option X) → is_none o ≡ true → is_some o ≡ false
-absent None h = refl
-absent (Some x) h = cc
+use Rattle.node_steps.specs.declared.effects.Effects.{Effects}
+use Rattle.node_steps.specs.Plans.{only_if}
+use Rattle.node_steps.specs.Spelled.{message_of, spelled, with_sends}
 
 -- a message is of the view that has its key
 pub in_view_is : (f : Facts) (v : Viewed) (key : ClusterKey) → IsInView f v → is_some f.exchange.view ≡ true → in_view f key ≡ same_key (key_of v) key

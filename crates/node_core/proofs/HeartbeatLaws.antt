@@ -1,18 +1,19 @@
 -- The heartbeats of peers, for each of which there is a place.
-use Rattle.std.proofs.Common.{◌≡◌, ◌≢◌, ◌⊎◌, ◌≤◌, ◌<◌, ◌==◌, ℕ, Bool, true, false, List, [], ◌∷◌, ◌++◌, length, map, All, Contains, inl, inr, refl, sym, ap, subst, ◌∙◌, arith}
+use Rattle.std.proofs.Common.{◌≡◌, ◌≢◌, ◌⊎◌, ◌≤◌, ◌<◌, ◌==◌, ℕ, Bool, true, false, List, [], ◌∷◌, ◌++◌, length, map, All, Contains, inl, inr, refl, sym, ap, subst, arith}
 use Rattle.std.proofs.lemmas.List.{length-map, length-append}
 use Rattle.std.proofs.lemmas.List.Elements.{All-append, All-cons, All-head, All-tail}
 use Rattle.cluster_types.specs.Distinct.{AreDistinct, IsDescending}
 use Rattle.cluster_types.specs.Members.{ids_of, plain_member}
 use Rattle.cluster_types.proofs.DistinctLaws.{descending_distinct, distinct_push}
-use Rattle.partition_lists.proofs.InOrderLaws.{Has, equal, from_equal, index_of}
+use Rattle.partition_lists.proofs.InOrderLaws.{Has, from_equal, index_of}
 use Rattle.node_rules.specs.declared.member_row.MemberRow.{MemberRow}
 use Rattle.node_rules.specs.Facts.{Facts}
 use Rattle.node_rules.specs.Hearing.{heard_ids}
 use Rattle.exchange.specs.Rows.{nodes_of}
 use Rattle.exchange.proofs.RowsLaws.{has_of_contains, rows_fit}
-use Rattle.node_core.specs.Fits.{FitsBeat}
+use Rattle.node_steps.specs.Fits.{FitsBeat}
 use Rattle.node_core.specs.Peers.{ArePeers}
+use Rattle.node_steps.proofs.CandidateLaws.{unlike}
 
 -- ---- distinct ids among others
 
@@ -38,12 +39,6 @@ listed ys (x ∷ xs) h =
 no_more : (xs ys : List ℕ) → AreDistinct xs → All (Contains ys) xs → length xs ≤ length ys
 no_more xs ys distinct among =
     omega (arith, rows_fit (map plain_member ys) (map row_for xs) (subst AreDistinct (sym (nodes_back xs)) distinct) (listed ys xs among), length-map xs row_for, length-map ys plain_member)
-
-pub unlike : (a b : ℕ) → a ≡ b → ¬ ((a == b) ≡ false)
-unlike a b same is = clash (sym (equal a b same) ∙ is)
-  where
-    clash : true ≡ false → ⊥
-    clash wrong = cc
 
 has_or : (ns : List ℕ) (n : ℕ) → Has ns n ⊎ ¬ (Has ns n)
 has_or [] n = inr (λ found. found)

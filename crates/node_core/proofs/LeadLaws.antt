@@ -29,15 +29,15 @@ use Rattle.node_rules.specs.Steps.{after_message}
 use Rattle.node_rules.proofs.PartLaws.{accept_is, commit_is, last_accept_is}
 use Rattle.node_view.specs.declared.view.View.{View}
 use Rattle.node_view.specs.Views.{IsEntered, Viewed, view_entered}
-use Rattle.node_core.specs.declared.effects.Effects as told
-use Rattle.node_core.specs.Fits.{FitsAgreed, IsNewView}
-use Rattle.node_core.specs.Plans.{agreed}
-use Rattle.node_core.specs.Ranges.{HasRanges}
-use Rattle.node_core.specs.Spelled.{followed_by, spelled, with_sends}
-use Rattle.node_core.proofs.AckLaws.{same_key_is}
+use Rattle.node_steps.specs.declared.effects.Effects as told
+use Rattle.node_steps.specs.Fits.{FitsAgreed, IsNewView}
+use Rattle.node_steps.specs.Plans.{agreed}
+use Rattle.node_steps.specs.Ranges.{HasRanges}
+use Rattle.node_steps.specs.Spelled.{followed_by, spelled, with_sends}
+use Rattle.node_steps.proofs.AckLaws.{same_key_is}
 use Rattle.node_core.proofs.EnteringLaws.{agreed_alike, entered_is, entered_view, ranges_entered}
-use Rattle.node_core.proofs.RangeLaws.{keys_of}
-use Rattle.node_core.proofs.SpelledLaws.{each_spelled}
+use Rattle.node_steps.proofs.RangeLaws.{keys_of}
+use Rattle.node_steps.proofs.SpelledLaws.{each_spelled}
 
 -- ---- an Accept that doesn't count
 

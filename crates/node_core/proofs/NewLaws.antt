@@ -28,11 +28,12 @@ use Rattle.node_view.specs.Views.{store_of}
 use Rattle.node_core.specs.declared.node.Node.TheInside.{Inside}
 use Rattle.node_core.specs.Nodes.{facts_of}
 use Rattle.node_core.specs.Peers.{ArePeers, IsFactor}
-use Rattle.node_core.specs.Ranges.{HasRanges, IsSpelled, IsStampField, IsStoreField, IsTargetField}
+use Rattle.node_steps.specs.Ranges.{HasRanges, IsSpelled, IsStampField, IsStoreField, IsTargetField}
 use Rattle.node_rules.proofs.Empty.{no_digests}
-use Rattle.node_core.proofs.NodeLaws.{IsNode, none_for, same_store}
+use Rattle.node_core.proofs.NodeLaws.{IsNode}
+use Rattle.node_steps.proofs.SeenLaws.{none_for, same_store}
 use Rattle.node_core.proofs.PeerLaws.{peers_in_order}
-use Rattle.node_core.proofs.RangeLaws.{no_writes_counted}
+use Rattle.node_steps.proofs.RangeLaws.{no_writes_counted}
 
 nothing_held : (by : Policy) → IsStoreField (empty_store by)
 nothing_held by = record {

@@ -31,7 +31,7 @@ use Rattle.node_rules.specs.Facts.{Facts, view_key}
 use Rattle.node_rules.specs.Hearing.{Hearing, ticked, without_quiet}
 use Rattle.node_rules.specs.Notes.{after_ages, neighbours, noted}
 use Rattle.node_rules.specs.Settling.{settling}
-use Rattle.node_rules.specs.Steps.{Planning, after_tick}
+use Rattle.node_rules.specs.Steps.{after_tick}
 use Rattle.node_rules.specs.Tick as tick
 use Rattle.node_rules.specs.Tick.{due_tick, in_order, is_candidate, propose}
 use Rattle.node_rules.proofs.TickParts.{alone_is, among_others_is, up_is}
@@ -41,26 +41,25 @@ use Rattle.node_view.specs.Counts.{last_count}
 use Rattle.node_view.specs.Fits.{AreNext, AreSettlings}
 use Rattle.node_view.specs.Plans.{settled_at, settled_by, with_stamps}
 use Rattle.node_view.specs.Views.{IsEntered, IsViewOf, Viewed, view_entered, with_view}
-use Rattle.node_core.specs.declared.effects.Effects.{Effects}
-use Rattle.node_core.specs.declared.node.Node.TheInside.{Inside}
-use Rattle.node_core.specs.declared.planned.Ticked.{Ticked}
-use Rattle.node_core.specs.Counts.{HaveNumbers}
-use Rattle.node_core.specs.Fits.{FitsAgreed, FitsEntered, FitsTick, IsNewView, ticked_facts}
-use Rattle.node_core.specs.Nodes.{planning_of}
-use Rattle.node_core.specs.Plans as plans
-use Rattle.node_core.specs.Plans.{taken, with_sent}
-use Rattle.node_core.specs.Ranges.{HasRanges}
-use Rattle.node_core.specs.Spelled.{followed_by, spelled}
-use Rattle.node_core.specs.Ticks.{EntersBy, IsProposed, TicksFrom, agreed, later_parts}
+use Rattle.node_steps.specs.declared.effects.Effects.{Effects}
+use Rattle.node_steps.specs.declared.planned.Ticked.{Ticked}
+use Rattle.node_steps.specs.Counts.{HaveNumbers}
+use Rattle.node_steps.specs.Fits.{FitsAgreed, FitsEntered, FitsTick, IsNewView, ticked_facts}
+use Rattle.node_steps.specs.Plans as plans
+use Rattle.node_steps.specs.Plans.{with_sent}
+use Rattle.node_steps.specs.Ranges.{HasRanges}
+use Rattle.node_steps.specs.Spelled.{followed_by, spelled}
+use Rattle.node_steps.specs.Ticks.{EntersBy, IsProposed, TicksFrom, agreed, later_parts}
 use Rattle.node_core.proofs.EnteringLaws.{agreed_alike, entered_is, entered_view, ranges_entered}
-use Rattle.node_core.proofs.MemberLaws.{is_listed}
-use Rattle.node_core.proofs.ProposeLaws.{answer_twice, itself_among, still_twice, ticking_twice}
-use Rattle.node_core.proofs.NodeLaws.{none_for, view_unseen}
-use Rattle.node_core.proofs.RangeLaws.{HasKeys, kept_keys, keys_of, ranges_agreed}
-use Rattle.node_core.proofs.SettledLaws.{kept_all}
-use Rattle.node_core.proofs.SpelledLaws.{told_twice}
-use Rattle.node_core.proofs.StepRanges.{due_batches_fit, sent_ranges, settled_ranges}
-use Rattle.node_core.proofs.TickingLaws.{parts_apart, settled_apart_from}
+use Rattle.node_steps.proofs.MemberLaws.{is_listed}
+use Rattle.node_core.proofs.ProposeLaws.{answer_twice, still_twice, ticking_twice}
+use Rattle.node_steps.proofs.CandidateLaws.{itself_among}
+use Rattle.node_steps.proofs.SeenLaws.{none_for, view_unseen}
+use Rattle.node_steps.proofs.RangeLaws.{HasKeys, kept_keys, keys_of, ranges_agreed}
+use Rattle.node_steps.proofs.SettledLaws.{kept_all}
+use Rattle.node_steps.proofs.SpelledLaws.{told_twice}
+use Rattle.node_steps.proofs.StepRanges.{due_batches_fit, sent_ranges, settled_ranges}
+use Rattle.node_steps.proofs.TickingLaws.{parts_apart, settled_apart_from}
 
 -- a tick of the node as it is planned
 pub record IsTicking (f : Facts) (hearing : Adjacent) (agree : Agreeing) (answer : answers.Proposal) (entered : Option (Box View)) : Type 0 where
@@ -430,17 +429,8 @@ taken_fits f hearing agree answer entered t h from stands held numbers r =
 
 -- ---- what is known of the node
 
-abbrev heard_as : ℕ → Role → Hearing → Adjacent
+abbrev pub heard_as : ℕ → Role → Hearing → Adjacent
 heard_as me role hearing = record { me = me; role = role; hearing = hearing }
-
--- what the node hears is one tick older
-pub heard_so : (n : Inside) (p : Planning) (x y : Adjacent) → planning_of n ≡ p → n.hearing.me ≡ n.me → n.hearing.role ≡ n.role
-    → x ≡ n.hearing → y ≡ record x { hearing = ticked x.me x.role x.hearing }
-    → y ≡ record { me = p.now.me; role = p.now.role; hearing = ticked p.now.me p.now.role p.now.hearing }
-heard_so n p x y seen me role copied aged_one =
-    aged_one ∙ ap (λ (z : Adjacent). record z { hearing = ticked z.me z.role z.hearing }) copied
-    ∙ ap₂ (λ (m : ℕ) (r : Role). heard_as m r (ticked m r n.hearing.hearing)) me role
-    ∙ ap (λ (q : Planning). heard_as q.now.me q.now.role (ticked q.now.me q.now.role q.now.hearing)) seen
 
 -- what the agreement says is what the rules say
 pub proposed_so : (f : Facts) (x y : Agreeing) (answer : answers.Proposal) (set : List Member) (candidate : Bool) → x.me ≡ f.me → x.agreement ≡ f.agreement

@@ -10,7 +10,7 @@ use Rattle.node_rules.specs.Facts.{Facts}
 use Rattle.node_rules.specs.Steps.{after_message}
 use Rattle.node_rules.proofs.PartLaws.{repl_is}
 use Rattle.node_rules.specs.Senders.{ComesFrom}
-use Rattle.node_core.specs.Ranges.{HasRanges}
+use Rattle.node_steps.specs.Ranges.{HasRanges}
 
 -- what doesn't ask for a table comes from a peer
 pub from_peer : (f : Facts) (from : ℕ) (m : Message) → ComesFrom f from m → m ≢ message.MapAsk → Contains f.peers from

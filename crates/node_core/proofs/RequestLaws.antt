@@ -11,8 +11,8 @@ use Rattle.node_rules.specs.Requests.{due_request, refusal_of, request_if}
 use Rattle.node_rules.specs.Steps.{Planning, after_request, planning, unplanned}
 use Rattle.node_rules.proofs.PartLaws.{request_is}
 use Rattle.node_core.specs.declared.answered.Answered.TheVariants as answered
-use Rattle.node_core.specs.Resolvings.{answer_of, answer_with}
-use Rattle.node_core.specs.Spelled.{spelled}
+use Rattle.node_core.specs.Requests.{answer_of, answer_with}
+use Rattle.node_steps.specs.Spelled.{spelled}
 
 -- why it is refused, also where that is seen after the node has given up what was planned
 pub refusal_is : (p : Planning) (f : Facts) (digest : List ℕ) (o : Option Refusal) → p ≡ unplanned f → o ≡ refusal_of p.now (list_at p.now (partition_of digest)) digest

@@ -12,12 +12,13 @@ use Rattle.record_store.specs.Store.{HoldsTheSame}
 use Rattle.node_view.specs.declared.view.View.{View}
 use Rattle.node_view.specs.Views.{IsNodeOf, IsSame, KeepsWatch, Viewed, Watch, store_of}
 use Rattle.node_core.specs.declared.node.Node.TheInside.{Inside}
-use Rattle.node_core.specs.declared.planned.Planned.{Planned}
-use Rattle.node_core.specs.Fits.{Fits}
-use Rattle.node_core.specs.Nodes.{Agrees, IsPlannedFrom, facts_of, planning_of, with_view_fields}
-use Rattle.node_core.specs.Plans.{next_of, taken}
-use Rattle.node_core.specs.Ranges.{HasRanges}
-use Rattle.node_core.specs.Rooms.{HasRoomIn}
+use Rattle.node_steps.specs.declared.planned.Planned.{Planned}
+use Rattle.node_steps.specs.Fits.{Fits}
+use Rattle.node_core.specs.Nodes.{Agrees, IsPlannedFrom, facts_of, planning_of}
+use Rattle.node_steps.specs.Grounds.{with_view_fields}
+use Rattle.node_steps.specs.Plans.{next_of, taken}
+use Rattle.node_steps.specs.Ranges.{HasRanges}
+use Rattle.node_steps.specs.Rooms.{HasRoomIn}
 use Rattle.node_core.proofs.CommitLaws.{nothing_planned}
 use Rattle.node_core.proofs.NodeLaws.{IsNode}
 

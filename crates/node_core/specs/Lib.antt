@@ -1,11 +1,4 @@
-pub mod Counts
-pub mod Fits
 pub mod Nodes
 pub mod Peers
-pub mod Plans
-pub mod Ranges
-pub mod Resolvings
+pub mod Requests
 pub mod Rooms
-pub mod Spelled
-pub mod Ticks
-pub mod Viewing

@@ -1,22 +1,7 @@
--- The room that planned steps need, which their commit uses up.
-use Rattle.std.specs.Prelude.{List, ℕ}
+-- A node has room for the step that it planned.
 use Rattle.std.specs.Option.{ForSome}
-use Rattle.node_view.specs.Rooms as view
-use Rattle.node_view.specs.Views.{Viewed}
 use Rattle.node_core.specs.declared.node.Node.TheInside.{Inside}
-use Rattle.node_core.specs.declared.planned.Planned.{Planned}
-use Rattle.node_core.specs.declared.planned.Planned.TheVariants as planned
-use Rattle.node_core.specs.Viewing as viewing
-
--- there is room for the planned step in that view, where the store has that room
-abbrev pub HasRoomIn : Viewed → List ℕ → Planned → Type 0
-HasRoomIn v spare (planned.View s) = view.HasRoomIn v spare s
-HasRoomIn v spare _ = Unit {0}
-
--- a step that needs no room
-abbrev pub NeedsNoRoom : Planned → Type 0
-NeedsNoRoom (planned.View s) = viewing.NeedsNoRoom s
-NeedsNoRoom _ = Unit {0}
+use Rattle.node_steps.specs.Rooms.{HasRoomIn}
 
 -- a node that is in a view has room there for what it planned
 abbrev pub HasRoom : Inside → Type 0

@@ -3,17 +3,17 @@ ghost use Rattle.std.specs.Prelude.{◌≡◌, None, IsSome, IfSome};
 ghost use Rattle.std.specs.Option.{ForSome, option_map};
 ghost use Rattle.node_rules.specs.Notes.{stopped};
 ghost use Rattle.node_rules.specs.Steps.{unplanned};
-ghost use Rattle.node_core.specs.declared.planned.Planned.TheVariants as planned;
-ghost use Rattle.node_core.specs.Fits.{FitsAgreed, FitsBeat, FitsTick, HasStepped};
+ghost use Rattle.node_steps.specs.declared.planned.Planned.TheVariants as planned;
+ghost use Rattle.node_steps.specs.Fits.{FitsAgreed, FitsBeat, FitsTick, HasStepped};
 ghost use Rattle.node_view.specs.Fits.{IsReady};
-ghost use Rattle.node_core.specs.Plans.{agreed, taken, ticked};
-ghost use Rattle.node_core.specs.Ranges.{HasRanges};
+ghost use Rattle.node_steps.specs.Plans.{agreed, taken, ticked};
+ghost use Rattle.node_steps.specs.Ranges.{HasRanges};
 
 use crate::node::Node;
-use crate::planned::{Planned, Ticked};
 use cluster_types::NodeId;
 use clustering::Agree;
 use node_rules::Beat;
+use node_steps::{Planned, Ticked};
 use node_view::{View, ViewStep};
 use record_store::RecordStore;
 

@@ -3,15 +3,15 @@ ghost use Rattle.std.specs.Prelude.{◌≡◌, true, IfOk, OnOk};
 ghost use Rattle.node_rules.specs.Effects.{lines_only};
 ghost use Rattle.node_rules.specs.Entering.{closing, entering};
 ghost use Rattle.node_rules.specs.Exchange.{is_member};
-ghost use Rattle.node_core.specs.Spelled.{followed_by};
-ghost use Rattle.node_core.specs.Viewing.{ending_of};
+ghost use Rattle.node_steps.specs.Spelled.{followed_by};
+ghost use Rattle.node_steps.specs.Viewing.{ending_of};
 ghost use Rattle.node_view.specs.Views.{IsEntered};
 
-use crate::effects::Effects;
 use crate::node::Node;
 use cluster_types::{ClusterKey, Members, NoMemory};
 use dup_resolve::Txn;
 use journal_lines::Line;
+use node_steps::Effects;
 use node_view::{Entrant, View};
 use std::alloc::Global;
 

@@ -6,21 +6,14 @@
 
 mod answered;
 mod commit;
-mod effects;
 mod entering;
-mod fields;
-mod ground;
 mod handlers;
 mod node;
-mod planned;
 mod requests;
-mod resolving;
-mod send_list;
 mod showing;
 mod stopping;
 mod tick;
 
 pub use answered::Answered;
-pub use effects::Effects;
 pub use node::Node;
-pub use send_list::SendList;
+pub use node_steps::{Effects, SendList};

@@ -1,27 +1,24 @@
 //! Requests.
-ghost use Rattle.std.specs.Prelude.{◌≡◌, ◌<◌, ◌+◌, ◌∷◌, [], None, IfOk, OnErr, OnOk};
+ghost use Rattle.std.specs.Prelude.{◌≡◌, ◌+◌, ◌∷◌, [], None, IfOk, OnErr, OnOk};
 ghost use Rattle.cluster_types.specs.Partitions.{partition_of};
 ghost use Rattle.journal_lines.specs.declared.line.Line.TheVariants as line;
 ghost use Rattle.wire_messages.specs.Requests.{IsWant};
 ghost use Rattle.wire_messages.specs.Versions.{AreBytes, IsDigest};
 ghost use Rattle.node_rules.specs.Effects.{lines_only};
 ghost use Rattle.node_rules.specs.Facts.{list_at};
-ghost use Rattle.node_rules.specs.Requests.{acting_refusal, due_request, refusal_of};
-ghost use Rattle.node_rules.specs.Standing.{asked};
+ghost use Rattle.node_rules.specs.Requests.{due_request, refusal_of};
 ghost use Rattle.node_rules.specs.Steps.{after_request, planning, unplanned};
 ghost use Rattle.node_core.specs.declared.answered.Answered.TheVariants as answered;
-ghost use Rattle.node_core.specs.Counts.{HaveNumbers};
-ghost use Rattle.node_core.specs.Resolvings.{answer_of};
-ghost use Rattle.node_core.specs.Spelled.{spelled};
+ghost use Rattle.node_steps.specs.Counts.{HaveNumbers};
+ghost use Rattle.node_core.specs.Requests.{answer_of};
+ghost use Rattle.node_steps.specs.Spelled.{spelled};
 
 use crate::answered::Answered;
-use crate::effects::Effects;
 use crate::node::Node;
-use crate::planned::Planned;
-use crate::resolving::plan_opened;
 use cluster_types::{Digest, NoMemory};
 use conflict_order::Want;
 use journal_lines::{Line, Refusal};
+use node_steps::{Effects, Planned, plan_opened};
 use std::alloc::Global;
 
 impl Node {

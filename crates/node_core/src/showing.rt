@@ -7,13 +7,11 @@ ghost use Rattle.node_rules.specs.Facts.{view_key, view_members};
 ghost use Rattle.node_rules.specs.Requests.{map_entry, map_refusal};
 ghost use Rattle.node_rules.specs.Standing.{is_at_rest};
 ghost use Rattle.node_rules.specs.Transactions as rules;
-ghost use Rattle.node_core.specs.Viewing.{IsAsKept};
+ghost use Rattle.node_steps.specs.Viewing.{IsAsKept};
 ghost use Rattle.node_view.specs.Views.{IsViewOf, with_view};
 
 use crate::node::Node;
-use cluster_types::{
-    ClusterKey, Digest, MapEntry, MapView, Members, NodeId, NodeList, PartitionId, Role,
-};
+use cluster_types::{ClusterKey, Digest, MapEntry, Members, PartitionId, Role};
 use conflict_order::Version;
 use dup_resolve::Txn;
 use journal_lines::Refusal;

@@ -2,13 +2,12 @@
 ghost use Rattle.std.specs.Prelude.{◌≡◌, false, IsTrue, IfOk, OnErr, OnOk};
 ghost use Rattle.node_rules.specs.Requests.{due_stop};
 ghost use Rattle.node_rules.specs.Steps.{after_start, after_stop, planning, unplanned};
-ghost use Rattle.node_core.specs.Spelled.{spelled};
+ghost use Rattle.node_steps.specs.Spelled.{spelled};
 
-use crate::effects::Effects;
 use crate::node::Node;
-use crate::planned::Planned;
 use cluster_types::NoMemory;
 use journal_lines::Line;
+use node_steps::{Effects, Planned};
 use std::alloc::Global;
 
 impl Node {

@@ -4,37 +4,25 @@ ghost use Rattle.std.specs.Option.{option_map};
 ghost use Rattle.cluster_types.specs.Partitions.{partition_count};
 ghost use Rattle.node_rules.specs.Steps.{after_tick, planning, unplanned};
 ghost use Rattle.node_rules.specs.Tick.{due_tick, in_order};
-ghost use Rattle.node_core.specs.Counts.{HaveNumbers};
-ghost use Rattle.node_core.specs.Fits.{FitsAgreed};
-ghost use Rattle.node_core.specs.Nodes.{IsGround, grounded, lent};
-ghost use Rattle.node_core.specs.Plans.{either};
-ghost use Rattle.node_core.specs.Ranges.{HasRanges};
-ghost use Rattle.node_core.specs.Spelled.{followed_by, spelled};
-ghost use Rattle.node_core.specs.Ticks.{TicksFrom, agreed, later_parts};
+ghost use Rattle.node_steps.specs.Counts.{HaveNumbers};
+ghost use Rattle.node_steps.specs.Fits.{FitsAgreed};
+ghost use Rattle.node_steps.specs.Grounds.{IsGround, grounded, lent};
+ghost use Rattle.node_steps.specs.Plans.{either};
+ghost use Rattle.node_steps.specs.Ranges.{HasRanges};
+ghost use Rattle.node_steps.specs.Spelled.{followed_by, spelled};
+ghost use Rattle.node_steps.specs.Ticks.{TicksFrom, agreed, later_parts};
 
-mod batches;
-mod beat;
-mod progress_messages;
 mod propose;
-mod rows;
-mod settlings;
-mod transactions;
 
-use crate::effects::Effects;
-use crate::ground::Ground;
 use crate::node::Node;
-use crate::planned::{Planned, Ticked};
-use crate::tick::batches::batches;
-use crate::tick::beat::beat;
-use crate::tick::progress_messages::progress;
-use crate::tick::propose::is_candidate;
-use crate::tick::rows::rows;
-use crate::tick::settlings::settlings;
-use crate::tick::transactions::transactions;
 use cluster_types::NoMemory;
 use clustering::Agree;
 use heartbeat::Adjacency;
 use journal_lines::Line;
+use node_steps::{
+    Effects, Ground, Planned, Ticked, batches, beat, is_candidate, progress, rows, settlings,
+    transactions,
+};
 use node_view::View;
 use std::alloc::Global;
 

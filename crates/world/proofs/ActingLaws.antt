@@ -22,7 +22,7 @@ use Rattle.node_rules.specs.Notes.{all_sent, noted, reached}
 use Rattle.node_rules.specs.Requests.{due_request, due_stop, due_start}
 use Rattle.node_rules.specs.Steps.{Planning, after_message, after_request, after_start, after_stop, after_tick}
 use Rattle.node_rules.specs.Tick.{due_tick}
-use Rattle.node_core.specs.Spelled.{spelled_sends}
+use Rattle.node_steps.specs.Spelled.{spelled_sends}
 use Rattle.cluster_rules.specs.declared.event.Event.{Event}
 use Rattle.cluster_rules.specs.declared.event.Event.TheVariants as event
 use Rattle.cluster_rules.specs.DueEvents.{due_at_named, sent_lines, written, is_blocked}

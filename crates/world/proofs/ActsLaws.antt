@@ -29,10 +29,10 @@ use Rattle.node_rules.specs.Requests.{due_request, due_stop}
 use Rattle.std.proofs.Math.Seq.{map-set_same}
 use Rattle.node_rules.specs.Steps.{Planning, after_message, after_request, after_stop, after_tick, planning, unplanned}
 use Rattle.node_rules.specs.Tick.{due_tick}
-use Rattle.node_core.specs.declared.effects.Effects.{Effects}
-use Rattle.node_core.specs.Counts.{HaveNumbers}
+use Rattle.node_steps.specs.declared.effects.Effects.{Effects}
+use Rattle.node_steps.specs.Counts.{HaveNumbers}
 use Rattle.node_rules.specs.Senders.{ComesFrom}
-use Rattle.node_core.specs.Spelled.{spelled}
+use Rattle.node_steps.specs.Spelled.{spelled}
 use Rattle.cluster_rules.specs.declared.event.Event.{Event}
 use Rattle.cluster_rules.specs.declared.event.Event.TheVariants as event
 use Rattle.cluster_rules.specs.DueEvents.{is_blocked, written}

@@ -19,7 +19,7 @@ use Rattle.cluster_rules.specs.DueEvents.{full_unless, one_more_if, sent_lines}
 use Rattle.cluster_rules.specs.NodeSteps.{IsNumbered, full_in, sent_in, all_sent_in}
 use Rattle.wire_messages.specs.declared.message.Message.{Message}
 use Rattle.wire_messages.specs.Spelling.{spelling}
-use Rattle.node_core.specs.Spelled.{spelled_sends}
+use Rattle.node_steps.specs.Spelled.{spelled_sends}
 use Rattle.world.specs.Sent.{IsInFlight, posted_lines, posted_in, all_posted_in, landing_from}
 use Rattle.world.specs.Stands.{IsNetwork, AreDivided, posting_of}
 use Rattle.world.proofs.Places.{pairs_head, pairs_tail}

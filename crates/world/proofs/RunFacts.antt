@@ -1,6 +1,6 @@
 -- What holds of the world after a run's steps, which are taken.
 use Rattle.std.proofs.Common.{◌≡◌, ℕ, ◌+◌, ◌<◌, length-append, List, length, ap, ◌∙◌, arith}
-use Rattle.node_core.specs.Counts.{HaveNumbers}
+use Rattle.node_steps.specs.Counts.{HaveNumbers}
 use Rattle.cluster_rules.specs.Steps.{all_lines}
 use Rattle.run_laws.specs.Taken.{Taken, line_bound}
 use Rattle.run_laws.specs.Worlds.{AsksDeclared, CountsBelow, HaveReceivers, KnowsNodes, MessagesCome, SendsAreRead}

@@ -1,10 +1,9 @@
 //! Heartbeats, and the messages by which nodes agree on a view.
-ghost use Rattle.std.specs.Prelude.{◌≡◌, Some, None, true, not, map, Contains, IfOk, OnErr, OnOk};
+ghost use Rattle.std.specs.Prelude.{◌≡◌, Some, None, true, not, Contains, IfOk, OnErr, OnOk};
 ghost use Rattle.journal_lines.specs.declared.line.Line.TheVariants as line;
 ghost use Rattle.wire_messages.specs.declared.message.Message.TheVariants as message;
 ghost use Rattle.wire_messages.specs.Keys.{IsKeyField};
 ghost use Rattle.wire_messages.specs.Proper.{IsProper};
-ghost use Rattle.wire_messages.specs.Spelling.{spelling};
 ghost use Rattle.node_rules.specs.Agreement.{others};
 ghost use Rattle.node_rules.specs.Effects.{lines_only, nothing, to_each};
 ghost use Rattle.node_rules.specs.Entering.{entering};
@@ -12,21 +11,18 @@ ghost use Rattle.node_rules.specs.Exchange.{is_member};
 ghost use Rattle.node_rules.specs.Messages.{due_accept, due_commit, due_propose, due_refuse};
 ghost use Rattle.node_rules.specs.Steps.{after_message, planning, unplanned};
 ghost use Rattle.node_rules.specs.Keys.{same_key};
-ghost use Rattle.node_core.specs.Plans.{agreed, only_if};
-ghost use Rattle.node_core.specs.Ranges.{HasRanges};
-ghost use Rattle.node_core.specs.Spelled.{message_of, spelled, with_sends};
+ghost use Rattle.node_steps.specs.Plans.{agreed, only_if};
+ghost use Rattle.node_steps.specs.Ranges.{HasRanges};
+ghost use Rattle.node_steps.specs.Spelled.{spelled};
 ghost use Rattle.node_view.specs.Views.{view_entered};
 
-use crate::effects::Effects;
-use crate::fields::members_fit;
 use crate::node::Node;
-use crate::planned::Planned;
 use cluster_types::{ClusterKey, Members, NoMemory, NodeId};
-use clustering::{AcceptStep, Agree, CommitStep, RefuseStep, Vote};
+use clustering::{AcceptStep, Agree, CommitStep, RefuseStep};
 use journal_lines::Line;
 use node_rules::Beat;
+use node_steps::{Effects, Planned, message_of, tell_commit};
 use std::alloc::Global;
-use wire_messages::Message;
 
 impl Node {
     /// A heartbeat has no effects.
@@ -179,37 +175,5 @@ impl Node {
     {
         let entered = None;
         self.plan(out, Planned::Agreed { agree, entered })
-    }
-}
-
-/// Tells each of these nodes that the view is to be entered.
-fn tell_commit(
-    alloc: Global,
-    key: ClusterKey,
-    members: &Members,
-    to: &[NodeId],
-    out: &mut Effects,
-) -> Result<(), NoMemory>
-    requires { IsKeyField key }
-    ensures { OnOk result (out.new ≡ with_sends out.old (map (λ n. (n, spelling (message.Commit key members.now))) to.now)) }
-{
-    members_fit(members);
-    let commit = Message::Commit {
-        key,
-        members: *members,
-    };
-    out.send_to_each(alloc, to, &commit)
-}
-
-/// The message that tells the vote.
-fn message_of(vote: Vote) -> Message
-    ensures { result ≡ message_of vote }
-{
-    match vote {
-        Vote::Accept(key) => Message::Accept { key },
-        Vote::Refuse { key, promised } => Message::Refuse {
-            refused: key,
-            promised,
-        },
     }
 }

@@ -1,7 +1,7 @@
 use Rattle.std.proofs.Common.{◌≡◌, ap, sym, ◌∙◌}
 use Rattle.std.specs.Option.{option_copied}
 use Rattle.node_rules.specs.Steps.{Planning}
-use Rattle.node_core.proofs.ResolveLaws.{answered_as}
+use Rattle.node_steps.proofs.ResolveLaws.{answered_as}
 use Rattle.node_core.proofs.node.Node.answered.Goals as goal
 
 pub returns : goal.returns

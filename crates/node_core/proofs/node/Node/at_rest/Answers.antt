@@ -8,7 +8,7 @@ use Rattle.node_rules.specs.Steps.{Planning}
 use Rattle.node_rules.specs.Transactions.{Transactions}
 use Rattle.node_view.specs.Transactions.{kept_of}
 use Rattle.node_core.proofs.ShowingLaws.{busy_restless, mapped_is_up, nil_kept, restless, rests_by, unsettled_restless}
-use Rattle.node_core.proofs.ViewLaws.{exchange_is, transactions_are}
+use Rattle.node_steps.proofs.ViewLaws.{exchange_is, transactions_are}
 use Rattle.node_core.proofs.node.Node.at_rest.Goals.{then-knows_all_settled, else-knows_all_settled}
 use Rattle.node_core.proofs.node.Node.at_rest.Goals as goal
 

@@ -6,7 +6,7 @@ use Rattle.node_rules.specs.Entering.{closing}
 use Rattle.node_rules.specs.Steps.{Planning}
 use Rattle.node_view.specs.declared.view.View.{View}
 use Rattle.node_view.specs.Transactions.{kept_of}
-use Rattle.node_core.specs.Viewing.{ending_of}
+use Rattle.node_steps.specs.Viewing.{ending_of}
 use Rattle.node_view.specs.Views.{Viewed, key_of}
 use Rattle.node_core.specs.Nodes.{facts_of}
 use Rattle.node_core.proofs.EnteringLaws.{closing_kept}

@@ -1,5 +1,5 @@
 use Rattle.std.proofs.Common.{◌≡◌, ◌++◌, map}
-use Rattle.node_core.specs.Viewing.{ending_of}
+use Rattle.node_steps.specs.Viewing.{ending_of}
 use Rattle.node_view.specs.Views.{key_of}
 use Rattle.node_core.proofs.node.Node.close_transactions.Given as goal
 

@@ -1,11 +1,11 @@
 use Rattle.std.proofs.Common.{Some, sym, ap, subst, ◌∙◌}
-use Rattle.node_core.specs.declared.planned.Planned.TheVariants as planned
+use Rattle.node_steps.specs.declared.planned.Planned.TheVariants as planned
 use Rattle.node_core.proofs.CommitLaws.{has_view, if_next, next_is, ready_to_step, stepping_from}
 use Rattle.node_core.specs.Nodes.{facts_of}
-use Rattle.node_core.specs.declared.planned.Ticked.{Ticked}
-use Rattle.node_core.specs.Fits.{FitsTick}
-use Rattle.node_core.specs.Plans.{taken, ticked}
-use Rattle.node_core.specs.Ranges.{HasRanges}
+use Rattle.node_steps.specs.declared.planned.Ticked.{Ticked}
+use Rattle.node_steps.specs.Fits.{FitsTick}
+use Rattle.node_steps.specs.Plans.{taken, ticked}
+use Rattle.node_steps.specs.Ranges.{HasRanges}
 use Rattle.node_core.proofs.NodeLaws.{given_up}
 use Rattle.node_core.proofs.node.Node.commit.Goals as goal
 

@@ -2,8 +2,9 @@ use Rattle.std.proofs.Common.{◌≡◌, Bool, true, ap, subst, sym, ◌∙◌}
 use Rattle.node_rules.specs.Facts.{Facts}
 use Rattle.node_rules.specs.Steps.{Planning}
 use Rattle.node_view.specs.Views.{IsViewOf}
-use Rattle.node_core.specs.Nodes.{facts_of, grounded}
-use Rattle.node_core.specs.Ranges.{HasRanges}
+use Rattle.node_core.specs.Nodes.{facts_of}
+use Rattle.node_steps.specs.Grounds.{grounded}
+use Rattle.node_steps.specs.Ranges.{HasRanges}
 use Rattle.node_core.proofs.node.Node.ground.Goals as goal
 
 pub invariant_of-result : goal.invariant_of-result

@@ -7,11 +7,11 @@ use Rattle.node_rules.specs.Entering.{entering}
 use Rattle.node_rules.specs.Exchange.{members_of}
 use Rattle.node_rules.specs.Steps.{Planning, planning}
 use Rattle.node_view.specs.Views.{Viewed, view_entered}
-use Rattle.node_core.specs.declared.effects.Effects.{Effects}
-use Rattle.node_core.specs.Fits.{FitsAgreed}
-use Rattle.node_core.specs.Plans.{agreed}
-use Rattle.node_core.specs.Ranges.{HasRanges}
-use Rattle.node_core.specs.Spelled.{followed_by, with_sends}
+use Rattle.node_steps.specs.declared.effects.Effects.{Effects}
+use Rattle.node_steps.specs.Fits.{FitsAgreed}
+use Rattle.node_steps.specs.Plans.{agreed}
+use Rattle.node_steps.specs.Ranges.{HasRanges}
+use Rattle.node_steps.specs.Spelled.{followed_by, with_sends}
 use Rattle.node_core.proofs.EnteringLaws.{agreed_alike}
 use Rattle.node_core.proofs.LeadLaws.{fits_entered, others_entered, ranges_in_view, told_lead}
 use Rattle.node_core.proofs.node.Node.lead.Goals as goal

@@ -7,7 +7,7 @@ use Rattle.node_rules.specs.Exchange.{Exchange, members_of}
 use Rattle.node_rules.specs.Facts.{Facts}
 use Rattle.node_rules.specs.Map.{entry_of}
 use Rattle.node_rules.specs.Requests.{entry_if}
-use Rattle.node_core.proofs.ViewLaws.{exchange_is}
+use Rattle.node_steps.proofs.ViewLaws.{exchange_is}
 use Rattle.node_core.proofs.node.Node.map_entry.Goals as goal
 
 pub returns : goal.returns

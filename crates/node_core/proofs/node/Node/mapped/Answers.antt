@@ -3,9 +3,9 @@ use Rattle.std.proofs.lemmas.Bool.{and_left, and_right}
 use Rattle.node_rules.specs.Exchange.{Exchange, first_missing, members_of}
 use Rattle.node_rules.specs.Facts.{Facts}
 use Rattle.node_rules.specs.Steps.{Planning}
-use Rattle.node_core.proofs.MemberLaws.{not_false, not_true}
+use Rattle.node_steps.proofs.MemberLaws.{not_false, not_true}
 use Rattle.node_core.proofs.ShowingLaws.{refused_outside, refused_waiting}
-use Rattle.node_core.proofs.ViewLaws.{exchange_is}
+use Rattle.node_steps.proofs.ViewLaws.{exchange_is}
 use Rattle.node_core.proofs.node.Node.mapped.Goals as goal
 
 pub returns-then-not-self-clause-unfinished : goal.returns-then-not-self-clause-unfinished

@@ -6,11 +6,12 @@ use Rattle.node_rules.specs.Effects as rules
 use Rattle.node_rules.specs.Exchange.{is_member}
 use Rattle.node_rules.specs.Facts.{Facts}
 use Rattle.node_rules.specs.Steps.{Planning, planning}
-use Rattle.node_core.specs.Ranges.{HasRanges}
-use Rattle.node_core.specs.Spelled.{spelled}
+use Rattle.node_steps.specs.Ranges.{HasRanges}
+use Rattle.node_steps.specs.Spelled.{spelled}
 use Rattle.node_core.proofs.HandlerLaws.{accept_enters, accept_stale, accept_waits, still}
 use Rattle.node_core.proofs.LeadLaws.{accepted_by_all, accepted_key, after_last_accept, after_stale_accept, after_waiting_accept, last_accept, stale_accept, waiting_accept}
-use Rattle.node_core.proofs.RangeLaws.{agreement_is, answer_is, counted_keys, ranges_after}
+use Rattle.node_core.proofs.CopyLaws.{agreement_is, answer_is, ranges_after}
+use Rattle.node_steps.proofs.RangeLaws.{counted_keys}
 use Rattle.node_core.proofs.node.Node.on_accept.Goals as goal
 
 pub returns-in-Stale-clause-effects : goal.returns-in-Stale-clause-effects

@@ -8,12 +8,12 @@ use Rattle.node_rules.specs.Effects as rules
 use Rattle.node_rules.specs.Facts.{Facts}
 use Rattle.node_rules.specs.Steps.{Planning, planning}
 use Rattle.node_rules.specs.Transactions.{awaits_answer, is_last_awaited, transaction}
-use Rattle.node_core.specs.Spelled.{spelled}
+use Rattle.node_steps.specs.Spelled.{spelled}
 use Rattle.node_view.specs.Plans.{with_answer}
-use Rattle.node_core.proofs.AckLaws.{found_none, found_one}
+use Rattle.node_steps.proofs.AckLaws.{found_none, found_one}
 use Rattle.node_core.proofs.AnswerMessageLaws.{answer_after, answer_due, awaits_last, both_are, unawaited_due, unknown_after, unknown_due, unresolved_after, waiting_due}
 use Rattle.node_core.proofs.HandlerLaws.{in_one, still}
-use Rattle.node_core.proofs.StepRanges.{answered_ranges}
+use Rattle.node_steps.proofs.StepRanges.{answered_ranges}
 use Rattle.node_core.proofs.node.Node.on_answer.Goals as goal
 
 pub spent-requires-clause-fits : goal.spent-requires-clause-fits

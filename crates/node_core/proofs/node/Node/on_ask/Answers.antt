@@ -3,8 +3,8 @@ use Rattle.std.specs.FinMap as finite
 use Rattle.wire_messages.specs.Versions.{IsOptionVersion}
 use Rattle.node_rules.specs.Messages.{ask_came}
 use Rattle.node_rules.specs.Notes.{in_view}
-use Rattle.node_core.specs.Spelled.{spelled}
-use Rattle.node_core.proofs.RangeLaws.{option_version}
+use Rattle.node_steps.specs.Spelled.{spelled}
+use Rattle.node_steps.proofs.RangeLaws.{option_version}
 use Rattle.node_core.proofs.node.Node.on_ask.Goals as goal
 
 pub returns-then-is_none-clause-effects : goal.returns-then-is_none-clause-effects

@@ -5,11 +5,12 @@ use Rattle.node_rules.specs.Messages.{batch_came}
 use Rattle.node_rules.specs.Notes.{in_view}
 use Rattle.node_rules.specs.Steps.{Planning, planning}
 use Rattle.node_view.specs.declared.view_step.ViewStep.TheVariants as step
-use Rattle.node_core.specs.declared.planned.Planned.{Planned}
-use Rattle.node_core.specs.declared.planned.Planned.TheVariants as planned
+use Rattle.node_steps.specs.declared.planned.Planned.{Planned}
+use Rattle.node_steps.specs.declared.planned.Planned.TheVariants as planned
 use Rattle.node_core.specs.Nodes.{facts_of}
-use Rattle.node_core.specs.Spelled.{spelled}
-use Rattle.node_core.proofs.BatchMessageLaws.{batch_effects_due, batch_fits, batch_is_after, batch_ranges}
+use Rattle.node_steps.specs.Spelled.{spelled}
+use Rattle.node_core.proofs.PlannedMessageLaws.{batch_effects_due, batch_is_after}
+use Rattle.node_steps.proofs.BatchMessageLaws.{batch_fits, batch_ranges}
 use Rattle.node_core.proofs.HandlerLaws.{in_one, still}
 use Rattle.node_core.proofs.NodeLaws.{has_no_plan}
 use Rattle.node_core.proofs.RoomLaws.{more_in_store, node_roomier_planned, node_roomier_still, on_err_if, seen_planned, seen_still}

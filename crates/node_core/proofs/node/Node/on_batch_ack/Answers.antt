@@ -3,10 +3,10 @@ use Rattle.node_rules.specs.Batches.{has_number, out_to}
 use Rattle.node_rules.specs.Effects as rules
 use Rattle.node_rules.specs.Facts.{Facts}
 use Rattle.node_rules.specs.Steps.{Planning, planning}
-use Rattle.node_core.specs.Spelled.{spelled}
-use Rattle.node_core.proofs.AckLaws.{batch_ack_after, batch_ack_told}
+use Rattle.node_steps.specs.Spelled.{spelled}
+use Rattle.node_steps.proofs.AckLaws.{batch_ack_after, batch_ack_told}
 use Rattle.node_core.proofs.HandlerLaws.{in_one, still}
-use Rattle.node_core.proofs.RangeLaws.{ranges_batch_acked}
+use Rattle.node_steps.proofs.RangeLaws.{ranges_batch_acked}
 use Rattle.node_core.proofs.node.Node.on_batch_ack.Goals as goal
 
 pub plan_unless_spent-requires-clause-fits : goal.plan_unless_spent-requires-clause-fits

@@ -13,15 +13,16 @@ use Rattle.node_rules.specs.Facts.{Facts}
 use Rattle.node_rules.specs.Messages.{entering_if}
 use Rattle.node_rules.specs.Steps.{Planning, planning}
 use Rattle.node_view.specs.Views.{view_entered}
-use Rattle.node_core.specs.declared.effects.Effects.{Effects}
-use Rattle.node_core.specs.Fits.{FitsAgreed}
-use Rattle.node_core.specs.Plans.{agreed}
-use Rattle.node_core.specs.Ranges.{HasRanges}
-use Rattle.node_core.specs.Spelled.{followed_by, spelled}
+use Rattle.node_steps.specs.declared.effects.Effects.{Effects}
+use Rattle.node_steps.specs.Fits.{FitsAgreed}
+use Rattle.node_steps.specs.Plans.{agreed}
+use Rattle.node_steps.specs.Ranges.{HasRanges}
+use Rattle.node_steps.specs.Spelled.{followed_by, spelled}
 use Rattle.node_core.proofs.EnteringLaws.{agreed_alike}
 use Rattle.node_core.proofs.HandlerLaws.{commit_enters, commit_stale, still}
 use Rattle.node_core.proofs.LeadLaws.{after_commit, after_stale_commit, committed_member, fits_entered, ranges_in_view, stale_commit}
-use Rattle.node_core.proofs.RangeLaws.{agreement_is, answer_is, committed_keys, ranges_after}
+use Rattle.node_core.proofs.CopyLaws.{agreement_is, answer_is, ranges_after}
+use Rattle.node_steps.proofs.RangeLaws.{committed_keys}
 use Rattle.node_core.proofs.node.Node.on_commit.Goals as goal
 
 pub returns-in-Stale-clause-effects : goal.returns-in-Stale-clause-effects

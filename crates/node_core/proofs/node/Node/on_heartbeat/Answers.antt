@@ -2,11 +2,11 @@ use Rattle.std.proofs.Common.{Contains, sym, subst}
 use Rattle.node_rules.specs.Agreement.{seeing}
 use Rattle.node_rules.specs.Hearing.{beat_heard}
 use Rattle.node_rules.specs.Steps.{Planning}
-use Rattle.node_core.specs.Fits.{FitsBeat}
+use Rattle.node_steps.specs.Fits.{FitsBeat}
 use Rattle.node_core.specs.Nodes.{facts_of}
-use Rattle.node_core.specs.Ranges.{HasRanges}
+use Rattle.node_steps.specs.Ranges.{HasRanges}
 use Rattle.node_core.proofs.HeartbeatLaws.{fits_beat}
-use Rattle.node_core.proofs.RangeLaws.{ranges_agreed}
+use Rattle.node_steps.proofs.RangeLaws.{ranges_agreed}
 use Rattle.node_core.proofs.node.Node.on_heartbeat.Goals as goal
 
 pub plan-requires-clause-fits : goal.plan-requires-clause-fits

@@ -4,10 +4,10 @@ use Rattle.wire_messages.specs.Keys.{IsKeyField}
 use Rattle.node_rules.specs.Exchange as exchange
 use Rattle.node_rules.specs.Steps.{Planning}
 use Rattle.node_view.specs.Views.{IsInView, Viewed, key_of}
-use Rattle.node_core.specs.Ranges.{HasRanges}
+use Rattle.node_steps.specs.Ranges.{HasRanges}
 use Rattle.node_core.proofs.NodeLaws.{in_view}
-use Rattle.node_core.proofs.TableLaws.{key_in_view}
-use Rattle.node_core.proofs.ViewLaws.{exchange_is}
+use Rattle.node_steps.proofs.TableLaws.{key_in_view}
+use Rattle.node_steps.proofs.ViewLaws.{exchange_is}
 use Rattle.node_core.proofs.node.Node.on_map_ask.Goals as goal
 
 pub tell_table-requires : goal.tell_table-requires

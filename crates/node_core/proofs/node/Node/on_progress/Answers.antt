@@ -3,11 +3,11 @@ use Rattle.wire_messages.specs.Rows.{IsRow}
 use Rattle.node_rules.specs.Facts.{Facts}
 use Rattle.node_rules.specs.Notes.{in_view}
 use Rattle.node_rules.specs.Steps.{Planning, planning}
-use Rattle.node_core.specs.Ranges.{HasRanges}
-use Rattle.node_core.specs.Spelled.{spelled}
+use Rattle.node_steps.specs.Ranges.{HasRanges}
+use Rattle.node_steps.specs.Spelled.{spelled}
 use Rattle.node_core.proofs.HandlerLaws.{in_one}
-use Rattle.node_core.proofs.RowMessageLaws.{key_fits, progress_after, progress_told, same_progress}
-use Rattle.node_core.proofs.StepRanges.{progressed_ranges}
+use Rattle.node_steps.proofs.RowMessageLaws.{key_fits, progress_after, progress_told, same_progress}
+use Rattle.node_steps.proofs.StepRanges.{progressed_ranges}
 use Rattle.node_core.proofs.node.Node.on_progress.Goals as goal
 
 pub progress_effects-requires-clause-key : goal.progress_effects-requires-clause-key

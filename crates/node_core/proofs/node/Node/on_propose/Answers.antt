@@ -10,12 +10,13 @@ use Rattle.node_rules.specs.Effects.{lines_only}
 use Rattle.node_rules.specs.Keys.{same_key}
 use Rattle.node_rules.specs.Steps.{Planning, planning}
 use Rattle.node_rules.proofs.PartLaws.{propose_is}
-use Rattle.node_core.specs.declared.effects.Effects.{Effects}
-use Rattle.node_core.specs.Plans.{only_if}
-use Rattle.node_core.specs.Ranges.{HasRanges}
-use Rattle.node_core.specs.Spelled.{message_of, spelled, with_sends}
+use Rattle.node_steps.specs.declared.effects.Effects.{Effects}
+use Rattle.node_steps.specs.Plans.{only_if}
+use Rattle.node_steps.specs.Ranges.{HasRanges}
+use Rattle.node_steps.specs.Spelled.{message_of, spelled, with_sends}
 use Rattle.node_core.proofs.HandlerLaws.{told_vote, vote_proper}
-use Rattle.node_core.proofs.RangeLaws.{agreement_is, answer_is, ranges_after, voted_keys}
+use Rattle.node_core.proofs.CopyLaws.{agreement_is, answer_is, ranges_after}
+use Rattle.node_steps.proofs.RangeLaws.{voted_keys}
 use Rattle.node_core.proofs.node.Node.on_propose.Goals as goal
 
 pub send-requires : goal.send-requires

@@ -5,10 +5,11 @@ use Rattle.node_rules.specs.Agreement.{Agreement, proposes, refusing}
 use Rattle.node_rules.specs.Messages.{unless_stale}
 use Rattle.node_rules.specs.Steps.{Planning, planning}
 use Rattle.node_rules.proofs.PartLaws.{refuse_is}
-use Rattle.node_core.specs.declared.effects.Effects.{Effects}
-use Rattle.node_core.specs.Spelled.{spelled}
+use Rattle.node_steps.specs.declared.effects.Effects.{Effects}
+use Rattle.node_steps.specs.Spelled.{spelled}
 use Rattle.node_core.proofs.HandlerLaws.{is_stale, is_stopped}
-use Rattle.node_core.proofs.RangeLaws.{agreement_is, answer_is, ranges_after, refused_keys}
+use Rattle.node_core.proofs.CopyLaws.{agreement_is, answer_is, ranges_after}
+use Rattle.node_steps.proofs.RangeLaws.{refused_keys}
 use Rattle.node_core.proofs.node.Node.on_refuse.Goals as goal
 
 pub plan_agreed-requires-clause-ranges : goal.plan_agreed-requires-clause-ranges

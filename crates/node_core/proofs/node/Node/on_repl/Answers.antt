@@ -18,15 +18,16 @@ use Rattle.node_view.specs.declared.view_step.ViewStep.TheVariants as step
 use Rattle.node_view.specs.Plans.{some_if}
 use Rattle.node_view.specs.Rooms.{HasRoomToCount}
 use Rattle.node_view.specs.Views.{IsSame, Viewed}
-use Rattle.node_core.specs.declared.effects.Effects.{Effects}
-use Rattle.node_core.specs.declared.planned.Planned.{Planned}
-use Rattle.node_core.specs.declared.planned.Planned.TheVariants as planned
+use Rattle.node_steps.specs.declared.effects.Effects.{Effects}
+use Rattle.node_steps.specs.declared.planned.Planned.{Planned}
+use Rattle.node_steps.specs.declared.planned.Planned.TheVariants as planned
 use Rattle.node_core.specs.Nodes.{facts_of}
-use Rattle.node_core.specs.Rooms.{HasRoomIn}
-use Rattle.node_core.specs.Spelled.{followed_by, spelled}
+use Rattle.node_steps.specs.Rooms.{HasRoomIn}
+use Rattle.node_steps.specs.Spelled.{followed_by, spelled}
 use Rattle.node_core.proofs.HandlerLaws.{in_one, still}
 use Rattle.node_core.proofs.NodeLaws.{has_no_plan}
-use Rattle.node_core.proofs.ReplLaws.{count_seen, repl_after, repl_effects_due, repl_fits, repl_ranges, version_seen}
+use Rattle.node_core.proofs.PlannedMessageLaws.{count_seen, repl_effects_due, version_seen}
+use Rattle.node_steps.proofs.ReplLaws.{repl_after, repl_fits, repl_ranges}
 use Rattle.node_core.proofs.RoomLaws.{holds_itself, more_in_both, node_roomier_planned, node_roomier_still, on_err_if, planned_for, seen_planned, seen_still}
 use Rattle.node_core.proofs.node.Node.on_repl.Goals as goal
 

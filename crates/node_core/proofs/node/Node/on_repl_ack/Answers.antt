@@ -5,10 +5,10 @@ use Rattle.node_rules.specs.Effects as rules
 use Rattle.node_rules.specs.Facts.{Facts}
 use Rattle.node_rules.specs.Steps.{Planning, planning}
 use Rattle.node_rules.specs.Transactions.{Transaction, awaits_ack, ends_by_ack, is_last_awaited, transaction}
-use Rattle.node_core.specs.Spelled.{spelled}
-use Rattle.node_core.proofs.AckLaws.{ack_after, ack_spent, ack_told, found_none, found_one, unawaited_told, unknown_told}
+use Rattle.node_steps.specs.Spelled.{spelled}
+use Rattle.node_steps.proofs.AckLaws.{ack_after, ack_spent, ack_told, found_none, found_one, unawaited_told, unknown_told}
 use Rattle.node_core.proofs.HandlerLaws.{in_one, still}
-use Rattle.node_core.proofs.RangeLaws.{ranges_acked}
+use Rattle.node_steps.proofs.RangeLaws.{ranges_acked}
 use Rattle.node_core.proofs.node.Node.on_repl_ack.Goals as goal
 
 pub spent-requires-clause-fits : goal.spent-requires-clause-fits

@@ -10,17 +10,17 @@ use Rattle.node_rules.specs.Notes.{in_view, row_came}
 use Rattle.node_rules.specs.Steps.{Planning, planning}
 use Rattle.node_view.specs.declared.view.View.{View}
 use Rattle.node_view.specs.Views.{key_of}
-use Rattle.node_core.specs.declared.effects.Effects.{Effects}
-use Rattle.node_core.specs.Fits.{Fits}
+use Rattle.node_steps.specs.declared.effects.Effects.{Effects}
+use Rattle.node_steps.specs.Fits.{Fits}
 use Rattle.node_core.specs.Nodes.{facts_of, planning_of}
-use Rattle.node_core.specs.Plans.{only_if, taken}
-use Rattle.node_core.specs.Ranges.{HasRanges}
-use Rattle.node_core.specs.Spelled.{followed_by, spelled}
-use Rattle.node_core.specs.Viewing.{finishes_with}
+use Rattle.node_steps.specs.Plans.{only_if, taken}
+use Rattle.node_steps.specs.Ranges.{HasRanges}
+use Rattle.node_steps.specs.Spelled.{followed_by, spelled}
+use Rattle.node_steps.specs.Viewing.{finishes_with}
 use Rattle.node_core.proofs.HandlerLaws.{in_one}
 use Rattle.node_core.proofs.NodeLaws.{has_no_plan}
 use Rattle.node_core.proofs.RoomLaws.{HasMoreRoom, facts_roomier, holds_itself, more_in_both, node_lent, node_roomier_still, same_view}
-use Rattle.node_core.proofs.RowMessageLaws.{member_lent, row_message_ranges, state_after, state_proper, state_told}
+use Rattle.node_steps.proofs.RowMessageLaws.{member_lent, row_message_ranges, state_after, state_proper, state_told}
 use Rattle.node_core.proofs.node.Node.on_state.Goals as goal
 
 pub returns-then-is_none-clause-effects : goal.returns-then-is_none-clause-effects

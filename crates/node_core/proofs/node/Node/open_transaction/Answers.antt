@@ -11,14 +11,15 @@ use Rattle.node_view.specs.declared.view_step.ViewStep.{ViewStep}
 use Rattle.node_view.specs.Fits.{FitsStep}
 use Rattle.node_view.specs.Plans as plans
 use Rattle.node_view.specs.Views.{IsNodeOf, IsSame, Viewed}
-use Rattle.node_core.specs.Counts.{HaveNumbers}
+use Rattle.node_steps.specs.Counts.{HaveNumbers}
 use Rattle.node_core.specs.Nodes.{facts_of}
-use Rattle.node_core.specs.Ranges.{HasRanges}
-use Rattle.node_core.specs.Resolvings.{due_opening, opened_step}
-use Rattle.node_core.specs.Spelled.{spelled}
+use Rattle.node_steps.specs.Ranges.{HasRanges}
+use Rattle.node_steps.specs.Resolvings.{due_opening, opened_step}
+use Rattle.node_steps.specs.Spelled.{spelled}
 use Rattle.node_core.proofs.NodeLaws.{has_no_plan, in_no_view}
-use Rattle.node_core.proofs.RangeLaws.{option_version}
-use Rattle.node_core.proofs.OpeningLaws.{in_its_view, is_accepted, key_of_view, numbers_of, opened_after, opened_fits, opened_spelled, opening_due, room_alone, room_and_step, step_planned}
+use Rattle.node_steps.proofs.RangeLaws.{option_version}
+use Rattle.node_core.proofs.OpeningRooms.{in_its_view, room_alone, room_and_step, step_planned}
+use Rattle.node_steps.proofs.OpeningLaws.{is_accepted, key_of_view, numbers_of, opened_after, opened_fits, opened_spelled, opening_due}
 use Rattle.node_core.proofs.node.Node.open_transaction.Goals as goal
 
 pub unreachable-requires : goal.unreachable-requires

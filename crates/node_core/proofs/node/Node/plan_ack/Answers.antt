@@ -1,7 +1,7 @@
 use Rattle.std.proofs.Common.{subst}
 use Rattle.node_rules.specs.Steps.{Planning}
-use Rattle.node_core.specs.Ranges.{HasRanges}
-use Rattle.node_core.proofs.RangeLaws.{ranges_acked, ranges_closed}
+use Rattle.node_steps.specs.Ranges.{HasRanges}
+use Rattle.node_steps.proofs.RangeLaws.{ranges_acked, ranges_closed}
 use Rattle.node_core.proofs.node.Node.plan_ack.Goals as goal
 
 pub plan-requires-clause-fits : goal.plan-requires-clause-fits

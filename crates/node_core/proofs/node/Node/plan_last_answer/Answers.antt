@@ -11,16 +11,17 @@ use Rattle.node_view.specs.declared.view_step.ViewStep.TheVariants as step
 use Rattle.node_view.specs.Fits.{FitsStep}
 use Rattle.node_view.specs.Plans as plans
 use Rattle.node_view.specs.Views.{IsInView, IsNodeOf, IsSame, Viewed}
-use Rattle.node_core.specs.declared.effects.Effects.{Effects}
-use Rattle.node_core.specs.declared.resolving.Resolving.{Resolving}
-use Rattle.node_core.specs.Counts.{HaveNumbers}
+use Rattle.node_steps.specs.declared.effects.Effects.{Effects}
+use Rattle.node_steps.specs.declared.resolving.Resolving.{Resolving}
+use Rattle.node_steps.specs.Counts.{HaveNumbers}
 use Rattle.node_core.specs.Nodes.{facts_of}
-use Rattle.node_core.specs.Ranges.{HasRanges, IsResolvingField}
-use Rattle.node_core.specs.Resolvings.{due_outcome}
-use Rattle.node_core.specs.Spelled.{followed_by, spelled}
+use Rattle.node_steps.specs.Ranges.{HasRanges, IsResolvingField}
+use Rattle.node_steps.specs.Resolvings.{due_outcome}
+use Rattle.node_steps.specs.Spelled.{followed_by, spelled}
 use Rattle.node_core.proofs.NodeLaws.{has_no_plan}
-use Rattle.node_core.proofs.OpeningLaws.{in_its_view, key_of_view, numbers_of, room_alone, room_and_step, step_planned}
-use Rattle.node_core.proofs.ResolveLaws.{answer_due, answered_found, answered_one, resolved_after, resolved_fits, resolved_spelled, resolving_spelled, room_found, step_made}
+use Rattle.node_core.proofs.OpeningRooms.{in_its_view, room_alone, room_and_step, step_planned}
+use Rattle.node_steps.proofs.OpeningLaws.{key_of_view, numbers_of}
+use Rattle.node_steps.proofs.ResolveLaws.{answer_due, answered_found, answered_one, resolved_after, resolved_fits, resolved_spelled, resolving_spelled, room_found, step_made}
 use Rattle.node_core.proofs.node.Node.plan_last_answer.Goals as goal
 
 pub plan_outcome-requires-clause-counts : goal.plan_outcome-requires-clause-counts

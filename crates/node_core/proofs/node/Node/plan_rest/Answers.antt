@@ -11,12 +11,12 @@ use Rattle.node_view.specs.Fits.{AreNext, AreSettlings}
 use Rattle.node_view.specs.Plans.{settled_by}
 use Rattle.node_view.specs.Settlings.{settling_lines}
 use Rattle.node_view.specs.Views.{Viewed, with_view}
-use Rattle.node_core.specs.Counts.{HaveNumbers}
-use Rattle.node_core.specs.Nodes.{lent, with_view_fields}
-use Rattle.node_core.specs.Ranges.{HasRanges}
-use Rattle.node_core.specs.Spelled.{followed_by}
-use Rattle.node_core.specs.Ticks.{later_parts}
-use Rattle.node_core.proofs.TickingLaws.{agreeing_with, ground_in_newest, later_ground, later_numbers, later_plan, later_told, lent_view, told_later}
+use Rattle.node_steps.specs.Counts.{HaveNumbers}
+use Rattle.node_steps.specs.Grounds.{lent, with_view_fields}
+use Rattle.node_steps.specs.Ranges.{HasRanges}
+use Rattle.node_steps.specs.Spelled.{followed_by}
+use Rattle.node_steps.specs.Ticks.{later_parts}
+use Rattle.node_steps.proofs.TickingLaws.{agreeing_with, ground_in_newest, later_ground, later_numbers, later_plan, later_told, lent_view, told_later}
 use Rattle.node_core.proofs.node.Node.plan_rest.Goals as goal
 
 pub ground-ground-requires : goal.ground-ground-requires

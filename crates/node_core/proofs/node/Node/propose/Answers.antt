@@ -14,14 +14,14 @@ use Rattle.node_rules.specs.Steps.{Planning}
 use Rattle.node_rules.specs.Tick.{is_candidate}
 use Rattle.node_view.specs.declared.view.View.{View}
 use Rattle.node_view.specs.Views.{IsEntered}
-use Rattle.node_core.specs.declared.effects.Effects.{Effects}
-use Rattle.node_core.specs.Ranges.{HasRanges}
-use Rattle.node_core.specs.Spelled.{followed_by}
-use Rattle.node_core.specs.Ticks.{EntersBy, HasEntered}
+use Rattle.node_steps.specs.declared.effects.Effects.{Effects}
+use Rattle.node_steps.specs.Ranges.{HasRanges}
+use Rattle.node_steps.specs.Spelled.{followed_by}
+use Rattle.node_steps.specs.Ticks.{EntersBy, HasEntered}
 use Rattle.node_core.proofs.PlannedTickLaws.{among_itself, entered_aged, still_keys, ticking_keys}
 use Rattle.node_core.proofs.ProposeLaws.{due_answer, entered_set, promise_lines, proposed_as, sent_key, still_twice, told_answer}
-use Rattle.node_core.proofs.RangeLaws.{HasKeys, keys_of}
-use Rattle.node_core.proofs.SpelledLaws.{told_each, told_nothing}
+use Rattle.node_steps.proofs.RangeLaws.{HasKeys, keys_of}
+use Rattle.node_steps.proofs.SpelledLaws.{told_each, told_nothing}
 use Rattle.node_core.proofs.node.Node.propose.Goals as goal
 
 pub tell_proposal-requires : goal.tell_proposal-requires

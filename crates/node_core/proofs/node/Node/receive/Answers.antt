@@ -3,8 +3,8 @@ use Rattle.wire_messages.specs.declared.message.Message.{Message}
 use Rattle.node_rules.specs.Facts.{Facts}
 use Rattle.node_rules.specs.Messages.{due_map_ask, due_message}
 use Rattle.node_rules.specs.Steps.{Planning, after_message, planning, unplanned}
-use Rattle.node_core.specs.Ranges.{HasRanges}
-use Rattle.node_core.specs.Spelled.{spelled}
+use Rattle.node_steps.specs.Ranges.{HasRanges}
+use Rattle.node_steps.specs.Spelled.{spelled}
 use Rattle.node_core.proofs.ReceiveLaws.{from_node}
 use Rattle.node_core.proofs.node.Node.receive.Goals as goal
 

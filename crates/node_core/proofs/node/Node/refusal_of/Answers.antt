@@ -1,6 +1,6 @@
 use Rattle.cluster_types.specs.Partitions.{partition_of}
 use Rattle.node_rules.specs.Facts.{list_at}
-use Rattle.node_core.proofs.OpeningLaws.{refused_by_acting}
+use Rattle.node_steps.proofs.OpeningLaws.{refused_by_acting}
 use Rattle.node_core.proofs.node.Node.refusal_of.Goals as goal
 
 pub returns-in-Ok : goal.returns-in-Ok

@@ -2,9 +2,9 @@ use Rattle.std.proofs.Common.{◌≡◌, Some, None, IfOk, OnErr, OnOk, sym, sub
 use Rattle.node_rules.specs.Requests.{due_request}
 use Rattle.node_rules.specs.Steps.{Planning, after_request, planning}
 use Rattle.node_core.specs.declared.answered.Answered.{Answered}
-use Rattle.node_core.specs.declared.effects.Effects.{Effects}
-use Rattle.node_core.specs.Counts.{HaveNumbers}
-use Rattle.node_core.specs.Spelled.{spelled}
+use Rattle.node_steps.specs.declared.effects.Effects.{Effects}
+use Rattle.node_steps.specs.Counts.{HaveNumbers}
+use Rattle.node_steps.specs.Spelled.{spelled}
 use Rattle.node_core.proofs.RequestLaws.{opened_answer, refusal_is, refused_after, refused_answer, refused_due}
 use Rattle.node_core.proofs.node.Node.request.Goals as goal
 

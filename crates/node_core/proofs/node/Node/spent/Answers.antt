@@ -1,8 +1,8 @@
 use Rattle.std.proofs.Common.{ℕ, [], ◌∷◌, ap, subst, ◌∙◌}
 use Rattle.journal_lines.specs.declared.line.Line.TheVariants as line
 use Rattle.node_rules.specs.Steps.{Planning}
-use Rattle.node_core.specs.declared.effects.Effects.{Effects}
-use Rattle.node_core.specs.Ranges.{HasRanges}
+use Rattle.node_steps.specs.declared.effects.Effects.{Effects}
+use Rattle.node_steps.specs.Ranges.{HasRanges}
 use Rattle.node_core.proofs.node.Node.spent.Goals as goal
 
 pub returns-clause-effects : goal.returns-clause-effects

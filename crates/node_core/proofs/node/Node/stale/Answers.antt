@@ -1,7 +1,7 @@
 use Rattle.std.proofs.Common.{ℕ, [], ◌∷◌, ap, ◌∙◌}
 use Rattle.journal_lines.specs.declared.line.Line.TheVariants as line
 use Rattle.node_rules.specs.Steps.{Planning}
-use Rattle.node_core.specs.declared.effects.Effects.{Effects}
+use Rattle.node_steps.specs.declared.effects.Effects.{Effects}
 use Rattle.node_core.proofs.node.Node.stale.Goals as goal
 
 pub returns-clause-effects : goal.returns-clause-effects

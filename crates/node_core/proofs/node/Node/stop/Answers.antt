@@ -2,8 +2,8 @@ use Rattle.std.proofs.Common.{◌≡◌, Bool, if◌then◌else◌, sym, ap, sub
 use Rattle.node_rules.specs.Notes.{stopped}
 use Rattle.node_rules.specs.Steps.{Planning, after_stop, planning}
 use Rattle.node_rules.proofs.PartLaws.{stop_is}
-use Rattle.node_core.specs.Ranges.{HasRanges}
-use Rattle.node_core.proofs.RangeLaws.{stopped_ranges}
+use Rattle.node_steps.specs.Ranges.{HasRanges}
+use Rattle.node_steps.proofs.RangeLaws.{stopped_ranges}
 use Rattle.node_core.proofs.node.Node.stop.Goals as goal
 
 pub plan-requires-clause-ranges : goal.plan-requires-clause-ranges

@@ -1,10 +1,10 @@
 use Rattle.std.proofs.Common.{◌≡◌, None, Contains, ap, subst, sym, ◌∙◌}
 use Rattle.node_rules.specs.Steps.{Planning}
 use Rattle.heartbeat.specs.Adjacent.{HasRoomFor}
-use Rattle.node_core.specs.declared.planned.Planned.TheVariants as planned
+use Rattle.node_steps.specs.declared.planned.Planned.TheVariants as planned
 use Rattle.node_core.specs.Nodes.{facts_of}
-use Rattle.node_core.specs.Plans.{taken}
-use Rattle.node_core.specs.Ranges.{HasRanges}
+use Rattle.node_steps.specs.Plans.{taken}
+use Rattle.node_steps.specs.Ranges.{HasRanges}
 use Rattle.node_core.proofs.CommitLaws.{heard_node, that_heard}
 use Rattle.node_core.proofs.NodeLaws.{none_planned, unplanned_view}
 use Rattle.node_core.proofs.node.Node.take_heard.Goals as goal

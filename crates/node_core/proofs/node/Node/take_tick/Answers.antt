@@ -5,9 +5,9 @@ use Rattle.node_rules.specs.Steps.{unplanned}
 use Rattle.node_view.specs.Fits.{IsReadyToSend}
 use Rattle.node_view.specs.Plans.{settled_by}
 use Rattle.node_view.specs.Views.{IsNodeOf, Viewed}
-use Rattle.node_core.specs.Fits.{ticked_facts}
+use Rattle.node_steps.specs.Fits.{ticked_facts}
 use Rattle.node_core.specs.Nodes.{planning_of}
-use Rattle.node_core.specs.Ranges.{HasRanges}
+use Rattle.node_steps.specs.Ranges.{HasRanges}
 use Rattle.node_core.proofs.CommitLaws.{aged_is, aging, fits_aged, next_settled, none_before, ready_to_settle, sent_view, settled_node, still_unplanned, ticking, ticking_outside}
 use Rattle.node_core.proofs.node.Node.take_tick.Goals as goal
 

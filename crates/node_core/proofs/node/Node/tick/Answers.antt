@@ -16,20 +16,22 @@ use Rattle.node_rules.specs.Steps.{Planning, after_tick, planning}
 use Rattle.node_rules.specs.Tick as tick
 use Rattle.node_rules.specs.Tick.{due_tick, in_order, propose}
 use Rattle.node_view.specs.declared.view.View.{View}
-use Rattle.node_core.specs.declared.effects.Effects.{Effects}
-use Rattle.node_core.specs.declared.planned.Planned.TheVariants as planned
-use Rattle.node_core.specs.declared.planned.Ticked.{Ticked}
-use Rattle.node_core.specs.Counts.{HaveNumbers}
-use Rattle.node_core.specs.Fits.{FitsAgreed, FitsTick}
-use Rattle.node_core.specs.Nodes.{facts_of, lent}
-use Rattle.node_core.specs.Plans.{taken}
-use Rattle.node_core.specs.Ranges.{HasRanges}
-use Rattle.node_core.specs.Spelled.{followed_by, spelled}
-use Rattle.node_core.specs.Ticks.{IsProposed, TicksFrom, agreed, later_parts}
-use Rattle.node_core.proofs.PlannedTickLaws.{IsTicking, beats_so, candidate_so, entered_fits, heard_so, later_count, later_fit, on_err, pending_so, proposed_so, stands_so, taken_fits, tick_fits, tick_told, ticked_is}
-use Rattle.node_core.proofs.ProposeLaws.{itself_among}
-use Rattle.node_core.proofs.RangeLaws.{keys_of, ranges_agreed}
-use Rattle.node_core.proofs.TickingLaws.{agreeing_with, ground_in_own, ground_own, lent_view}
+use Rattle.node_steps.specs.declared.effects.Effects.{Effects}
+use Rattle.node_steps.specs.declared.planned.Planned.TheVariants as planned
+use Rattle.node_steps.specs.declared.planned.Ticked.{Ticked}
+use Rattle.node_steps.specs.Counts.{HaveNumbers}
+use Rattle.node_steps.specs.Fits.{FitsAgreed, FitsTick}
+use Rattle.node_core.specs.Nodes.{facts_of}
+use Rattle.node_steps.specs.Grounds.{lent}
+use Rattle.node_steps.specs.Plans.{taken}
+use Rattle.node_steps.specs.Ranges.{HasRanges}
+use Rattle.node_steps.specs.Spelled.{followed_by, spelled}
+use Rattle.node_steps.specs.Ticks.{IsProposed, TicksFrom, agreed, later_parts}
+use Rattle.node_core.proofs.PlannedTickLaws.{IsTicking, beats_so, candidate_so, entered_fits, later_count, later_fit, on_err, pending_so, proposed_so, stands_so, taken_fits, tick_fits, tick_told, ticked_is}
+use Rattle.node_core.proofs.CopyLaws.{heard_so}
+use Rattle.node_steps.proofs.CandidateLaws.{itself_among}
+use Rattle.node_steps.proofs.RangeLaws.{keys_of, ranges_agreed}
+use Rattle.node_steps.proofs.TickingLaws.{agreeing_with, ground_in_own, ground_own, lent_view}
 use Rattle.node_core.proofs.node.Node.tick.Goals as goal
 
 pub ground-before-requires : goal.ground-before-requires

@@ -2,7 +2,7 @@ use Rattle.std.proofs.Common.{ap, ◌∙◌}
 use Rattle.std.specs.Prelude.{option_map}
 use Rattle.node_rules.specs.Transactions as rules
 use Rattle.node_view.specs.Transactions.{kept_of}
-use Rattle.node_core.proofs.ViewLaws.{found_alike, found_kept, transactions_are}
+use Rattle.node_steps.proofs.ViewLaws.{found_alike, found_kept, transactions_are}
 use Rattle.node_core.proofs.node.Node.transaction.Goals as goal
 
 pub returns-clause-some : goal.returns-clause-some

@@ -1,6 +1,6 @@
 use Rattle.std.proofs.Common.{ap, ◌∙◌}
 use Rattle.node_rules.specs.Exchange.{Exchange, key_of, members_of}
-use Rattle.node_core.proofs.ViewLaws.{exchange_is, members_shown}
+use Rattle.node_steps.proofs.ViewLaws.{exchange_is, members_shown}
 use Rattle.node_core.proofs.node.Node.view.Goals as goal
 
 pub returns-in-Some : goal.returns-in-Some

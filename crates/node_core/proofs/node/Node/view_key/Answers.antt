@@ -1,6 +1,6 @@
 use Rattle.std.proofs.Common.{ap, ◌∙◌}
 use Rattle.node_rules.specs.Exchange.{Exchange, key_of}
-use Rattle.node_core.proofs.ViewLaws.{exchange_is}
+use Rattle.node_steps.proofs.ViewLaws.{exchange_is}
 use Rattle.node_core.proofs.node.Node.view_key.Goals as goal
 
 pub returns-in-Some : goal.returns-in-Some

@@ -1,4 +1,0 @@
-use Rattle.node_core.proofs.ground.Ground.exchanged.Goals as goal
-
-pub returns-then-has_exchanged-clause-view : goal.returns-then-has_exchanged-clause-view
-returns-then-has_exchanged-clause-view c = rw (← c.self.view_is) (c.self.invariant.view c.in_ok-view.view c.in_ok-view.was)

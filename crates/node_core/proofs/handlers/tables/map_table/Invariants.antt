@@ -1,6 +1,0 @@
-use Rattle.node_core.proofs.TableLaws.{AreTold}
-use Rattle.node_core.proofs.handlers.tables.map_table.Given as goal
-
--- the first partitions are told
-abbrev pub invariant-loop-number : goal.invariant-loop-number
-invariant-loop-number l = AreTold l.view l.number l.ids l.moved

@@ -1,0 +1,10 @@
+pub mod Counts
+pub mod Fits
+pub mod Grounds
+pub mod Plans
+pub mod Ranges
+pub mod Resolvings
+pub mod Rooms
+pub mod Spelled
+pub mod Ticks
+pub mod Viewing
