@@ -266,11 +266,18 @@ may_receive w now a place f seen k x at here =
       counts = numbers now w.net.sent w.ledger.journal.lines fits x.posting.to;
     }))
 
-abbrev arriving_step : Event → ℕ → Option ℕ → List Line → Effects → EndStep
-arriving_step e to landing ls own = record { event = record { marker = record {}; value = e }; from = to; landing = landing; effects = record { lines = ls ++ own.lines; sends = own.sends } }
+-- the effects of a node that does nothing but go on
+abbrev pub no_effects : Effects
+no_effects = record { lines = []; sends = [] }
+
+pub effects_none : (own : Effects) → own.lines ≡ [] → own.sends ≡ [] → own ≡ no_effects
+effects_none own lines sends = ap₂ (λ (ls : List Line) (ss : List (ℕ × List ℕ)). record { lines = ls; sends = ss }) lines sends
+
+abbrev arriving_step : Event → ℕ → Option ℕ → Line → Effects → EndStep
+arriving_step e to landing l own = record { event = record { marker = record {}; value = e }; from = to; landing = landing; effects = record { lines = l ∷ own.lines; sends = own.sends } }
 
 arrival_there : (w : Inside) (now : Run) (a : Arriving) (place : ℕ) → run_of w ≡ now → Keeps w → (x : Arrives now a) → StandsAt now place x.posting.to
-    → Acts w now (arriving_step (delivering x.number x.how) x.posting.to (landing_of x.number x.how) (line_of_delivery x.number x.posting.from x.posting.to x.how ∷ [])
+    → Acts w now (arriving_step (delivering x.number x.how) x.posting.to (landing_of x.number x.how) (line_of_delivery x.number x.posting.from x.posting.to x.how)
     (spelled (due_message ((standing now).facts x.posting.to) ((standing now).clocks x.posting.to) x.posting.from a.message)))
     place (after_message ((standing now).facts x.posting.to) ((standing now).clocks x.posting.to) x.posting.from a.message)
 unfolding next_lines
@@ -294,20 +301,20 @@ arrival_there w now a place seen k x at =
     }
 
 pub arrival_acts : (w : Inside) (now : Run) (a : Arriving) (place clock : ℕ) (f : Facts) (own : Effects) → run_of w ≡ now → Keeps w → Arrives now a → StandsAt now place a.to → f ≡ (standing now).facts a.to → clock ≡ (standing now).clocks a.to
-    → own ≡ spelled (due_message f clock a.from a.message) → Acts w now (arriving_step a.event.value a.to a.landing a.lines own) place (after_message f clock a.from a.message)
+    → own ≡ spelled (due_message f clock a.from a.message) → Acts w now (arriving_step a.event.value a.to a.landing a.line own) place (after_message f clock a.from a.message)
 arrival_acts w now a place clock f own seen k x at here time made =
     let to : ℕ = x.posting.to in
     let facts : f ≡ (standing now).facts to = here ∙ ap (standing now).facts x.to_end in
     let ticks : clock ≡ (standing now).clocks to = time ∙ ap (standing now).clocks x.to_end in
-    let lines : List Line = line_of_delivery x.number x.posting.from to x.how ∷ [] in
-    subst (λ (e : Event). Acts w now (arriving_step e a.to a.landing a.lines own) place (after_message f clock a.from a.message)) (sym x.event)
-    (subst (λ (n : ℕ). Acts w now (arriving_step (delivering x.number x.how) n a.landing a.lines own) place (after_message f clock a.from a.message)) (sym x.to_end)
-    (subst (λ (o : Option ℕ). Acts w now (arriving_step (delivering x.number x.how) to o a.lines own) place (after_message f clock a.from a.message)) (sym x.landing)
-    (subst (λ (ls : List Line). Acts w now (arriving_step (delivering x.number x.how) to (landing_of x.number x.how) ls own) place (after_message f clock a.from a.message)) (sym x.lines)
-    (subst (λ (o : Effects). Acts w now (arriving_step (delivering x.number x.how) to (landing_of x.number x.how) lines o) place (after_message f clock a.from a.message)) (sym made)
-    (subst (λ (n : ℕ). Acts w now (arriving_step (delivering x.number x.how) to (landing_of x.number x.how) lines (spelled (due_message f clock n a.message))) place (after_message f clock n a.message)) (sym x.from)
-    (subst (λ (g : Facts). Acts w now (arriving_step (delivering x.number x.how) to (landing_of x.number x.how) lines (spelled (due_message g clock x.posting.from a.message))) place (after_message g clock x.posting.from a.message)) (sym facts)
-    (subst (λ (t : ℕ). Acts w now (arriving_step (delivering x.number x.how) to (landing_of x.number x.how) lines (spelled (due_message ((standing now).facts to) t x.posting.from a.message))) place (after_message ((standing now).facts to) t x.posting.from a.message)) (sym ticks)
+    let l : Line = line_of_delivery x.number x.posting.from to x.how in
+    subst (λ (e : Event). Acts w now (arriving_step e a.to a.landing a.line own) place (after_message f clock a.from a.message)) (sym x.event)
+    (subst (λ (n : ℕ). Acts w now (arriving_step (delivering x.number x.how) n a.landing a.line own) place (after_message f clock a.from a.message)) (sym x.to_end)
+    (subst (λ (o : Option ℕ). Acts w now (arriving_step (delivering x.number x.how) to o a.line own) place (after_message f clock a.from a.message)) (sym x.landing)
+    (subst (λ (y : Line). Acts w now (arriving_step (delivering x.number x.how) to (landing_of x.number x.how) y own) place (after_message f clock a.from a.message)) (sym x.line)
+    (subst (λ (o : Effects). Acts w now (arriving_step (delivering x.number x.how) to (landing_of x.number x.how) l o) place (after_message f clock a.from a.message)) (sym made)
+    (subst (λ (n : ℕ). Acts w now (arriving_step (delivering x.number x.how) to (landing_of x.number x.how) l (spelled (due_message f clock n a.message))) place (after_message f clock n a.message)) (sym x.from)
+    (subst (λ (g : Facts). Acts w now (arriving_step (delivering x.number x.how) to (landing_of x.number x.how) l (spelled (due_message g clock x.posting.from a.message))) place (after_message g clock x.posting.from a.message)) (sym facts)
+    (subst (λ (t : ℕ). Acts w now (arriving_step (delivering x.number x.how) to (landing_of x.number x.how) l (spelled (due_message ((standing now).facts to) t x.posting.from a.message))) place (after_message ((standing now).facts to) t x.posting.from a.message)) (sym ticks)
     (arrival_there w now a place seen k x (subst (λ (n : ℕ). StandsAt now place n) x.to_end at)))))))))
 
 -- the message is in flight, where it leaves

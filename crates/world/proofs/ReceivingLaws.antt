@@ -33,10 +33,10 @@ use Rattle.world.proofs.SettingLaws.{Sets, parts}
 pub blocked_passes : (r : Run) (i : ℕ) (how : Delivery) (m : Flying) → Some (posting_of m) ≡ flying_at (standing r).network i → is_blocked (standing r) (posting_of m) ≡ true → PassesOver r i how (line.Blocked i ∷ [])
 blocked_passes r i how m flies stuck = blocked_over r i how (posting_of m) (sym flies) stuck
 
-pub short_passes : (r : Run) (i : ℕ) (how : Delivery) (m : Flying) (l : Line) (before ls : List Line) → Some (posting_of m) ≡ flying_at (standing r).network i → is_blocked (standing r) (posting_of m) ≡ false
-    → arrival.Short ≡ arrival_of m.bytes how → l ≡ line_of_delivery i m.from m.to how → before ≡ l ∷ [] → ls ≡ before ++ line.Short m.to ∷ [] → PassesOver r i how ls
-short_passes r i how m l before ls flies free short told first made =
-    subst (PassesOver r i how) (sym (made ∙ ap (λ (xs : List Line). xs ++ line.Short m.to ∷ []) (first ∙ ap (λ (x : Line). x ∷ []) told)))
+pub short_passes : (r : Run) (i : ℕ) (how : Delivery) (m : Flying) (l : Line) (ls : List Line) → Some (posting_of m) ≡ flying_at (standing r).network i → is_blocked (standing r) (posting_of m) ≡ false
+    → arrival.Short ≡ arrival_of m.bytes how → l ≡ line_of_delivery i m.from m.to how → ls ≡ l ∷ line.Short m.to ∷ [] → PassesOver r i how ls
+short_passes r i how m l ls flies free short told made =
+    subst (PassesOver r i how) (sym (made ∙ ap (λ (x : Line). x ∷ line.Short m.to ∷ []) told))
     (short_over r i how (posting_of m) (sym flies) free (short_arrives m.bytes how short))
 
 pub unread_passes : (r : Run) (i : ℕ) (how : Delivery) (m : Flying) (l : Line) (ls : List Line) → Some (posting_of m) ≡ flying_at (standing r).network i → is_blocked (standing r) (posting_of m) ≡ false
@@ -46,10 +46,10 @@ unread_passes r i how m l ls flies free none told made =
     subst (PassesOver r i how) (sym (made ∙ ap (λ (x : Line). x ∷ []) told)) (unread_over r i how (posting_of m) (sym flies) free unread.whole unread.unread)
 
 -- a message arrives
-pub arrives_so : (r : Run) (e : Event) (i : ℕ) (how : Delivery) (m : Flying) (l : Line) (ls : List Line) (landing : Option ℕ) (x : Message) → e ≡ delivering i how → Some (posting_of m) ≡ flying_at (standing r).network i
-    → is_blocked (standing r) (posting_of m) ≡ false → arrival.Message x ≡ arrival_of m.bytes how → l ≡ line_of_delivery i m.from m.to how → ls ≡ l ∷ [] → landing ≡ landing_of i how
-    → Arrives r (record { event = record { marker = record {}; value = e }; lines = ls; landing = landing; from = m.from; to = m.to; message = x })
-arrives_so r e i how m l ls landing x is flies free read told made lands =
+pub arrives_so : (r : Run) (e : Event) (i : ℕ) (how : Delivery) (m : Flying) (l : Line) (landing : Option ℕ) (x : Message) → e ≡ delivering i how → Some (posting_of m) ≡ flying_at (standing r).network i
+    → is_blocked (standing r) (posting_of m) ≡ false → arrival.Message x ≡ arrival_of m.bytes how → l ≡ line_of_delivery i m.from m.to how → landing ≡ landing_of i how
+    → Arrives r (record { event = record { marker = record {}; value = e }; line = l; landing = landing; from = m.from; to = m.to; message = x })
+arrives_so r e i how m l landing x is flies free read told lands =
     let whole : ReadWhole m.bytes how x = message_arrives m.bytes how x read in
     record {
       number = i;
@@ -62,28 +62,28 @@ arrives_so r e i how m l ls landing x is flies free read told made lands =
       read = whole.read;
       from = refl;
       to_end = refl;
-      lines = made ∙ ap (λ (y : Line). y ∷ []) told;
+      line = told;
       landing = lands;
     }
 
 -- ---- at the client
 
-pub stale_passes : (r : Run) (a : Arriving) (ls : List Line) (x : Arrives r a) → a.to ≡ client → ((t : MapTable) → a.message ≡ message.MapTable t → ⊥) → ls ≡ a.lines ++ line.Stale client ∷ []
+pub stale_passes : (r : Run) (a : Arriving) (ls : List Line) (x : Arrives r a) → a.to ≡ client → ((t : MapTable) → a.message ≡ message.MapTable t → ⊥) → ls ≡ a.line ∷ line.Stale client ∷ []
     → PassesOver r x.number x.how ls
 stale_passes r a ls x end differs made =
-    subst (PassesOver r x.number x.how) (sym (made ∙ ap (λ (xs : List Line). xs ++ line.Stale client ∷ []) x.lines))
+    subst (PassesOver r x.number x.how) (sym (made ∙ ap (λ (y : Line). y ∷ line.Stale client ∷ []) x.line))
     (stale_over r x.number x.how x.posting a.message x.flying x.free x.whole x.read (sym x.to_end ∙ end) differs)
 
-pub table_arrives : (r : Run) (a : Arriving) (t : MapTable) (ls : List Line) (x : Arrives r a) → a.to ≡ client → a.message ≡ message.MapTable t → ls ≡ a.lines ++ line.Table t.key ∷ []
+pub table_arrives : (r : Run) (a : Arriving) (t : MapTable) (ls : List Line) (x : Arrives r a) → a.to ≡ client → a.message ≡ message.MapTable t → ls ≡ a.line ∷ line.Table t.key ∷ []
     → TableComes r x.number x.how t ls
 table_arrives r a t ls x end is made =
-    subst (TableComes r x.number x.how t) (sym (made ∙ ap (λ (xs : List Line). xs ++ line.Table t.key ∷ []) x.lines))
+    subst (TableComes r x.number x.how t) (sym (made ∙ ap (λ (y : Line). y ∷ line.Table t.key ∷ []) x.line))
     (table_comes r x.number x.how x.posting t x.flying x.free x.whole (x.read ∙ ap Some is) (sym x.to_end ∙ end))
 
-pub table_due : (r : Run) (a : Arriving) (t : MapTable) (ls : List Line) → Arrives r a → a.to ≡ client → a.message ≡ message.MapTable t → ls ≡ a.lines ++ line.Table t.key ∷ [] → ls ≡ next_lines r a.event.value
+pub table_due : (r : Run) (a : Arriving) (t : MapTable) (ls : List Line) → Arrives r a → a.to ≡ client → a.message ≡ message.MapTable t → ls ≡ a.line ∷ line.Table t.key ∷ [] → ls ≡ next_lines r a.event.value
 table_due r a t ls x end is made = subst (λ (e : Event). ls ≡ next_lines r e) (sym x.event) (table_arrives r a t ls x end is made).due
 
-pub keeps_table : (w v : Inside) (now : Run) (a : Arriving) (t : MapTable) (ls : List Line) → Sets w v now a.event.value ls → Arrives now a → a.to ≡ client → a.message ≡ message.MapTable t → ls ≡ a.lines ++ line.Table t.key ∷ []
+pub keeps_table : (w v : Inside) (now : Run) (a : Arriving) (t : MapTable) (ls : List Line) → Sets w v now a.event.value ls → Arrives now a → a.to ≡ client → a.message ≡ message.MapTable t → ls ≡ a.line ∷ line.Table t.key ∷ []
     → v.nodes.items ≡ w.nodes.items → v.clocks.items ≡ w.clocks.items → nets.IsSameNetwork (landing_from w.net a.landing) v.net → Holds ((standing now).tables ++ t ∷ []) v.client → Keeps v
 keeps_table w v now a t ls s x end is made nodes clocks net held =
     let comes : TableComes now x.number x.how t ls = table_arrives now a t ls x end is made in

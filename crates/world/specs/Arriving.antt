@@ -1,5 +1,5 @@
 -- Deliveries: which event each is, its line, and what arrives.
-use Rattle.std.specs.Prelude.{◌≡◌, ℕ, nat_lt, Bool, true, false, List, [], ◌∷◌, length, Option, Some, None}
+use Rattle.std.specs.Prelude.{◌≡◌, ℕ, nat_lt, Bool, true, false, List, length, Option, Some, None}
 use Rattle.journal_lines.specs.declared.line.Line.{Line}
 use Rattle.journal_lines.specs.declared.line.Line.TheVariants as line
 use Rattle.wire_messages.specs.declared.message.Message.{Message}
@@ -76,5 +76,5 @@ pub record Arrives (r : Run) (a : Arriving) : Type 0 where
   pub read : message_of posting.bytes ≡ Some a.message
   pub from : a.from ≡ posting.from
   pub to_end : a.to ≡ posting.to
-  pub lines : a.lines ≡ line_of_delivery number posting.from posting.to how ∷ []
+  pub line : a.line ≡ line_of_delivery number posting.from posting.to how
   pub landing : a.landing ≡ landing_of number how

@@ -36,7 +36,7 @@ impl World {
         let number = node.number();
         let place = self.place_of(node);
         if !self.nodes[place].is_up() {
-            return self.ledger.tell(alloc, Line::Down { node }, event);
+            return self.ledger.tell(Line::Down { node }, event);
         }
         let effects = self.nodes[place].tick(alloc, self.clocks[place])?;
         let step = EndStep::of(event, number, effects);
@@ -60,7 +60,7 @@ impl World {
     {
         let place = self.place_of(node);
         if !self.nodes[place].is_up() {
-            return self.ledger.tell(alloc, Line::Down { node }, event);
+            return self.ledger.tell(Line::Down { node }, event);
         }
         let effects = self.nodes[place].stop(alloc)?;
         let step = EndStep::of(event, node.number(), effects);
@@ -72,21 +72,16 @@ impl World {
         )
     }
 
-    pub(crate) fn start(
-        &mut self,
-        alloc: Global,
-        node: NodeId,
-        event: Snapshot<Event>,
-    ) -> Result<(), StepFault>
+    pub(crate) fn start(&mut self, node: NodeId, event: Snapshot<Event>) -> Result<(), StepFault>
         requires is { event.value ≡ events.Start node }
         requires comes { MayCome self.old event.value }
         ensures { TakesStep self.old self.new event.value result }
     {
         let place = self.place_of(node);
         if self.nodes[place].is_up() {
-            return self.ledger.tell(alloc, Line::Up { node }, event);
+            return self.ledger.tell(Line::Up { node }, event);
         }
-        self.ledger.tell(alloc, Line::Start { node }, event)?;
+        self.ledger.tell(Line::Start { node }, event)?;
         self.nodes[place].start();
         Ok(())
     }
@@ -133,7 +128,7 @@ impl World {
     {
         let partition = partition_of(&digest);
         let Some(node) = self.asked_node(partition) else {
-            return self.ledger.tell(alloc, Line::NoMap { partition }, event);
+            return self.ledger.tell(Line::NoMap { partition }, event);
         };
         let place = self.place_of(node);
         let (_, effects) = self.nodes[place].request(alloc, digest, want, self.clocks[place])?;

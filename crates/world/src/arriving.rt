@@ -13,9 +13,9 @@ ghost use Rattle.world.specs.Steps.{MayCome, StandsAt, TakesStep, next_lines, st
 
 use crate::delivery::{Arrival, Delivery};
 use crate::fault::StepFault;
-use crate::lines::{add_lines, one_line};
+use crate::lines::{line_before, one_line, two_lines};
 use crate::sending::{CLIENT, land};
-use crate::taking::EndStep;
+use crate::taking::{EndStep, LineStep};
 use crate::world::World;
 use cluster_rules::Event;
 use journal_text::{Line, LineList};
@@ -30,7 +30,7 @@ use wire_codec::Message;
 struct Arriving {
     event: Snapshot<Event>,
     /// The line of the delivery.
-    lines: LineList,
+    line: Line,
     /// The number of the message, where it leaves the network.
     landing: Option<u64>,
     from: u16,
@@ -94,24 +94,27 @@ impl World {
             return self.pass_over(lines, landing, event);
         }
         let arrival = delivery.arrival(alloc, flying)?;
-        let mut lines = one_line(alloc, delivery.line(message, from, to))?;
+        let line = delivery.line(message, from, to);
         match arrival {
-            Arrival::Unread => self.pass_over(lines, landing, event),
+            Arrival::Unread => {
+                let lines = one_line(alloc, line)?;
+                self.pass_over(lines, landing, event)
+            }
             Arrival::Short => {
-                lines.push(Line::Short { endpoint: to })?;
+                let lines = two_lines(alloc, line, Line::Short { endpoint: to })?;
                 self.pass_over(lines, landing, event)
             }
             Arrival::Message(message) => {
                 let arriving = Arriving {
                     event,
-                    lines,
+                    line,
                     landing,
                     from,
                     to,
                     message,
                 };
                 match self.find(to) {
-                    None => self.arrive_at_client(arriving),
+                    None => self.arrive_at_client(alloc, arriving),
                     Some(place) => self.arrive_at_node(alloc, place, arriving),
                 }
             }
@@ -145,7 +148,7 @@ impl World {
     }
 
     /// The client takes tables and nothing else.
-    fn arrive_at_client(&mut self, arriving: Arriving) -> Result<(), StepFault>
+    fn arrive_at_client(&mut self, alloc: Global, arriving: Arriving) -> Result<(), StepFault>
         requires comes { MayCome self.old arriving.event.value }
         requires arrives { Arrives self.old arriving }
         requires end { arriving.to ≡ client }
@@ -153,16 +156,16 @@ impl World {
     {
         let Arriving {
             event,
-            mut lines,
+            line,
             landing,
             message,
             ..
         } = arriving;
         let Message::MapTable(table) = &message else {
-            lines.push(Line::Stale { endpoint: CLIENT })?;
+            let lines = two_lines(alloc, line, Line::Stale { endpoint: CLIENT })?;
             return self.pass_over(lines, landing, event);
         };
-        lines.push(Line::Table { key: table.key })?;
+        let lines = two_lines(alloc, line, Line::Table { key: table.key })?;
         self.ledger.tell_all(lines, event)?;
         land(&mut self.net, landing);
         self.client.refresh(table);
@@ -182,15 +185,23 @@ impl World {
     {
         let Arriving {
             event,
-            mut lines,
+            line,
             landing,
             from,
             to,
             message,
         } = arriving;
         let effects = self.nodes[place].receive(alloc, from, &message, self.clocks[place])?;
-        let Effects { lines: own, sends } = effects;
-        add_lines(&mut lines, own)?;
+        let Effects { lines, sends } = effects;
+        if lines.is_empty() && sends.is_empty() {
+            let step = LineStep {
+                event,
+                landing,
+                line,
+            };
+            return step.take_of(&mut self.nodes[place], &mut self.net, &mut self.ledger);
+        }
+        let lines = line_before(alloc, line, lines)?;
         let step = EndStep {
             event,
             from: to,

@@ -5,9 +5,8 @@ ghost use Rattle.world.specs.Ledgers.{IsSameLedger, Wrote};
 
 use crate::fault::StepFault;
 use crate::history::History;
-use crate::lines::one_line;
 use cluster_rules::Event;
-use journal_text::{Journal, Line, LineList};
+use journal_text::{Journal, Line, LineList, PushFault};
 use std::alloc::Global;
 use std::snapshot::Snapshot;
 
@@ -69,7 +68,7 @@ impl Ledger {
         ensures { Wrote self.old self.new lines event.value }
     {
         self.append(lines);
-        self.events = self.events.and(&event);
+        self.keep(&event);
     }
 
     /// Writes the lines of a step and keeps its event, where the journal has a place for them.
@@ -84,19 +83,38 @@ impl Ledger {
         Ok(())
     }
 
-    /// The same of a step of one line.
-    pub fn tell(
-        &mut self,
-        alloc: Global,
-        line: Line,
-        event: Snapshot<Event>,
-    ) -> Result<(), StepFault>
+    /// The same of a step of one line, which goes straight into the journal.
+    pub fn tell(&mut self, line: Line, event: Snapshot<Event>) -> Result<(), StepFault>
         ensures ok { OnOk result (Wrote self.old self.new (line ∷ []) event.value) }
         ensures within { OnOk result (IsWithin (self.old.journal.lines ++ line ∷ [])) }
         ensures too_long { IsErrOf result StepFault.RunTooLong → ¬ IsWithin (self.old.journal.lines ++ line ∷ []) }
         ensures err { OnErr result (IsSameLedger self.old self.new) }
     {
-        let lines = one_line(alloc, line)?;
-        self.tell_all(lines, event)
+        self.push(line)?;
+        self.keep(&event);
+        Ok(())
+    }
+
+    /// Keeps the event of a step.
+    fn keep(&mut self, event: &Snapshot<Event>)
+        ensures journal { self.new.journal ≡ self.old.journal }
+        ensures events { self.new.events.items ≡ self.old.events.items ++ event.now.value ∷ [] }
+    {
+        self.events = self.events.and(event);
+    }
+
+    /// Writes the line, where the journal has a place for it.
+    fn push(&mut self, line: Line) -> Result<(), StepFault>
+        ensures ok { OnOk result (self.new.journal.lines ≡ self.old.journal.lines ++ line ∷ []) }
+        ensures within { OnOk result (IsWithin (self.old.journal.lines ++ line ∷ [])) }
+        ensures too_long { IsErrOf result StepFault.RunTooLong → ¬ IsWithin (self.old.journal.lines ++ line ∷ []) }
+        ensures err { OnErr result (self.new.journal.lines ≡ self.old.journal.lines) }
+        ensures events { self.new.events ≡ self.old.events }
+    {
+        match self.journal.push(line) {
+            Ok(()) => Ok(()),
+            Err(PushFault::Full) => Err(StepFault::RunTooLong),
+            Err(PushFault::NoMemory) => Err(StepFault::NoMemory),
+        }
     }
 }

@@ -14,6 +14,15 @@ pub(crate) fn one_line(alloc: Global, line: Line) -> Result<LineList, NoMemory>
     Ok(lines)
 }
 
+/// Those two lines.
+pub(crate) fn two_lines(alloc: Global, first: Line, second: Line) -> Result<LineList, NoMemory>
+    ensures { IfOk result (λ lines. lines ≡ first ∷ second ∷ []) }
+{
+    let mut lines = one_line(alloc, first)?;
+    lines.push(second)?;
+    Ok(lines)
+}
+
 /// The line, and behind it the others.
 pub(crate) fn line_before(alloc: Global, line: Line, others: LineList) -> Result<LineList, NoMemory>
     ensures { IfOk result (λ lines. lines ≡ line ∷ others) }
@@ -24,7 +33,7 @@ pub(crate) fn line_before(alloc: Global, line: Line, others: LineList) -> Result
 }
 
 /// Adds the lines at the end.
-pub(crate) fn add_lines(lines: &mut LineList, others: LineList) -> Result<(), NoMemory>
+fn add_lines(lines: &mut LineList, others: LineList) -> Result<(), NoMemory>
     ensures { OnOk result (lines.new ≡ lines.old ++ others) }
 {
     let mut left = others;

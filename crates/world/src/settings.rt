@@ -42,12 +42,11 @@ impl World {
         ensures { TakesStep self.old self.new event.value result }
     {
         let line = self.place_line(alloc, partition)?;
-        self.ledger.tell(alloc, line, event)
+        self.ledger.tell(line, event)
     }
 
     pub(crate) fn show_hash(
         &mut self,
-        alloc: Global,
         digest: Digest,
         event: Snapshot<Event>,
     ) -> Result<(), StepFault>
@@ -56,8 +55,7 @@ impl World {
         ensures { TakesStep self.old self.new event.value result }
     {
         let partition = partition_of(&digest);
-        self.ledger
-            .tell(alloc, Line::Hash { digest, partition }, event)
+        self.ledger.tell(Line::Hash { digest, partition }, event)
     }
 
     pub(crate) fn show_store(
@@ -72,27 +70,21 @@ impl World {
         ensures { TakesStep self.old self.new event.value result }
     {
         let line = holds_line(alloc, node, self.node(node), &digest)?;
-        self.ledger.tell(alloc, line, event)
+        self.ledger.tell(line, event)
     }
 
-    pub(crate) fn tell_calm(
-        &mut self,
-        alloc: Global,
-        rounds: u64,
-        event: Snapshot<Event>,
-    ) -> Result<(), StepFault>
+    pub(crate) fn tell_calm(&mut self, rounds: u64, event: Snapshot<Event>) -> Result<(), StepFault>
         requires is { event.value ≡ events.Calmed rounds }
         requires comes { MayCome self.old event.value }
         ensures { TakesStep self.old self.new event.value result }
     {
-        self.ledger.tell(alloc, Line::Calm { rounds }, event)
+        self.ledger.tell(Line::Calm { rounds }, event)
     }
 
     // ---- what is set
 
     pub(crate) fn set_clock(
         &mut self,
-        alloc: Global,
         node: NodeId,
         time: u64,
         event: Snapshot<Event>,
@@ -102,7 +94,7 @@ impl World {
         ensures { TakesStep self.old self.new event.value result }
     {
         let place = self.place_of(node);
-        self.ledger.tell(alloc, Line::Clock { node, time }, event)?;
+        self.ledger.tell(Line::Clock { node, time }, event)?;
         self.clocks[place] = time;
         Ok(())
     }
@@ -121,7 +113,7 @@ impl World {
         // What the type ensures of groups: no node is in two.
         let _ = parts.as_slice();
         let groups = BoxedGroups::new(alloc, parts)?;
-        self.ledger.tell(alloc, Line::Groups { groups }, event)?;
+        self.ledger.tell(Line::Groups { groups }, event)?;
         self.net.set_groups(parts);
         Ok(())
     }
@@ -129,7 +121,6 @@ impl World {
     /// Marks the node as one that is about to leave, or takes the mark away.
     pub(crate) fn set_mark(
         &mut self,
-        alloc: Global,
         node: NodeId,
         quiesced: bool,
         event: Snapshot<Event>,
@@ -139,7 +130,7 @@ impl World {
         ensures { TakesStep self.old self.new event.value result }
     {
         let place = self.place_of(node);
-        self.ledger.tell(alloc, mark_line(node, quiesced), event)?;
+        self.ledger.tell(mark_line(node, quiesced), event)?;
         let role = Role {
             quiesced,
             ..self.nodes[place].role()

@@ -1,5 +1,5 @@
 //! A step of an endpoint that sends messages.
-ghost use Rattle.std.specs.Prelude.{◌≡◌, ◌≤◌, ◌++◌, ℕ, length, is_some, true, IsSome, IfSome, IfOk, OnOk, OnErr, IsErrOf, None, Some};
+ghost use Rattle.std.specs.Prelude.{◌≡◌, ◌≤◌, ◌++◌, ◌∷◌, [], ℕ, length, is_some, true, IsSome, IfSome, IfOk, OnOk, OnErr, IsErrOf, None, Some};
 ghost use Rattle.journal_text.specs.Journals.{IsWithin, line_limit};
 ghost use Rattle.net_script.specs.Network as nets;
 ghost use Rattle.node_rules.specs.Steps.{unplanned};
@@ -11,6 +11,7 @@ use crate::fault::StepFault;
 use crate::ledger::Ledger;
 use crate::sending::{Postmark, add_sent_lines, land, send_all};
 use cluster_rules::Event;
+use journal_text::Line;
 use net_script::Net;
 use node_core::{Effects, Node};
 use std::alloc::Global;
@@ -144,6 +145,46 @@ impl EndStep {
         let step = self.prepare(alloc, net, ledger)?;
         node.commit();
         step.finish(net, ledger);
+        Ok(())
+    }
+}
+
+/// A step of one line, at which a node does nothing but go on.
+#[derive(Drop)]
+pub(crate) struct LineStep {
+    pub event: Snapshot<Event>,
+    /// The message in flight that leaves the network.
+    pub landing: Option<u64>,
+    pub line: Line,
+}
+
+impl LineStep {
+    /// Takes the step that the node has planned, where its line fits in the journal.
+    pub fn take_of(
+        self,
+        endpoint: &mut Node,
+        net: &mut Net,
+        ledger: &mut Ledger,
+    ) -> Result<(), StepFault>
+        requires planned { IsSome endpoint.old.next }
+        ensures node { OnOk result (IfSome endpoint.old.next (λ f. endpoint.new ≡ unplanned f)) }
+        ensures net { OnOk result (nets.IsSameNetwork (landing_from net.old self.landing) net.new) }
+        ensures numbers { OnOk result (nets.AreNumbers net.old.sent (nets.ids_of net.old.flying)) }
+        ensures wrote { OnOk result (Wrote ledger.old ledger.new (self.line ∷ []) self.event.value) }
+        ensures within { OnOk result (IsWithin (ledger.old.journal.lines ++ self.line ∷ [])) }
+        ensures too_long { IsErrOf result StepFault.RunTooLong → ¬ IsWithin (ledger.old.journal.lines ++ self.line ∷ []) }
+        ensures err { OnErr result ((endpoint.new ≡ endpoint.old) × nets.IsSameNetwork net.old net.new × IsSameLedger ledger.old ledger.new) }
+    {
+        let LineStep {
+            event,
+            landing,
+            line,
+        } = self;
+        // The numbers of those in flight rise.
+        let _ = net.len();
+        ledger.tell(line, event)?;
+        endpoint.commit();
+        land(net, landing);
         Ok(())
     }
 }

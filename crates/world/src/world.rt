@@ -115,11 +115,11 @@ impl World {
         ensures { TakesStep self.old self.new kept.value result }
     {
         match event {
-            Event::Clock { node, time } => self.set_clock(alloc, *node, *time, kept),
+            Event::Clock { node, time } => self.set_clock(*node, *time, kept),
             Event::Groups { groups } => self.set_groups(alloc, groups, kept),
             Event::Tick { node } => self.tick(alloc, *node, kept),
             Event::Stop { node } => self.stop(alloc, *node, kept),
-            Event::Start { node } => self.start(alloc, *node, kept),
+            Event::Start { node } => self.start(*node, kept),
             Event::Put {
                 node,
                 digest,
@@ -153,11 +153,11 @@ impl World {
             }
             Event::Map { node, from, to } => self.show_map(alloc, *node, *from, *to, kept),
             Event::Place { partition } => self.show_place(alloc, *partition, kept),
-            Event::Hash { digest } => self.show_hash(alloc, *digest, kept),
+            Event::Hash { digest } => self.show_hash(*digest, kept),
             Event::Show { node, digest } => self.show_store(alloc, *node, *digest, kept),
-            Event::Quiesce { node } => self.set_mark(alloc, *node, true, kept),
-            Event::Unquiesce { node } => self.set_mark(alloc, *node, false, kept),
-            Event::Calmed { rounds } => self.tell_calm(alloc, *rounds, kept),
+            Event::Quiesce { node } => self.set_mark(*node, true, kept),
+            Event::Unquiesce { node } => self.set_mark(*node, false, kept),
+            Event::Calmed { rounds } => self.tell_calm(*rounds, kept),
             // Proxies, calls and scans do nothing yet.
             Event::ProxyGet { .. } => self.do_nothing(alloc, kept),
             Event::ProxyPut { .. } => self.do_nothing(alloc, kept),
