@@ -17,13 +17,16 @@ use wire_messages::{DecodeFault, FieldFault, Message};
 /// How many kinds of messages there are. They are counted from 1.
 const KINDS: u8 = 25;
 
+/// Few messages have more bytes.
+const USUAL_SIZE: usize = 128;
+
 /// The message's one spelling.
 #[tactic(auto, unfolding(wire_messages::specs::Spelling::spelling))]
 pub fn encode(alloc: Global, m: &Message) -> Result<Bytes, NoMemory>
     requires { IsProper m.now }
     ensures { IfOk result (λ bytes. bytes ≡ spelling m.now) }
 {
-    let mut out = Vec::new(alloc);
+    let mut out = Vec::with_capacity(alloc, USUAL_SIZE)?;
     put_message(&mut out, m)?;
     Ok(Bytes::from(out))
 }

@@ -9,5 +9,5 @@ unfolding spelling
 returns c =
     c.from.ensures
     ∙ c.in_ok-put_message.ensures
-    ∙ ap (λ xs. appended xs (fields_of c.args.m.now)) c.new-out.ensures.items
+    ∙ ap (λ xs. appended xs (fields_of c.args.m.now)) c.in_ok-out.ensures.items
     ∙ appended_is [] (fields_of c.args.m.now)
