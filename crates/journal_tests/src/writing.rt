@@ -138,11 +138,13 @@ fn a_list_of_lines_is_copied_whole(rt: HostRuntime) -> Result<(), Fail> {
     let alloc = rt.alloc();
     let mut lines = LineList::new(alloc);
     lines.push(Line::CallFull)?;
+    lines.push_first(Line::Tick { node: node(1)? })?;
     let mut copies = lines.copy(alloc)?;
+    assert!(rt; matches!(copies.take_first(), Some(Line::Tick { .. })));
     assert!(rt; matches!(copies.take_first(), Some(Line::CallFull)));
     assert!(rt; copies.is_empty());
     assert_eq!(rt; copies.text_len(), 0);
-    assert_eq!(rt; lines.len(), 1);
+    assert_eq!(rt; lines.len(), 2);
     assert!(rt; lines.get(0).is_some());
     Ok(())
 }

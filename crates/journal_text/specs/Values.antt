@@ -10,8 +10,7 @@ use Rattle.conflict_order.specs.declared.policy.Policy.{Policy}
 use Rattle.conflict_order.specs.declared.policy.Policy.TheVariants as policy
 use Rattle.conflict_order.specs.declared.want.Action.{Action}
 use Rattle.conflict_order.specs.declared.want.Action.TheVariants as action
-use Rattle.cluster_types.specs.declared.cluster_key.ClusterKey.{ClusterKey}
-use Rattle.cluster_types.specs.Texts.{key_text, digest_text, node_text, partition_text}
+use Rattle.cluster_types.specs.Texts.{node_text}
 use Rattle.cluster_types.specs.declared.member.Role.{Role}
 use Rattle.cluster_types.specs.declared.member.Member.{Member}
 use Rattle.wire_messages.specs.declared.reply.ReplyBody.{ReplyBody}

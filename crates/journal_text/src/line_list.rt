@@ -53,6 +53,17 @@ impl LineList {
         Ok(())
     }
 
+    /// Adds a line before the others, none of which is measured again.
+    pub fn push_first(&mut self, line: Line) -> Result<(), NoMemory>
+        ensures ok { OnOk result (self.new ≡ line ∷ self.old) }
+        ensures err { OnErr result (self.new ≡ self.old) }
+    {
+        let bytes = self.bytes.saturating_add(text_len(&line));
+        self.lines.push_front(line)?;
+        self.bytes = bytes;
+        Ok(())
+    }
+
     /// An equal list of its own.
     pub fn copy(&self, alloc: Global) -> Result<LineList, NoMemory>
         ensures { IfOk result (λ l. l ≡ self.now) }

@@ -1,5 +1,6 @@
 //! The text of a field, and of a line.
-ghost use Rattle.std.specs.Prelude.{◌≡◌, IfOk, Some};
+ghost use Rattle.std.specs.Prelude.{◌≡◌, IfOk, Some, codes};
+ghost use Rattle.std.specs.Fmt.{DisplaysOnOk, option_append};
 ghost use Rattle.std.specs.List.{flat_map};
 ghost use Rattle.journal_text.specs.FieldTexts.{spaced_text};
 ghost use Rattle.journal_text.specs.Text.{words, line_text};
@@ -23,58 +24,37 @@ impl fmt::Display for Field<'_> {
         match *self {
             Field::Absent => Ok(()),
             Field::Word(word) => f.write_str(word),
-            Field::Byte(n) => write!(f, " {n}"),
-            Field::Endpoint(n) => write!(f, " {n}"),
-            Field::Count(n) => write!(f, " {n}"),
-            Field::Number(n) => write!(f, " {n}"),
-            Field::Node(node) => write!(f, " {node}"),
-            Field::Key(key) => write!(f, " {key}"),
-            Field::Partition(partition) => write!(f, " {partition}"),
-            Field::Digest(digest) => write!(f, " {digest}"),
-            Field::Version(version) => {
-                let version = VersionText(version);
-                write!(f, " {version}")
-            }
-            Field::Found(version) => {
-                let version = OptionalVersionText(version);
-                write!(f, " {version}")
-            }
-            Field::Members(members) => {
-                let members = MembersText(members);
-                write!(f, " {members}")
-            }
-            Field::Groups(groups) => {
-                let groups = GroupsText(groups);
-                write!(f, "{groups}")
-            }
-            Field::Hex(bytes) => {
-                let bytes = Digits(bytes);
-                write!(f, " {bytes}")
-            }
+            Field::Byte(n) => write_spaced(f, &n),
+            Field::Endpoint(n) => write_spaced(f, &n),
+            Field::Count(n) => write_spaced(f, &n),
+            Field::Number(n) => write_spaced(f, &n),
+            Field::Node(node) => write_spaced(f, &node),
+            Field::Key(key) => write_spaced(f, &key),
+            Field::Partition(partition) => write_spaced(f, &partition),
+            Field::Digest(digest) => write_spaced(f, digest),
+            Field::Version(version) => write_spaced(f, &VersionText(version)),
+            Field::Found(version) => write_spaced(f, &OptionalVersionText(version)),
+            Field::Members(members) => write_spaced(f, &MembersText(members)),
+            Field::Groups(groups) => GroupsText(groups).fmt(f),
+            Field::Hex(bytes) => write_spaced(f, &Digits(bytes)),
             Field::Rack(None) => Ok(()),
-            Field::Rack(Some(rack)) => write!(f, " {rack}"),
-            Field::Cause(cause) => {
-                let cause = RefusalText(cause);
-                write!(f, " {cause}")
-            }
-            Field::Reply(reply) => {
-                let reply = ReplyText(reply);
-                write!(f, " {reply}")
-            }
-            Field::ScanCause(cause) => {
-                let cause = ScanRefusalText(cause);
-                write!(f, " {cause}")
-            }
-            Field::Action(action) => {
-                let action = ActionWord(action);
-                write!(f, " {action}")
-            }
-            Field::Policy(policy) => {
-                let policy = PolicyWord(policy);
-                write!(f, " {policy}")
-            }
+            Field::Rack(Some(rack)) => write_spaced(f, &rack),
+            Field::Cause(cause) => write_spaced(f, &RefusalText(cause)),
+            Field::Reply(reply) => write_spaced(f, &ReplyText(reply)),
+            Field::ScanCause(cause) => write_spaced(f, &ScanRefusalText(cause)),
+            Field::Action(action) => write_spaced(f, &ActionWord(action)),
+            Field::Policy(policy) => write_spaced(f, &PolicyWord(policy)),
         }
     }
+}
+
+/// Writes a space and the value behind it. A formatter's options are as they were set by the caller
+/// that writes the line: for each `write!` they would be put aside and taken back.
+fn write_spaced<W: fmt::Write, D: fmt::Display>(f: &mut fmt::Formatter<W>, value: &D) -> fmt::Result
+    ensures { DisplaysOnOk W.write_str_gives f.old result (option_append (Some (codes " ")) (D.output value.now)) f.new }
+{
+    f.write_str(" ")?;
+    value.fmt(f)
 }
 
 /// Fields, one after another.
@@ -86,7 +66,7 @@ impl fmt::Display for FieldsText<'_> {
 
     fn fmt<W: fmt::Write>(&self, f: &mut fmt::Formatter<W>) -> fmt::Result {
         for field in self.0 {
-            write!(f, "{field}")?;
+            field.fmt(f)?;
         }
         Ok(())
     }
@@ -102,8 +82,7 @@ impl fmt::Display for LineText<'_> {
     #[tactic(auto, using(crate::proofs::Joins::words_written))]
     fn fmt<W: fmt::Write>(&self, f: &mut fmt::Formatter<W>) -> fmt::Result {
         let fields = fields_of(self.0);
-        let fields = FieldsText(&fields);
-        write!(f, "{fields}")
+        FieldsText(&fields).fmt(f)
     }
 }
 
