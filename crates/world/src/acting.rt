@@ -133,7 +133,7 @@ impl World {
         let place = self.place_of(node);
         let (_, effects) = self.nodes[place].request(alloc, digest, want, self.clocks[place])?;
         let Effects { lines, sends } = effects;
-        let lines = line_before(alloc, Line::Client { node, digest }, lines)?;
+        let lines = line_before(Line::Client { node, digest }, lines)?;
         let step = EndStep::of(event, node.number(), Effects { lines, sends });
         step.take_of(
             alloc,

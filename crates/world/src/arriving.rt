@@ -201,7 +201,7 @@ impl World {
             };
             return step.take_of(&mut self.nodes[place], &mut self.net, &mut self.ledger);
         }
-        let lines = line_before(alloc, line, lines)?;
+        let lines = line_before(line, lines)?;
         let step = EndStep {
             event,
             from: to,

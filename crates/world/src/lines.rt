@@ -1,5 +1,5 @@
 //! Short lists of lines.
-ghost use Rattle.std.specs.Prelude.{◌≡◌, ◌++◌, ◌∷◌, [], IfOk, OnOk};
+ghost use Rattle.std.specs.Prelude.{◌≡◌, ◌∷◌, [], IfOk};
 
 use cluster_types::NoMemory;
 use journal_text::{Line, LineList};
@@ -24,21 +24,10 @@ pub(crate) fn two_lines(alloc: Global, first: Line, second: Line) -> Result<Line
 }
 
 /// The line, and behind it the others.
-pub(crate) fn line_before(alloc: Global, line: Line, others: LineList) -> Result<LineList, NoMemory>
+pub(crate) fn line_before(line: Line, others: LineList) -> Result<LineList, NoMemory>
     ensures { IfOk result (λ lines. lines ≡ line ∷ others) }
 {
-    let mut lines = one_line(alloc, line)?;
-    add_lines(&mut lines, others)?;
+    let mut lines = others;
+    lines.push_first(line)?;
     Ok(lines)
-}
-
-/// Adds the lines at the end.
-fn add_lines(lines: &mut LineList, others: LineList) -> Result<(), NoMemory>
-    ensures { OnOk result (lines.new ≡ lines.old ++ others) }
-{
-    let mut left = others;
-    while let Some(line) = left.take_first() {
-        lines.push(line)?;
-    }
-    Ok(())
 }
