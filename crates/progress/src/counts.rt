@@ -5,7 +5,7 @@ ghost use Rattle.cluster_types.specs.Rows.{bit};
 ghost use Rattle.progress.specs.Told.{one_if};
 
 use cluster_types::partition::PARTITIONS;
-use cluster_types::{NoMemory, Row4096};
+use cluster_types::{NoMemory, PartitionId, Row4096};
 use std::alloc::Global;
 
 /// None is known done anywhere.
@@ -27,12 +27,12 @@ pub(crate) fn recount(known: &mut [u8], before: &Row4096, after: &Row4096)
     ensures counts { (p : ℕ) → p < partition_count → slice_index known.new p + one_if (bit before.now p) ≡ slice_index known.old p + one_if (bit after.now p) }
     ensures size { length known.new ≡ partition_count }
 {
-    let changed = before.symmetric_difference(after);
-    let mut from = 0;
-    while let Some(p) = changed.next_set(from) {
-        let place = usize::from(p.number());
-        known[place] = recounted(known[place], before.get(p), after.get(p));
-        from = p.number() + 1;
+    // Over all of them, since one step of the machine then takes many.
+    for number in 0..PARTITIONS {
+        if let Some(p) = PartitionId::new(number) {
+            let place = usize::from(number);
+            known[place] = recounted(known[place], before.get(p), after.get(p));
+        }
     }
 }
 

@@ -1,14 +1,11 @@
-use Rattle.std.proofs.Common.{◌≡◌, ◌<◌, ◌≤◌, ◌+◌, ◌-◌, ℕ}
+use Rattle.std.proofs.Common.{◌≡◌, ◌<◌, ◌≤◌, ◌+◌, ℕ}
 use Rattle.std.specs.Prelude.{slice_index}
 use Rattle.cluster_types.specs.Rows.{bit}
 use Rattle.progress.specs.Told.{one_if}
 use Rattle.progress.proofs.counts.recount.Given as goal
 
-abbrev pub invariant-loop-p : goal.invariant-loop-p
-invariant-loop-p l = record {
-  done : (p : ℕ) → p < l.from → slice_index l.known p + one_if (bit l.before p) ≡ slice_index l.initial.known p + one_if (bit l.after p);
-  rest : (p : ℕ) → l.from ≤ p → slice_index l.known p ≡ slice_index l.initial.known p;
+abbrev pub invariant-loop-number : goal.invariant-loop-number
+invariant-loop-number l = record {
+  done : (p : ℕ) → p < l.number → slice_index l.known p + one_if (bit l.before p) ≡ slice_index l.initial.known p + one_if (bit l.after p);
+  rest : (p : ℕ) → l.number ≤ p → slice_index l.known p ≡ slice_index l.initial.known p;
 }
-
-abbrev pub decreases-loop-p : goal.decreases-loop-p
-decreases-loop-p l = 4096 - l.from

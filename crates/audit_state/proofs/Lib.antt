@@ -1,0 +1,5 @@
+pub mod HistoryLaws
+pub mod PlaceLaws
+pub mod RecordLaws
+pub mod StoreLaws
+pub mod Tests

@@ -1,0 +1,11 @@
+pub mod Copies
+pub mod Histories
+pub mod Keys
+pub mod Nodes
+pub mod OpenWrites
+pub mod Places
+pub mod Records
+pub mod Stamps
+pub mod Stores
+pub mod Views
+pub mod Written
