@@ -17,7 +17,7 @@ use Rattle.journal_lines.specs.Proper.{IsProper}
 use Rattle.journal_text.specs.Journals.{IsWithin}
 use Rattle.journal_text.specs.Text.{words, line_text, text}
 use Rattle.journal_reader.specs.Fields.{parts_of}
-use Rattle.journal_reader.specs.Reading.{line_of, only_line, read_line}
+use Rattle.journal_reader.specs.Reading.{parsed_line, only_line, read_line}
 use Rattle.journal_reader.proofs.LineLaws.{read_back, injective, journals_injective}
 use Rattle.audit_core.specs.declared.lines.TextFault.{TextFault}
 use Rattle.audit_core.specs.declared.lines.TextFault.TheVariants as fault

@@ -14,9 +14,9 @@ use Rattle.journal_lines.specs.declared.line.Line.{Line}
 use Rattle.journal_lines.specs.declared.line.Line.TheVariants as line
 use Rattle.journal_readings.specs.Lines.{same_key, is_enter, lines_before, has_node}
 use Rattle.journal_readings.specs.Settings.{factor_of}
-use Rattle.journal_readings.specs.Views.{members, list, first_of}
-use Rattle.journal_readings.specs.Rows.{row, copy_state, whole_key}
-use Rattle.journal_readings.specs.Maps.{is_above, is_newest_whole, acting, with_roles}
+use Rattle.journal_readings.specs.Views.{members, succession_list, first_of}
+use Rattle.journal_readings.specs.Rows.{row, copy_state, row_whole_key}
+use Rattle.journal_readings.specs.Maps.{has_key_above, is_newest_whole, acting, with_roles}
 use Rattle.journal_readings.specs.Claims.{OneMap, ShowsMap}
 use Rattle.journal_readings.specs.Shape.{Shape, is_header, has_entered, have_all_entered, names_entered, follows_entries}
 use Rattle.journal_readings.proofs.AlongLaws.{one_map}
@@ -77,7 +77,7 @@ any_same f g (n ∷ ids) h = ap₂ (λ (a b : Bool). a || b) (h n (or_left (n ==
 
 newest_same : (factor : ℕ) (k : ClusterKey) (p : ℕ) (a b : List Line) (ids : List ℕ) → ((n : ℕ) → has_node ids n ≡ true → row factor k n p b ≡ row factor k n p a) → (o : Option ClusterKey) → is_newest_whole factor k p b ids o ≡ is_newest_whole factor k p a ids o
 newest_same factor k p a b ids h None = refl
-newest_same factor k p a b ids h (Some l) = ap not (any_same (λ m. is_above l (whole_key (row factor k m p b))) (λ m. is_above l (whole_key (row factor k m p a))) ids (λ m e. ap (λ (r : _). is_above l (whole_key r)) (h m e)))
+newest_same factor k p a b ids h (Some l) = ap not (any_same (λ m. has_key_above l (row_whole_key (row factor k m p b))) (λ m. has_key_above l (row_whole_key (row factor k m p a))) ids (λ m e. ap (λ (r : _). has_key_above l (row_whole_key r)) (h m e)))
 
 all_of : (test : ℕ → Bool) (ids : List ℕ) → list_all test ids ≡ true → (n : ℕ) → has_node ids n ≡ true → test n ≡ true
 all_of test [] h n e = differ e refl
@@ -87,18 +87,19 @@ all_of test (m ∷ ids) h n e = go (m == n) refl (all_of test ids (and_right (te
     go true i rest q = ap test (sym (number_same m n i)) ∙ and_left (test m) _ h
     go false i rest q = rest q
 
-pub listed_entered : (k : ClusterKey) (p : ℕ) (a : List Line) → have_all_entered a k ≡ true → (n : ℕ) → has_node (list k p a) n ≡ true → has_entered a k n ≡ true
-listed_entered k p a h n e = all_of (has_entered a k) (ids_of (members k a)) h n ((any_is_contained n (ids_of (members k a))).1 ((list_contains (members k a) p n).0 ((any_is_contained n (list k p a)).0 e)))
+pub listed_entered : (k : ClusterKey) (p : ℕ) (a : List Line) → have_all_entered a k ≡ true → (n : ℕ) → has_node (succession_list k p a) n ≡ true → has_entered a k n ≡ true
+listed_entered k p a h n e = all_of (has_entered a k) (ids_of (members k a)) h n ((any_is_contained n (ids_of (members k a))).1 ((list_contains (members k a) p n).0 ((any_is_contained n (succession_list k p a)).0 e)))
 
 pub acting-front : (factor : ℕ) (k : ClusterKey) (p : ℕ) (a b : List Line) → list_any (enters_key k) a ≡ true → have_all_entered a k ≡ true → acting factor k p (a ++ b) ≡ acting factor k p a
 unfolding acting
 acting-front factor k p a b e h =
-    ap (λ (ms : List Member). unwrap_or (find (λ n. is_newest_whole factor k p (a ++ b) (lists.list ms p) (whole_key (row factor k n p (a ++ b)))) (lists.list ms p)) (first_of (lists.list ms p))) (members-front k a b e)
-    ∙ ap (λ (o : Option ℕ). unwrap_or o (first_of (list k p a)))
-    (find_same (λ n. is_newest_whole factor k p (a ++ b) (list k p a) (whole_key (row factor k n p (a ++ b)))) (λ n. is_newest_whole factor k p a (list k p a) (whole_key (row factor k n p a))) (list k p a)
-    (λ n i. newest_same factor k p a (a ++ b) (list k p a) same (whole_key (row factor k n p (a ++ b))) ∙ ap (λ (r : _). is_newest_whole factor k p a (list k p a) (whole_key r)) (same n i)))
+    ap (λ (ms : List Member). unwrap_or (find (λ n. is_newest_whole factor k p (a ++ b) (lists.list ms p) (row_whole_key (row factor k n p (a ++ b)))) (lists.list ms p)) (first_of (lists.list ms p))) (members-front k a b e)
+    ∙ ap (λ (o : Option ℕ). unwrap_or o (first_of (succession_list k p a)))
+    (find_same (λ n. is_newest_whole factor k p (a ++ b) (succession_list k p a) (row_whole_key (row factor k n p (a ++ b)))) (λ n. is_newest_whole factor k p a (succession_list k p a) (row_whole_key (row factor k n p a))) (succession_list k p a)
+    (λ n i. newest_same factor k p a (a ++ b) (succession_list k p a) same (row_whole_key (row factor k n p (a ++ b))) ∙ ap (λ (r : _). is_newest_whole factor k p a (succession_list k p a) (row_whole_key r)) (same n i)))
   where
-    same : (n : ℕ) → has_node (list k p a) n ≡ true → row factor k n p (a ++ b) ≡ row factor k n p a
+    same : (n : ℕ) → has_node (succession_list k p a) n ≡ true
+        → row factor k n p (a ++ b) ≡ row factor k n p a
     same n i = row-front factor k n p a b (listed_entered k p a h n i)
 
 -- ---- maps

@@ -15,9 +15,9 @@ use Rattle.cluster_types.specs.Partitions.{partition_of}
 use Rattle.partition_lists.specs.Lists as lists
 use Rattle.journal_lines.specs.declared.line.Line.{Line}
 use Rattle.journal_lines.specs.declared.line.Line.TheVariants as line
-use Rattle.journal_readings.specs.Lines.{same_key, same_digest, lines_before, is_enter, is_exchanged, is_settled_line, is_done}
+use Rattle.journal_readings.specs.Lines.{same_key, same_digest, lines_before, is_enter, is_exchanged, is_settled_line, is_done_line}
 use Rattle.journal_readings.specs.Contents.{content, content_step, join_all, joined_if}
-use Rattle.journal_readings.specs.Views.{view, view_step, some_key, is_key, is_in_view, members, master, first_of}
+use Rattle.journal_readings.specs.Views.{view, view_step, some_key, is_key_of_view, is_in_view, members, master, first_of}
 use Rattle.journal_readings.specs.Entries.{entry, applied_in, applied_in_step, fold_of}
 use Rattle.journal_readings.specs.Stamps.{entered_empty, is_empty_at_entry, is_empty_everywhere}
 use Rattle.journal_readings.specs.Settled.{is_settled, is_settled_by, is_open_write, has_open_write}
@@ -101,12 +101,12 @@ any_lines : (f g : Line → Bool) → ((x : Line) → f x ≡ g x) → (ls : Lis
 any_lines f g h [] = refl
 any_lines f g h (x ∷ ls) = ap₂ (λ (a b : Bool). a || b) (h x) (any_lines f g h ls)
 
-open-same : (k : ClusterKey) (p n : ℕ) (j : List Line) (l : Line) → ((t : ℕ) → is_done k n t l ≡ false) → (x : Line) → is_open_write k p n (j ++ l ∷ []) x ≡ is_open_write k p n j x
-open-same k p n j l h (line.Apply m o t d v) = ap (λ (b : Bool). (m == n) && (same_key o k && ((partition_of d == p) && Rattle.std.specs.Prelude.not b))) (any-other (is_done k n t) j l (h t))
+open-same : (k : ClusterKey) (p n : ℕ) (j : List Line) (l : Line) → ((t : ℕ) → is_done_line k n t l ≡ false) → (x : Line) → is_open_write k p n (j ++ l ∷ []) x ≡ is_open_write k p n j x
+open-same k p n j l h (line.Apply m o t d v) = ap (λ (b : Bool). (m == n) && (same_key o k && ((partition_of d == p) && Rattle.std.specs.Prelude.not b))) (any-other (is_done_line k n t) j l (h t))
 open-same k p n j l h x = refl
 
 -- a write that was open is still open
-pub closed-before : (k : ClusterKey) (p : ℕ) (j : List Line) (l : Line) → enters_key k l ≡ false → ((t : ℕ) → is_done k (master k p j) t l ≡ false) → has_open_write k p (j ++ l ∷ []) ≡ false → has_open_write k p j ≡ false
+pub closed-before : (k : ClusterKey) (p : ℕ) (j : List Line) (l : Line) → enters_key k l ≡ false → ((t : ℕ) → is_done_line k (master k p j) t l ≡ false) → has_open_write k p (j ++ l ∷ []) ≡ false → has_open_write k p j ≡ false
 unfolding has_open_write
 closed-before k p j l e h c = (or_parts (list_any (is_open_write k p (master k p j) j) j) (is_open_write k p (master k p j) j l)
     (sym (any-more (is_open_write k p (master k p j) j) j l)
@@ -137,13 +137,13 @@ pub record IsQuiet (j : List Line) (l : Line) (k : ClusterKey) (d : List ℕ) : 
   pub enters : enters_key k l ≡ false
   pub settles : is_settled_line k (master k (partition_of d) j) (partition_of d) l ≡ false
   pub exchanges : is_exchanged k (master k (partition_of d) j) l ≡ false
-  pub ends : (t : ℕ) → is_done k (master k (partition_of d) j) t l ≡ false
+  pub ends : (t : ℕ) → is_done_line k (master k (partition_of d) j) t l ≡ false
   pub applies : (by : Policy) (x : Option Version) → applied_in_step by k d x l ≡ x
   pub views : (n : ℕ) (v : Option ClusterKey) → view_step n v l ≡ Some k → v ≡ Some k
   pub contents : (by : Policy) (r : ℕ) (x : Option Version) → view r j ≡ Some k → content_step by r d x l ≡ x
 
 in_view : (j : List Line) (k : ClusterKey) (r : ℕ) → view r j ≡ Some k → is_in_view k r j ≡ true
-in_view j k r e = ap (is_key k) e ∙ same_key_itself k
+in_view j k r e = ap (is_key_of_view k) e ∙ same_key_itself k
 
 turned : (a b c : Bool) → (a && (b || c)) ≡ false → (b && a) ≡ false
 turned true true c e = e

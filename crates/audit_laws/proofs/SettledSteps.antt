@@ -41,7 +41,7 @@ still_holds by factor j l k r d q h settled closed remains replica in_view =
     (content-more by r d j l ∙ q.contents by r (content by r d j) here)
     ∙ (h (sym (settled-other k p j l q.enters q.settles q.exchanges) ∙ settled) (closed-before k p j l q.enters q.ends closed)
     (before (master k p j) (ap (λ (m : ℕ). view m (j ++ l ∷ [])) (sym (master-other k p j l q.enters)) ∙ remains))
-    (ap (λ (ms : List Member). lists.is_replica r ms p factor) (sym (members-other k j l q.enters)) ∙ replica) here
+    (ap (λ (ms : List Member). lists.is_replica_of r ms p factor) (sym (members-other k j l q.enters)) ∙ replica) here
     ∙ sym (fold-other by k d j l q.enters (q.applies by)))
   where
     p : ℕ

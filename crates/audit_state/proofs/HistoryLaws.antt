@@ -5,7 +5,7 @@ use Rattle.std.specs.List.Sorted.{IsPartitionPoint}
 use Rattle.std.proofs.lemmas.Bool.Decides.{nat_tests}
 use Rattle.std.proofs.lemmas.List.Elements.{All-push}
 use Rattle.audit_state.specs.declared.history.Change.{Change}
-use Rattle.audit_state.specs.Histories.{AreBelow, AreUpTo, last_from, last_before, value_of, value_at, value_now}
+use Rattle.audit_state.specs.Histories.{AreBelow, AreUpTo, last_from, last_before, changed_value, value_after, value_now}
 
 -- the last of the changes, or this one
 abbrev last_of : Option Change → List Change → Option Change
@@ -70,13 +70,13 @@ last_from-more last (x ∷ cs) c lines h = go (nat_lt x.line lines) (nat_lt c.li
 
 -- ---- a history whose changes are all in so many lines
 
-pub now_at : (h : List Change) (i : ℕ) → AreBelow i h → value_now h ≡ value_at h i
-now_at h i below = ap value_of (last_now h i below)
+pub now_at : (h : List Change) (i : ℕ) → AreBelow i h → value_now h ≡ value_after h i
+now_at h i below = ap changed_value (last_now h i below)
 
 pub below_more : (h : List Change) (i : ℕ) → AreBelow i h → AreBelow (suc i) h
 below_more h i below = λ k d within. omega (arith, below k d within)
 
-pub stays_at : (h : List Change) (i : ℕ) → AreBelow i h → value_at h (suc i) ≡ value_at h i
+pub stays_at : (h : List Change) (i : ℕ) → AreBelow i h → value_after h (suc i) ≡ value_after h i
 stays_at h i below = sym (now_at h (suc i) (below_more h i below)) ∙ now_at h i below
 
 pub up_to : (h : List Change) (i : ℕ) → AreBelow i h → AreUpTo i h
@@ -90,11 +90,11 @@ below_next h i up = λ k d within. omega (arith, up k d within)
 is_not_below : (n m : ℕ) → m ≤ n → nat_lt n m ≡ false
 is_not_below n m e = grind (arith, nat_tests)
 
-pub put_before : (h : List Change) (c : Change) (a : ℕ) → AreUpTo c.line h → a ≤ c.line → value_at (h ++ c ∷ []) a ≡ value_at h a
-put_before h c a up le = ap value_of (last_from-more None h c a up ∙ ap (λ (b : Bool). cond b (Some c) (last_from None h a)) (is_not_below c.line a le))
+pub put_before : (h : List Change) (c : Change) (a : ℕ) → AreUpTo c.line h → a ≤ c.line → value_after (h ++ c ∷ []) a ≡ value_after h a
+put_before h c a up le = ap changed_value (last_from-more None h c a up ∙ ap (λ (b : Bool). cond b (Some c) (last_from None h a)) (is_not_below c.line a le))
 
-pub put_behind : (h : List Change) (c : Change) (a : ℕ) → AreUpTo c.line h → c.line < a → value_at (h ++ c ∷ []) a ≡ c.value
-put_behind h c a up lt = ap value_of (last_from-more None h c a up ∙ ap (λ (b : Bool). cond b (Some c) (last_from None h a)) (is_below c.line a lt))
+pub put_behind : (h : List Change) (c : Change) (a : ℕ) → AreUpTo c.line h → c.line < a → value_after (h ++ c ∷ []) a ≡ c.value
+put_behind h c a up lt = ap changed_value (last_from-more None h c a up ∙ ap (λ (b : Bool). cond b (Some c) (last_from None h a)) (is_below c.line a lt))
 
 pub put_below : (h : List Change) (c : Change) (i : ℕ) → AreUpTo c.line h → c.line < i → AreBelow i (h ++ c ∷ [])
 put_below h c i up lt = All-push (λ (d : Change). d.line < i) h c (λ k d within. omega (arith, up k d within, lt)) lt

@@ -6,7 +6,7 @@ use Rattle.std.proofs.lemmas.Option.{slice_get_within, get_or_from_slice_get}
 use Rattle.std.proofs.lemmas.Slice.Eq.{bytes_eq-Decides}
 use Rattle.audit_state.specs.declared.records.Record.{Record}
 use Rattle.audit_state.specs.declared.records.Records.{Records}
-use Rattle.audit_state.specs.Records.{number_of, record_at, digest_of, newest_in, newest_of, holders_in, holders_of, AreNumbered, Opens}
+use Rattle.audit_state.specs.Records.{record_number, numbered_record, record_digest, newest_in, newest_of, holders_in, holders_of, AreNumberedRecords, Opens}
 use Rattle.audit_state.proofs.Tests.{differ, some_same, no_some}
 
 -- ---- lists by number
@@ -61,26 +61,26 @@ through {A} {B} f false x y = refl
 -- the new record stands behind all others, and has its number
 pub record Adds (old new : Records) (d : List ℕ) : Type 0 where
   pub known : new.known.items ≡ old.known.items ++ record { digest = d; newest = None; holders = 0 } ∷ []
-  pub numbers : (e : List ℕ) → number_of new e ≡ cond (bytes_eq d e) (Some (length old.known.items)) (number_of old e)
+  pub numbers : (e : List ℕ) → record_number new e ≡ cond (bytes_eq d e) (Some (length old.known.items)) (record_number old e)
 
 module _ (old new : Records) (d : List ℕ) (adds : Adds old new d) where
   new_record : Record
   new_record = record { digest = d; newest = None; holders = 0 }
 
-  at : (q : ℕ) → record_at new q ≡ cond (nat_eq (length old.known.items) q) (Some new_record) (record_at old q)
+  at : (q : ℕ) → numbered_record new q ≡ cond (nat_eq (length old.known.items) q) (Some new_record) (numbered_record old q)
   unfolding new_record
   at q = ap (λ (xs : List Record). slice_get xs q) adds.known ∙ get_push old.known.items new_record q
 
-  digests_at : (q : ℕ) → digest_of new q ≡ cond (nat_eq (length old.known.items) q) (Some d) (digest_of old q)
+  digests_at : (q : ℕ) → record_digest new q ≡ cond (nat_eq (length old.known.items) q) (Some d) (record_digest old q)
   unfolding new_record
-  digests_at q = ap (option_map (λ (x : Record). x.digest)) (at q) ∙ through (option_map (λ (x : Record). x.digest)) (nat_eq (length old.known.items) q) (Some new_record) (record_at old q)
+  digests_at q = ap (option_map (λ (x : Record). x.digest)) (at q) ∙ through (option_map (λ (x : Record). x.digest)) (nat_eq (length old.known.items) q) (Some new_record) (numbered_record old q)
 
-  number_here : number_of new d ≡ Some (length old.known.items)
-  number_here = adds.numbers d ∙ ap (λ (b : Bool). cond b (Some (length old.known.items)) (number_of old d)) ((bytes_eq-Decides d d).1 refl)
+  number_here : record_number new d ≡ Some (length old.known.items)
+  number_here = adds.numbers d ∙ ap (λ (b : Bool). cond b (Some (length old.known.items)) (record_number old d)) ((bytes_eq-Decides d d).1 refl)
 
-  there_now : IsSome (record_at new (length old.known.items))
+  there_now : IsSome (numbered_record new (length old.known.items))
   unfolding new_record
-  there_now = ap is_some (at (length old.known.items) ∙ ap (λ (b : Bool). cond b (Some new_record) (record_at old (length old.known.items))) (itself (length old.known.items)))
+  there_now = ap is_some (at (length old.known.items) ∙ ap (λ (b : Bool). cond b (Some new_record) (numbered_record old (length old.known.items))) (itself (length old.known.items)))
 
   pub opens : Opens old new d (length old.known.items)
   unfolding new_record
@@ -93,78 +93,79 @@ module _ (old new : Records) (d : List ℕ) (adds : Adds old new d) where
     holders = λ q. ap (λ (xs : List Record). holders_in (slice_get xs q)) adds.known ∙ kept_push holders_in old.known.items new_record refl q;
   }
 
-  module _ (numbered : AreNumbered old) (fresh : number_of old d ≡ None) where
-    within : (e : List ℕ) (q : ℕ) → digest_of old q ≡ Some e → nat_eq (length old.known.items) q ≡ false
-    within e q h = go (record_at old q) refl h
+  module _ (numbered : AreNumberedRecords old) (fresh : record_number old d ≡ None) where
+    within : (e : List ℕ) (q : ℕ) → record_digest old q ≡ Some e → nat_eq (length old.known.items) q ≡ false
+    within e q h = go (numbered_record old q) refl h
       where
-        go : (o : Option Record) → record_at old q ≡ o → option_map (λ x. x.digest) o ≡ Some e → nat_eq (length old.known.items) q ≡ false
+        go : (o : Option Record) → numbered_record old q ≡ o → option_map (λ x. x.digest) o ≡ Some e → nat_eq (length old.known.items) q ≡ false
         go None i p = absurd (no_some p)
         go (Some x) i p = apart q (length old.known.items) (slice_get_within old.known.items q x i)
 
-    pub numbered_still : AreNumbered new
+    pub numbered_still : AreNumberedRecords new
     numbered_still = record { digests = digests; numbers = numbers }
       where
-        digests : (e : List ℕ) (q : ℕ) → number_of new e ≡ Some q → digest_of new q ≡ Some e
+        digests : (e : List ℕ) (q : ℕ) → record_number new e ≡ Some q → record_digest new q ≡ Some e
         digests e q h = go (bytes_eq d e) refl (sym (adds.numbers e) ∙ h)
           where
-            go : (b : Bool) → bytes_eq d e ≡ b → cond b (Some (length old.known.items)) (number_of old e) ≡ Some q → digest_of new q ≡ Some e
-            go true i p = subst (λ (r : ℕ). digest_of new r ≡ Some e) (some_same p)
-                (digests_at (length old.known.items) ∙ (ap (λ (b : Bool). cond b (Some d) (digest_of old (length old.known.items))) (itself (length old.known.items)) ∙ ap Some ((bytes_eq-Decides d e).0 i)))
-            go false i p = digests_at q ∙ (ap (λ (b : Bool). cond b (Some d) (digest_of old q)) (within e q (numbered.digests e q p)) ∙ numbered.digests e q p)
+            go : (b : Bool) → bytes_eq d e ≡ b → cond b (Some (length old.known.items)) (record_number old e) ≡ Some q → record_digest new q ≡ Some e
+            go true i p = subst (λ (r : ℕ). record_digest new r ≡ Some e) (some_same p)
+                (digests_at (length old.known.items) ∙ (ap (λ (b : Bool). cond b (Some d) (record_digest old (length old.known.items))) (itself (length old.known.items)) ∙ ap Some ((bytes_eq-Decides d e).0 i)))
+            go false i p = digests_at q ∙ (ap (λ (b : Bool). cond b (Some d) (record_digest old q)) (within e q (numbered.digests e q p)) ∙ numbered.digests e q p)
 
-        numbers : (e : List ℕ) (q : ℕ) → digest_of new q ≡ Some e → number_of new e ≡ Some q
+        numbers : (e : List ℕ) (q : ℕ) → record_digest new q ≡ Some e → record_number new e ≡ Some q
         numbers e q h = go (nat_eq (length old.known.items) q) refl (sym (digests_at q) ∙ h)
           where
-            other : (b : Bool) → bytes_eq d e ≡ b → number_of old e ≡ Some q → cond b (Some (length old.known.items)) (number_of old e) ≡ Some q
-            other true i p = absurd (no_some (sym fresh ∙ (ap (number_of old) ((bytes_eq-Decides d e).0 i) ∙ p)))
+            other : (b : Bool) → bytes_eq d e ≡ b → record_number old e ≡ Some q → cond b (Some (length old.known.items)) (record_number old e) ≡ Some q
+            other true i p = absurd (no_some (sym fresh ∙ (ap (record_number old) ((bytes_eq-Decides d e).0 i) ∙ p)))
             other false i p = p
 
-            go : (b : Bool) → nat_eq (length old.known.items) q ≡ b → cond b (Some d) (digest_of old q) ≡ Some e → number_of new e ≡ Some q
-            go true i p = subst (λ (f : List ℕ). number_of new f ≡ Some q) (some_same p) (number_here ∙ ap Some (number_is (length old.known.items) q i))
+            go : (b : Bool) → nat_eq (length old.known.items) q ≡ b → cond b (Some d) (record_digest old q) ≡ Some e → record_number new e ≡ Some q
+            go true i p = subst (λ (f : List ℕ). record_number new f ≡ Some q) (some_same p) (number_here ∙ ap Some (number_is (length old.known.items) q i))
             go false i p = adds.numbers e ∙ other (bytes_eq d e) refl (numbered.numbers e q p)
 
 -- ---- the record was there
 
-pub opens_known : (rs : Records) (d : List ℕ) (r : ℕ) → AreNumbered rs → number_of rs d ≡ Some r → Opens rs rs d r
+pub opens_known : (rs : Records) (d : List ℕ) (r : ℕ) → AreNumberedRecords rs → record_number rs d ≡ Some r → Opens rs rs d r
 opens_known rs d r numbered h = record {
   number = h;
-  there = there (record_at rs r) refl (numbered.digests d r h);
+  there = there (numbered_record rs r) refl (numbered.digests d r h);
   numbers = λ e. numbers e (bytes_eq d e) refl;
   digests = λ q. digests q (nat_eq r q) refl;
   newest = λ q. refl;
   holders = λ q. refl;
 }
   where
-    there : (o : Option Record) → record_at rs r ≡ o → option_map (λ x. x.digest) o ≡ Some d → IsSome o
+    there : (o : Option Record) → numbered_record rs r ≡ o → option_map (λ x. x.digest) o ≡ Some d → IsSome o
     there None i p = absurd (no_some p)
     there (Some x) i p = refl
 
-    numbers : (e : List ℕ) (b : Bool) → bytes_eq d e ≡ b → number_of rs e ≡ cond b (Some r) (number_of rs e)
-    numbers e true i = ap (number_of rs) (sym ((bytes_eq-Decides d e).0 i)) ∙ h
+    numbers : (e : List ℕ) (b : Bool) → bytes_eq d e ≡ b → record_number rs e ≡ cond b (Some r) (record_number rs e)
+    numbers e true i = ap (record_number rs) (sym ((bytes_eq-Decides d e).0 i)) ∙ h
     numbers e false i = refl
 
-    digests : (q : ℕ) (b : Bool) → nat_eq r q ≡ b → digest_of rs q ≡ cond b (Some d) (digest_of rs q)
-    digests q true i = ap (digest_of rs) (sym (number_is r q i)) ∙ numbered.digests d r h
+    digests : (q : ℕ) (b : Bool) → nat_eq r q ≡ b → record_digest rs q ≡ cond b (Some d) (record_digest rs q)
+    digests q true i = ap (record_digest rs) (sym (number_is r q i)) ∙ numbered.digests d r h
     digests q false i = refl
 
 -- ---- a record becomes another
 
-pub within_known : (rs : Records) (i : ℕ) → IsSome (record_at rs i) → i < length rs.known.items
-within_known rs i e = go (record_at rs i) refl e
+pub within_known : (rs : Records) (i : ℕ) → IsSome (numbered_record rs i)
+    → i < length rs.known.items
+within_known rs i e = go (numbered_record rs i) refl e
   where
-    go : (o : Option Record) → record_at rs i ≡ o → IsSome o → i < length rs.known.items
+    go : (o : Option Record) → numbered_record rs i ≡ o → IsSome o → i < length rs.known.items
     go None p h = differ h refl
     go (Some y) p h = slice_get_within rs.known.items i y p
 
-pub there_at : (rs : Records) (i : ℕ) (x : Record) → IsSome (record_at rs i) → x ≡ get_or rs.known.items i x → Some x ≡ record_at rs i
-there_at rs i x e q = go (record_at rs i) refl e
+pub there_at : (rs : Records) (i : ℕ) (x : Record) → IsSome (numbered_record rs i) → x ≡ get_or rs.known.items i x → Some x ≡ numbered_record rs i
+there_at rs i x e q = go (numbered_record rs i) refl e
   where
-    go : (o : Option Record) → record_at rs i ≡ o → IsSome o → Some x ≡ record_at rs i
+    go : (o : Option Record) → numbered_record rs i ≡ o → IsSome o → Some x ≡ numbered_record rs i
     go None p h = differ h refl
     go (Some y) p h = ap Some (q ∙ get_or_from_slice_get rs.known.items i y x p) ∙ sym p
 
-module _ (rs : Records) (i : ℕ) (x w : Record) (there : Some x ≡ record_at rs i) where
-  is_there : IsSome (record_at rs i)
+module _ (rs : Records) (i : ℕ) (x w : Record) (there : Some x ≡ numbered_record rs i) where
+  is_there : IsSome (numbered_record rs i)
   is_there = ap is_some (sym there)
 
   pub newest_set : (o : Option ℕ) → w.newest ≡ o → (q : ℕ) → newest_in (slice_get (slice_set rs.known.items i w) q) ≡ cond (nat_eq i q) o (newest_of rs q)
@@ -173,9 +174,10 @@ module _ (rs : Records) (i : ℕ) (x w : Record) (there : Some x ≡ record_at r
   pub holders_set : (n : ℕ) → w.holders ≡ n → (q : ℕ) → holders_in (slice_get (slice_set rs.known.items i w) q) ≡ cond (nat_eq i q) n (holders_of rs q)
   holders_set n e q = get_set holders_in rs.known.items i w is_there q ∙ ap (λ (y : ℕ). cond (nat_eq i q) y (holders_of rs q)) e
 
-  pub digests_set : w.digest ≡ x.digest → (q : ℕ) → option_map (λ (y : Record). y.digest) (slice_get (slice_set rs.known.items i w) q) ≡ digest_of rs q
+  pub digests_set : w.digest ≡ x.digest → (q : ℕ) → option_map (λ (y : Record). y.digest) (slice_get (slice_set rs.known.items i w) q) ≡ record_digest rs q
   digests_set e q = get_set (option_map (λ (y : Record). y.digest)) rs.known.items i w is_there q ∙ go (nat_eq i q) refl
     where
-      go : (b : Bool) → nat_eq i q ≡ b → cond b (Some w.digest) (digest_of rs q) ≡ digest_of rs q
-      go true k = ap Some e ∙ (ap (option_map (λ (y : Record). y.digest)) there ∙ ap (digest_of rs) (number_is i q k))
+      go : (b : Bool) → nat_eq i q ≡ b
+          → cond b (Some w.digest) (record_digest rs q) ≡ record_digest rs q
+      go true k = ap Some e ∙ (ap (option_map (λ (y : Record). y.digest)) there ∙ ap (record_digest rs) (number_is i q k))
       go false k = refl

@@ -19,14 +19,14 @@ last_from last (c ∷ cs) lines = if nat_lt c.line lines then last_from (Some c)
 abbrev pub last_before : List Change → ℕ → Option Change
 last_before changes lines = last_from None changes lines
 
-abbrev pub value_of : Option Change → Option ℕ
-value_of None = None
-value_of (Some c) = c.value
+abbrev pub changed_value : Option Change → Option ℕ
+changed_value None = None
+changed_value (Some c) = c.value
 
 -- what it was after so many lines: what its last change made of it, and nothing before
-abbrev pub value_at : List Change → ℕ → Option ℕ
-value_at changes lines = value_of (last_before changes lines)
+abbrev pub value_after : List Change → ℕ → Option ℕ
+value_after changes lines = changed_value (last_before changes lines)
 
 -- what it is behind all changes
 abbrev pub value_now : List Change → Option ℕ
-value_now changes = value_of (slice_get changes (length changes - 1))
+value_now changes = changed_value (slice_get changes (length changes - 1))

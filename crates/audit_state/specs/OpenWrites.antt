@@ -88,8 +88,8 @@ open_in None = []
 open_in (Some x) = x.open_in.items
 
 -- whether the node's `done` line of the transaction stands
-abbrev pub is_done : View → ℕ → ℕ → Bool
-is_done v n t = done_in (write_at v n t)
+abbrev pub is_done_write : View → ℕ → ℕ → Bool
+is_done_write v n t = done_in (write_at v n t)
 
 -- the partition of each write of the transaction that is open as one of the list master
 abbrev pub open_of : View → ℕ → ℕ → List ℕ
@@ -98,24 +98,25 @@ open_of v n t = open_in (write_at v n t)
 -- a write of the transaction is open in the partition
 pub record ListsOpen (n t p : ℕ) (old new : View) : Type 0 where
   pub partitions : (m u : ℕ) → open_of new m u ≡ cond (pair_eq (n, t) (m, u)) (open_of old n t ++ p ∷ []) (open_of old m u)
-  pub done : (m u : ℕ) → is_done new m u ≡ is_done old m u
+  pub done : (m u : ℕ) → is_done_write new m u ≡ is_done_write old m u
   pub rest : record new { writes = old.writes } ≡ old
 
 -- ... and it is one more that is open there
 pub record TakesWrite (n t p : ℕ) (old new : View) : Type 0 where
   pub partitions : (m u : ℕ) → open_of new m u ≡ cond (pair_eq (n, t) (m, u)) (open_of old n t ++ p ∷ []) (open_of old m u)
-  pub done : (m u : ℕ) → is_done new m u ≡ is_done old m u
+  pub done : (m u : ℕ) → is_done_write new m u ≡ is_done_write old m u
   pub stands : (q : ℕ) → stand_of new q ≡ cond (nat_eq p q) (opened_stand (stand_of old p)) (stand_of old q)
   pub written : (q : ℕ) → written_of new q ≡ written_of old q
   pub rest : record new { partitions = old.partitions; writes = old.writes } ≡ old
 
 -- a write comes to the partition, which is open unless its `done` line stands already
 pub record OpensWrite (n t p : ℕ) (old new : View) : Type 0 where
-  pub passed : is_done old n t ≡ true → new ≡ old
-  pub taken : is_done old n t ≡ false → TakesWrite n t p old new
+  pub passed : is_done_write old n t ≡ true → new ≡ old
+  pub taken : is_done_write old n t ≡ false → TakesWrite n t p old new
 
 -- the transaction's `done` line stands, and none of its writes is open any longer
 pub record FinishesWrites (n t : ℕ) (old new : View) : Type 0 where
   pub partitions : (m u : ℕ) → open_of new m u ≡ cond (pair_eq (n, t) (m, u)) [] (open_of old m u)
-  pub done : (m u : ℕ) → is_done new m u ≡ cond (pair_eq (n, t) (m, u)) true (is_done old m u)
+  pub done : (m u : ℕ)
+      → is_done_write new m u ≡ cond (pair_eq (n, t) (m, u)) true (is_done_write old m u)
   pub rest : record new { writes = old.writes } ≡ old

@@ -9,19 +9,19 @@ use Rattle.journal_lines.specs.declared.line.Line.{Line}
 use Rattle.journal_lines.specs.declared.line.Line.TheVariants as line
 
 -- the version that a line brings
-abbrev pub version_of : Line → Option Version
-version_of (line.Apply n k t d v) = Some v
-version_of (line.Merge n k d v) = Some v
-version_of _ = None
+abbrev pub brought_version : Line → Option Version
+brought_version (line.Apply n k t d v) = Some v
+brought_version (line.Merge n k d v) = Some v
+brought_version _ = None
 
 -- the version at a place
-abbrev pub version_at : List Line → ℕ → Option Version
-version_at lines place = option_and_then version_of (slice_get lines place)
+abbrev pub placed_version : List Line → ℕ → Option Version
+placed_version lines place = option_and_then brought_version (slice_get lines place)
 
 -- the version at a place, if it is one
 abbrev pub placed : List Line → Option ℕ → Option Version
 placed lines None = None
-placed lines (Some place) = version_at lines place
+placed lines (Some place) = placed_version lines place
 
 -- whether the first is at most the second
 abbrev pub is_at_most : Policy → Option Version → Option Version → Bool

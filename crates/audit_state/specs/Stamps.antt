@@ -13,9 +13,9 @@ pub record IsFreshStamps (x : Stamps) : Type 0 where
   pub judged : x.judged ≡ 0
   pub wholes : x.wholes ≡ []
 
-abbrev pub marks_of : Option Stamps → List Change
-marks_of None = []
-marks_of (Some x) = x.marks
+abbrev pub stamp_marks : Option Stamps → List Change
+stamp_marks None = []
+stamp_marks (Some x) = x.marks
 
 abbrev pub judged_of : Option Stamps → ℕ
 judged_of None = 0
@@ -43,13 +43,13 @@ stamping_key (line.Exchanged n k) = Some k
 stamping_key _ = None
 
 -- the key of the view by which the line at the place stamps
-abbrev pub key_at : List Line → ℕ → Option ClusterKey
-key_at lines place = option_and_then stamping_key (slice_get lines place)
+abbrev pub stamping_key_at : List Line → ℕ → Option ClusterKey
+stamping_key_at lines place = option_and_then stamping_key (slice_get lines place)
 
 -- the key of the view that stamped the copy last in so many lines
-abbrev pub stamp_of : List Line → Option Stamps → ℕ → Option ClusterKey
-stamp_of all None lines = None
-stamp_of all (Some x) lines = option_and_then (key_at all) (stamp_place x lines)
+abbrev pub stamped_key : List Line → Option Stamps → ℕ → Option ClusterKey
+stamped_key all None lines = None
+stamped_key all (Some x) lines = option_and_then (stamping_key_at all) (stamp_place x lines)
 
 -- the change of the line that makes the copy whole
 abbrev pub whole_changes : Bool → ℕ → List Change

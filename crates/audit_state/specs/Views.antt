@@ -10,15 +10,15 @@ use Rattle.audit_state.specs.declared.views.Write.{Write}
 use Rattle.audit_state.specs.Keys.{pair_eq}
 
 -- the place of the member's `enter` line
-abbrev pub entry_of : View → ℕ → Option ℕ
-entry_of v n = option_map (λ e. e.line) (find (λ e. e.node == n) v.entered.items)
+abbrev pub entry_line : View → ℕ → Option ℕ
+entry_line v n = option_map (λ e. e.line) (find (λ e. e.node == n) v.entered.items)
 
 -- whether the member finished exchange
 abbrev pub has_exchanged : View → ℕ → Bool
 has_exchanged v n = list_any (λ m. m == n) v.exchanged.items
 
-abbrev pub have_all_entered : View → Bool
-have_all_entered v = list_all (λ m. is_some (entry_of v m.id)) v.members
+abbrev pub has_every_entry : View → Bool
+has_every_entry v = list_all (λ m. is_some (entry_line v m.id)) v.members
 
 abbrev pub partition_at : View → ℕ → Option Partition
 partition_at view p = hash.get nat_eq view.partitions p
@@ -28,7 +28,7 @@ abbrev pub write_at : View → ℕ → ℕ → Option Write
 write_at view n t = hash.get pair_eq view.writes (n, t)
 
 -- nothing is known of the view but its key and its members
-pub record IsNewView (k : ClusterKey) (ms : List Member) (v : View) : Type 0 where
+pub record IsFreshView (k : ClusterKey) (ms : List Member) (v : View) : Type 0 where
   pub key : v.key ≡ k
   pub members : v.members ≡ ms
   pub ranks : v.ranks ≡ ms

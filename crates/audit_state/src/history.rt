@@ -1,7 +1,7 @@
 //! How something changed along the journal.
 ghost use Rattle.std.specs.Prelude.{◌≡◌, ◌==◌, ◌≤◌, ◌-◌, ◌++◌, ◌∷◌, [], true, false, nat_lt, length, OnOk, OnErr, slice_get};
 ghost use Rattle.std.specs.List.Sorted.{IsNonDecreasingBy, IsPartitionPoint};
-ghost use Rattle.audit_state.specs.Histories.{AreUpTo, last_before, value_at, value_now};
+ghost use Rattle.audit_state.specs.Histories.{AreUpTo, last_before, value_after, value_now};
 
 use cluster_types::NoMemory;
 use std::alloc::Global;
@@ -45,7 +45,7 @@ impl History {
 
     /// What it was after so many lines.
     pub fn at(&self, lines: usize) -> Option<usize>
-        ensures { result ≡ value_at self.now lines }
+        ensures { result ≡ value_after self.now lines }
     {
         match self.last_before(lines) {
             None => None,

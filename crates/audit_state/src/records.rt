@@ -1,7 +1,7 @@
 //! The records that lines applied or merged.
 ghost use Rattle.std.specs.Prelude.{◌≡◌, ℕ, List, ◌<◌, ◌^◌, ◌-◌, true, Some, None, cond, nat_eq, bytes_eq, IsSome, IfOk, OnOk, OnErr, option_map};
 ghost use Rattle.cluster_types.specs.Partitions.{partition_of};
-ghost use Rattle.audit_state.specs.Records.{number_of, digest_of, newest_of, holders_of, record_at, AreNone, AreNumbered, Opens, KeepsNumbers, SameRecords, raised, raised_holders, counted};
+ghost use Rattle.audit_state.specs.Records.{record_number, record_digest, newest_of, holders_of, numbered_record, AreNone, AreNumberedRecords, Opens, KeepsNumbers, SameRecords, raised, raised_holders, holder_count};
 
 use crate::versions::Versions;
 use cluster_types::{Digest, NoMemory, PartitionId, partition_of};
@@ -39,7 +39,7 @@ impl Records {
 
     /// The number of the record, if some line applied or merged it.
     pub fn number(&self, digest: &Digest) -> Option<usize>
-        ensures { result ≡ number_of self.now digest.now }
+        ensures { result ≡ record_number self.now digest.now }
     {
         self.numbers.get(digest.bytes()).copied()
     }
@@ -47,9 +47,9 @@ impl Records {
     /// The number of the record, which is new where no line applied or merged it before. Where memory is refused, all
     /// records are as they were.
     pub fn open(&mut self, digest: &Digest) -> Result<usize, NoMemory>
-        requires { AreNumbered self.old }
+        requires { AreNumberedRecords self.old }
         ensures opens { IfOk result (λ r. Opens self.old self.new digest.now r) }
-        ensures numbered { OnOk result (AreNumbered self.new) }
+        ensures numbered { OnOk result (AreNumberedRecords self.new) }
         ensures refused { OnErr result (SameRecords self.old self.new) }
     {
         match self.number(digest) {
@@ -60,10 +60,10 @@ impl Records {
 
     /// A new record.
     fn add(&mut self, digest: &Digest) -> Result<usize, NoMemory>
-        requires numbered { AreNumbered self.old }
-        requires fresh { number_of self.old digest.now ≡ None }
+        requires numbered { AreNumberedRecords self.old }
+        requires fresh { record_number self.old digest.now ≡ None }
         ensures opens { IfOk result (λ r. Opens self.old self.new digest.now r) }
-        ensures numbered { OnOk result (AreNumbered self.new) }
+        ensures numbered { OnOk result (AreNumberedRecords self.new) }
         ensures refused { OnErr result (SameRecords self.old self.new) }
     {
         let number = self.known.len();
@@ -80,7 +80,7 @@ impl Records {
 
     /// The partition of the record of that number.
     pub fn partition(&self, number: usize) -> Option<PartitionId>
-        ensures { result ≡ option_map partition_of (digest_of self.now number) }
+        ensures { result ≡ option_map partition_of (record_digest self.now number) }
     {
         match self.known.get(number) {
             None => None,
@@ -111,7 +111,7 @@ impl Records {
     /// A version is applied: it is the newest of the record where none is above it, and where it is above all before,
     /// nobody holds the newest yet.
     pub fn raise(&mut self, versions: Versions<'_>, number: usize, place: usize)
-        requires { IsSome (record_at self.old number) }
+        requires { IsSome (numbered_record self.old number) }
         ensures numbers { KeepsNumbers self.old self.new }
         ensures newest { (q : ℕ) → newest_of self.new q ≡ cond (nat_eq number q) (raised versions.entry.by versions.entry.lines.now place (newest_of self.old number)) (newest_of self.old q) }
         ensures holders { (q : ℕ) → holders_of self.new q ≡ cond (nat_eq number q) (raised_holders versions.entry.by versions.entry.lines.now place (newest_of self.old number) (holders_of self.old number)) (holders_of self.old q) }
@@ -123,12 +123,12 @@ impl Records {
 
     /// One node more, or one less, holds the newest version of the record.
     pub fn count(&mut self, number: usize, held: bool, holds: bool)
-        requires there { IsSome (record_at self.old number) }
+        requires there { IsSome (numbered_record self.old number) }
         requires held { held ≡ true → 0 < holders_of self.old number }
         requires room { holders_of self.old number < 2 ^ 64 - 1 }
         ensures numbers { KeepsNumbers self.old self.new }
         ensures newest { (q : ℕ) → newest_of self.new q ≡ newest_of self.old q }
-        ensures holders { (q : ℕ) → holders_of self.new q ≡ cond (nat_eq number q) (counted held holds (holders_of self.old number)) (holders_of self.old q) }
+        ensures holders { (q : ℕ) → holders_of self.new q ≡ cond (nat_eq number q) (holder_count held holds (holders_of self.old number)) (holders_of self.old q) }
     {
         if let Some(known) = self.known.get_mut(number) {
             known.holders = count(known.holders, held, holds);
@@ -157,7 +157,7 @@ fn raise(versions: Versions<'_>, known: Record, place: usize) -> Record
 fn count(holders: usize, held: bool, holds: bool) -> usize
     requires held { held ≡ true → 0 < holders }
     requires room { holders < 2 ^ 64 - 1 }
-    ensures { result ≡ counted held holds holders }
+    ensures { result ≡ holder_count held holds holders }
 {
     match (held, holds) {
         (false, true) => holders + 1,

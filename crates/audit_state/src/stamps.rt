@@ -1,7 +1,7 @@
 //! By which lines a node's copy of a partition is known to be whole.
 ghost use Rattle.std.specs.Prelude.{◌≡◌, ◌<◌, ◌^◌, ◌+◌, ◌++◌, OnOk};
 ghost use Rattle.audit_state.specs.Histories.{AreUpTo};
-ghost use Rattle.audit_state.specs.Stamps.{IsFreshStamps, later, stamp_place, stamping_key, key_at, whole_changes};
+ghost use Rattle.audit_state.specs.Stamps.{IsFreshStamps, later, stamp_place, stamping_key, stamping_key_at, whole_changes};
 
 use crate::history::{Change, History};
 use cluster_types::{ClusterKey, NoMemory};
@@ -87,7 +87,7 @@ fn stamping_key(line: &Line) -> Option<ClusterKey>
 
 /// The key of the view by which the line at that place stamps.
 pub fn key_at(lines: &[Line], place: usize) -> Option<ClusterKey>
-    ensures { result ≡ key_at lines.now place }
+    ensures { result ≡ stamping_key_at lines.now place }
 {
     match lines.get(place) {
         None => None,

@@ -1,7 +1,7 @@
 //! What each node holds of each record, and what it held after any number of lines.
 ghost use Rattle.std.specs.Prelude.{◌≡◌, ◌==◌, ◌≤◌, ℕ, [], true, false, not, cond, Some, None, is_some, nat_lt, length, slice_get, option_map, IfOk, OnOk};
 ghost use Rattle.std.specs.List.Sorted.{IsPartitionPoint};
-ghost use Rattle.audit_state.specs.Histories.{AreUpTo, value_at, value_now};
+ghost use Rattle.audit_state.specs.Histories.{AreUpTo, value_after, value_now};
 ghost use Rattle.std.specs.HashMap as hash;
 ghost use Rattle.audit_state.specs.Copies.{StandUpTo};
 ghost use Rattle.audit_state.specs.Keys.{pair_eq};
@@ -38,7 +38,7 @@ impl Stores {
 
     /// What the node held of the record after so many lines.
     pub fn content_at(&self, node: NodeId, number: usize, lines: usize) -> Option<usize>
-        ensures { result ≡ value_at (history_of self.now node number) lines }
+        ensures { result ≡ value_after (history_of self.now node number) lines }
     {
         match self.contents.get(&(node.number(), number)) {
             None => None,
@@ -75,7 +75,7 @@ impl Stores {
 
     /// Whether the node had a record of the partition after so many lines.
     pub fn held_any_at(&self, node: NodeId, p: PartitionId, lines: usize) -> bool
-        ensures { result ≡ is_some (value_at (holding_of self.now node p) lines) }
+        ensures { result ≡ is_some (value_after (holding_of self.now node p) lines) }
     {
         match self.copies.get(&(node.number(), p.number())) {
             None => false,

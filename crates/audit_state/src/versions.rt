@@ -3,7 +3,7 @@
 ghost use Rattle.std.specs.Prelude.{◌≡◌, ◌↔◌, IsTrue, is_some};
 ghost use Rattle.std.specs.Option.{option_copied};
 ghost use Rattle.conflict_order.specs.Join as order;
-ghost use Rattle.audit_state.specs.Places.{is_at_most, placed, version_at, version_of};
+ghost use Rattle.audit_state.specs.Places.{is_at_most, placed, placed_version, brought_version};
 
 use conflict_order::{Policy, Version};
 use journal_lines::Line;
@@ -18,7 +18,7 @@ pub struct Versions<'a> {
 impl<'a> Versions<'a> {
     /// The version at that place.
     pub fn at(&self, place: usize) -> Option<&'a Version>
-        ensures { option_copied result ≡ version_at self.now.lines.now place }
+        ensures { option_copied result ≡ placed_version self.now.lines.now place }
     {
         match self.lines.get(place) {
             None => None,
@@ -70,7 +70,7 @@ impl<'a> Versions<'a> {
 
 /// The version that the line brings.
 fn version_of(line: &Line) -> Option<&Version>
-    ensures { option_copied result ≡ version_of line.now }
+    ensures { option_copied result ≡ brought_version line.now }
 {
     match line {
         Line::Apply { version, .. } => Some(version),

@@ -2,7 +2,7 @@
 ghost use Rattle.std.specs.Prelude.{◌≡◌, [], false, nat_lt, slice_get};
 ghost use Rattle.partition_lists.specs.Lists.{list};
 ghost use Rattle.audit_state.specs.Keys.{key_pair};
-ghost use Rattle.audit_state.specs.Views.{IsNewView, entry_of, has_exchanged, have_all_entered};
+ghost use Rattle.audit_state.specs.Views.{IsFreshView, entry_line, has_exchanged, has_every_entry};
 ghost use Rattle.audit_state.specs.Written.{stand_in, stand_of};
 
 use cluster_types::{ClusterKey, Members, NodeId, NodeList, PartitionId};
@@ -94,7 +94,7 @@ impl Write {
 
 impl View {
     pub fn new(alloc: Global, key: ClusterKey, members: Members) -> View
-        ensures { IsNewView key members result }
+        ensures { IsFreshView key members result }
     {
         View {
             key,
@@ -112,14 +112,14 @@ impl View {
 
     /// The place of the node's `enter` line.
     pub fn entry_of(&self, node: NodeId) -> Option<usize>
-        ensures { result ≡ entry_of self.now node }
+        ensures { result ≡ entry_line self.now node }
     {
         self.entered.iter().find(|e| e.node == node).map(|e| e.line)
     }
 
     /// Whether every member has entered.
     pub fn have_all_entered(&self) -> bool
-        ensures { result ≡ have_all_entered self.now }
+        ensures { result ≡ has_every_entry self.now }
     {
         self.members
             .as_slice()

@@ -5,7 +5,7 @@
 ghost use Rattle.std.specs.Prelude.{◌≡◌, ◌<◌, ◌-◌, ◌^◌, ℕ, Some, None, cond, nat_eq, nat_lt, IfOk, OnOk, OnErr};
 ghost use Rattle.std.specs.HashMap as hash;
 ghost use Rattle.audit_state.specs.Keys.{pair_eq};
-ghost use Rattle.audit_state.specs.OpenWrites.{SetsStand, SettlesPartition, Suspects, Distrusts, EndsWrite, IsLeft, IsToTry, OpensWrite, ListsOpen, FinishesWrites, opened_stand, left_stand, is_done, open_of};
+ghost use Rattle.audit_state.specs.OpenWrites.{SetsStand, SettlesPartition, Suspects, Distrusts, EndsWrite, IsLeft, IsToTry, OpensWrite, ListsOpen, FinishesWrites, opened_stand, left_stand, is_done_write, open_of};
 ghost use Rattle.audit_state.specs.Written.{WritesRecord, RaisesApplied, ListsRecord, written_of, stand_in, stand_of};
 
 use crate::versions::Versions;
@@ -44,7 +44,7 @@ impl View {
 
     /// Whether the node's `done` line of the transaction stands.
     fn is_done(&self, node: NodeId, transaction: u32) -> bool
-        ensures { result ≡ is_done self.now node transaction }
+        ensures { result ≡ is_done_write self.now node transaction }
     {
         match self.writes.get(&(node.number(), transaction)) {
             None => false,
@@ -240,7 +240,7 @@ impl View {
 
     /// Takes the writes of the transaction out, of which nothing is known where they aren't there.
     fn take_write(&mut self, alloc: Global, node: NodeId, transaction: u32) -> Write
-        ensures done { result.done ≡ is_done self.old node transaction }
+        ensures done { result.done ≡ is_done_write self.old node transaction }
         ensures partitions { result.open_in.items ≡ open_of self.old node transaction }
         ensures others { (q : ℕ × ℕ) → hash.get pair_eq self.new.writes q ≡ cond (pair_eq (node, transaction) q) None (hash.get pair_eq self.old.writes q) }
         ensures rest { record self.new { writes = self.old.writes } ≡ self.old }

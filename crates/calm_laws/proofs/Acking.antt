@@ -18,13 +18,13 @@ use Rattle.node_rules.specs.Batches.{Target, Targets, next_batch, sending}
 use Rattle.node_rules.specs.Copies.{Content, Row}
 use Rattle.node_rules.specs.Effects.{to_each}
 use Rattle.node_rules.specs.Exchange.{View, first_missing, is_view}
-use Rattle.node_rules.specs.Facts.{Facts, list_at, members, view_key}
+use Rattle.node_rules.specs.Facts.{Facts, list_at, members_of_view, view_key}
 use Rattle.node_rules.specs.Messages as due
 use Rattle.node_rules.specs.Messages.{due_message_of, finishes}
 use Rattle.node_rules.specs.Notes as notes
 use Rattle.node_rules.specs.Notes.{after_ages, all_sent, in_view, note, noted, reached, sent}
 use Rattle.node_rules.specs.Resolving.{repl}
-use Rattle.node_rules.specs.Settling.{line_if, settling}
+use Rattle.node_rules.specs.Settling.{line_if, settling_due}
 use Rattle.node_rules.specs.Standing.{others}
 use Rattle.node_rules.specs.Tables.{changed_if}
 use Rattle.node_rules.specs.Tick.{batch_to, batches, beat, propose, propose_new, propose_with, progress, progress_if, rows, sends_again, state, tick_if, transactions}
@@ -100,7 +100,7 @@ progress_leaves : (f : Facts) (from : ℕ) (done handed settled : List Bool) (b 
 progress_leaves f from done handed settled true = refl
 progress_leaves f from done handed settled false = refl
 
-counted_leaves : (f : Facts) (key : ClusterKey) (l : List ℕ) (p nth : ℕ) (b : Bool) → (notes.counted_if f key l p nth b).batches ≡ f.batches
+counted_leaves : (f : Facts) (key : ClusterKey) (l : List ℕ) (p nth : ℕ) (b : Bool) → (notes.write_counted_if f key l p nth b).batches ≡ f.batches
 counted_leaves f key l p nth true = refl
 counted_leaves f key l p nth false = refl
 
@@ -145,7 +145,7 @@ no_end f from row wants true e =
     subst (λ (c : Bool). Each Leaves (line_if (line.Exchanged f.me (view_key f)) c)) (sym over) tt
   where
     over : finishes f (notes.row_came f from row true) ≡ false
-    over = ap (λ (c : Bool). is_none (first_missing (notes.row_came f from row true).exchange.rows (members (notes.row_came f from row true))) && not c) e ∙ and_false _
+    over = ap (λ (c : Bool). is_none (first_missing (notes.row_came f from row true).exchange.rows (members_of_view (notes.row_came f from row true))) && not c) e ∙ and_false _
 
 due_leaves : (n : ℕ) (c : ℕ) (f : Facts) → f.exchange.exchanged ≡ true → (from : ℕ) (m : Message) → is_agreeing (kind m) ≡ false → Each Leaves (due_message_of n f c from m).lines
 due_leaves n c f e from (message.State key wants row) free = no_end f from row wants (in_view f key) e
@@ -289,7 +289,7 @@ rests_begins n c f up none e read once =
     ∙ all_sent_leaves h2 r (each_not _ (state (proposed f) true) refl)
     ∙ ap (λ (ms : List (ℕ × Message)). (all_sent h1 ms).batches) nothing
     ∙ all_sent_leaves h0 b (each_not g.peers _ refl)
-    ∙ noted_leaves None (proposed f) (settling n (proposed f)) (all_of_view_leaves (proposed f).me (view_key (proposed f)) (settling n (proposed f)) (settling_of_view n (proposed f)))
+    ∙ noted_leaves None (proposed f) (settling_due n (proposed f)) (all_of_view_leaves (proposed f).me (view_key (proposed f)) (settling_due n (proposed f)) (settling_of_view n (proposed f)))
     ∙ ap (λ (x : Facts). x.batches) (rests_proposed f none e) in
     ap (λ (x : Facts). x.batches) (tick_facts n c f up)
     ∙ ap (λ (ms : List (ℕ × Message)). (all_sent h0 ms).batches) plain
@@ -303,5 +303,5 @@ rests_begins n c f up none e read once =
 -- the lines of settling leave the targets
 pub settled_batches : (n : ℕ) (f : Facts) → (after_ages f).agreement.proposal ≡ None → is_to_propose (after_ages f) ≡ false → (progressing n f).batches ≡ f.batches
 settled_batches n f none e =
-    noted_leaves None (proposed f) (settling n (proposed f)) (all_of_view_leaves (proposed f).me (view_key (proposed f)) (settling n (proposed f)) (settling_of_view n (proposed f)))
+    noted_leaves None (proposed f) (settling_due n (proposed f)) (all_of_view_leaves (proposed f).me (view_key (proposed f)) (settling_due n (proposed f)) (settling_of_view n (proposed f)))
     ∙ ap (λ (g : Facts). g.batches) (rests_proposed f none e)

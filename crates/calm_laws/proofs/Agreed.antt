@@ -9,8 +9,8 @@ use Rattle.node_rules.specs.Facts.{Facts}
 use Rattle.node_rules.specs.Notes.{after_ages, neighbours}
 use Rattle.journal_readings.specs.Lines.{has_node}
 use Rattle.cluster_rules.specs.World.{World}
-use Rattle.key_laws.specs.Order.{AtMost}
-use Rattle.key_laws.specs.Sound.{Rises, Sound, Stands}
+use Rattle.key_laws.specs.Order.{KeyAtMost}
+use Rattle.key_laws.specs.Sound.{RisesByNumber, Sound, ProposalStands}
 use Rattle.key_laws.specs.Traced.{Traced, facts_of}
 use Rattle.calm_laws.specs.Acts.{served}
 use Rattle.calm_laws.specs.Flows.{Base, Foreign, Fresh, HeardAs, Rounded, Speaks, Ticked, ticks_if, world_at}
@@ -40,16 +40,16 @@ fit_of gs w h = record { promised = λ m here. subst (λ (u : World). IsKeyOrNon
   where
     stood : (t : Traced) → Sound t → (m : ℕ) (p : Proposal) → (facts_of t m).agreement.proposal ≡ Some p → IsKeyField p.key
     stood t s m p e =
-        (s.lists p.key p.members (subst (λ (o : Option Proposal). Stands t m (facts_of t m).agreement.promised (facts_of t m).agreement.last o) e (s.nodes m).agrees.proposal).list).key
+        (s.lists p.key p.members (subst (λ (o : Option Proposal). ProposalStands t m (facts_of t m).agreement.promised (facts_of t m).agreement.last o) e (s.nodes m).agrees.proposal).list).key
 
     key : (m : ℕ) (p : Proposal) → (w.facts m).agreement.proposal ≡ Some p → IsKeyField p.key
     key m p e = stood h.trace h.sound m p (subst (λ (u : World). (u.facts m).agreement.proposal ≡ Some p) (sym h.is) e)
 
 ordered_of : (gs : List ℕ) (w : World) → HasLaws w → Ordered gs w
-ordered_of gs w h m here = subst (λ (u : World). AtMost (u.facts m).agreement.last (u.facts m).agreement.promised) h.is (h.sound.nodes m).agrees.ordered
+ordered_of gs w h m here = subst (λ (u : World). KeyAtMost (u.facts m).agreement.last (u.facts m).agreement.promised) h.is (h.sound.nodes m).agrees.ordered
 
-rises_of : (w : World) → HasLaws w → (m : ℕ) → Rises (w.facts m).hearing.heard
-rises_of w h m = subst (λ (u : World). Rises (u.facts m).hearing.heard) h.is (h.sound.nodes m).hears.rises
+rises_of : (w : World) → HasLaws w → (m : ℕ) → RisesByNumber (w.facts m).hearing.heard
+rises_of w h m = subst (λ (u : World). RisesByNumber (u.facts m).hearing.heard) h.is (h.sound.nodes m).hears.rises
 
 -- ---- round by round
 

@@ -22,7 +22,7 @@ use Rattle.node_rules.specs.Client.{node_for}
 use Rattle.node_rules.specs.Effects.{Effects}
 use Rattle.node_rules.specs.Facts.{Facts, list_at}
 use Rattle.node_rules.specs.Map.{entry_of}
-use Rattle.node_rules.specs.Messages.{due_message}
+use Rattle.node_rules.specs.Messages.{due_message, client}
 use Rattle.node_rules.specs.Notes.{all_sent, noted, reached}
 use Rattle.node_rules.specs.Requests.{due_request, due_start, due_stop, map_refusal, start_if, stop_if}
 use Rattle.node_rules.specs.Shows.{due_show, map_if, map_line}
@@ -31,8 +31,8 @@ use Rattle.journal_readings.specs.Messages.{Posting, arrived, arrived_cut}
 use Rattle.cluster_rules.specs.declared.event.Event.{Event}
 use Rattle.cluster_rules.specs.declared.event.Event.TheVariants as event
 use Rattle.cluster_rules.specs.DueEvents.{arriving, arriving_cut, delivery, due_arrival, due_at_client, due_at_end, due_at_named, is_blocked, losing, unless_blocked, written}
-use Rattle.cluster_rules.specs.Marks.{Writes, adds, after_all, after_line, begun, came, came_to, came_to_client, came_to_node, taken_by, want_in}
-use Rattle.cluster_rules.specs.Network.{Network, client, flying_at, flying_if, landed, posting_at, posting_if}
+use Rattle.cluster_rules.specs.Marks.{Writes, adds, after_all, after_line, event_begun, came, came_to, came_to_client, came_to_node, taken_by, want_in}
+use Rattle.cluster_rules.specs.Network.{Network, flying_at, flying_if, landed, posting_at, posting_if}
 use Rattle.cluster_rules.specs.NodeSteps.{AreOf, AreRead, IsNumbered, Moves, all_sent_in}
 use Rattle.cluster_rules.specs.Steps.{play}
 use Rattle.cluster_rules.specs.World.{World, is_up}
@@ -97,10 +97,10 @@ module _ (w : World) (named : Named w) (read : SendsAreRead w) (order : InOrder 
   -- ---- what a node does of itself
 
   acts : (e : Event) (a : ℕ) (x : Effects) → taken_by w.network e ≡ w.network → AreOf a x.lines → AreRead x.sends
-      → Moves a (all_sent (noted (want_in e) (w.facts a) x.lines) x.sends) (all_sent_in w.network a x.sends) (begun w e) (after_all (begun w e) (map Writes (written w.network a x)))
+      → Moves a (all_sent (noted (want_in e) (w.facts a) x.lines) x.sends) (all_sent_in w.network a x.sends) (event_begun w e) (after_all (event_begun w e) (map Writes (written w.network a x)))
   acts e a x same own sends =
-      subst (λ (net : Network). Moves a (all_sent (noted (want_in e) (w.facts a) x.lines) x.sends) (all_sent_in net a x.sends) (begun w e) (after_all (begun w e) (map Writes (written net a x)))) same
-      (node_step (begun w e) a x own sends (subst IsNumbered (sym same) (numbered w order)))
+      subst (λ (net : Network). Moves a (all_sent (noted (want_in e) (w.facts a) x.lines) x.sends) (all_sent_in net a x.sends) (event_begun w e) (after_all (event_begun w e) (map Writes (written net a x)))) same
+      (node_step (event_begun w e) a x own sends (subst IsNumbered (sym same) (numbered w order)))
 
   tick_reads : (a : ℕ) (b : Bool) → (w.facts a).up ≡ b → AreRead (tick_if partition_count (w.facts a) b).sends
   tick_reads a false e = tt
@@ -130,14 +130,14 @@ module _ (w : World) (named : Named w) (read : SendsAreRead w) (order : InOrder 
       one_acts w (play partition_count (event.Start a) w).world (event.Start a) a m (started k.here) k.elsewhere
 
   of_request : (e : Event) (a : ℕ) (d : List ℕ) (q : Want) → taken_by w.network e ≡ w.network → want_in e ≡ Some q → IsDigest d → IsWant q
-      → (m : ℕ) → Became w e m ((after_all (begun w e) (map Writes (written w.network a (due_request (w.facts a) (w.clocks a) d q)))).facts m)
+      → (m : ℕ) → Became w e m ((after_all (event_begun w e) (map Writes (written w.network a (due_request (w.facts a) (w.clocks a) d q)))).facts m)
   of_request e a d q same wants digest proper m =
       let x : Effects = due_request (w.facts a) (w.clocks a) d q in
       let k = acts e a x same (own_at a _ (request_own (w.facts a) (w.clocks a) d q)) (read.request a d q digest proper) in
-      one_acts w (after_all (begun w e) (map Writes (written w.network a x))) e a m (asked d q (k.here ∙ ap (λ (o : Option Want). all_sent (noted o (w.facts a) x.lines) x.sends) wants)) k.elsewhere
+      one_acts w (after_all (event_begun w e) (map Writes (written w.network a x))) e a m (asked d q (k.here ∙ ap (λ (o : Option Want). all_sent (noted o (w.facts a) x.lines) x.sends) wants)) k.elsewhere
 
   of_client : (e : Event) (d : List ℕ) (q : Want) → taken_by w.network e ≡ w.network → want_in e ≡ Some q → IsDigest d → IsWant q
-      → (m : ℕ) (o : Option ℕ) → Became w e m ((after_all (begun w e) (map Writes (due_at_named w d q o))).facts m)
+      → (m : ℕ) (o : Option ℕ) → Became w e m ((after_all (event_begun w e) (map Writes (due_at_named w d q o))).facts m)
   of_client e d q same wants digest proper m None = stayed refl
   of_client e d q same wants digest proper m (Some a) = of_request e a d q same wants digest proper m
 
@@ -145,10 +145,11 @@ module _ (w : World) (named : Named w) (read : SendsAreRead w) (order : InOrder 
 
   -- a message reached a node
   of_message : (e : Event) (i : ℕ) (p : Posting) (x : Message) → want_in e ≡ None → IsNumbered (taken_by w.network e) → posting_at w.network i ≡ Some p → message_of p.bytes ≡ Some x → is_up w p.to ≡ true
-      → (m : ℕ) → Became w e m ((after_all (came_to_node (begun w e) (record { from = p.from; to = p.to; message = x })) (map Writes (written (taken_by w.network e) p.to (due_message (w.facts p.to) (w.clocks p.to) p.from x)))).facts m)
+      → (m : ℕ) → Became w e m ((after_all (came_to_node (event_begun w e) (record { from = p.from; to = p.to; message = x })) (map Writes (written (taken_by w.network e) p.to (due_message (w.facts p.to) (w.clocks p.to) p.from x)))).facts m)
   of_message e i p x none numbers stands is up m =
       let a : ℕ = p.to in
-      let u : World = came_to_node (begun w e) (record { from = p.from; to = a; message = x }) in
+      let u : World = came_to_node (event_begun w e)
+      (record { from = p.from; to = a; message = x }) in
       let y : Effects = due_message (w.facts a) (w.clocks a) p.from x in
       let v : World = after_all u (map Writes (written (taken_by w.network e) a y)) in
       let k : Moves a (all_sent (noted u.want (u.facts a) y.lines) y.sends) (all_sent_in u.network a y.sends) u v =
@@ -166,7 +167,7 @@ module _ (w : World) (named : Named w) (read : SendsAreRead w) (order : InOrder 
 
   -- a message that isn't blocked arrives whole
   arrives : (e : Event) (i : ℕ) (p : Posting) → want_in e ≡ None → IsNumbered (taken_by w.network e) → posting_at w.network i ≡ Some p → is_blocked w p ≡ false → (m : ℕ) (o : Option Message) → message_of p.bytes ≡ o
-      → Became w e m ((after_all (came (begun w e) (option_map (λ x. record { from = p.from; to = p.to; message = x }) o)) (map Writes (due_arrival partition_count w (taken_by w.network e) p o))).facts m)
+      → Became w e m ((after_all (came (event_begun w e) (option_map (λ x. record { from = p.from; to = p.to; message = x }) o)) (map Writes (due_arrival partition_count w (taken_by w.network e) p o))).facts m)
   arrives e i p none numbers stands free m None is = stayed refl
   arrives e i p none numbers stands free m (Some x) is = go (p.to == client) refl
     where
@@ -174,8 +175,8 @@ module _ (w : World) (named : Named w) (read : SendsAreRead w) (order : InOrder 
       up_there a b c h i = grind arith
 
       go : (b : Bool) → (p.to == client) ≡ b
-          → Became w e m ((after_all (came_to (begun w e) (record { from = p.from; to = p.to; message = x }) b) (map Writes (due_at_end partition_count w (taken_by w.network e) p x b))).facts m)
-      go true c = at_client e (begun w e) x refl m
+          → Became w e m ((after_all (came_to (event_begun w e) (record { from = p.from; to = p.to; message = x }) b) (map Writes (due_at_end partition_count w (taken_by w.network e) p x b))).facts m)
+      go true c = at_client e (event_begun w e) x refl m
       go false c = of_message e i p x none numbers stands is (up_there _ (p.to == client) (is_up w p.to) free c) m
 
   landed_at : (i : ℕ) → posting_at (landed w.network i) i ≡ posting_at w.network i
@@ -194,12 +195,12 @@ module _ (w : World) (named : Named w) (read : SendsAreRead w) (order : InOrder 
 
   -- ---- deliveries
 
-  delivered : (e : Event) (i : ℕ) (lines : Posting → List Line) (m : ℕ) → ((p : Posting) → posting_at w.network i ≡ Some p → is_blocked w p ≡ false → Became w e m ((after_all (begun w e) (map Writes (lines p))).facts m))
-      → (o : Option Posting) → flying_at w.network i ≡ o → Became w e m ((after_all (begun w e) (map Writes (delivery w i lines o))).facts m)
+  delivered : (e : Event) (i : ℕ) (lines : Posting → List Line) (m : ℕ) → ((p : Posting) → posting_at w.network i ≡ Some p → is_blocked w p ≡ false → Became w e m ((after_all (event_begun w e) (map Writes (lines p))).facts m))
+      → (o : Option Posting) → flying_at w.network i ≡ o → Became w e m ((after_all (event_begun w e) (map Writes (delivery w i lines o))).facts m)
   delivered e i lines m here None is = stayed refl
   delivered e i lines m here (Some p) is = go (is_blocked w p) refl
     where
-      go : (b : Bool) → is_blocked w p ≡ b → Became w e m ((after_all (begun w e) (map Writes (unless_blocked i lines p b))).facts m)
+      go : (b : Bool) → is_blocked w p ≡ b → Became w e m ((after_all (event_begun w e) (map Writes (unless_blocked i lines p b))).facts m)
       go true c = stayed refl
       go false c = here p (flying_stands i p is) c
 
@@ -217,17 +218,17 @@ module _ (w : World) (named : Named w) (read : SendsAreRead w) (order : InOrder 
   of_deliver : (i m : ℕ) → Became w (event.Deliver i) m ((play partition_count (event.Deliver i) w).world.facts m)
   of_deliver i m = delivered (event.Deliver i) i (λ p. line.Deliver i p.from p.to ∷ arriving partition_count w (landed w.network i) p) m here (flying_at w.network i) refl
     where
-      here : (p : Posting) → posting_at w.network i ≡ Some p → is_blocked w p ≡ false → Became w (event.Deliver i) m ((after_all (begun w (event.Deliver i)) (map Writes (line.Deliver i p.from p.to ∷ arriving partition_count w (landed w.network i) p))).facts m)
+      here : (p : Posting) → posting_at w.network i ≡ Some p → is_blocked w p ≡ false → Became w (event.Deliver i) m ((after_all (event_begun w (event.Deliver i)) (map Writes (line.Deliver i p.from p.to ∷ arriving partition_count w (landed w.network i) p))).facts m)
       here p stands free =
-          subst (λ (o : Option Posting). Became w (event.Deliver i) m ((after_all (came (begun w (event.Deliver i)) (option_and_then (arrived p.to) o)) (map Writes (arriving partition_count w (landed w.network i) p))).facts m))
+          subst (λ (o : Option Posting). Became w (event.Deliver i) m ((after_all (came (event_begun w (event.Deliver i)) (option_and_then (arrived p.to) o)) (map Writes (arriving partition_count w (landed w.network i) p))).facts m))
           (sym (landed_at i ∙ stands)) (arrives (event.Deliver i) i p refl (landed_numbers i) stands free m (message_of p.bytes) refl)
 
   of_repeat : (i m : ℕ) → Became w (event.Repeat i) m ((play partition_count (event.Repeat i) w).world.facts m)
   of_repeat i m = delivered (event.Repeat i) i (λ p. line.Repeat i p.from p.to ∷ arriving partition_count w w.network p) m here (flying_at w.network i) refl
     where
-      here : (p : Posting) → posting_at w.network i ≡ Some p → is_blocked w p ≡ false → Became w (event.Repeat i) m ((after_all (begun w (event.Repeat i)) (map Writes (line.Repeat i p.from p.to ∷ arriving partition_count w w.network p))).facts m)
+      here : (p : Posting) → posting_at w.network i ≡ Some p → is_blocked w p ≡ false → Became w (event.Repeat i) m ((after_all (event_begun w (event.Repeat i)) (map Writes (line.Repeat i p.from p.to ∷ arriving partition_count w w.network p))).facts m)
       here p stands free =
-          subst (λ (o : Option Posting). Became w (event.Repeat i) m ((after_all (came (begun w (event.Repeat i)) (option_and_then (arrived p.to) o)) (map Writes (arriving partition_count w w.network p))).facts m))
+          subst (λ (o : Option Posting). Became w (event.Repeat i) m ((after_all (came (event_begun w (event.Repeat i)) (option_and_then (arrived p.to) o)) (map Writes (arriving partition_count w w.network p))).facts m))
           (sym stands) (arrives (event.Repeat i) i p refl (numbered w order) stands free m (message_of p.bytes) refl)
 
   of_cut : (i size m : ℕ) → Became w (event.Cut i size) m ((play partition_count (event.Cut i size) w).world.facts m)
@@ -240,24 +241,25 @@ module _ (w : World) (named : Named w) (read : SendsAreRead w) (order : InOrder 
       short a b e = grind (arith, nat_tests, e)
 
       here : (p : Posting) → posting_at w.network i ≡ Some p → is_blocked w p ≡ false
-          → Became w (event.Cut i size) m ((after_all (begun w (event.Cut i size)) (map Writes (line.Cut i p.from p.to size ∷ arriving_cut partition_count w (landed w.network i) p (nat_lt size (length p.bytes))))).facts m)
+          → Became w (event.Cut i size) m ((after_all (event_begun w (event.Cut i size)) (map Writes (line.Cut i p.from p.to size ∷ arriving_cut partition_count w (landed w.network i) p (nat_lt size (length p.bytes))))).facts m)
       here p stands free =
-          subst (λ (o : Option Posting). Became w (event.Cut i size) m ((after_all (came (begun w (event.Cut i size)) (option_and_then (arrived_cut p.to size) o)) (map Writes (arriving_cut partition_count w (landed w.network i) p (nat_lt size (length p.bytes))))).facts m))
+          subst (λ (o : Option Posting). Became w (event.Cut i size) m ((after_all (came (event_begun w (event.Cut i size)) (option_and_then (arrived_cut p.to size) o)) (map Writes (arriving_cut partition_count w (landed w.network i) p (nat_lt size (length p.bytes))))).facts m))
           (sym (landed_at i ∙ stands)) (go (nat_lt size (length p.bytes)) refl)
         where
-          go : (b : Bool) → nat_lt size (length p.bytes) ≡ b → Became w (event.Cut i size) m ((after_all (came (begun w (event.Cut i size)) (arrived_cut p.to size p)) (map Writes (arriving_cut partition_count w (landed w.network i) p b))).facts m)
+          go : (b : Bool) → nat_lt size (length p.bytes) ≡ b → Became w (event.Cut i size) m ((after_all (came (event_begun w (event.Cut i size)) (arrived_cut p.to size p)) (map Writes (arriving_cut partition_count w (landed w.network i) p b))).facts m)
           go true e =
-              subst (λ (b : Bool). Became w (event.Cut i size) m ((after_all (came (begun w (event.Cut i size)) (if b then arrived p.to p else None)) (map Writes (line.Short p.to ∷ []))).facts m)) (sym (short size (length p.bytes) e)) (stayed refl)
+              subst (λ (b : Bool). Became w (event.Cut i size) m ((after_all (came (event_begun w (event.Cut i size)) (if b then arrived p.to p else None)) (map Writes (line.Short p.to ∷ []))).facts m)) (sym (short size (length p.bytes) e)) (stayed refl)
           go false e =
-              subst (λ (b : Bool). Became w (event.Cut i size) m ((after_all (came (begun w (event.Cut i size)) (if b then arrived p.to p else None)) (map Writes (arriving partition_count w (landed w.network i) p))).facts m)) (sym (whole size (length p.bytes) e))
+              subst (λ (b : Bool). Became w (event.Cut i size) m ((after_all (came (event_begun w (event.Cut i size)) (if b then arrived p.to p else None)) (map Writes (arriving partition_count w (landed w.network i) p))).facts m)) (sym (whole size (length p.bytes) e))
               (arrives (event.Cut i size) i p refl (landed_numbers i) stands free m (message_of p.bytes) refl)
 
   -- ---- all events
 
-  of_quiet : (e : Event) (ls : List Line) → list_all (λ l. not (adds l)) ls ≡ true → (m : ℕ) → Became w e m ((after_all (begun w e) (map Writes ls)).facts m)
-  of_quiet e ls quiet m = stayed (ap (λ (u : World). u.facts m) (quiet_lines ls (begun w e) quiet))
+  of_quiet : (e : Event) (ls : List Line) → list_all (λ l. not (adds l)) ls ≡ true → (m : ℕ) → Became w e m ((after_all (event_begun w e) (map Writes ls)).facts m)
+  of_quiet e ls quiet m = stayed
+      (ap (λ (u : World). u.facts m) (quiet_lines ls (event_begun w e) quiet))
 
-  of_mark : (e : Event) (a m : ℕ) (b : Bool) (v : World) → v.facts ≡ Rattle.cluster_rules.specs.World.at w.facts a (Rattle.node_rules.specs.Notes.marked (w.facts a) b) → Became w e m (v.facts m)
+  of_mark : (e : Event) (a m : ℕ) (b : Bool) (v : World) → v.facts ≡ Rattle.cluster_rules.specs.World.changed_at w.facts a (Rattle.node_rules.specs.Notes.marked (w.facts a) b) → Became w e m (v.facts m)
   of_mark e a m b v is =
       one_acts w v e a m (quiesced b (ap (λ (f : ℕ → Facts). f a) is ∙ at_itself w.facts a _)) (λ x d. ap (λ (f : ℕ → Facts). f x) is ∙ at_other w.facts a _ x d)
 

@@ -8,18 +8,18 @@ use Rattle.wire_messages.specs.declared.message.Message.TheVariants as message
 use Rattle.partition_lists.proofs.InOrderLaws.{equal}
 use Rattle.journal_readings.proofs.Fronts.{and_right}
 use Rattle.node_rules.specs.Agreement as agreement
-use Rattle.node_rules.specs.Agreement.{Agreement, Proposal, has_round, kept_if, next_key, others, proposes_set, seen_round}
+use Rattle.node_rules.specs.Agreement.{Agreement, Proposal, has_round, kept_if, next_key, others_among, proposes_set, seen_round}
 use Rattle.node_rules.specs.Copies.{is_nil}
 use Rattle.node_rules.specs.Effects.{to_each}
 use Rattle.node_rules.specs.Facts.{Facts}
 use Rattle.node_rules.specs.Hearing.{is_greatest, quiet_ticks}
 use Rattle.node_rules.specs.Notes.{after_ages, neighbours}
-use Rattle.node_rules.specs.Tick.{propose, propose_new, propose_with, proposing_to, is_candidate, wants_view}
+use Rattle.node_rules.specs.Tick.{propose, propose_new, propose_with, proposal_effects, is_candidate, wants_view}
 use Rattle.journal_readings.specs.Lines.{has_node}
 use Rattle.cluster_rules.specs.World.{World}
 use Rattle.cluster_rules.proofs.KeptFacts.{num_same}
 use Rattle.cluster_laws.proofs.At.{differ}
-use Rattle.key_laws.specs.Order.{AtMost}
+use Rattle.key_laws.specs.Order.{KeyAtMost}
 use Rattle.key_laws.proofs.DueTick.{next_is_key}
 use Rattle.key_laws.proofs.Order.{at_most_below, below_at_most}
 use Rattle.run_laws.specs.Tied.{Among}
@@ -114,7 +114,7 @@ others_follow n ns gs g set w t r seen k m here d =
     (record { promised = below_at_most below; proposal = aged_none f (r.none m here); last = inl (at_most_below (r.ordered m here) below) })
 
 -- the greatest leads its proposal to the others
-leads_with : (g : ℕ) (set : List Member) (s : Stance) (n : ℕ) (ns : List ℕ) → others g set ≡ n ∷ ns → s.agreement.proposal ≡ None → AtMost s.agreement.last s.agreement.promised
+leads_with : (g : ℕ) (set : List Member) (s : Stance) (n : ℕ) (ns : List ℕ) → others_among g set ≡ n ∷ ns → s.agreement.proposal ≡ None → KeyAtMost s.agreement.last s.agreement.promised
     → Leads (next_key g s.agreement) set (proposes_to g s (next_key g s.agreement) set (n ∷ ns))
 leads_with g set s n ns is none ordered = subst (λ (o : Option Proposal). Leads k set (proposed o)) (sym none) (record {
   promised = refl;
@@ -143,7 +143,7 @@ proposal_with g set s n ns none =
 
 -- alone it is in the view at once
 pub record Alone (g : ℕ) (set : List Member) (k : ClusterKey) (s : Stance) : Type 0 where
-  pub alone : others g set ≡ []
+  pub alone : others_among g set ≡ []
   pub inside : Inside k set s
 
 -- with others it leads a proposal that all of them miss
@@ -153,7 +153,7 @@ pub record Begins (g : ℕ) (set : List Member) (k : ClusterKey) (s : Stance) : 
 
 pub leader_begins : (n : ℕ) (ns gs : List ℕ) (g : ℕ) (set : List Member) (w t : World) → Ready ns gs g set w → Ticked n w t ns → is_to_propose (after_ages (w.facts g)) ≡ true
     → Alone g set (key_next g w) (stance_of (t.facts g)) ⊎ Begins g set (key_next g w) (stance_of (t.facts g))
-leader_begins n ns gs g set w t r k e = go (others g set) refl
+leader_begins n ns gs g set w t r k e = go (others_among g set) refl
   where
     s : Stance
     s = stance_of (after_ages (w.facts g))
@@ -161,13 +161,13 @@ leader_begins n ns gs g set w t r k e = go (others g set) refl
     here : has_node gs g ≡ true
     here = r.roll.lead
 
-    then : stance_of (t.facts g) ≡ proposes_to g s (key_next g w) set (others g set)
+    then : stance_of (t.facts g) ≡ proposes_to g s (key_next g w) set (others_among g set)
     then = tick_stance n ns gs g set w t r k g here ∙ ap (λ (b : Bool). ticks g s set None b) e
 
     none : s.agreement.proposal ≡ None
     none = aged_none (w.facts g) (r.none g here)
 
-    go : (os : List ℕ) → others g set ≡ os → Alone g set (key_next g w) (stance_of (t.facts g)) ⊎ Begins g set (key_next g w) (stance_of (t.facts g))
+    go : (os : List ℕ) → others_among g set ≡ os → Alone g set (key_next g w) (stance_of (t.facts g)) ⊎ Begins g set (key_next g w) (stance_of (t.facts g))
     go [] is = inl (record {
       alone = is;
       inside = subst (λ (x : Stance). Inside (key_next g w) set x) (sym (then ∙ ap (λ (os : List ℕ). proposes_to g s (key_next g w) set os) is))
@@ -188,19 +188,19 @@ leader_leads n ns gs g set w t r k e = go (leader_begins n ns gs g set w t r k e
     go (inr h) = inl h.leads
 
 -- what it sends for that
-pub sends_to : (h : Facts) (k : ClusterKey) (set : List Member) (os : List ℕ) → (proposing_to h k set os).sends ≡ to_each os (message.Propose k set)
+pub sends_to : (h : Facts) (k : ClusterKey) (set : List Member) (os : List ℕ) → (proposal_effects h k set os).sends ≡ to_each os (message.Propose k set)
 sends_to h k set [] = refl
 sends_to h k set (n ∷ ns) = refl
 
-pub leader_sends : (ns gs : List ℕ) (g : ℕ) (set : List Member) (w : World) → Ready ns gs g set w → is_to_propose (after_ages (w.facts g)) ≡ true → (propose (after_ages (w.facts g))).sends ≡ to_each (others g set) (message.Propose (key_next g w) set)
+pub leader_sends : (ns gs : List ℕ) (g : ℕ) (set : List Member) (w : World) → Ready ns gs g set w → is_to_propose (after_ages (w.facts g)) ≡ true → (propose (after_ages (w.facts g))).sends ≡ to_each (others_among g set) (message.Propose (key_next g w) set)
 leader_sends ns gs g set w r e =
     let h : Facts = after_ages (w.facts g) in
     let here : has_node gs g ≡ true = r.roll.lead in
     ap (λ (o : Option Proposal). (propose_with h o).sends) (aged_none (w.facts g) (r.none g here))
     ∙ ap (λ (b : Bool). (propose_new h b).sends) e
-    ∙ ap (λ (ms : List Member). (proposing_to h (next_key h.me h.agreement) ms (others h.me ms)).sends) (r.sees g here)
-    ∙ ap (λ (y : ℕ). (proposing_to h (next_key y (w.facts g).agreement) set (others y set)).sends) (r.base.named g)
-    ∙ sends_to h (key_next g w) set (others g set)
+    ∙ ap (λ (ms : List Member). (proposal_effects h (next_key h.me h.agreement) ms (others_among h.me ms)).sends) (r.sees g here)
+    ∙ ap (λ (y : ℕ). (proposal_effects h (next_key y (w.facts g).agreement) set (others_among y set)).sends) (r.base.named g)
+    ∙ sends_to h (key_next g w) set (others_among g set)
 
 pub parties_begin : (n : ℕ) (ns gs : List ℕ) (g : ℕ) (set : List Member) (w t : World) → Ready ns gs g set w → SeenAll gs g w → Ticked n w t ns → is_to_propose (after_ages (w.facts g)) ≡ true → Parties (key_next g w) set gs t
 parties_begin n ns gs g set w t r seen k e m here = go (m == g) refl
@@ -215,7 +215,7 @@ parties_begin n ns gs g set w t r seen k e m here = go (m == g) refl
 
 -- ---- what the ticks bring
 
-pub proposed_only : (h : Facts) (set : List Member) (os : List ℕ) (k : ClusterKey) → CanBeRead (message.Propose k set) → (to : ℕ) (x : Message) → Among (as_read (proposing_to h k set os).sends) (to, x) → message.Propose k set ≡ x
+pub proposed_only : (h : Facts) (set : List Member) (os : List ℕ) (k : ClusterKey) → CanBeRead (message.Propose k set) → (to : ℕ) (x : Message) → Among (as_read (proposal_effects h k set os).sends) (to, x) → message.Propose k set ≡ x
 unfolding as_read
 proposed_only h set [] k r to x i = absurd i
 proposed_only h set (n ∷ ns) k r to x i = among_each (message.Propose k set) r (n ∷ ns) to x i
@@ -238,9 +238,9 @@ leader_asks : (ns gs : List ℕ) (g : ℕ) (set : List Member) (w : World) → R
 leader_asks ns gs g set w r e to x i =
     let h : Facts = after_ages (w.facts g) in
     let here : has_node gs g ≡ true = r.roll.lead in
-    proposed_only h set (others g set) (key_next g w) (next_readable ns gs g set w r e).proposes to x
-    (subst (λ (y : ℕ). Among (as_read (proposing_to h (next_key y (w.facts g).agreement) set (others y set)).sends) (to, x)) (r.base.named g)
-    (subst (λ (ms : List Member). Among (as_read (proposing_to h (next_key h.me h.agreement) ms (others h.me ms)).sends) (to, x)) (r.sees g here)
+    proposed_only h set (others_among g set) (key_next g w) (next_readable ns gs g set w r e).proposes to x
+    (subst (λ (y : ℕ). Among (as_read (proposal_effects h (next_key y (w.facts g).agreement) set (others_among y set)).sends) (to, x)) (r.base.named g)
+    (subst (λ (ms : List Member). Among (as_read (proposal_effects h (next_key h.me h.agreement) ms (others_among h.me ms)).sends) (to, x)) (r.sees g here)
     (subst (λ (b : Bool). Among (as_read (propose_new h b).sends) (to, x)) e
     (subst (λ (o : Option Proposal). Among (as_read (propose_with h o).sends) (to, x)) (aged_none (w.facts g) (r.none g here)) i))))
 

@@ -9,7 +9,7 @@ use Rattle.cluster_types.specs.MembersEqual.{same_members}
 use Rattle.partition_lists.specs.Lists.{in_order}
 use Rattle.partition_lists.proofs.InOrderLaws.{equal}
 use Rattle.node_rules.specs.Copies.{is_nil}
-use Rattle.node_rules.specs.Exchange.{View, is_view, key_of, members_of}
+use Rattle.node_rules.specs.Exchange.{View, is_view, exchange_key, members_of}
 use Rattle.node_rules.specs.Facts.{Facts, has_exchanged_in, view_key}
 use Rattle.node_rules.specs.Standing.{has_nothing_to_learn_or_drop, is_at_rest_of, knows_all_settled}
 use Rattle.node_rules.specs.Transactions.{Transaction}
@@ -81,7 +81,7 @@ shares n k v (x ∷ xs) h = all_true (λ (m : ℕ). has_exchanged_in (view_key (
     here = ap (λ (b : Bool). b || has_node xs x) (equal x x refl)
 
     key : view_key (v.facts x) ≡ k
-    key = ap (λ (o : Option View). key_of o) (h x here).view
+    key = ap (λ (o : Option View). exchange_key o) (h x here).view
 
     one : (m : ℕ) → has_node (x ∷ xs) m ≡ true → has_exchanged_in (view_key (v.facts x)) (as_members v (x ∷ xs)) (v.facts m) ≡ true
     one m i =

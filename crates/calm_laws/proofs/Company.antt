@@ -9,11 +9,12 @@ use Rattle.cluster_rules.specs.declared.event.Event.TheVariants as event
 use Rattle.cluster_rules.specs.DueEvents.{is_blocked}
 use Rattle.journal_readings.specs.Lines.{has_node}
 use Rattle.journal_readings.specs.Messages.{Posting}
-use Rattle.cluster_rules.specs.Network.{client, are_apart, posting_at}
+use Rattle.cluster_rules.specs.Network.{are_apart, posting_at}
 use Rattle.cluster_rules.specs.World.{World, is_up}
 use Rattle.cluster_rules.proofs.KeptFacts.{num_same}
 use Rattle.cluster_laws.proofs.At.{differ}
 use Rattle.run_laws.specs.Tied.{Among}
+use Rattle.node_rules.specs.Messages.{client}
 use Rattle.calm_laws.specs.Acts.{Input, Ticks, Gets, sent_at, outbox}
 use Rattle.calm_laws.specs.Flows.{Flowed, Ticked, inbox, ticks_if}
 use Rattle.calm_laws.specs.Group.{Away, Group, replies, kind}

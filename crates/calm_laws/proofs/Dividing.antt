@@ -15,15 +15,15 @@ use Rattle.journal_readings.specs.Messages.{Posting, arrived, arrived_cut}
 use Rattle.node_rules.specs.Client.{node_for}
 use Rattle.node_rules.specs.Effects.{Effects, sends_only, to_one}
 use Rattle.node_rules.specs.Facts.{Facts, list_at}
-use Rattle.node_rules.specs.Messages.{due_message_of}
-use Rattle.node_rules.specs.Requests.{due_request, due_start, due_stop, map_refusal, refusal_of}
+use Rattle.node_rules.specs.Messages.{due_message_of, client}
+use Rattle.node_rules.specs.Requests.{due_request, due_start, due_stop, map_refusal, request_refusal}
 use Rattle.node_rules.specs.Shows.{due_map, due_show}
 use Rattle.node_rules.specs.Tick.{tick_of}
 use Rattle.cluster_rules.specs.declared.event.Event.{Event}
 use Rattle.cluster_rules.specs.declared.event.Event.TheVariants as event
 use Rattle.cluster_rules.specs.DueEvents.{arriving, arriving_cut, delivery, due_arrival, due_at_client, due_at_end, due_at_named, due_at_node, due_of, full_unless, is_blocked, losing, one_more_if, sent_lines, unless_blocked, written}
-use Rattle.cluster_rules.specs.Marks.{Begins, Writes, after_all, after_line, begun}
-use Rattle.cluster_rules.specs.Network.{Network, client, flying_at, has_place, landed, posting, posting_at}
+use Rattle.cluster_rules.specs.Marks.{Begins, Writes, after_all, after_line, event_begun}
+use Rattle.cluster_rules.specs.Network.{Network, flying_at, has_place, landed, posting, posting_at}
 use Rattle.cluster_rules.specs.Opening.{Header, declared_nodes}
 use Rattle.cluster_rules.specs.Steps.{AreDue, Step, all_marks, marks_of, play}
 use Rattle.cluster_rules.specs.World.{World, opened}
@@ -63,7 +63,7 @@ written_undivided net a e h = unsent_undivided e.lines _ h (sents_undivided e.se
 at_node_undivided : (w : World) (n : ℕ) (d : List ℕ) (q : Want) → Undivided (due_at_node w n d q)
 at_node_undivided w n d q =
     let f : Facts = w.facts n in
-    written_undivided w.network n (due_request f (w.clocks n) d q) (request_unsent f (w.clocks n) (list_at f (partition_of d)) d q (refusal_of f (list_at f (partition_of d)) d))
+    written_undivided w.network n (due_request f (w.clocks n) d q) (request_unsent f (w.clocks n) (list_at f (partition_of d)) d q (request_refusal f (list_at f (partition_of d)) d))
 
 named_undivided : (w : World) (d : List ℕ) (q : Want) (o : Option ℕ) → Undivided (due_at_named w d q o)
 named_undivided w d q None = tt
@@ -141,7 +141,7 @@ abbrev AreApart : World → Type 0
 AreApart w = AreDistinct (concat w.network.groups)
 
 kept_apart : (n : ℕ) (w : World) (e : Event) → Whole e → AreApart w → AreApart (play n e w).world
-kept_apart n w e h d = subst (λ (gs : List (List ℕ)). AreDistinct (concat gs)) (sym (lines_groups (due_of n w e) (begun w e) (due_undivided n w e h) ∙ begun_groups w e)) d
+kept_apart n w e h d = subst (λ (gs : List (List ℕ)). AreDistinct (concat gs)) (sym (lines_groups (due_of n w e) (event_begun w e) (due_undivided n w e h) ∙ begun_groups w e)) d
 
 step_apart : (n : ℕ) (w : World) (e : Event) → IsProperEvent e → AreApart w → AreApart (play n e w).world
 step_apart n w (event.Groups groups) h d = h.distinct

@@ -6,11 +6,11 @@ use Rattle.cluster_types.specs.Partitions.{partition_count}
 use Rattle.wire_messages.specs.declared.message.Message.{Message}
 use Rattle.wire_messages.specs.declared.message.Message.TheVariants as message
 use Rattle.node_rules.specs.declared.member_row.MemberRow.{MemberRow}
-use Rattle.node_rules.specs.Exchange.{Exchange, View, is_view, key_of, with_row, with_row_if}
+use Rattle.node_rules.specs.Exchange.{Exchange, View, is_view, exchange_key, with_row, with_row_if}
 use Rattle.node_rules.specs.Facts.{Facts, view_key}
 use Rattle.node_rules.specs.Keys.{same_key}
 use Rattle.node_rules.specs.Map.{lacks}
-use Rattle.node_rules.specs.Messages.{answer_progress, progress_came}
+use Rattle.node_rules.specs.Messages.{answer_progress, progress_effects_if}
 use Rattle.node_rules.specs.Notes as notes
 use Rattle.node_rules.specs.Notes.{after_ages, all_sent, reached}
 use Rattle.node_rules.specs.Standing.{knows_all_settled}
@@ -87,9 +87,9 @@ pub record DoneTo (k : ClusterKey) (m : ℕ) (l : ℕ × Message) : Type 0 where
 answers_done : (c : ℕ) (k : ClusterKey) (set : List Member) (rows : List MemberRow) (f : Facts) → Settles k set rows f → (m : ℕ) (key : ClusterKey) → key ≡ k → (done handed settled : List Bool)
     → Any (DoneTo k m) (effects partition_count c f (Gets m (message.Progress key true done handed settled))).sends
 answers_done c k set rows f s m key e done handed settled =
-    subst (λ (b : Bool). Any (DoneTo k m) (progress_came partition_count f (notes.progress_came f m done handed settled b) m true b).sends) (sym seen)
+    subst (λ (b : Bool). Any (DoneTo k m) (progress_effects_if partition_count f (notes.progress_came f m done handed settled b) m true b).sends) (sym seen)
     (subst (λ (b : Bool). Any (DoneTo k m) (answer_progress partition_count (notes.progress_came f m done handed settled true) m b).sends) (sym knows)
-    (record { which = (m, progress_message partition_count (notes.progress_came f m done handed settled true) false); among = inl refl; good = record { to = refl; tells = (ap (λ (o : Option View). key_of o) s.over.view, full_row (notes.progress_came f m done handed settled true) (λ p. all_done (notes.progress_came f m done handed settled true) s.over.exchanged s.empty p) partition_count 0) } }))
+    (record { which = (m, progress_message partition_count (notes.progress_came f m done handed settled true) false); among = inl refl; good = record { to = refl; tells = (ap (λ (o : Option View). exchange_key o) s.over.view, full_row (notes.progress_came f m done handed settled true) (λ p. all_done (notes.progress_came f m done handed settled true) s.over.exchanged s.empty p) partition_count 0) } }))
   where
     seen : is_view f.exchange.view key ≡ true
     seen = ap (λ (o : Option View). is_view o key) s.over.view ∙ ap (λ (q : ClusterKey). same_key k q) e ∙ same_self k

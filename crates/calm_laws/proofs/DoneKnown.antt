@@ -5,10 +5,10 @@ use Rattle.cluster_types.specs.declared.member.Member.{Member}
 use Rattle.cluster_types.specs.Partitions.{partition_count}
 use Rattle.wire_messages.specs.declared.message.Message.{Message}
 use Rattle.node_rules.specs.Agreement as agreement
-use Rattle.node_rules.specs.Exchange.{Exchange, View, is_view, key_of, members_of}
+use Rattle.node_rules.specs.Exchange.{Exchange, View, is_view, exchange_key, members_of}
 use Rattle.node_rules.specs.Facts.{Facts, view_key}
 use Rattle.node_rules.specs.Notes.{after_ages}
-use Rattle.node_rules.specs.Settling.{settling}
+use Rattle.node_rules.specs.Settling.{settling_due}
 use Rattle.node_rules.specs.Standing.{is_done, knows_all_settled, others}
 use Rattle.node_rules.specs.Tick.{batches, beat, progress, progress_if, progress_message, propose, rows, tick_if, transactions}
 use Rattle.journal_readings.specs.Lines.{has_node}
@@ -67,13 +67,13 @@ module _ (ns gs : List ℕ) (g : ℕ) (set : List Member) (k : ClusterKey) (w v 
   exchange_of x here = settled_exchange partition_count (w.facts x) (aged_none (w.facts x) (h.hands.ready.none x here)) ((calm ns gs g set k w v r h).asks x here)
 
   pub key_of_telling : (x : ℕ) → has_node gs x ≡ true → view_key (progressing partition_count (w.facts x)) ≡ k
-  key_of_telling x here = ap (λ (e : Exchange). key_of e.view) (exchange_of x here) ∙ ap (λ (o : Option View). key_of o) (h.hands.steady.views x here)
+  key_of_telling x here = ap (λ (e : Exchange). exchange_key e.view) (exchange_of x here) ∙ ap (λ (o : Option View). exchange_key o) (h.hands.steady.views x here)
 
-  others_of : (x : ℕ) → has_node gs x ≡ true → others (progressing partition_count (w.facts x)) ≡ agreement.others x set
+  others_of : (x : ℕ) → has_node gs x ≡ true → others (progressing partition_count (w.facts x)) ≡ agreement.others_among x set
   others_of x here =
-      ap (λ (e : Exchange). agreement.others (progressing partition_count (w.facts x)).me (members_of e.view)) (exchange_of x here)
-      ∙ ap (λ (o : Option View). agreement.others (progressing partition_count (w.facts x)).me (members_of o)) (h.hands.steady.views x here)
-      ∙ ap (λ (y : ℕ). agreement.others y set) (noted_me None (proposed (w.facts x)) (settling partition_count (proposed (w.facts x))) ∙ ap (λ (f : Facts). f.me) (rests_proposed (w.facts x) (aged_none (w.facts x) (h.hands.ready.none x here)) ((calm ns gs g set k w v r h).asks x here)) ∙ h.hands.ready.base.named x)
+      ap (λ (e : Exchange). agreement.others_among (progressing partition_count (w.facts x)).me (members_of e.view)) (exchange_of x here)
+      ∙ ap (λ (o : Option View). agreement.others_among (progressing partition_count (w.facts x)).me (members_of o)) (h.hands.steady.views x here)
+      ∙ ap (λ (y : ℕ). agreement.others_among y set) (noted_me None (proposed (w.facts x)) (settling_due partition_count (proposed (w.facts x))) ∙ ap (λ (f : Facts). f.me) (rests_proposed (w.facts x) (aged_none (w.facts x) (h.hands.ready.none x here)) ((calm ns gs g set k w v r h).asks x here)) ∙ h.hands.ready.base.named x)
 
   done_telling : (x : ℕ) → has_node gs x ≡ true → (p : ℕ) → is_done (progressing partition_count (w.facts x)) p ≡ true
   done_telling x here =
@@ -99,7 +99,7 @@ module _ (ns gs : List ℕ) (g : ℕ) (set : List Member) (k : ClusterKey) (w v 
       part =
           subst (λ (b : Bool). Among (progress_if partition_count (progressing partition_count (w.facts x)) b).sends (m, progress_message partition_count (progressing partition_count (w.facts x)) true)) (sym tells)
           (to_each_among (others (progressing partition_count (w.facts x))) m (progress_message partition_count (progressing partition_count (w.facts x)) true)
-          (subst (λ (ys : List ℕ). Among ys m) (sym (others_of x here)) (contains_among (agreement.others x set) m (other_in gs g set h.hands.ready.roll x m there d))))
+          (subst (λ (ys : List ℕ). Among ys m) (sym (others_of x here)) (contains_among (agreement.others_among x set) m (other_in gs g set h.hands.ready.roll x m there d))))
 
       listed : (y : Message) → Among (progress partition_count (progressing partition_count (w.facts x))).sends (m, y) → Among (tick_list partition_count (w.facts x)) (m, y)
       listed y i =

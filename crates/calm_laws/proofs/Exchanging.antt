@@ -11,9 +11,9 @@ use Rattle.partition_lists.proofs.InOrderLaws.{equal}
 use Rattle.node_rules.specs.declared.member_row.MemberRow.{MemberRow}
 use Rattle.node_rules.specs.Agreement as agreement
 use Rattle.node_rules.specs.Copies.{Row}
-use Rattle.node_rules.specs.Exchange.{Exchange, View, first_missing, is_view, key_of, members_of, with_row, with_row_if}
+use Rattle.node_rules.specs.Exchange.{Exchange, View, first_missing, is_view, exchange_key, members_of, with_row, with_row_if}
 use Rattle.node_rules.specs.Facts.{Facts}
-use Rattle.node_rules.specs.Map.{lacks, row_of}
+use Rattle.node_rules.specs.Map.{lacks, row_of_member}
 use Rattle.node_rules.specs.Messages.{state_came}
 use Rattle.node_rules.specs.Notes.{after_ages, reached}
 use Rattle.node_rules.specs.Standing.{others}
@@ -56,19 +56,19 @@ flow_takes n gs u v m P f cleared here kept p =
 
 -- ---- rows
 
-found_first : (rows more : List MemberRow) (m : ℕ) (row : Row) → row_of rows m ≡ Some row → row_of (rows ++ more) m ≡ Some row
+found_first : (rows more : List MemberRow) (m : ℕ) (row : Row) → row_of_member rows m ≡ Some row → row_of_member (rows ++ more) m ≡ Some row
 found_first [] more m row e = absurd (none-some row e)
 found_first (r ∷ rows) more m row e = go (r.node == m) e (found_first rows more m row)
   where
-    go : (b : Bool) → option_map (λ (r : MemberRow). r.row) (cond b (Some r) (find (λ (r : MemberRow). r.node == m) rows)) ≡ Some row → (row_of rows m ≡ Some row → row_of (rows ++ more) m ≡ Some row)
+    go : (b : Bool) → option_map (λ (r : MemberRow). r.row) (cond b (Some r) (find (λ (r : MemberRow). r.node == m) rows)) ≡ Some row → (row_of_member rows m ≡ Some row → row_of_member (rows ++ more) m ≡ Some row)
         → option_map (λ (r : MemberRow). r.row) (cond b (Some r) (find (λ (r : MemberRow). r.node == m) (rows ++ more))) ≡ Some row
     go true f rest = f
     go false f rest = rest f
 
 has_first : (rows more : List MemberRow) (m : ℕ) → lacks rows m ≡ false → lacks (rows ++ more) m ≡ false
-has_first rows more m e = go (row_of rows m) refl
+has_first rows more m e = go (row_of_member rows m) refl
   where
-    go : (o : Option Row) → row_of rows m ≡ o → lacks (rows ++ more) m ≡ false
+    go : (o : Option Row) → row_of_member rows m ≡ o → lacks (rows ++ more) m ≡ false
     go None i = differ (ap (λ (o : Option Row). is_none o) i) e
     go (Some row) i = ap (λ (o : Option Row). is_none o) (found_first rows more m row i)
 
@@ -99,10 +99,10 @@ with_has rows from x row h = go (lacks rows from)
     go true = has_first rows (record { node = from; row = row } ∷ []) x h
     go false = h
 
-with_own : (rows : List MemberRow) (from m : ℕ) (row mine : Row) → row_of rows m ≡ Some mine → row_of (with_row rows from row) m ≡ Some mine
+with_own : (rows : List MemberRow) (from m : ℕ) (row mine : Row) → row_of_member rows m ≡ Some mine → row_of_member (with_row rows from row) m ≡ Some mine
 with_own rows from m row mine h = go (lacks rows from)
   where
-    go : (b : Bool) → row_of (with_row_if rows from row b) m ≡ Some mine
+    go : (b : Bool) → row_of_member (with_row_if rows from row b) m ≡ Some mine
     go true = found_first rows (record { node = from; row = row } ∷ []) m mine h
     go false = h
 
@@ -130,7 +130,7 @@ shares_kept k set m mine e from (message.State key wants row) h = go (is_view e.
     go : (b : Bool) → Shares k set m mine (taken_if e from row b)
     go true = record {
       view = finished_view (record e { rows = with_row e.rows from row }) (ends_with e (record e { rows = with_row e.rows from row })) ∙ h.view;
-      own = ap (λ (rows : List MemberRow). row_of rows m) (finished_rows (record e { rows = with_row e.rows from row }) (ends_with e (record e { rows = with_row e.rows from row }))) ∙ with_own e.rows from m row mine h.own;
+      own = ap (λ (rows : List MemberRow). row_of_member rows m) (finished_rows (record e { rows = with_row e.rows from row }) (ends_with e (record e { rows = with_row e.rows from row }))) ∙ with_own e.rows from m row mine h.own;
     }
     go false = h
 shares_kept k set m mine e from _ h = h
@@ -191,8 +191,8 @@ row_answered n c k set m mine reads f name h from row =
   where
     own_state : (f : Facts) (b : Bool) → f.me ≡ m → Shares k set m mine f.exchange → state f b ≡ message.State k b mine
     own_state f b name h =
-        ap (λ (o : Option View). message.State (key_of o) b (own_row_in f)) h.view
-        ∙ ap (λ (y : ℕ). message.State k b (unwrap_or (row_of f.exchange.rows y) [])) name
+        ap (λ (o : Option View). message.State (exchange_key o) b (own_row_in f)) h.view
+        ∙ ap (λ (y : ℕ). message.State k b (unwrap_or (row_of_member f.exchange.rows y) [])) name
         ∙ ap (λ (o : Option Row). message.State k b (unwrap_or o [])) h.own
 
 among_filter : (test : ℕ → Bool) (xs : List ℕ) (x : ℕ) → test x ≡ true → Among xs x → Among (filter test xs) x
@@ -241,19 +241,19 @@ module _ (n : ℕ) (ns gs : List ℕ) (g : ℕ) (set : List Member) (k : Cluster
       (tick_rows n (w.clocks m) (w.facts m) (h.ready.base.up m (h.ready.group.up m here)) (subst (λ (y : Message). CanBeRead y) (sym own) (h.rows.reads m here true)) x
       (subst (λ (f : Facts). Among (filter (lacks f.exchange.rows) (others f)) x) (sym same)
       (among_filter (lacks (w.facts m).exchange.rows) (others (after_ages (w.facts m))) x lacking
-      (subst (λ (ys : List ℕ). Among ys x) (sym members) (contains_among (agreement.others m set) x (other_in gs g set h.ready.roll m x there d)))))))
+      (subst (λ (ys : List ℕ). Among ys x) (sym members) (contains_among (agreement.others_among m set) x (other_in gs g set h.ready.roll m x there d)))))))
     where
       same : proposed (w.facts m) ≡ after_ages (w.facts m)
       same = rests_proposed (w.facts m) (aged_none (w.facts m) (h.ready.none m here)) (u.asks m here)
 
-      members : others (after_ages (w.facts m)) ≡ agreement.others m set
-      members = ap (λ (y : ℕ). agreement.others y (members_of (w.facts m).exchange.view)) (h.ready.base.named m) ∙ ap (λ (o : Option View). agreement.others m (members_of o)) (h.steady.views m here)
+      members : others (after_ages (w.facts m)) ≡ agreement.others_among m set
+      members = ap (λ (y : ℕ). agreement.others_among y (members_of (w.facts m).exchange.view)) (h.ready.base.named m) ∙ ap (λ (o : Option View). agreement.others_among m (members_of o)) (h.steady.views m here)
 
       own : state (proposed (w.facts m)) true ≡ message.State k true (h.rows.row m)
       own =
           ap (λ (f : Facts). state f true) same
-          ∙ ap (λ (o : Option View). message.State (key_of o) true (own_row_in (w.facts m))) (h.steady.views m here)
-          ∙ ap (λ (y : ℕ). message.State k true (unwrap_or (row_of (w.facts m).exchange.rows y) [])) (h.ready.base.named m)
+          ∙ ap (λ (o : Option View). message.State (exchange_key o) true (own_row_in (w.facts m))) (h.steady.views m here)
+          ∙ ap (λ (y : ℕ). message.State k true (unwrap_or (row_of_member (w.facts m).exchange.rows y) [])) (h.ready.base.named m)
           ∙ ap (λ (o : Option Row). message.State k true (unwrap_or o [])) (h.rows.own m here)
 
   -- and comes in the flow after

@@ -14,14 +14,14 @@ use Rattle.wire_messages.specs.declared.message.Message.{Message}
 use Rattle.wire_messages.specs.declared.message.Message.TheVariants as message
 use Rattle.journal_lines.specs.declared.refusal.Refusal.{Refusal}
 use Rattle.node_rules.specs.Agreement as agreement
-use Rattle.node_rules.specs.Agreement.{Agreement, has_round, may_enter, others, proposes, proposes_anew}
+use Rattle.node_rules.specs.Agreement.{Agreement, has_round, may_enter, others_among, proposes, proposes_anew}
 use Rattle.node_rules.specs.ByParts.{asked_or_resolved, exchanged_if, merged_if, requested}
 use Rattle.node_rules.specs.Facts.{Facts, list_at, view_key}
-use Rattle.node_rules.specs.Map.{master}
+use Rattle.node_rules.specs.Map.{list_master}
 use Rattle.node_rules.specs.Messages.{finishes}
 use Rattle.node_rules.specs.Notes as notes
-use Rattle.node_rules.specs.Notes.{after_ages, if_view, in_view, neighbours, new_transaction}
-use Rattle.node_rules.specs.Requests.{refusal_of}
+use Rattle.node_rules.specs.Notes.{after_ages, if_view, in_view, neighbours, opening_transaction}
+use Rattle.node_rules.specs.Requests.{request_refusal}
 use Rattle.node_rules.specs.Steps.{after_message, after_tick}
 use Rattle.node_rules.specs.Tick.{is_candidate, tick_if}
 use Rattle.node_rules.specs.Transactions.{Transaction, transaction}
@@ -35,7 +35,7 @@ use Rattle.cluster_rules.specs.DueEvents.{due_of, sent_lines}
 use Rattle.cluster_rules.specs.Opening.{Header}
 use Rattle.cluster_rules.specs.Steps.{all_lines, play}
 use Rattle.cluster_rules.specs.World.{World, opened}
-use Rattle.key_laws.specs.Licences.{Known, Says}
+use Rattle.key_laws.specs.Licences.{IsPromisedKey, Says}
 use Rattle.key_laws.specs.Sound.{Sound}
 use Rattle.key_laws.specs.Traced.{Traced, facts_of}
 use Rattle.run_laws.specs.Taken.{IsProperEvent}
@@ -102,7 +102,7 @@ merged_agreement : (f : Facts) (k : ClusterKey) (d : List ℕ) (v : Version) (b 
 merged_agreement f k d v true = refl
 merged_agreement f k d v false = refl
 
-counted_agreement : (f : Facts) (k : ClusterKey) (l : List ℕ) (p nth : ℕ) (b : Bool) → (notes.counted_if f k l p nth b).agreement ≡ f.agreement
+counted_agreement : (f : Facts) (k : ClusterKey) (l : List ℕ) (p nth : ℕ) (b : Bool) → (notes.write_counted_if f k l p nth b).agreement ≡ f.agreement
 counted_agreement f k l p nth true = refl
 counted_agreement f k l p nth false = refl
 
@@ -113,16 +113,16 @@ by f g h e i = ap (λ (x : Facts). x.agreement) e ∙ i
 message_low : (k : ℕ) (f : Facts) (clock from : ℕ) (t : Traced) (m : Message) → Sound t → ((n : ℕ) → (facts_of t n).agreement.promised.round ≤ k) → Says t from m → Low k f.agreement → Low k (after_message f clock from m).agreement
 message_low k f clock from t (message.Heartbeat view promised hears role) s all says h = record { promised = h.promised; seen = max_most f.agreement.seen promised.round k h.seen (below promised says.2) }
   where
-    below : (key : ClusterKey) → Known t key → key.round ≤ k
+    below : (key : ClusterKey) → IsPromisedKey t key → key.round ≤ k
     below key n = omega (arith, n.bound.rounds, all key.principal)
 message_low k f clock from t (message.Propose key ms) s all says h = subst (Low k) (sym (propose_agrees f clock from key ms)) (voting_low k f.agreement key (below (s.lists key ms says.1).known) h)
   where
-    below : Known t key → key.round ≤ k
+    below : IsPromisedKey t key → key.round ≤ k
     below n = omega (arith, n.bound.rounds, all key.principal)
 message_low k f clock from t (message.Accept key) s all says h = subst (Low k) (sym (accept_agrees f clock from key)) (counting_low k f.agreement from key h)
 message_low k f clock from t (message.Refuse key promised) s all says h = subst (Low k) (sym (refuse_agrees f clock from key promised)) (refusing_low k f.agreement key promised (below says.1) h)
   where
-    below : Known t promised → promised.round ≤ k
+    below : IsPromisedKey t promised → promised.round ≤ k
     below n = omega (arith, n.bound.rounds, all promised.principal)
 message_low k f clock from t (message.Commit key ms) s all says h = subst (Low k) (sym (commit_agrees f clock from key ms)) (committing_low k f.me f.agreement key ms h)
 message_low k f clock from t (message.State key wants row) s all says h =
@@ -134,7 +134,7 @@ message_low k f clock from t (message.Progress key wants done handed settled) s 
     subst (Low k) (sym (by f _ _ (parts.progress_is f clock from key wants done handed settled) (view_agreement (in_view f key) _ f refl))) h
 message_low k f clock from t (message.Repl key number nth d v) s all says h =
     subst (Low k) (sym (by f _ _ (parts.repl_is f clock from key number nth d v) (view_agreement (in_view f key) (merged_if (counted f key nth from d) (view_key f) d v (is_newer f.store.by v (finite.get f.store.content d))) f
-    (merged_agreement (counted f key nth from d) (view_key f) d v (is_newer f.store.by v (finite.get f.store.content d)) ∙ counted_agreement f key (list_at f (partition_of d)) (partition_of d) nth (from == master (list_at f (partition_of d))))))) h
+    (merged_agreement (counted f key nth from d) (view_key f) d v (is_newer f.store.by v (finite.get f.store.content d)) ∙ counted_agreement f key (list_at f (partition_of d)) (partition_of d) nth (from == list_master (list_at f (partition_of d))))))) h
 message_low k f clock from t (message.ReplAck key number) s all says h = subst (Low k) (sym (by f _ _ (parts.repl_ack_is f clock from key number) (view_agreement (in_view f key) _ f refl))) h
 message_low k f clock from t (message.Ask key number d) s all says h = subst (Low k) (sym (by f _ _ (parts.ask_is f clock from key number d) refl)) h
 message_low k f clock from t (message.Answer key number v) s all says h =
@@ -168,7 +168,7 @@ ticking_low k me a set candidate h = go (proposes_anew still candidate)
     new (n ∷ ns) = proposing (agreement.next_key me still) (agreement.promising still (agreement.next_key me still)) (record { promised = next_low a.promised.round a.seen k h.promised h.seen; seen = later })
 
     go : (b : Bool) → Low (k + 1) (agreement.proposing_if me still set b)
-    go true = new (others me set)
+    go true = new (others_among me set)
     go false = record { promised = omega (arith, h.promised); seen = later }
 
 tick_low : (k : ℕ) (f : Facts) → Low k f.agreement → Low (k + 1) (after_tick f).agreement
@@ -196,10 +196,10 @@ requested_agreement f clock l d q (Some cause) = refl
 requested_agreement f clock l d q None = go t.awaiting
   where
     t : Transaction
-    t = new_transaction f l (f.transactions.opened + 1) d q
+    t = opening_transaction f l (f.transactions.opened + 1) d q
 
     g : Facts
-    g = notes.opened f l (f.transactions.opened + 1) d q
+    g = notes.transaction_opened f l (f.transactions.opened + 1) d q
 
     go : (ns : List ℕ) → (asked_or_resolved g clock l t ns).agreement ≡ f.agreement
     go [] = resolved_agreement g clock l t
@@ -234,7 +234,7 @@ keeps k w e may proper h m = go ((play partition_count e w).world.facts m) (beca
         (more _ (message_low k (w.facts m) (w.clocks m) p.from (front_of may).chronicle.traced x (known may).lawful.sound all (said_there may j p x stands read) (h m)))
     go g (asked d q i) =
         subst (λ (a : Agreement). Low (k + l) a)
-        (sym (ap (λ (f : Facts). f.agreement) (i ∙ parts.request_is (w.facts m) (w.clocks m) d q) ∙ requested_agreement (w.facts m) (w.clocks m) _ d q (refusal_of (w.facts m) (list_at (w.facts m) (partition_of d)) d))) (more _ (h m))
+        (sym (ap (λ (f : Facts). f.agreement) (i ∙ parts.request_is (w.facts m) (w.clocks m) d q) ∙ requested_agreement (w.facts m) (w.clocks m) _ d q (request_refusal (w.facts m) (list_at (w.facts m) (partition_of d)) d))) (more _ (h m))
     go g (stopped i) = subst (λ (f : Facts). Low (k + l) f.agreement) (sym (i ∙ parts.stop_is (w.facts m))) (deaf (w.facts m).up)
       where
         deaf : (b : Bool) → Low (k + l) (if b then notes.stopped (w.facts m) else w.facts m).agreement

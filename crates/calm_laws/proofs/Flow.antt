@@ -10,13 +10,14 @@ use Rattle.cluster_rules.specs.declared.event.Event.TheVariants as event
 use Rattle.cluster_rules.specs.DueEvents.{is_blocked}
 use Rattle.journal_readings.specs.Lines.{has_node}
 use Rattle.journal_readings.specs.Messages.{Posting}
-use Rattle.cluster_rules.specs.Network.{client, are_apart}
+use Rattle.cluster_rules.specs.Network.{are_apart}
 use Rattle.cluster_rules.specs.Steps.{play_all, flow}
 use Rattle.cluster_rules.specs.World.{World, is_up}
 use Rattle.cluster_rules.proofs.KeptFacts.{num_same}
 use Rattle.cluster_laws.proofs.At.{differ}
 use Rattle.cluster_laws.proofs.GroundLaws.{apart}
 use Rattle.run_laws.specs.Tied.{Among}
+use Rattle.node_rules.specs.Messages.{client}
 use Rattle.calm_laws.specs.Acts.{Input, Ticks, Gets, read_to, served, outbox}
 use Rattle.calm_laws.specs.Letters.{new_numbers, letter_if, letter_from, letters_from, arriving_input, unblocked, input_of, input, given, given_if, ins, arriving_at, left_flying}
 use Rattle.calm_laws.specs.Flows.{Clear, Flowed, InOrder, Named, AreGiven, Once, Ticked, inbox, ticks_if}

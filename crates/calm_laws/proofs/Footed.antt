@@ -92,28 +92,28 @@ module _ (G : Ground) (ns : List ℕ) (j : List Line) (w : World) (p : Pictured 
   stay_here : (m : ℕ) → has_node gs m ≡ true → Stays (facts_at p.front m) (p.picture.stay m k)
   stay_here m e = (p.tied.nodes m).stay (record { key = k; members = set }) (view_here m e)
 
-  pub acting_here : (m : ℕ) → has_node gs m ≡ true → (q : ℕ) → map.acting (list set q) (w.facts m).exchange.rows q ≡ ground.acting G k q
+  pub acting_here : (m : ℕ) → has_node gs m ≡ true → (q : ℕ) → map.acting_by_rows (list set q) (w.facts m).exchange.rows q ≡ ground.view_acting G k q
   acting_here m e q =
-      ap (λ (f : Facts). map.acting (list set q) f.exchange.rows q) (sym (here m))
-      ∙ ap (λ (v : Option View). map.acting (list (members_of v) q) (facts_at p.front m).exchange.rows q) (sym (view_here m e))
+      ap (λ (f : Facts). map.acting_by_rows (list set q) f.exchange.rows q) (sym (here m))
+      ∙ ap (λ (v : Option View). map.acting_by_rows (list (members_of v) q) (facts_at p.front m).exchange.rows q) (sym (view_here m e))
       ∙ acting_tied G k (facts_at p.front m) q (views_here m e) (rows_here m e)
 
-  pub empty_here : (m : ℕ) → has_node gs m ≡ true → (q : ℕ) → is_all_empty (w.facts m) q ≡ ground.all_empty G k q
+  pub empty_here : (m : ℕ) → has_node gs m ≡ true → (q : ℕ) → is_all_empty (w.facts m) q ≡ ground.is_view_empty G k q
   empty_here m e q = ap (λ (f : Facts). is_all_empty f q) (sym (here m)) ∙ empty_tied G k (facts_at p.front m) q (views_here m e) (rows_here m e)
 
   -- whoever knows the partition settled, the list master settled it
-  pub settled_here : (m : ℕ) → has_node gs m ≡ true → (q : ℕ) → bit (w.facts m).bits.settled q ≡ true → bit (w.facts (map.master (list set q))).bits.settled q ≡ true
+  pub settled_here : (m : ℕ) → has_node gs m ≡ true → (q : ℕ) → bit (w.facts m).bits.settled q ≡ true → bit (w.facts (map.list_master (list set q))).bits.settled q ≡ true
   settled_here m e q s =
       ap (λ (f : Facts). bit f.bits.settled q) (sym (here lead)) ∙ sym ((stay_here lead led).settled q) ∙ told
     where
       lead : ℕ
-      lead = map.master (list set q)
+      lead = map.list_master (list set q)
 
       led : has_node gs lead ≡ true
       led = master_in gs g set roll q
 
-      named : ground.master G k q ≡ lead
-      named = master_tied G k (facts_at p.front m) q (views_here m e) ∙ ap (λ (v : Option View). map.master (list (members_of v) q)) (view_here m e)
+      named : ground.view_master G k q ≡ lead
+      named = master_tied G k (facts_at p.front m) q (views_here m e) ∙ ap (λ (v : Option View). map.list_master (list (members_of v) q)) (view_here m e)
 
       knows : p.picture.settled k q ≡ true
       knows = (p.told.sound.whole.known.cross m k).settled q ((stay_here m e).settled q ∙ ap (λ (f : Facts). bit f.bits.settled q) (here m) ∙ s)

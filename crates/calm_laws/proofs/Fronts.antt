@@ -9,7 +9,7 @@ use Rattle.cluster_rules.specs.Steps.{Step, all_lines, all_marks}
 use Rattle.cluster_rules.specs.World.{World}
 use Rattle.key_laws.specs.Licences.{Says}
 use Rattle.key_laws.proofs.Kept.{WasPosted, was_posted}
-use Rattle.run_laws.specs.Fronts.{Front, after_all, facts_at, world_of}
+use Rattle.run_laws.specs.Fronts.{Front, front_after_all, facts_at, world_of}
 use Rattle.run_laws.specs.Taken.{first, line_bound}
 use Rattle.run_laws.specs.Worlds.{SendsAreRead}
 use Rattle.run_laws.proofs.Journal.{world_all}
@@ -19,7 +19,7 @@ use Rattle.calm_laws.proofs.Onward.{taken_before}
 
 -- the front behind the steps that lead to the world
 abbrev pub front_of : {w : World} → MayTake w [] → Front
-front_of m = after_all (first m.header) (all_marks m.before)
+front_of m = front_after_all (first m.header) (all_marks m.before)
 
 pub world_is : {w : World} (m : MayTake w []) → world_of (front_of m) ≡ w
 world_is m = world_all (first m.header) (all_marks m.before) ∙ m.leads

@@ -126,8 +126,8 @@ module _ (w : World) (most : ℕ) (may : MayTake w (rounds partition_count most 
     -- what the rounds of handing over and settling stand on
     pub footed : (a : Agreed partition_count (up_in w group) g.lead (as_members w (up_in w group)) w most) → (from upto : ℕ) → 16 ≤ from → upto ≤ most → Footing partition_count (up_in w group) (as_members w (up_in w group)) w from upto
     footed a from upto late le = record {
-      actor = λ p. laid.acting G a.key p;
-      empty = λ p. laid.all_empty G a.key p;
+      actor = λ p. laid.view_acting G a.key p;
+      empty = λ p. laid.is_view_empty G a.key p;
       acting_is = λ i ge lt m e p q. acting_here G (declared_nodes may.header) (picture i lt).0 (world_at partition_count w i) (picture i lt).1 gs g.lead a.key set roll (views i ge lt) (over i ge lt) m e p;
       empty_is = λ i ge lt m e p q. empty_here G (declared_nodes may.header) (picture i lt).0 (world_at partition_count w i) (picture i lt).1 gs g.lead a.key set roll (views i ge lt) (over i ge lt) m e p;
       settled = λ i ge lt m e p q s. settled_here G (declared_nodes may.header) (picture i lt).0 (world_at partition_count w i) (picture i lt).1 gs g.lead a.key set roll (views i ge lt) (over i ge lt) m e p s;

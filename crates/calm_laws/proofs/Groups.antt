@@ -12,14 +12,15 @@ use Rattle.cluster_types.specs.Groups.{apart}
 use Rattle.wire_messages.specs.declared.message.Message.TheVariants as message
 use Rattle.partition_lists.proofs.InOrderLaws.{equal}
 use Rattle.node_rules.specs.Hearing.{Heard, aged, older, timeout, heard_ids}
-use Rattle.node_rules.specs.Tables.{Table, with_entry, contains}
+use Rattle.node_rules.specs.Tables.{Table, table_with, contains}
 use Rattle.journal_readings.specs.Lines.{has_node}
-use Rattle.cluster_rules.specs.Network.{client, are_apart}
+use Rattle.cluster_rules.specs.Network.{are_apart}
 use Rattle.cluster_rules.specs.World.{World, is_up}
 use Rattle.cluster_rules.proofs.KeptFacts.{num_same}
 use Rattle.cluster_laws.proofs.At.{differ}
 use Rattle.cluster_laws.proofs.GroundLaws.{apart as differs_from}
 use Rattle.run_laws.specs.Tied.{Among}
+use Rattle.node_rules.specs.Messages.{client}
 use Rattle.calm_laws.specs.Acts.{Input, Ticks, Gets}
 use Rattle.calm_laws.specs.Letters.{arriving_at}
 use Rattle.calm_laws.specs.Flows.{Base, Foreign, Fresh, HeardAs, Near, Rounded, Speaks, Ticked, inbox, look, new_heard, beat_entry}
@@ -101,14 +102,14 @@ entries_aged P Q f a (e ∷ t) h = go (nat_lt (older e).1.age timeout) refl (ent
     go true s rest = (λ i. f e.1 (h.0 i) s, rest)
     go false s rest = rest
 
-entries_put : (P : Heard → Type 0) (a b : ℕ) (x : Heard) (t : Table Heard) → (b ≡ a → ⊥) → Entries P a t → Entries P a (with_entry t b x)
+entries_put : (P : Heard → Type 0) (a b : ℕ) (x : Heard) (t : Table Heard) → (b ≡ a → ⊥) → Entries P a t → Entries P a (table_with t b x)
 entries_put P a b x [] d h = (λ i. absurd (d i), tt)
 entries_put P a b x (e ∷ t) d h = go (nat_cmp b e.0) refl (entries_put P a b x t d h.1)
   where
     tie : nat_cmp b e.0 ≡ Equal → b ≡ e.0
     tie s = num_same b e.0 (sym (ties b e.0) ∙ ap is_eq s)
 
-    go : (r : Ordering) → nat_cmp b e.0 ≡ r → Entries P a (with_entry t b x) → Entries P a (by_order r ((b, x) ∷ e ∷ t) ((e.0, x) ∷ t) (e ∷ with_entry t b x))
+    go : (r : Ordering) → nat_cmp b e.0 ≡ r → Entries P a (table_with t b x) → Entries P a (by_order r ((b, x) ∷ e ∷ t) ((e.0, x) ∷ t) (e ∷ table_with t b x))
     go Less s rest = (λ i. absurd (d i), h)
     go Equal s rest = (λ i. absurd (d (tie s ∙ i)), h.1)
     go Greater s rest = (h.0, rest)

@@ -15,7 +15,7 @@ use Rattle.node_rules.specs.Facts.{Facts, list_at, view_key}
 use Rattle.node_rules.specs.Messages.{due_message_of}
 use Rattle.node_rules.specs.Notes as notes
 use Rattle.node_rules.specs.Notes.{after_ages, all_sent, in_view, note, noted, reached, sent}
-use Rattle.node_rules.specs.Settling.{settling}
+use Rattle.node_rules.specs.Settling.{settling_due}
 use Rattle.cluster_laws.proofs.At.{differ}
 use Rattle.key_laws.proofs.DueViews.{AllOfView, OfView, settling_of_view}
 use Rattle.calm_laws.specs.Acts.{Gets, Ticks, acted, as_read}
@@ -95,7 +95,7 @@ pub batch_bits : (f : Facts) (from number : ℕ) (b : Bool) → (notes.batch_ack
 batch_bits f from number true = refl
 batch_bits f from number false = refl
 
-pub counted_bits : (f : Facts) (key : ClusterKey) (l : List ℕ) (p nth : ℕ) (b : Bool) → (notes.counted_if f key l p nth b).bits ≡ f.bits
+pub counted_bits : (f : Facts) (key : ClusterKey) (l : List ℕ) (p nth : ℕ) (b : Bool) → (notes.write_counted_if f key l p nth b).bits ≡ f.bits
 counted_bits f key l p nth true = refl
 counted_bits f key l p nth false = refl
 
@@ -154,4 +154,4 @@ rests_grow n c f up none e =
     let g : Facts = proposed f in
     subst (λ (b : Bits). BitsGrow f.bits b) (sym (ap (λ (h : Facts). h.bits) (tick_facts n c f up) ∙ all_sent_bits (progressing n f) (as_read (tick_list n f))))
     (bits_on f.bits (proposed f).bits (progressing n f).bits (bits_same f.bits (proposed f).bits (ap (λ (h : Facts). h.bits) (rests_proposed f none e)))
-    (noted_grown None (proposed f) (settling n (proposed f)) (all_of_view_grown (proposed f).me (view_key (proposed f)) (settling n (proposed f)) (settling_of_view n (proposed f)))))
+    (noted_grown None (proposed f) (settling_due n (proposed f)) (all_of_view_grown (proposed f).me (view_key (proposed f)) (settling_due n (proposed f)) (settling_of_view n (proposed f)))))

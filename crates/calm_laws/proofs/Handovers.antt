@@ -10,7 +10,7 @@ use Rattle.wire_messages.specs.declared.message.Message.{Message}
 use Rattle.wire_messages.specs.declared.message.Message.TheVariants as message
 use Rattle.node_rules.specs.Batches.{Target, Targets, batch_after, fresh_batch, next_batch}
 use Rattle.node_rules.specs.Copies.{Content}
-use Rattle.node_rules.specs.Exchange.{Exchange, View, is_view, key_of, with_row}
+use Rattle.node_rules.specs.Exchange.{Exchange, View, is_view, exchange_key, with_row}
 use Rattle.node_rules.specs.Facts.{Facts, view_key}
 use Rattle.node_rules.specs.Keys.{same_key}
 use Rattle.node_rules.specs.Messages.{batch_came}
@@ -160,7 +160,7 @@ module _ (n : ℕ) (ns gs : List ℕ) (g : ℕ) (set : List Member) (k : Cluster
   begins m = map (target_begun k (w.facts m).store.content) (w.facts m).batches
 
   view_of : (m : ℕ) → has_node gs m ≡ true → view_key (w.facts m) ≡ k
-  view_of m here = ap (λ (o : Option View). key_of o) (h.steady.views m here)
+  view_of m here = ap (λ (o : Option View). exchange_key o) (h.steady.views m here)
 
   ticked_facts_of : (m : ℕ) → has_node gs m ≡ true → r.ticks_end.facts m ≡ acted n (w.clocks m) (w.facts m) Ticks
   ticked_facts_of m here = u.ticked.facts m ∙ ap (λ (b : Bool). served n (w.clocks m) (w.facts m) (ticks_if b)) (h.ready.group.up m here)

@@ -16,11 +16,12 @@ use Rattle.cluster_rules.specs.declared.event.Event.TheVariants as event
 use Rattle.cluster_rules.specs.DueEvents.{is_blocked}
 use Rattle.journal_readings.specs.Lines.{has_node}
 use Rattle.journal_readings.specs.Messages.{Posting}
-use Rattle.cluster_rules.specs.Network.{client, posting_at}
+use Rattle.cluster_rules.specs.Network.{posting_at}
 use Rattle.cluster_rules.specs.World.{World, is_up, up_nodes}
 use Rattle.partition_lists.specs.Lists.{in_order}
 use Rattle.cluster_laws.proofs.At.{differ}
 use Rattle.run_laws.specs.Tied.{Among}
+use Rattle.node_rules.specs.Messages.{client}
 use Rattle.calm_laws.specs.Acts.{Input, Ticks, Gets, as_read, served, outbox, sent_at}
 use Rattle.calm_laws.specs.Letters.{letters_from, arriving_input, unblocked, input_of, given, given_if, ins, arriving_at}
 use Rattle.calm_laws.specs.Flows.{Base, Flowed, HeardAs, Near, Rounded, Speaks, Ticked, beat_of, inbox, new_heard, ticks_if, beat_entry}

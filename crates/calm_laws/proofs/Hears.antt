@@ -20,8 +20,8 @@ use Rattle.node_rules.specs.Hearing.{Heard, aged}
 use Rattle.node_rules.specs.Messages.{due_message_of}
 use Rattle.node_rules.specs.Notes as notes
 use Rattle.node_rules.specs.Notes.{note, noted, reached, sent, all_sent, in_view, after_ages}
-use Rattle.node_rules.specs.Tables.{Table, with_entry}
-use Rattle.node_rules.specs.Tick.{in_order, tick_if}
+use Rattle.node_rules.specs.Tables.{Table, table_with}
+use Rattle.node_rules.specs.Tick.{parts_in_order, tick_if}
 use Rattle.cluster_rules.proofs.KeptFacts.{num_same}
 use Rattle.cluster_laws.proofs.At.{differ}
 use Rattle.run_laws.specs.Tied.{Among}
@@ -54,7 +54,7 @@ all_sent_heard f [] = refl
 all_sent_heard f (m ∷ ms) = all_sent_heard (sent f m.0 m.1) ms ∙ sent_heard f m.0 m.1
 
 abbrev pub hear : Table Heard → Input → Table Heard
-hear t (Gets a (message.Heartbeat view promised hears role)) = with_entry t a (new_heard view promised hears role)
+hear t (Gets a (message.Heartbeat view promised hears role)) = table_with t a (new_heard view promised hears role)
 hear t _ = t
 
 abbrev pub hear_all : Table Heard → List Input → Table Heard
@@ -73,7 +73,7 @@ progress_heard : (f : Facts) (from : ℕ) (done handed settled : List Bool) (b :
 progress_heard f from done handed settled true = refl
 progress_heard f from done handed settled false = refl
 
-counted_heard : (f : Facts) (key : ClusterKey) (l : List ℕ) (p nth : ℕ) (b : Bool) → (notes.counted_if f key l p nth b).hearing.heard ≡ f.hearing.heard
+counted_heard : (f : Facts) (key : ClusterKey) (l : List ℕ) (p nth : ℕ) (b : Bool) → (notes.write_counted_if f key l p nth b).hearing.heard ≡ f.hearing.heard
 counted_heard f key l p nth true = refl
 counted_heard f key l p nth false = refl
 
@@ -113,7 +113,7 @@ pub tick_heard : (n c : ℕ) (f : Facts) → f.up ≡ true → (acted n c f Tick
 tick_heard n c f up =
     ap (λ (b : Bool). (all_sent (noted None f (tick_if n f b).lines) (as_read (tick_if n f b).sends)).hearing.heard) up
     ∙ all_sent_heard (noted None f (tick_if n f true).lines) (as_read (tick_if n f true).sends)
-    ∙ noted_heard None (after_ages f) f.me (in_order (later_parts n) (after_ages f)).lines (later_steady n (after_ages f))
+    ∙ noted_heard None (after_ages f) f.me (parts_in_order (later_parts n) (after_ages f)).lines (later_steady n (after_ages f))
 
 -- ---- what is heard of one node
 
@@ -129,7 +129,7 @@ ties q k = go (nat_lt q k) (q == k) refl refl
     go false true p e = rw (p, e) refl
     go false false p e = rw (p, e) refl
 
-pub look_hear : (t : Table Heard) (a m : ℕ) (x : Heard) → look (with_entry t a x) m ≡ cond (m == a) (Some x) (look t m)
+pub look_hear : (t : Table Heard) (a m : ℕ) (x : Heard) → look (table_with t a x) m ≡ cond (m == a) (Some x) (look t m)
 look_hear t a m x = find-put nat_cmp nat_cmp_total m a x t ∙ ap (λ (b : Bool). cond b (Some x) (look t m)) (ties m a)
 
 -- each beat of the node among these is such
@@ -141,10 +141,10 @@ abbrev pub BeatsAre : (Heard → Type 0) → ℕ → List Input → Type 0
 BeatsAre B a [] = Unit {0}
 BeatsAre B a (i ∷ is) = BeatIs B a i × BeatsAre B a is
 
-put_heard : (B : Heard → Type 0) (t : Table Heard) (a b : ℕ) (x : Heard) → (b ≡ a → B x) → (b ≡ a) ⊎ HeardAs B t a → HeardAs B (with_entry t b x) a
+put_heard : (B : Heard → Type 0) (t : Table Heard) (a b : ℕ) (x : Heard) → (b ≡ a → B x) → (b ≡ a) ⊎ HeardAs B t a → HeardAs B (table_with t b x) a
 put_heard B t a b x new old = go (a == b) refl old
   where
-    go : (c : Bool) → (a == b) ≡ c → (b ≡ a) ⊎ HeardAs B t a → HeardAs B (with_entry t b x) a
+    go : (c : Bool) → (a == b) ≡ c → (b ≡ a) ⊎ HeardAs B t a → HeardAs B (table_with t b x) a
     go true e o = record { entry = x; stands = look_hear t b a x ∙ ap (λ (c : Bool). cond c (Some x) (look t a)) e; good = new (sym (num_same a b e)) }
     go false e (inl s) = differ (equal a b (sym s)) e
     go false e (inr h) = record { entry = h.entry; stands = look_hear t b a x ∙ ap (λ (c : Bool). cond c (Some x) (look t a)) e ∙ h.stands; good = h.good }
@@ -173,7 +173,7 @@ not_heard_one : (t : Table Heard) (a : ℕ) (i : Input) → BeatIs (λ h. ⊥) a
 not_heard_one t a Ticks g = refl
 not_heard_one t a (Gets b (message.Heartbeat view promised hears role)) g = go (a == b) refl
   where
-    go : (c : Bool) → (a == b) ≡ c → look (with_entry t b (new_heard view promised hears role)) a ≡ look t a
+    go : (c : Bool) → (a == b) ≡ c → look (table_with t b (new_heard view promised hears role)) a ≡ look t a
     go true e = absurd (g (sym (num_same a b e)))
     go false e = look_hear t b a (new_heard view promised hears role) ∙ ap (λ (c : Bool). cond c (Some (new_heard view promised hears role)) (look t a)) e
 not_heard_one t a (Gets b m) g = refl

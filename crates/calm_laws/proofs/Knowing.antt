@@ -13,7 +13,7 @@ use Rattle.journal_lines.specs.declared.line.Line.{Line}
 use Rattle.partition_lists.proofs.InOrderLaws.{equal}
 use Rattle.node_rules.specs.declared.member_row.MemberRow.{MemberRow}
 use Rattle.node_rules.specs.Bits.{Bits, progressing}
-use Rattle.node_rules.specs.Facts.{Facts, members}
+use Rattle.node_rules.specs.Facts.{Facts, members_of_view}
 use Rattle.node_rules.specs.Map.{all_empty}
 use Rattle.node_rules.specs.Messages.{due_message_of}
 use Rattle.node_rules.specs.Notes as notes
@@ -21,7 +21,7 @@ use Rattle.node_rules.specs.Notes.{in_view, note, noted, reached}
 use Rattle.cluster_types.specs.Members.{ids_of}
 use Rattle.node_rules.specs.Exchange.{View, members_of}
 use Rattle.node_rules.specs.Standing.{is_all_empty, knows_all_settled, knows_settled}
-use Rattle.node_rules.specs.Tables.{at, with_entry}
+use Rattle.node_rules.specs.Tables.{at, table_with}
 use Rattle.cluster_laws.proofs.At.{differ}
 use Rattle.calm_laws.specs.Acts.{Gets, acted, as_read}
 use Rattle.calm_laws.specs.Group.{kind}
@@ -58,7 +58,7 @@ acted_bits n c f from m free =
 done_put : (n x from : ℕ) (b : Bits) (done handed settled : List Bool) → ((p : ℕ) → p < n → bit done p ≡ true) → (x ≡ from) ⊎ KnowsDone n x b → KnowsDone n x (progressing b from done handed settled)
 done_put n x from b done handed settled full h = go (x == from) refl h
   where
-    looked : at (with_entry b.done from done) x ≡ cond (x == from) (Some done) (at b.done x)
+    looked : at (table_with b.done from done) x ≡ cond (x == from) (Some done) (at b.done x)
     looked = find-put nat_cmp nat_cmp_total x from done b.done ∙ ap (λ (c : Bool). cond c (Some done) (at b.done x)) (ties x from)
 
     go : (c : Bool) → (x == from) ≡ c → (x ≡ from) ⊎ KnowsDone n x b → KnowsDone n x (progressing b from done handed settled)
@@ -100,7 +100,7 @@ or_grows false false c g e = e
 settled_grows : (f g : Facts) → BitsGrow f.bits g.bits → g.exchange.view ≡ f.exchange.view → g.exchange.rows ≡ f.exchange.rows → g.exchange.exchanged ≡ f.exchange.exchanged → (p : ℕ) → knows_settled f p ≡ true → knows_settled g p ≡ true
 settled_grows f g grow view rows over p e =
     ap (λ (o : Option View). bit g.bits.settled p || (g.exchange.exchanged && all_empty (ids_of (members_of o)) g.exchange.rows p)) view
-    ∙ ap (λ (rs : List MemberRow). bit g.bits.settled p || (g.exchange.exchanged && all_empty (ids_of (members f)) rs p)) rows
+    ∙ ap (λ (rs : List MemberRow). bit g.bits.settled p || (g.exchange.exchanged && all_empty (ids_of (members_of_view f)) rs p)) rows
     ∙ ap (λ (b : Bool). bit g.bits.settled p || (b && is_all_empty f p)) over
     ∙ or_grows (bit f.bits.settled p) (bit g.bits.settled p) (f.exchange.exchanged && is_all_empty f p) (grow.settled p) e
 

@@ -6,7 +6,7 @@ use Rattle.cluster_types.specs.ClusterKeys.{key_lt}
 use Rattle.wire_messages.specs.declared.message.Message.{Message}
 use Rattle.wire_messages.specs.declared.message.Message.TheVariants as message
 use Rattle.node_rules.specs.Agreement as agreement
-use Rattle.node_rules.specs.Agreement.{Agreement, Proposal, kept_if, may_enter, next_key, others, proposal_of, proposes, without_missing}
+use Rattle.node_rules.specs.Agreement.{Agreement, Proposal, kept_if, may_enter, next_key, others_among, proposal_of, proposes, without_missing}
 use Rattle.node_rules.specs.Copies.{is_nil}
 use Rattle.key_laws.proofs.Addressed.{in_without}
 use Rattle.calm_laws.specs.Stances.{Stance, counts, enters_if, proposes_to, ticks, turned}
@@ -45,7 +45,7 @@ lacks_kept me you s from (message.Commit key ms) h = go (may_enter you s.agreeme
     go false = h
 lacks_kept me you s from _ h = h
 
-lacks_new : (me : ℕ) (s : Stance) (k : ClusterKey) (set : List Member) (os : List ℕ) → others me set ≡ os → s.agreement.proposal ≡ None → Lacking me (proposes_to me s k set os).agreement.proposal
+lacks_new : (me : ℕ) (s : Stance) (k : ClusterKey) (set : List Member) (os : List ℕ) → others_among me set ≡ os → s.agreement.proposal ≡ None → Lacking me (proposes_to me s k set os).agreement.proposal
 lacks_new me s k set [] is none = tt
 lacks_new me s k set (n ∷ ns) is none =
     subst (λ (o : Option Proposal). Lacking me (agreement.proposing (record s.agreement { promised = k; proposal = kept_if (proposes o k) o }) me k set).proposal) (sym none)
@@ -54,7 +54,7 @@ lacks_new me s k set (n ∷ ns) is none =
 pub lacks_tick : (me : ℕ) (s : Stance) (set : List Member) (o : Option Proposal) (b : Bool) → s.agreement.proposal ≡ o → Lacking me o → Lacking me (ticks me s set o b).agreement.proposal
 lacks_tick me s set (Some p) b e h = subst (λ (o : Option Proposal). Lacking me o) (sym e) h
 lacks_tick me s set None false e h = subst (λ (o : Option Proposal). Lacking me o) (sym e) tt
-lacks_tick me s set None true e h = lacks_new me s (next_key me s.agreement) set (others me set) refl e
+lacks_tick me s set None true e h = lacks_new me s (next_key me s.agreement) set (others_among me set) refl e
 
 -- ages rise: a proposal stands or is given up
 pub lacks_aged : (me : ℕ) (b : Bool) (o : Option Proposal) → Lacking me o → Lacking me (kept_if b o)

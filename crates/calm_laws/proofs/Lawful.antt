@@ -13,7 +13,7 @@ use Rattle.cluster_rules.specs.DueEvents.{due_of}
 use Rattle.cluster_rules.specs.Marks.{Mark, Begins}
 use Rattle.cluster_rules.specs.Steps.{play}
 use Rattle.cluster_rules.specs.World.{World}
-use Rattle.key_laws.specs.Traced.{Traced, after_all}
+use Rattle.key_laws.specs.Traced.{Traced, traced_after_all}
 use Rattle.key_laws.proofs.DueSteps.{Begun, step_ok}
 use Rattle.key_laws.proofs.Kept.{kept_all}
 use Rattle.key_laws.proofs.Quiet.{writes}
@@ -28,7 +28,7 @@ lawful_kept n e b w h =
     let t : Traced = h.trace in
     let ms : List Mark = Begins e ∷ writes (due_of n t.world e) in
     subst (λ (u : World). HasLaws (play n e u).world) h.is
-    (record { trace = after_all t ms; is = world_of t ms; sound = (kept_all t ms (step_ok n t e b h.sound) h.sound).sound })
+    (record { trace = traced_after_all t ms; is = world_of t ms; sound = (kept_all t ms (step_ok n t e b h.sound) h.sound).sound })
 
 pub deliveries_keep : (n : ℕ) (is : List ℕ) → EventsKeep n HasLaws (map event.Deliver is)
 deliveries_keep n [] = tt

@@ -7,7 +7,7 @@ use Rattle.partition_lists.specs.Lists.{in_order, list, put_in_order}
 use Rattle.partition_lists.specs.Ranks.{is_smaller, rank_of}
 use Rattle.partition_lists.proofs.InOrderLaws.{equal}
 use Rattle.node_rules.specs.declared.member_row.MemberRow.{MemberRow}
-use Rattle.node_rules.specs.Map.{acting, is_wholest, master}
+use Rattle.node_rules.specs.Map.{acting_by_rows, is_wholest, list_master}
 use Rattle.node_rules.specs.Tables.{contains}
 use Rattle.journal_readings.specs.Lines.{has_node}
 use Rattle.cluster_laws.proofs.At.{differ}
@@ -54,15 +54,15 @@ list_every : (P : ℕ → Type 0) (ms : List Member) (p : ℕ) → ((x : ℕ) �
 unfolding list
 list_every P ms p h = ids_every _ P (in_order is_smaller (map (rank_of ms p) ms)) (order_every is_smaller _ (map (rank_of ms p) ms) (ranks_every _ (rank_of ms p) P ms (λ m. refl) (members_every P ms h)))
 
-put_some : {K : Type 0} (below : K → K → Bool) (id : K → ℕ) (P : ℕ → Type 0) (r : K) (rs : List K) → Every P (map id (put_in_order below r rs)) → P (master (map id (put_in_order below r rs)))
+put_some : {K : Type 0} (below : K → K → Bool) (id : K → ℕ) (P : ℕ → Type 0) (r : K) (rs : List K) → Every P (map id (put_in_order below r rs)) → P (list_master (map id (put_in_order below r rs)))
 put_some below id P r [] h = h.0
 put_some {K} below id P r (s ∷ rs) h = go (below s r) h
   where
-    go : (b : Bool) → Every P (map id (if b then s ∷ put_in_order below r rs else (r ∷ s ∷ rs))) → P (master (map id (if b then s ∷ put_in_order below r rs else (r ∷ s ∷ rs))))
+    go : (b : Bool) → Every P (map id (if b then s ∷ put_in_order below r rs else (r ∷ s ∷ rs))) → P (list_master (map id (if b then s ∷ put_in_order below r rs else (r ∷ s ∷ rs))))
     go true i = i.0
     go false i = i.0
 
-master_every : (P : ℕ → Type 0) (ms : List Member) (p x : ℕ) → contains (ids_of ms) x ≡ true → Every P (list ms p) → P (master (list ms p))
+master_every : (P : ℕ → Type 0) (ms : List Member) (p x : ℕ) → contains (ids_of ms) x ≡ true → Every P (list ms p) → P (list_master (list ms p))
 unfolding list
 master_every P [] p x some h = differ some refl
 master_every P (m ∷ ms) p x some h = put_some is_smaller _ P (rank_of (m ∷ ms) p m) (in_order is_smaller (map (rank_of (m ∷ ms) p) ms)) h
@@ -80,8 +80,8 @@ found_every P test other (y ∷ l) x h = go (test y) (found_every P test other l
 members_in : (gs : List ℕ) (g : ℕ) (set : List Member) → Roll gs g set → (p : ℕ) → Every (λ x. has_node gs x ≡ true) (list set p)
 members_in gs g set r p = list_every (λ x. has_node gs x ≡ true) set p (λ x e. sym (r.ids x) ∙ e)
 
-pub master_in : (gs : List ℕ) (g : ℕ) (set : List Member) → Roll gs g set → (p : ℕ) → has_node gs (master (list set p)) ≡ true
+pub master_in : (gs : List ℕ) (g : ℕ) (set : List Member) → Roll gs g set → (p : ℕ) → has_node gs (list_master (list set p)) ≡ true
 master_in gs g set r p = master_every (λ x. has_node gs x ≡ true) set p g (r.ids g ∙ r.lead) (members_in gs g set r p)
 
-pub acting_in : (gs : List ℕ) (g : ℕ) (set : List Member) → Roll gs g set → (rows : List MemberRow) (p : ℕ) → has_node gs (acting (list set p) rows p) ≡ true
-acting_in gs g set r rows p = found_every (λ x. has_node gs x ≡ true) (is_wholest (list set p) rows p) (master (list set p)) (list set p) (master_in gs g set r p) (members_in gs g set r p)
+pub acting_in : (gs : List ℕ) (g : ℕ) (set : List Member) → Roll gs g set → (rows : List MemberRow) (p : ℕ) → has_node gs (acting_by_rows (list set p) rows p) ≡ true
+acting_in gs g set r rows p = found_every (λ x. has_node gs x ≡ true) (is_wholest (list set p) rows p) (list_master (list set p)) (list set p) (master_in gs g set r p) (members_in gs g set r p)

@@ -6,7 +6,7 @@ use Rattle.cluster_types.specs.declared.cluster_key.ClusterKey.{ClusterKey}
 use Rattle.cluster_types.specs.declared.member.Member.{Member}
 use Rattle.wire_messages.specs.declared.message.Message.{Message}
 use Rattle.wire_messages.specs.declared.message.Message.TheVariants as message
-use Rattle.node_rules.specs.Exchange.{Exchange, View, is_view, key_of}
+use Rattle.node_rules.specs.Exchange.{Exchange, View, is_view, exchange_key}
 use Rattle.node_rules.specs.Facts.{Facts, view_key}
 use Rattle.node_rules.specs.Messages.{due_message_of, repl_came}
 use Rattle.node_rules.specs.Tables.{contains}
@@ -89,7 +89,7 @@ in_acted n c k set m f x y free i = record {
 }
 
 pub in_key : (k : ClusterKey) (set : List Member) (m : ℕ) (f : Facts) → In k set m f → view_key f ≡ k
-in_key k set m f i = ap (λ (o : Option View). key_of o) i.view
+in_key k set m f i = ap (λ (o : Option View). exchange_key o) i.view
 
 pub in_seen : (k : ClusterKey) (set : List Member) (m : ℕ) (f : Facts) → In k set m f → is_view f.exchange.view k ≡ true
 in_seen k set m f i = ap (λ (o : Option View). is_view o k) i.view ∙ same_self k

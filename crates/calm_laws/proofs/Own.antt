@@ -18,12 +18,12 @@ use Rattle.node_rules.specs.Effects.{Effects}
 use Rattle.node_rules.specs.Entering.{ending, closing, exchanging, entering}
 use Rattle.node_rules.specs.Exchange.{is_single}
 use Rattle.node_rules.specs.Facts.{Facts, list_at, view_key}
-use Rattle.node_rules.specs.Messages.{voting, committing, counting, unless_stale, entering_if, state_came, finishes, batch_came, batch_ack_came, unless_spent, progress_came, answer_progress, repl_came, done_by, ack_of, repl_ack_came, ask_came, resolving_if, answered_by, answer_of, answer_came, table_if, may_enter, merging, merging_all, due_message_of}
+use Rattle.node_rules.specs.Messages.{vote_effects, commit_effects, accept_effects, unless_stale, entry_effects_if, state_came, finishes, batch_came, batch_ack_came, unless_spent, progress_effects_if, answer_progress, repl_came, done_by, ack_of, repl_ack_came, ask_came, resolving_if, answered_by, answer_of, answer_effects_if, table_if, may_enter_view, merging, merging_all, due_message_of}
 use Rattle.node_rules.specs.Notes.{note, noted, reached, in_view, after_ages}
 use Rattle.node_rules.specs.Resolving.{done_if, writing, resolving_want}
 use Rattle.node_rules.specs.Settling.{drop, hand, learn, line_if, settle, settling_at, settling_from, settling_if}
 use Rattle.node_rules.specs.Standing.{other_replicas}
-use Rattle.node_rules.specs.Tick.{Part, in_order, beat, propose, proposing_to, propose_new, propose_with, rows, transactions, batches, settlings, progress, progress_if, tick_if, tick_of}
+use Rattle.node_rules.specs.Tick.{Part, parts_in_order, beat, propose, proposal_effects, propose_new, propose_with, rows, transactions, batches, settlings, progress, progress_if, tick_if, tick_of}
 use Rattle.node_rules.specs.Transactions.{Transaction, Write, transaction, awaits_answer, awaits_ack, answered, is_last_awaited}
 use Rattle.cluster_rules.specs.NodeSteps.{IsOf}
 use Rattle.cluster_rules.proofs.OwnLines.{noted_me}
@@ -101,16 +101,17 @@ merging_all_own a f [] e = tt
 merging_all_own a f (r ∷ rs) e =
     own_append a (merging f r.0 r.1) _ (line_if_own a _ _ e) (merging_all_own a (noted None f (merging f r.0 r.1)) rs (noted_me None f (merging f r.0 r.1) ∙ e))
 
-counting_own : (f : Facts) (from : ℕ) (key : ClusterKey) (o : Option Proposal) (b : Bool) → Owns f (counting f from key o b)
+counting_own : (f : Facts) (from : ℕ) (key : ClusterKey) (o : Option Proposal) (b : Bool) → Owns f (accept_effects f from key o b)
 counting_own f from key (Some p) true = go (is_nil (without_missing p from).missing)
   where
-    go : (b : Bool) → Owns f (committing f p b)
+    go : (b : Bool) → Owns f (commit_effects f p b)
     go true = entering_own f p.key p.members
     go false = tt
 counting_own f from key (Some p) false = (tt, tt)
 counting_own f from key None b = (tt, tt)
 
-voting_own : (f : Facts) (from : ℕ) (key : ClusterKey) (b : Bool) → Owns f (voting f from key b)
+voting_own : (f : Facts) (from : ℕ) (key : ClusterKey) (b : Bool)
+    → Owns f (vote_effects f from key b)
 voting_own f from key true = tt
 voting_own f from key false = line_if_own f.me _ _ refl
 
@@ -118,7 +119,7 @@ unless_stale_own : (f : Facts) (b : Bool) → Owns f (unless_stale f b)
 unless_stale_own f true = tt
 unless_stale_own f false = (tt, tt)
 
-entering_if_own : (f : Facts) (key : ClusterKey) (ms : List Member) (b : Bool) → Owns f (entering_if f key ms b)
+entering_if_own : (f : Facts) (key : ClusterKey) (ms : List Member) (b : Bool) → Owns f (entry_effects_if f key ms b)
 entering_if_own f key ms true = entering_own f key ms
 entering_if_own f key ms false = (tt, tt)
 
@@ -138,7 +139,7 @@ answer_progress_own : (n : ℕ) (f now : Facts) (from : ℕ) (b : Bool) → Owns
 answer_progress_own n f now from true = tt
 answer_progress_own n f now from false = tt
 
-progress_own : (n : ℕ) (f now : Facts) (from : ℕ) (wants b : Bool) → Owns f (progress_came n f now from wants b)
+progress_own : (n : ℕ) (f now : Facts) (from : ℕ) (wants b : Bool) → Owns f (progress_effects_if n f now from wants b)
 progress_own n f now from wants true = answer_progress_own n f now from _
 progress_own n f now from wants false = (tt, tt)
 
@@ -182,7 +183,7 @@ answer_of_own : (f : Facts) (clock from : ℕ) (v : Option Version) (o : Option 
 answer_of_own f clock from v None = (tt, tt)
 answer_of_own f clock from v (Some t) = answered_own f clock t from v (awaits_answer t from)
 
-answer_own : (f : Facts) (clock from number : ℕ) (v : Option Version) (b : Bool) → Owns f (answer_came f clock from number v b)
+answer_own : (f : Facts) (clock from number : ℕ) (v : Option Version) (b : Bool) → Owns f (answer_effects_if f clock from number v b)
 answer_own f clock from number v true = answer_of_own f clock from v (transaction f.transactions number)
 answer_own f clock from number v false = (tt, tt)
 
@@ -204,7 +205,7 @@ message_steady n f clock from (message.Heartbeat v promised hears role) = tt
 message_steady n f clock from (message.Propose k ms) = voting_own f from k _
 message_steady n f clock from (message.Accept k) = counting_own f from k f.agreement.proposal (proposes f.agreement.proposal k)
 message_steady n f clock from (message.Refuse k promised) = unless_stale_own f (proposes f.agreement.proposal k)
-message_steady n f clock from (message.Commit k ms) = entering_if_own f k ms (may_enter f k ms)
+message_steady n f clock from (message.Commit k ms) = entering_if_own f k ms (may_enter_view f k ms)
 message_steady n f clock from (message.State k wants row) = state_own f (reached f from (message.State k wants row)) from wants (in_view f k)
 message_steady n f clock from (message.Batch b) = batch_own f from b (in_view f b.key)
 message_steady n f clock from (message.BatchAck k number) = batch_ack_own f from number (in_view f k)
@@ -251,12 +252,13 @@ abbrev PartsOwn : List Part → Type 0
 PartsOwn [] = Unit {0}
 PartsOwn (p ∷ ps) = PartOwn p × PartsOwn ps
 
-in_order_own : (ps : List Part) → PartsOwn ps → (f : Facts) → AllSteady f.me (in_order ps f).lines
+in_order_own : (ps : List Part) → PartsOwn ps → (f : Facts)
+    → AllSteady f.me (parts_in_order ps f).lines
 in_order_own [] h f = tt
 in_order_own (p ∷ ps) h f =
-    own_append f.me (p f).lines _ (h.0 f) (subst (λ (a : ℕ). AllSteady a (in_order ps (noted None f (p f).lines)).lines) (noted_me None f (p f).lines) (in_order_own ps h.1 (noted None f (p f).lines)))
+    own_append f.me (p f).lines _ (h.0 f) (subst (λ (a : ℕ). AllSteady a (parts_in_order ps (noted None f (p f).lines)).lines) (noted_me None f (p f).lines) (in_order_own ps h.1 (noted None f (p f).lines)))
 
-proposing_own : (f : Facts) (k : ClusterKey) (set : List Member) (ns : List ℕ) → Owns f (proposing_to f k set ns)
+proposing_own : (f : Facts) (k : ClusterKey) (set : List Member) (ns : List ℕ) → Owns f (proposal_effects f k set ns)
 proposing_own f k set [] = (refl, entering_own f k set)
 proposing_own f k set (n ∷ ns) = (refl, tt)
 
@@ -297,7 +299,7 @@ parts_own n = (
   ),
 )
 
-pub later_steady : (n : ℕ) (f : Facts) → AllSteady f.me (in_order (later_parts n) f).lines
+pub later_steady : (n : ℕ) (f : Facts) → AllSteady f.me (parts_in_order (later_parts n) f).lines
 later_steady n f = in_order_own (later_parts n) (parts_own n) f
 
 -- the lines that are due of a tick are the node's

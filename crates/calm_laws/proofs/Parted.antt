@@ -7,7 +7,7 @@ use Rattle.partition_lists.proofs.InOrderLaws.{DifferBy, Each, Has, differ_disti
 use Rattle.journal_readings.specs.Lines.{has_node}
 use Rattle.cluster_rules.specs.Calm.{up_in}
 use Rattle.cluster_rules.specs.Marks.{Begins, Mark, Writes}
-use Rattle.cluster_rules.specs.Network.{are_apart, client}
+use Rattle.cluster_rules.specs.Network.{are_apart}
 use Rattle.cluster_rules.specs.Opening.{declared_nodes}
 use Rattle.cluster_rules.specs.Steps.{Step, all_marks}
 use Rattle.cluster_rules.specs.World.{World, is_up, opened, up_nodes}
@@ -17,7 +17,7 @@ use Rattle.cluster_laws.proofs.At.{differ}
 use Rattle.cluster_laws.proofs.GroundLaws.{apart}
 use Rattle.key_laws.proofs.Addressed.{and_left, and_right}
 use Rattle.key_laws.proofs.Peopled.{peers_of}
-use Rattle.run_laws.specs.Fronts.{Front, after, after_all, world_of}
+use Rattle.run_laws.specs.Fronts.{Front, front_after, front_after_all, world_of}
 use Rattle.run_laws.specs.LineOk.{Goes}
 use Rattle.run_laws.specs.Taken.{first, ground_of}
 use Rattle.run_laws.specs.Tied.{Among}
@@ -25,6 +25,7 @@ use Rattle.run_laws.proofs.CalmLines.{first_grouped}
 use Rattle.run_laws.proofs.Named as named
 use Rattle.run_laws.proofs.Places.{Grouped, grouped_begun, grouped_line}
 use Rattle.run_laws.proofs.Premised.{taken_walks}
+use Rattle.node_rules.specs.Messages.{client}
 use Rattle.calm_laws.specs.Flows.{Base, Once}
 use Rattle.calm_laws.specs.Group.{Away, Group}
 use Rattle.calm_laws.specs.Onward.{MayTake}
@@ -77,10 +78,11 @@ has_among (x ∷ xs) m (inr h) = inr (has_among xs m h)
 
 -- ---- groups name the declared nodes, and each of them
 
-all_grouped : (G : Ground) (z : Front) (ms : List Mark) → Goes G z ms → Grouped (world_of z) → Grouped (world_of (after_all z ms))
+all_grouped : (G : Ground) (z : Front) (ms : List Mark) → Goes G z ms → Grouped (world_of z) → Grouped (world_of (front_after_all z ms))
 all_grouped G z [] g h = h
-all_grouped G z (Begins e ∷ ms) g h = all_grouped G (after z (Begins e)) ms g (grouped_begun z e h)
-all_grouped G z (Writes l ∷ ms) g h = all_grouped G (after z (Writes l)) ms g.2 (grouped_line G z l g.1 h)
+all_grouped G z (Begins e ∷ ms) g h = all_grouped G (front_after z (Begins e)) ms g
+    (grouped_begun z e h)
+all_grouped G z (Writes l ∷ ms) g h = all_grouped G (front_after z (Writes l)) ms g.2 (grouped_line G z l g.1 h)
 
 grouped : {w : World} → MayTake w [] → Grouped w
 grouped may = subst Grouped (world_is may) (all_grouped (ground_of may.header may.before) (first may.header) (all_marks may.before) (taken_walks may.header may.before (taken_before may)).goes (first_grouped may.header))

@@ -17,13 +17,13 @@ use Rattle.node_rules.specs.Agreement.{Proposal, proposes, without_missing}
 use Rattle.node_rules.specs.Copies.{is_nil}
 use Rattle.node_rules.specs.Effects.{to_each}
 use Rattle.node_rules.specs.Facts.{Facts}
-use Rattle.node_rules.specs.Messages.{voting, committing, counting}
+use Rattle.node_rules.specs.Messages.{vote_effects, commit_effects, accept_effects}
 use Rattle.node_rules.specs.Tables.{contains}
 use Rattle.journal_readings.specs.Lines.{has_node}
 use Rattle.cluster_rules.specs.World.{World}
 use Rattle.cluster_rules.proofs.KeptFacts.{num_same}
 use Rattle.cluster_laws.proofs.At.{differ}
-use Rattle.key_laws.specs.Order.{AtMost}
+use Rattle.key_laws.specs.Order.{KeyAtMost}
 use Rattle.key_laws.proofs.Order.{at_most_eq, at_most_lt}
 use Rattle.run_laws.specs.Tied.{Among}
 use Rattle.calm_laws.specs.Acts.{Input, Gets, as_read, sent_at, acted, outbox}
@@ -54,7 +54,7 @@ pub party_kept : (p a c : Bool) (k : ClusterKey) (ms : List Member) (me : ℕ) (
 party_kept p a c k ms me s from m o (inl h) = inl (follows_kept p a c k ms me s from m o h)
 party_kept p a c k ms me s from m o (inr h) = party_of k ms (turned me s from m) (leads_kept p a c k ms me s from m o h)
 
-pub party_promised : (k : ClusterKey) (ms : List Member) (s : Stance) → Party k ms s → AtMost s.agreement.promised k
+pub party_promised : (k : ClusterKey) (ms : List Member) (s : Stance) → Party k ms s → KeyAtMost s.agreement.promised k
 party_promised k ms s (inl h) = h.promised
 party_promised k ms s (inr h) = at_most_eq h.promised
 
@@ -112,23 +112,23 @@ free_replies _ j e h = no_kind j h
 -- ---- what is sent on a message of the proposal
 
 module _ (p a o : Bool) (k : ClusterKey) (ms : List Member) (r : Readable k ms) where
-  accept_passes : (f : Facts) (from : ℕ) (l : ClusterKey) → l ≡ k → p ≡ true → AtMost f.agreement.promised k → (to : ℕ) (x : Message) → Among (as_read (voting f from l (key_lt l f.agreement.promised)).sends) (to, x) → Only false p a k ms x
+  accept_passes : (f : Facts) (from : ℕ) (l : ClusterKey) → l ≡ k → p ≡ true → KeyAtMost f.agreement.promised k → (to : ℕ) (x : Message) → Among (as_read (vote_effects f from l (key_lt l f.agreement.promised)).sends) (to, x) → Only false p a k ms x
   accept_passes f from l e may most to x h =
       let not_below : key_lt l f.agreement.promised ≡ false = ap (λ (y : ClusterKey). key_lt y f.agreement.promised) e ∙ at_most_lt k f.agreement.promised most in
       let is : message.Accept k ≡ x = among_each (message.Accept k) r.accepts (from ∷ []) to x
-      (subst (λ (y : ClusterKey). Among (as_read (voting f from y false).sends) (to, x)) e (subst (λ (b : Bool). Among (as_read (voting f from l b).sends) (to, x)) not_below h)) in
+      (subst (λ (y : ClusterKey). Among (as_read (vote_effects f from y false).sends) (to, x)) e (subst (λ (b : Bool). Among (as_read (vote_effects f from l b).sends) (to, x)) not_below h)) in
       subst (λ (y : Message). Only false p a k ms y) is (may, refl)
 
-  commit_passes : (f : Facts) (q : Proposal) → q.key ≡ k → q.members ≡ ms → a ≡ true → (b : Bool) (to : ℕ) (x : Message) → Among (as_read (committing f q b).sends) (to, x) → Only false p a k ms x
+  commit_passes : (f : Facts) (q : Proposal) → q.key ≡ k → q.members ≡ ms → a ≡ true → (b : Bool) (to : ℕ) (x : Message) → Among (as_read (commit_effects f q b).sends) (to, x) → Only false p a k ms x
   unfolding as_read
   commit_passes f q e i may false to x h = absurd h
   commit_passes f q e i may true to x h =
       let same : message.Commit q.key q.members ≡ message.Commit k ms = ap (λ (y : ClusterKey). message.Commit y q.members) e ∙ ap (λ (ys : List Member). message.Commit k ys) i in
-      let is : message.Commit k ms ≡ x = among_each (message.Commit k ms) r.commits (agreement.others f.me q.members) to x
-      (subst (λ (y : Message). Among (as_read (to_each (agreement.others f.me q.members) y)) (to, x)) same h) in
+      let is : message.Commit k ms ≡ x = among_each (message.Commit k ms) r.commits (agreement.others_among f.me q.members) to x
+      (subst (λ (y : Message). Among (as_read (to_each (agreement.others_among f.me q.members) y)) (to, x)) same h) in
       subst (λ (y : Message). Only false p a k ms y) is (may, refl, refl)
 
-  count_passes : (f : Facts) (from : ℕ) (l : ClusterKey) (q : Option Proposal) → Party k ms (stance_of f) → f.agreement.proposal ≡ q → a ≡ true → (b : Bool) (to : ℕ) (x : Message) → Among (as_read (counting f from l q b).sends) (to, x) → Only false p a k ms x
+  count_passes : (f : Facts) (from : ℕ) (l : ClusterKey) (q : Option Proposal) → Party k ms (stance_of f) → f.agreement.proposal ≡ q → a ≡ true → (b : Bool) (to : ℕ) (x : Message) → Among (as_read (accept_effects f from l q b).sends) (to, x) → Only false p a k ms x
   unfolding as_read
   count_passes f from l None h e may b to x i = absurd i
   count_passes f from l (Some q) h e may false to x i = absurd i

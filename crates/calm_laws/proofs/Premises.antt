@@ -4,7 +4,7 @@ use Rattle.cluster_types.specs.Partitions.{partition_count}
 use Rattle.wire_messages.specs.declared.message.Message.TheVariants as message
 use Rattle.wire_messages.specs.Nodes.{AreMembersField, IsId}
 use Rattle.wire_messages.proofs.DecodingLaws.{read_back}
-use Rattle.node_rules.specs.Agreement.{Proposal, has_round, next_key, others}
+use Rattle.node_rules.specs.Agreement.{Proposal, has_round, next_key, others_among}
 use Rattle.node_rules.specs.Facts.{Facts, view_key}
 use Rattle.node_rules.specs.Hearing.{Heard, heard_ids}
 use Rattle.node_rules.specs.Notes.{after_ages, neighbours}
@@ -133,4 +133,4 @@ lacking_there {w} may m = go (w.facts m).agreement.proposal refl (waits_there ma
 
     go : (o : Option Proposal) → (w.facts m).agreement.proposal ≡ o → LacksSome o → Lacking m o
     go None e h = tt
-    go (Some p) e h = (h, λ x i. subst (λ (n : ℕ). contains (others n p.members) x ≡ true) (named_of may m) ((missing.each p e).each x i))
+    go (Some p) e h = (h, λ x i. subst (λ (n : ℕ). contains (others_among n p.members) x ≡ true) (named_of may m) ((missing.each p e).each x i))

@@ -20,11 +20,11 @@ use Rattle.node_rules.specs.Agreement.{Agreement, Proposal, proposes, without_mi
 use Rattle.node_rules.specs.Copies.{Row}
 use Rattle.node_rules.specs.Facts.{Facts, list_at}
 use Rattle.node_rules.specs.Keys.{same_key}
-use Rattle.node_rules.specs.Messages.{due_message_of, voting}
+use Rattle.node_rules.specs.Messages.{due_message_of, vote_effects, client}
 use Rattle.node_rules.specs.Notes as notes
 use Rattle.node_rules.specs.Notes.{note, noted, reached, sent, all_sent, in_view}
 use Rattle.node_rules.specs.Tables.{contains}
-use Rattle.cluster_rules.specs.Network.{client, are_apart}
+use Rattle.cluster_rules.specs.Network.{are_apart}
 use Rattle.cluster_rules.specs.World.{World, is_up}
 use Rattle.cluster_laws.proofs.At.{differ}
 use Rattle.key_laws.proofs.Order.{same_self}
@@ -135,7 +135,7 @@ progress_prop : (f : Facts) (from : ℕ) (done handed settled : List Bool) (b : 
 progress_prop f from done handed settled true = shrunk_refl (prop f)
 progress_prop f from done handed settled false = shrunk_refl (prop f)
 
-counted_prop : (f : Facts) (key : ClusterKey) (l : List ℕ) (p nth : ℕ) (b : Bool) → Shrunk (prop (notes.counted_if f key l p nth b)) (prop f)
+counted_prop : (f : Facts) (key : ClusterKey) (l : List ℕ) (p nth : ℕ) (b : Bool) → Shrunk (prop (notes.write_counted_if f key l p nth b)) (prop f)
 counted_prop f key l p nth true = shrunk_refl (prop f)
 counted_prop f key l p nth false = shrunk_refl (prop f)
 
@@ -249,7 +249,7 @@ votes : (n c : ℕ) (k : ClusterKey) (a : ℕ) (ms : List Member) (f : Facts) �
 unfolding as_read
 votes n c k a ms f v = go (key_lt k f.agreement.promised) refl
   where
-    go : (b : Bool) → key_lt k f.agreement.promised ≡ b → Any (VoteTo k a) (as_read (voting f a k b).sends)
+    go : (b : Bool) → key_lt k f.agreement.promised ≡ b → Any (VoteTo k a) (as_read (vote_effects f a k b).sends)
     go true e =
         let l : ℕ × Message = (a, message.Refuse k f.agreement.promised) in
         record { which = l; among = subst (λ (o : Option Message). Among (cons_option (read_to a o) []) l) (sym (v.refuses e)) (inl refl); good = record { to = refl; vote = refl } }

@@ -7,13 +7,13 @@ use Rattle.wire_messages.specs.declared.message.Message.{Message}
 use Rattle.wire_messages.specs.declared.message.Message.TheVariants as message
 use Rattle.partition_lists.proofs.InOrderLaws.{equal}
 use Rattle.node_rules.specs.Agreement as agreement
-use Rattle.node_rules.specs.Agreement.{Proposal, others, proposes, without_missing}
+use Rattle.node_rules.specs.Agreement.{Proposal, others_among, proposes, without_missing}
 use Rattle.node_rules.specs.Copies.{is_nil}
 use Rattle.node_rules.specs.Effects.{to_each}
 use Rattle.node_rules.specs.Exchange.{is_member}
 use Rattle.node_rules.specs.Facts.{Facts}
 use Rattle.node_rules.specs.Keys.{same_key}
-use Rattle.node_rules.specs.Messages.{voting, committing, counting}
+use Rattle.node_rules.specs.Messages.{vote_effects, commit_effects, accept_effects}
 use Rattle.node_rules.specs.Notes.{after_ages}
 use Rattle.node_rules.specs.Tables.{contains}
 use Rattle.journal_readings.specs.Lines.{has_node}
@@ -48,23 +48,23 @@ use Rattle.calm_laws.proofs.Turns.{Led, Votes, committed, follows_kept, inside_k
 
 accept_sent : (n c : ℕ) (k : ClusterKey) (ms : List Member) (r : Readable k ms) (f : Facts) (from : ℕ) → Party k ms (stance_of f) → Among (sent_at n c f (Gets from (message.Propose k ms))) (from, message.Accept k)
 accept_sent n c k ms r f from h =
-    subst (λ (b : Bool). Among (as_read (voting f from k b).sends) (from, message.Accept k)) (sym (at_most_lt k f.agreement.promised (party_promised k ms (stance_of f) h)))
+    subst (λ (b : Bool). Among (as_read (vote_effects f from k b).sends) (from, message.Accept k)) (sym (at_most_lt k f.agreement.promised (party_promised k ms (stance_of f) h)))
     (each_among (message.Accept k) r.accepts (from ∷ []) from (inl refl))
 
 -- the commits to all others
 abbrev Commits : ℕ → ClusterKey → List Member → List (ℕ × Message) → Type 0
-Commits me k ms out = (x : ℕ) → contains (others me ms) x ≡ true → Among out (x, message.Commit k ms)
+Commits me k ms out = (x : ℕ) → contains (others_among me ms) x ≡ true → Among out (x, message.Commit k ms)
 
 commit_sent : (n c : ℕ) (k : ClusterKey) (ms : List Member) (r : Readable k ms) (me : ℕ) (f : Facts) → f.me ≡ me → (from : ℕ) (l : ClusterKey) → l ≡ k → (h : Leads k ms (stance_of f)) → is_nil (without_missing h.stands from).missing ≡ true
     → Commits me k ms (sent_at n c f (Gets from (message.Accept l)))
 commit_sent n c k ms r me f name from l e h last x there =
-    subst (λ (o : Option Proposal). Among (as_read (counting f from l o (proposes o l)).sends) (x, message.Commit k ms)) (sym h.is)
-    (subst (λ (b : Bool). Among (as_read (counting f from l (Some h.stands) b).sends) (x, message.Commit k ms)) (sym mine)
-    (subst (λ (b : Bool). Among (as_read (committing f h.stands b).sends) (x, message.Commit k ms)) (sym last)
-    (subst (λ (y : ClusterKey). Among (as_read (to_each (others f.me h.stands.members) (message.Commit y h.stands.members))) (x, message.Commit k ms)) (sym h.key)
-    (subst (λ (ys : List Member). Among (as_read (to_each (others f.me ys) (message.Commit k ys))) (x, message.Commit k ms)) (sym h.members)
-    (subst (λ (y : ℕ). Among (as_read (to_each (others y ms) (message.Commit k ms))) (x, message.Commit k ms)) (sym name)
-    (each_among (message.Commit k ms) r.commits (others me ms) x (contains_among (others me ms) x there)))))))
+    subst (λ (o : Option Proposal). Among (as_read (accept_effects f from l o (proposes o l)).sends) (x, message.Commit k ms)) (sym h.is)
+    (subst (λ (b : Bool). Among (as_read (accept_effects f from l (Some h.stands) b).sends) (x, message.Commit k ms)) (sym mine)
+    (subst (λ (b : Bool). Among (as_read (commit_effects f h.stands b).sends) (x, message.Commit k ms)) (sym last)
+    (subst (λ (y : ClusterKey). Among (as_read (to_each (others_among f.me h.stands.members) (message.Commit y h.stands.members))) (x, message.Commit k ms)) (sym h.key)
+    (subst (λ (ys : List Member). Among (as_read (to_each (others_among f.me ys) (message.Commit k ys))) (x, message.Commit k ms)) (sym h.members)
+    (subst (λ (y : ℕ). Among (as_read (to_each (others_among y ms) (message.Commit k ms))) (x, message.Commit k ms)) (sym name)
+    (each_among (message.Commit k ms) r.commits (others_among me ms) x (contains_among (others_among me ms) x there)))))))
   where
     mine : proposes (Some h.stands) l ≡ true
     mine = ap (λ (y : ClusterKey). same_key y l) (h.key ∙ sym e) ∙ same_self l
@@ -191,8 +191,8 @@ module _ (n : ℕ) (ns gs : List ℕ) (g : ℕ) (set : List Member) (w v : World
   propose_comes : (m : ℕ) → has_node gs m ≡ true → (m ≡ g → ⊥) → Among (inbox r.ticks_end m) (Gets g (message.Propose k set))
   propose_comes m here d =
       tick_arrives n ns gs w r.ticks_end (group_in r.ticks_end framed_ticks) (ups_in r.ticks_end framed_ticks) ticked g m h.ready.roll.lead here (apart_from m d) (message.Propose k set)
-      (tick_proposes n (w.clocks g) (w.facts g) (h.ready.base.up g (h.ready.group.up g h.ready.roll.lead)) k set (others g set) (leader_sends ns gs g set w h.ready h.proposes) reads.proposes m
-      (contains_among (others g set) m (other_in gs g set h.ready.roll g m here d)))
+      (tick_proposes n (w.clocks g) (w.facts g) (h.ready.base.up g (h.ready.group.up g h.ready.roll.lead)) k set (others_among g set) (leader_sends ns gs g set w h.ready h.proposes) reads.proposes m
+      (contains_among (others_among g set) m (other_in gs g set h.ready.roll g m here d)))
 
   follows_ticks : (m : ℕ) → has_node gs m ≡ true → (m ≡ g → ⊥) → Follows k set (stance_of (r.ticks_end.facts m))
   follows_ticks m here d = others_follow n ns gs g set w r.ticks_end h.ready h.seen ticked m here d
@@ -243,9 +243,10 @@ module _ (n : ℕ) (ns gs : List ℕ) (g : ℕ) (set : List Member) (w v : World
 
     -- all have accepted
     none_lacks : (p : Proposal) → prop (r.second_end.facts g) ≡ Some p → is_nil p.missing ≡ true
-    none_lacks p e = nothing_there p.missing (λ x. lacks x (contains (others g set) x) refl)
+    none_lacks p e = nothing_there p.missing (λ x. lacks x (contains (others_among g set) x) refl)
       where
-        lacks : (x : ℕ) (b : Bool) → contains (others g set) x ≡ b → contains p.missing x ≡ false
+        lacks : (x : ℕ) (b : Bool) → contains (others_among g set) x ≡ b
+            → contains p.missing x ≡ false
         lacks x false s = (subst (λ (o : Option Proposal). Shrunk o (Some (agreement.proposal_of g k set))) e shrunk_second).missing x s
         lacks x true s = (subst (λ (o : Option Proposal). Got k x o) e (got_second x (other_here gs g set h.ready.roll g x s) (λ i. not_gone (ids_of set) g x s i))).1
 

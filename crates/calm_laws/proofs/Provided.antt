@@ -15,9 +15,9 @@ use Rattle.journal_readings.proofs.AlongLaws.{some_same}
 use Rattle.node_rules.specs.declared.member_row.MemberRow.{MemberRow}
 use Rattle.node_rules.specs.Batches.{Target}
 use Rattle.node_rules.specs.Copies.{Row}
-use Rattle.node_rules.specs.Exchange.{View, first_missing, key_of, members_of}
-use Rattle.node_rules.specs.Facts.{Facts, members}
-use Rattle.node_rules.specs.Map.{lacks, row_of}
+use Rattle.node_rules.specs.Exchange.{View, first_missing, exchange_key, members_of}
+use Rattle.node_rules.specs.Facts.{Facts, members_of_view}
+use Rattle.node_rules.specs.Map.{lacks, row_of_member}
 use Rattle.node_rules.specs.Standing.{others}
 use Rattle.node_rules.specs.Tables.{contains}
 use Rattle.node_rules.specs.Transactions.{Transaction}
@@ -71,14 +71,14 @@ own_row : (o : Option Row) → is_none o ≡ false → o ≡ Some (unwrap_or o [
 own_row None e = differ refl e
 own_row (Some r) e = refl
 
-row_fits : (rows : List MemberRow) (n : ℕ) → Each (λ (r : MemberRow). IsStateRowField r.row) rows → is_none (row_of rows n) ≡ false → IsStateRowField (unwrap_or (row_of rows n) [])
+row_fits : (rows : List MemberRow) (n : ℕ) → Each (λ (r : MemberRow). IsStateRowField r.row) rows → is_none (row_of_member rows n) ≡ false → IsStateRowField (unwrap_or (row_of_member rows n) [])
 row_fits [] n h e = differ refl e
 row_fits (r ∷ rs) n h e = go (r.node == n) e (row_fits rs n h.1)
   where
     chosen : Bool → Option Row
     chosen b = option_map (λ (x : MemberRow). x.row) (if b then Some r else find (λ (x : MemberRow). x.node == n) rs)
 
-    go : (b : Bool) → is_none (option_map (λ (x : MemberRow). x.row) (if b then Some r else find (λ (x : MemberRow). x.node == n) rs)) ≡ false → (is_none (row_of rs n) ≡ false → IsStateRowField (unwrap_or (row_of rs n) []))
+    go : (b : Bool) → is_none (option_map (λ (x : MemberRow). x.row) (if b then Some r else find (λ (x : MemberRow). x.node == n) rs)) ≡ false → (is_none (row_of_member rs n) ≡ false → IsStateRowField (unwrap_or (row_of_member rs n) []))
         → IsStateRowField (unwrap_or (option_map (λ (x : MemberRow). x.row) (if b then Some r else find (λ (x : MemberRow). x.node == n) rs)) [])
     go true i rest = h.0
     go false i rest = rest i
@@ -100,7 +100,7 @@ module _ (w : World) (may : MayTake w []) (gs : List ℕ) (k : ClusterKey) (set 
   view = record { key = k; members = set }
 
   others_are : (m : ℕ) → has_node gs m ≡ true → others (w.facts m) ≡ without (ids_of set) m
-  others_are m e = ap (λ (n : ℕ). without (ids_of (members (w.facts m))) n) (named_of may m) ∙ ap (λ (o : Option View). without (ids_of (members_of o)) m) (views m e)
+  others_are m e = ap (λ (n : ℕ). without (ids_of (members_of_view (w.facts m))) n) (named_of may m) ∙ ap (λ (o : Option View). without (ids_of (members_of o)) m) (views m e)
 
   -- another member of the group
   other_is : (m x : ℕ) → has_node gs m ≡ true → contains (others (w.facts m)) x ≡ true → (has_node gs x ≡ true) × (x ≡ m → ⊥)
@@ -108,15 +108,16 @@ module _ (w : World) (may : MayTake w []) (gs : List ℕ) (k : ClusterKey) (set 
       let i : contains (without (ids_of set) m) x ≡ true = subst (λ (ns : List ℕ). contains ns x ≡ true) (others_are m e) h in
       (sym (ids x) ∙ in_without (ids_of set) m x i, not_gone (ids_of set) m x i)
 
-  own_lacks : (m : ℕ) → has_node gs m ≡ true → is_none (row_of (w.facts m).exchange.rows m) ≡ false
+  own_lacks : (m : ℕ) → has_node gs m ≡ true
+      → is_none (row_of_member (w.facts m).exchange.rows m) ≡ false
   own_lacks m e = subst (λ (n : ℕ). lacks (w.facts m).exchange.rows n ≡ false) (named_of may m) ((law_of may m).own view (views m e))
 
   pub rows_there : Rows gs k w
   rows_there = record {
-    row = λ m. unwrap_or (row_of (w.facts m).exchange.rows m) [];
-    own = λ m e. own_row (row_of (w.facts m).exchange.rows m) (own_lacks m e);
-    reads = λ m e b. read_back (message.State k b (unwrap_or (row_of (w.facts m).exchange.rows m) []))
-        (subst (λ (o : Option View). IsKeyField (key_of o)) (views m e) ((spelled may m).key view (views m e)), row_fits (w.facts m).exchange.rows m (ranged_there may m).each_row (own_lacks m e));
+    row = λ m. unwrap_or (row_of_member (w.facts m).exchange.rows m) [];
+    own = λ m e. own_row (row_of_member (w.facts m).exchange.rows m) (own_lacks m e);
+    reads = λ m e b. read_back (message.State k b (unwrap_or (row_of_member (w.facts m).exchange.rows m) []))
+        (subst (λ (o : Option View). IsKeyField (exchange_key o)) (views m e) ((spelled may m).key view (views m e)), row_fits (w.facts m).exchange.rows m (ranged_there may m).each_row (own_lacks m e));
     lacking = λ m e left. lacks_some m e left;
   }
     where

@@ -14,10 +14,11 @@ use Rattle.cluster_rules.specs.declared.event.Event.TheVariants as event
 use Rattle.cluster_rules.specs.DueEvents.{is_blocked}
 use Rattle.journal_readings.specs.Lines.{has_node}
 use Rattle.journal_readings.specs.Messages.{Posting}
-use Rattle.cluster_rules.specs.Network.{client, posting_at, flying_at, flying_if, are_apart}
+use Rattle.cluster_rules.specs.Network.{posting_at, flying_at, flying_if, are_apart}
 use Rattle.cluster_rules.specs.Steps.{play, play_all}
 use Rattle.cluster_rules.specs.World.{World, is_up}
 use Rattle.cluster_rules.proofs.KeptFacts.{num_same}
+use Rattle.node_rules.specs.Messages.{client}
 use Rattle.calm_laws.specs.Acts.{Input, Ticks, read_to, as_read, effects, sent_at, served, outbox, acted}
 use Rattle.calm_laws.specs.Letters.{posting_from, postings, new_numbers, letter_if, letter_from, letters_from, unblocked, input_of, input, given, given_if, ins, left_flying, outs}
 use Rattle.calm_laws.specs.Flows.{Clear, Named}

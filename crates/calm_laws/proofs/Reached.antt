@@ -18,9 +18,9 @@ use Rattle.node_rules.specs.Effects.{Effects, sends_only, to_one}
 use Rattle.node_rules.specs.Entering.{ending, closing}
 use Rattle.node_rules.specs.Facts.{Facts, view_key, list_at}
 use Rattle.node_rules.specs.Map.{entry_of}
-use Rattle.node_rules.specs.Messages.{due_message_of}
-use Rattle.node_rules.specs.Notes.{new_transaction}
-use Rattle.node_rules.specs.Requests.{asking, request_if, due_request, refusal_of, map_refusal, stop_if, start_if, due_stop, due_start}
+use Rattle.node_rules.specs.Messages.{due_message_of, client}
+use Rattle.node_rules.specs.Notes.{opening_transaction}
+use Rattle.node_rules.specs.Requests.{asking, request_if, due_request, request_refusal, map_refusal, stop_if, start_if, due_stop, due_start}
 use Rattle.node_rules.specs.Resolving.{done_if, resolving_want}
 use Rattle.node_rules.specs.Shows.{map_line, map_if, due_map, due_show}
 use Rattle.node_rules.specs.Standing.{other_replicas}
@@ -31,9 +31,9 @@ use Rattle.cluster_rules.specs.declared.event.Event.TheVariants as event
 use Rattle.node_rules.specs.Client.{node_for}
 use Rattle.cluster_rules.specs.DueEvents.{full_unless, one_more_if, sent_lines, written, due_at_node, due_at_named, due_at_client, due_at_end, due_arrival, arriving, arriving_cut, is_blocked, unless_blocked, delivery, losing, due_of}
 use Rattle.journal_readings.specs.Lines.{has_node}
-use Rattle.cluster_rules.specs.Marks.{Mark, Begins, Writes, begun, taken_by, came, came_to, came_to_client, sent_by, posted_by, after_line, after_all, lines_among}
+use Rattle.cluster_rules.specs.Marks.{Mark, Begins, Writes, event_begun, taken_by, came, came_to, came_to_client, sent_by, posted_by, after_line, after_all, lines_among}
 use Rattle.journal_readings.specs.Messages.{Posting, Arrival, arrived, arrived_cut}
-use Rattle.cluster_rules.specs.Network.{Network, client, has_place, landed, posting, posting_at, flying_at}
+use Rattle.cluster_rules.specs.Network.{Network, has_place, landed, posting, posting_at, flying_at}
 use Rattle.cluster_rules.specs.Opening.{Header}
 use Rattle.cluster_rules.specs.Steps.{Step, marks_of, all_marks, AreDue, play}
 use Rattle.cluster_rules.specs.World.{World, opened}
@@ -106,7 +106,7 @@ asking_unsent f clock l t (n ∷ ns) = tt
 
 pub request_unsent : (f : Facts) (clock : ℕ) (l d : List ℕ) (w : Want) (o : Option Refusal) → Unsent (request_if f clock l d w o).lines
 request_unsent f clock l d w (Some cause) = tt
-request_unsent f clock l d w None = asking_unsent f clock l (new_transaction f l (f.transactions.opened + 1) d w) (new_transaction f l (f.transactions.opened + 1) d w).awaiting
+request_unsent f clock l d w None = asking_unsent f clock l (opening_transaction f l (f.transactions.opened + 1) d w) (opening_transaction f l (f.transactions.opened + 1) d w).awaiting
 
 closing_unsent : (f : Facts) (xs : List Transaction) → Unsent (map (λ (t : Transaction). ending f.me (view_key f) t.number t.applied) xs)
 closing_unsent f [] = tt
@@ -137,7 +137,7 @@ map_unsent f from to None = maps_unsent f (range_with_len from (to + 1 - from))
 at_node_fits : (w : World) (n : ℕ) (d : List ℕ) (q : Want) → Fits (length w.network.sent) (due_at_node w n d q)
 at_node_fits w n d q =
     let f : Facts = w.facts n in
-    written_fits w.network n (due_request f (w.clocks n) d q) (request_unsent f (w.clocks n) (list_at f (partition_of d)) d q (refusal_of f (list_at f (partition_of d)) d))
+    written_fits w.network n (due_request f (w.clocks n) d q) (request_unsent f (w.clocks n) (list_at f (partition_of d)) d q (request_refusal f (list_at f (partition_of d)) d))
 
 named_fits : (w : World) (d : List ℕ) (q : Want) (o : Option ℕ) → Fits (length w.network.sent) (due_at_named w d q o)
 named_fits w d q None = tt
@@ -269,7 +269,7 @@ begun_order net e h = h
 -- each event keeps the order
 pub step_order : (n : ℕ) (w : World) (e : Event) → InOrder w → InOrder (play n e w).world
 step_order n w e h =
-    lines_order (due_of n w e) (begun w e) (subst (λ (ps : List Posting). Fits (length ps) (due_of n w e)) (sym (taken_sent w.network e)) (due_fits n w e)) (begun_order w.network e h)
+    lines_order (due_of n w e) (event_begun w e) (subst (λ (ps : List Posting). Fits (length ps) (due_of n w e)) (sym (taken_sent w.network e)) (due_fits n w e)) (begun_order w.network e h)
 
 pub steps_order : (n : ℕ) (ss : List Step) (w : World) → AreDue n w ss → InOrder w → InOrder (after_all w (all_marks ss))
 steps_order n [] w d h = h

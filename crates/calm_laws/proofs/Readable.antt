@@ -12,13 +12,14 @@ use Rattle.journal_readings.proofs.AlongLaws.{some_same}
 use Rattle.cluster_rules.specs.declared.event.Event.{Event}
 use Rattle.cluster_rules.specs.declared.event.Event.TheVariants as event
 use Rattle.cluster_rules.specs.DueEvents.{is_blocked}
-use Rattle.cluster_rules.specs.Network.{client, are_apart, flying_at, flying_if, posting_at}
+use Rattle.cluster_rules.specs.Network.{are_apart, flying_at, flying_if, posting_at}
 use Rattle.cluster_rules.specs.NodeSteps.{AreRead}
 use Rattle.cluster_rules.specs.Steps.{Played, flow, flows, play, play_all, round}
 use Rattle.cluster_rules.specs.World.{World, is_up, up_nodes}
 use Rattle.cluster_rules.proofs.KeptFacts.{num_same}
 use Rattle.cluster_rules.proofs.MarkLaws as marks
 use Rattle.run_laws.specs.Worlds.{SendsAreRead}
+use Rattle.node_rules.specs.Messages.{client}
 use Rattle.calm_laws.specs.Acts.{Input, Gets, as_read, effects, read_to, served}
 use Rattle.calm_laws.specs.Flows.{Clear, InOrder, Named, Once, inbox}
 use Rattle.calm_laws.specs.Handing.{Legibly, LegibleRound}

@@ -18,7 +18,7 @@ use Rattle.node_rules.specs.Batches.{out_to, has_number}
 use Rattle.node_rules.specs.Copies.{is_nil}
 use Rattle.node_rules.specs.Effects.{Effects, to_each}
 use Rattle.node_rules.specs.Facts.{Facts}
-use Rattle.node_rules.specs.Messages.{voting, committing, counting, unless_stale, entering_if, state_came, batch_came, batch_ack_came, unless_spent, progress_came, answer_progress, repl_came, done_by, ack_of, repl_ack_came, ask_came, resolving_if, answered_by, answer_of, answer_came, table_if, may_enter, due_message_of, answer_state}
+use Rattle.node_rules.specs.Messages.{vote_effects, commit_effects, accept_effects, unless_stale, entry_effects_if, state_came, batch_came, batch_ack_came, unless_spent, progress_effects_if, answer_progress, repl_came, done_by, ack_of, repl_ack_came, ask_came, resolving_if, answered_by, answer_of, answer_effects_if, table_if, may_enter_view, due_message_of, answer_state}
 use Rattle.node_rules.specs.Notes.{reached, in_view}
 use Rattle.node_rules.specs.Resolving.{writing, resolving_want}
 use Rattle.node_rules.specs.Standing.{other_replicas}
@@ -43,16 +43,16 @@ pub each_in : (ks : List ℕ) (ns : List ℕ) (m : Message) → outside ks (kind
 each_in ks [] m h = tt
 each_in ks (n ∷ ns) m h = (h, each_in ks ns m h)
 
-committing_in : (f : Facts) (p : Proposal) (b : Bool) → In (5 ∷ []) (committing f p b)
-committing_in f p true = each_in (5 ∷ []) (agreement.others f.me p.members) (message.Commit p.key p.members) refl
+committing_in : (f : Facts) (p : Proposal) (b : Bool) → In (5 ∷ []) (commit_effects f p b)
+committing_in f p true = each_in (5 ∷ []) (agreement.others_among f.me p.members) (message.Commit p.key p.members) refl
 committing_in f p false = tt
 
-counting_in : (f : Facts) (from : ℕ) (key : ClusterKey) (o : Option Proposal) (b : Bool) → In (5 ∷ []) (counting f from key o b)
+counting_in : (f : Facts) (from : ℕ) (key : ClusterKey) (o : Option Proposal) (b : Bool) → In (5 ∷ []) (accept_effects f from key o b)
 counting_in f from key (Some p) true = committing_in f p (is_nil (without_missing p from).missing)
 counting_in f from key (Some p) false = tt
 counting_in f from key None b = tt
 
-voting_in : (f : Facts) (from : ℕ) (key : ClusterKey) (b : Bool) → In (3 ∷ 4 ∷ []) (voting f from key b)
+voting_in : (f : Facts) (from : ℕ) (key : ClusterKey) (b : Bool) → In (3 ∷ 4 ∷ []) (vote_effects f from key b)
 voting_in f from key true = (refl, tt)
 voting_in f from key false = (refl, tt)
 
@@ -60,7 +60,7 @@ unless_stale_in : (f : Facts) (b : Bool) → In [] (unless_stale f b)
 unless_stale_in f true = tt
 unless_stale_in f false = tt
 
-entering_if_in : (f : Facts) (key : ClusterKey) (ms : List Member) (b : Bool) → In [] (entering_if f key ms b)
+entering_if_in : (f : Facts) (key : ClusterKey) (ms : List Member) (b : Bool) → In [] (entry_effects_if f key ms b)
 entering_if_in f key ms true = tt
 entering_if_in f key ms false = tt
 
@@ -88,7 +88,7 @@ answer_progress_in : (n : ℕ) (now : Facts) (from : ℕ) (b : Bool) → In (9 �
 answer_progress_in n now from true = (refl, tt)
 answer_progress_in n now from false = tt
 
-progress_in : (n : ℕ) (f now : Facts) (from : ℕ) (wants b : Bool) → In (9 ∷ []) (progress_came n f now from wants b)
+progress_in : (n : ℕ) (f now : Facts) (from : ℕ) (wants b : Bool) → In (9 ∷ []) (progress_effects_if n f now from wants b)
 progress_in n f now from wants true = answer_progress_in n now from _
 progress_in n f now from wants false = tt
 
@@ -132,7 +132,7 @@ answer_of_in : (f : Facts) (clock from : ℕ) (v : Option Version) (o : Option T
 answer_of_in f clock from v None = tt
 answer_of_in f clock from v (Some t) = answered_in f clock t from v (awaits_answer t from)
 
-answer_in : (f : Facts) (clock from number : ℕ) (v : Option Version) (b : Bool) → In (10 ∷ []) (answer_came f clock from number v b)
+answer_in : (f : Facts) (clock from number : ℕ) (v : Option Version) (b : Bool) → In (10 ∷ []) (answer_effects_if f clock from number v b)
 answer_in f clock from number v true = answer_of_in f clock from v (transaction f.transactions number)
 answer_in f clock from number v false = tt
 
@@ -145,7 +145,8 @@ message_in_replies n f clock from (message.Heartbeat v promised hears role) = tt
 message_in_replies n f clock from (message.Propose k ms) = voting_in f from k _
 message_in_replies n f clock from (message.Accept k) = counting_in f from k f.agreement.proposal (proposes f.agreement.proposal k)
 message_in_replies n f clock from (message.Refuse k promised) = unless_stale_in f (proposes f.agreement.proposal k)
-message_in_replies n f clock from (message.Commit k ms) = entering_if_in f k ms (may_enter f k ms)
+message_in_replies n f clock from (message.Commit k ms) = entering_if_in f k ms
+    (may_enter_view f k ms)
 message_in_replies n f clock from (message.State k wants row) = state_in f (reached f from (message.State k wants row)) from wants (in_view f k)
 message_in_replies n f clock from (message.Batch b) = batch_in f from b (in_view f b.key)
 message_in_replies n f clock from (message.BatchAck k number) = batch_ack_in f from number (in_view f k)

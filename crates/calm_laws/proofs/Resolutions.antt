@@ -12,7 +12,7 @@ use Rattle.node_rules.specs.Exchange.{View, members_of}
 use Rattle.node_rules.specs.Facts.{Facts, list_at}
 use Rattle.node_rules.specs.Messages.{due_message_of}
 use Rattle.node_rules.specs.Notes.{after_ages, note, noted}
-use Rattle.node_rules.specs.Settling.{hand, learn, settle, settling, settling_at, settling_from, settling_if, may_hand, may_settle}
+use Rattle.node_rules.specs.Settling.{hand, learn, settle, settling_due, settling_at, settling_from, settling_if, may_hand, may_settle}
 use Rattle.node_rules.specs.Standing.{is_to_drop, is_to_learn}
 use Rattle.node_rules.specs.Tables.{contains}
 use Rattle.node_rules.specs.Tick.{sends_again}
@@ -108,7 +108,7 @@ settling_from_rests zero p f = tt
 settling_from_rests (suc n) p f =
     each_append Rests (settling_at (list_at f p) p f) _ (settling_at_rests (list_at f p) p f) (settling_from_rests n (p + 1) (noted None f (settling_at (list_at f p) p f)))
 
-pub settling_rests : (n : ℕ) (f : Facts) → Each Rests (settling n f)
+pub settling_rests : (n : ℕ) (f : Facts) → Each Rests (settling_due n f)
 settling_rests n f = go f.exchange.exchanged
   where
     go : (b : Bool) → Each Rests (settling_if n f b)
@@ -123,7 +123,7 @@ pub rests_transactions : (n c : ℕ) (f : Facts) → f.up ≡ true → (after_ag
 rests_transactions n c f up none e =
     ap (λ (g : Facts). g.transactions) (tick_facts n c f up)
     ∙ all_sent_idle (progressing n f) (as_read (tick_list n f))
-    ∙ noted_rests None (proposed f) (settling n (proposed f)) (settling_rests n (proposed f))
+    ∙ noted_rests None (proposed f) (settling_due n (proposed f)) (settling_rests n (proposed f))
     ∙ ap (λ (g : Facts). g.transactions) (rests_proposed f none e)
 
 -- what is sent again for a transaction

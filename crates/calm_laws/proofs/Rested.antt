@@ -13,7 +13,7 @@ use Rattle.node_rules.specs.Exchange.{Exchange, View, members_of}
 use Rattle.node_rules.specs.Facts.{Facts, list_at}
 use Rattle.node_rules.specs.Map.{lacks}
 use Rattle.node_rules.specs.Notes.{after_ages, noted}
-use Rattle.node_rules.specs.Settling.{settling, settling_from, settling_if}
+use Rattle.node_rules.specs.Settling.{settling_due, settling_from, settling_if}
 use Rattle.node_rules.specs.Standing.{has_nothing_to_learn_or_drop, is_to_drop, is_to_learn, knows_all_settled, others}
 use Rattle.node_rules.specs.Tables.{contains}
 use Rattle.journal_readings.specs.Lines.{has_node}
@@ -100,8 +100,8 @@ module _ (n : ℕ) (ns gs : List ℕ) (g : ℕ) (set : List Member) (k : Cluster
   calm : Undisturbed n ns gs w v r
   calm = undisturbed n ns gs g set w v r h.ready (steady_rests ns gs g set k w h.ready h.steady)
 
-  others_of : (m : ℕ) → has_node gs m ≡ true → others (w.facts m) ≡ agreement.others m set
-  others_of m here = ap (λ (y : ℕ). agreement.others y (members_of (w.facts m).exchange.view)) (h.ready.base.named m) ∙ ap (λ (o : Option View). agreement.others m (members_of o)) (h.steady.views m here)
+  others_of : (m : ℕ) → has_node gs m ≡ true → others (w.facts m) ≡ agreement.others_among m set
+  others_of m here = ap (λ (y : ℕ). agreement.others_among y (members_of (w.facts m).exchange.view)) (h.ready.base.named m) ∙ ap (λ (o : Option View). agreement.others_among m (members_of o)) (h.steady.views m here)
 
   idle : (m : ℕ) → has_node gs m ≡ true → Idle n (w.facts m)
   idle m here = record {
@@ -110,7 +110,7 @@ module _ (n : ℕ) (ns gs : List ℕ) (g : ℕ) (set : List Member) (k : Cluster
     asks = calm.asks m here;
     rows =
         ap (λ (xs : List ℕ). filter (lacks (w.facts m).exchange.rows) xs) (others_of m here)
-        ∙ none_pass (lacks (w.facts m).exchange.rows) (agreement.others m set) (λ x e. h.rows m x here (other_here gs g set h.ready.roll m x e));
+        ∙ none_pass (lacks (w.facts m).exchange.rows) (agreement.others_among m set) (λ x e. h.rows m x here (other_here gs g set h.ready.roll m x e));
     closed = h.closed m here;
     targets = λ t i. (no_more t.pending (h.empty m here t i), h.out m here t i);
     settled = h.settled m here;
@@ -180,7 +180,7 @@ module _ (n : ℕ) (ns gs : List ℕ) (g : ℕ) (set : List Member) (k : Cluster
 
   settles : (m : ℕ) → has_node gs m ≡ true → progressing n (w.facts m) ≡ noted None (after_ages (w.facts m)) (settling_from n 0 (after_ages (w.facts m)))
   settles m here =
-      ap (λ (f : Facts). noted None f (settling n f)) (rests_proposed (w.facts m) (idle m here).none (idle m here).asks)
+      ap (λ (f : Facts). noted None f (settling_due n f)) (rests_proposed (w.facts m) (idle m here).none (idle m here).asks)
       ∙ ap (λ (b : Bool). noted None (after_ages (w.facts m)) (settling_if n (after_ages (w.facts m)) b)) (h.over m here)
 
   -- and have nothing to learn or drop

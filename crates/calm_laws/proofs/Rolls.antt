@@ -5,7 +5,7 @@ use Rattle.cluster_types.specs.declared.member.Member.{Member}
 use Rattle.cluster_types.specs.Distinct.{without}
 use Rattle.cluster_types.specs.Members.{ids_of}
 use Rattle.partition_lists.proofs.InOrderLaws.{equal}
-use Rattle.node_rules.specs.Agreement.{others}
+use Rattle.node_rules.specs.Agreement.{others_among}
 use Rattle.node_rules.specs.Copies.{is_nil}
 use Rattle.node_rules.specs.Exchange.{is_member}
 use Rattle.node_rules.specs.Hearing.{is_greatest}
@@ -101,10 +101,10 @@ only_leader gs g set r m here d = not_greatest set m g (r.ids g ∙ r.lead) (abo
 pub leader_is : (gs : List ℕ) (g : ℕ) (set : List Member) → Roll gs g set → is_greatest g set ≡ true
 leader_is gs g set r = greatest_is set g (λ x e. at_most x g (r.greatest x (sym (r.ids x) ∙ e)))
 
-pub other_in : (gs : List ℕ) (g : ℕ) (set : List Member) → Roll gs g set → (a m : ℕ) → has_node gs m ≡ true → (m ≡ a → ⊥) → contains (others a set) m ≡ true
+pub other_in : (gs : List ℕ) (g : ℕ) (set : List Member) → Roll gs g set → (a m : ℕ) → has_node gs m ≡ true → (m ≡ a → ⊥) → contains (others_among a set) m ≡ true
 other_in gs g set r a m here d = without_keeps (ids_of set) a m d (r.ids m ∙ here)
 
-pub other_here : (gs : List ℕ) (g : ℕ) (set : List Member) → Roll gs g set → (a m : ℕ) → contains (others a set) m ≡ true → has_node gs m ≡ true
+pub other_here : (gs : List ℕ) (g : ℕ) (set : List Member) → Roll gs g set → (a m : ℕ) → contains (others_among a set) m ≡ true → has_node gs m ≡ true
 other_here gs g set r a m e = sym (r.ids m) ∙ in_without (ids_of set) a m e
 
 pub member_here : (gs : List ℕ) (g : ℕ) (set : List Member) → Roll gs g set → (m : ℕ) → has_node gs m ≡ true → is_member set m ≡ true

@@ -21,7 +21,7 @@ use Rattle.cluster_rules.proofs.KeptFacts.{num_same}
 use Rattle.cluster_laws.proofs.At.{differ}
 use Rattle.cluster_laws.proofs.GroundLaws.{apart}
 use Rattle.key_laws.specs.Ends.{IsOneOf}
-use Rattle.key_laws.specs.Sound.{GoodList, IsUnder, Rises}
+use Rattle.key_laws.specs.Sound.{GoodList, IsUnder, RisesByNumber}
 use Rattle.key_laws.proofs.Neighbours.{all_cons, all_none}
 use Rattle.key_laws.proofs.NamedLines.{MembersAs, all_members}
 use Rattle.key_laws.proofs.Peopled.{FitsRack}
@@ -174,7 +174,7 @@ under_more e (x ∷ es) t above h = ((lower x.0 above.0, h.0), under_more e es t
     lower : (y : ℕ) → falling e.0 y ≡ true → y < e.0
     lower y i = grind (arith, nat_tests)
 
-rises_onto : (xs acc : Table Role) → orders.Rises falling (map (λ (x : ℕ × Role). x.0) xs) → Rises acc → Under xs acc → Rises (reverse_aux xs acc)
+rises_onto : (xs acc : Table Role) → orders.Rises falling (map (λ (x : ℕ × Role). x.0) xs) → RisesByNumber acc → Under xs acc → RisesByNumber (reverse_aux xs acc)
 rises_onto [] acc falls r u = r
 rises_onto (x ∷ xs) acc falls r u = rises_onto xs (x ∷ acc) falls.1 (u.0, r) (under_more x xs acc falls.0 u.1)
 
@@ -186,12 +186,12 @@ pair_ids : (ms : List Member) → map (λ (x : ℕ × Role). x.0) (map pair ms) 
 pair_ids [] = refl
 pair_ids (m ∷ ms) = ap (λ (ns : List ℕ). m.id ∷ ns) (pair_ids ms)
 
-table_rises : (ms : List Member) → orders.Rises falling (ids_of ms) → Rises (table_of ms)
+table_rises : (ms : List Member) → orders.Rises falling (ids_of ms) → RisesByNumber (table_of ms)
 unfolding table_of
 table_rises ms h = rises_onto (map pair ms) [] (subst (orders.Rises falling) (sym (pair_ids ms)) h) tt (under_none (map pair ms))
 
 -- what the table has under a number
-found : (t : Table Role) (m : ℕ) (r : Role) → Rises t → Has t (m, r) → at t m ≡ Some r
+found : (t : Table Role) (m : ℕ) (r : Role) → RisesByNumber t → Has t (m, r) → at t m ≡ Some r
 found [] m r h i = absurd i
 found (e ∷ t) m r h (inl i) = ap (λ (b : Bool). cond b (Some e.1) (at t m)) (ties m e.0 ∙ equal m e.0 (sym (ap (λ (x : ℕ × Role). x.0) i))) ∙ ap (λ (x : ℕ × Role). Some x.1) i
 found (e ∷ t) m r h (inr i) = ap (λ (b : Bool). cond b (Some e.1) (at t m)) (ties m e.0 ∙ apart m e.0 (λ s. above t h.0 i (sym s))) ∙ found t m r h.1 i
@@ -237,7 +237,7 @@ roster_of w gs d = record {
     set : List Member
     set = as_members w gs
 
-    rises : Rises (table_of set)
+    rises : RisesByNumber (table_of set)
     rises = table_rises set (subst (orders.Rises falling) (sym (ids_are w gs)) (rises_in_order falling_order (λ n. n) gs d))
 
     just : {A : Type 0} → A ⊎ ⊥ → A

@@ -51,7 +51,7 @@ progress_same : (f : Facts) (from : ℕ) (done handed settled : List Bool) (b : 
 progress_same f from done handed settled true = record { me = refl; peers = refl; factor = refl; role = refl; up = refl }
 progress_same f from done handed settled false = same_refl f
 
-counted_same : (f : Facts) (key : ClusterKey) (l : List ℕ) (p nth : ℕ) (b : Bool) → Same (notes.counted_if f key l p nth b) f
+counted_same : (f : Facts) (key : ClusterKey) (l : List ℕ) (p nth : ℕ) (b : Bool) → Same (notes.write_counted_if f key l p nth b) f
 counted_same f key l p nth true = record { me = refl; peers = refl; factor = refl; role = refl; up = refl }
 counted_same f key l p nth false = same_refl f
 

@@ -13,12 +13,12 @@ use Rattle.partition_lists.proofs.InOrderLaws.{equal}
 use Rattle.node_rules.specs.Hearing.{Heard, aged, all_show, member_of, names, neighbours_of, older, timeout}
 use Rattle.node_rules.specs.Keys.{same_key}
 use Rattle.node_rules.specs.Notes.{after_ages, neighbours}
-use Rattle.node_rules.specs.Tables.{Table, at, contains, with_entry}
+use Rattle.node_rules.specs.Tables.{Table, at, contains, table_with}
 use Rattle.journal_readings.specs.Lines.{has_node}
 use Rattle.cluster_rules.specs.World.{World}
 use Rattle.cluster_rules.proofs.KeptFacts.{num_same}
 use Rattle.cluster_laws.proofs.At.{differ}
-use Rattle.key_laws.specs.Sound.{Rises}
+use Rattle.key_laws.specs.Sound.{RisesByNumber}
 use Rattle.calm_laws.specs.Flows.{Fresh, HeardAs, look}
 use Rattle.calm_laws.specs.Turns.{Listens, Roster}
 use Rattle.calm_laws.proofs.Groups.{look_aged}
@@ -39,7 +39,7 @@ module _ (gs : List ℕ) (set : List Member) (w : World) (o : Roster gs set w) (
       ∙ sym (o.here x e)
   shows x d false e = ap (λ (o : Option Heard). shown m o) (none_aged (w.facts m).hearing.heard x (h.others x m e here)) ∙ sym (o.others x e)
 
-  finds : (x : ℕ) → find nat_cmp x (with_entry (roles m (aged (w.facts m).hearing.heard)) m (w.facts m).role) ≡ at o.table x
+  finds : (x : ℕ) → find nat_cmp x (table_with (roles m (aged (w.facts m).hearing.heard)) m (w.facts m).role) ≡ at o.table x
   finds x =
       find-put nat_cmp nat_cmp_total x m (w.facts m).role (roles m (aged (w.facts m).hearing.heard))
       ∙ ap (λ (b : Bool). cond b (Some (w.facts m).role) (find nat_cmp x (roles m (aged (w.facts m).hearing.heard)))) (ties x m)
@@ -49,10 +49,10 @@ module _ (gs : List ℕ) (set : List Member) (w : World) (o : Roster gs set w) (
       go true e = sym (ap (λ (y : ℕ). at o.table y) (num_same x m e) ∙ o.here m here)
       go false e = find_roles m x (aged (w.facts m).hearing.heard) (rises_aged (w.facts m).hearing.heard (h.rises m here)) ∙ shows x (λ i. differ (equal x m (sym i)) e) (has_node gs x) refl
 
-  same_table : with_entry (roles m (aged (w.facts m).hearing.heard)) m (w.facts m).role ≡ o.table
+  same_table : table_with (roles m (aged (w.facts m).hearing.heard)) m (w.facts m).role ≡ o.table
   same_table =
       let t : Table Role = roles m (aged (w.facts m).hearing.heard) in
-      same_entries nat_cmp nat_cmp_total tied (with_entry t m (w.facts m).role) o.table
+      same_entries nat_cmp nat_cmp_total tied (table_with t m (w.facts m).role) o.table
       (is_sorted-put nat_cmp nat_cmp_total m (w.facts m).role t (rises_sorted t (rises_roles m (aged (w.facts m).hearing.heard) (rises_aged (w.facts m).hearing.heard (h.rises m here)))))
       (rises_sorted o.table o.rises) finds
 
@@ -95,7 +95,7 @@ show_look me key (x ∷ t) a h all e n = go (names me x) refl (a == x.0) refl al
     go false i false s all f rest = rest all f
 
 -- all entries show the key where each that can be looked up does
-pub shows_all : (me : ℕ) (key : ClusterKey) (t : Table Heard) → Rises t → ((a : ℕ) (h : Heard) → look t a ≡ Some h → same_key h.beat.view key ≡ true) → all_show me t key ≡ true
+pub shows_all : (me : ℕ) (key : ClusterKey) (t : Table Heard) → RisesByNumber t → ((a : ℕ) (h : Heard) → look t a ≡ Some h → same_key h.beat.view key ≡ true) → all_show me t key ≡ true
 shows_all me key [] r each = refl
 shows_all me key (x ∷ t) r each = go (names me x) (shows_all me key t r.1 (λ a h e. each a h (later a h e (a == x.0) refl)))
   where

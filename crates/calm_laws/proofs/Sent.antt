@@ -21,11 +21,11 @@ use Rattle.node_rules.specs.Batches.{out_to, has_number, next_batch, Target, Tar
 use Rattle.node_rules.specs.Copies.{is_nil, Content}
 use Rattle.node_rules.specs.Effects.{Effects, to_each}
 use Rattle.node_rules.specs.Facts.{Facts, view_key}
-use Rattle.node_rules.specs.Messages.{voting, committing, counting, unless_stale, entering_if, state_came, batch_came, batch_ack_came, unless_spent, progress_came, answer_progress, repl_came, done_by, ack_of, repl_ack_came, ask_came, resolving_if, answered_by, answer_of, answer_came, table_if, may_enter, due_message_of, answer_state}
+use Rattle.node_rules.specs.Messages.{vote_effects, commit_effects, accept_effects, unless_stale, entry_effects_if, state_came, batch_came, batch_ack_came, unless_spent, progress_effects_if, answer_progress, repl_came, done_by, ack_of, repl_ack_came, ask_came, resolving_if, answered_by, answer_of, answer_effects_if, table_if, may_enter_view, due_message_of, answer_state}
 use Rattle.node_rules.specs.Notes.{noted, reached, in_view, after_ages}
 use Rattle.node_rules.specs.Resolving.{writing, resolving_want, repl}
 use Rattle.node_rules.specs.Standing.{other_replicas, others}
-use Rattle.node_rules.specs.Tick.{Part, in_order, propose, proposing_to, propose_new, propose_with, rows, transactions, sends_again, batches, batch_to, settlings, progress, progress_if, state, tick_if}
+use Rattle.node_rules.specs.Tick.{Part, parts_in_order, propose, proposal_effects, propose_new, propose_with, rows, transactions, sends_again, batches, batch_to, settlings, progress, progress_if, state, tick_if}
 use Rattle.node_rules.specs.Transactions.{Transaction, Write, transaction, awaits_answer, awaits_ack, answered, is_last_awaited}
 use Rattle.run_laws.specs.Tied.{Among}
 use Rattle.calm_laws.specs.Acts.{Input, Ticks, Gets, reading, read_to, as_read, sent_at, acted, outbox}
@@ -46,16 +46,17 @@ each_none : (ns : List ℕ) (m : Message) → asks (kind m) ≡ false → NoneOf
 each_none [] m h = tt
 each_none (n ∷ ns) m h = (h, each_none ns m h)
 
-committing_none : (f : Facts) (p : Proposal) (b : Bool) → Answers (committing f p b)
-committing_none f p true = each_none (agreement.others f.me p.members) (message.Commit p.key p.members) refl
+committing_none : (f : Facts) (p : Proposal) (b : Bool) → Answers (commit_effects f p b)
+committing_none f p true = each_none (agreement.others_among f.me p.members) (message.Commit p.key p.members) refl
 committing_none f p false = tt
 
-counting_none : (f : Facts) (from : ℕ) (key : ClusterKey) (o : Option Proposal) (b : Bool) → Answers (counting f from key o b)
+counting_none : (f : Facts) (from : ℕ) (key : ClusterKey) (o : Option Proposal) (b : Bool) → Answers (accept_effects f from key o b)
 counting_none f from key (Some p) true = committing_none f p (is_nil (without_missing p from).missing)
 counting_none f from key (Some p) false = tt
 counting_none f from key None b = tt
 
-voting_none : (f : Facts) (from : ℕ) (key : ClusterKey) (b : Bool) → Answers (voting f from key b)
+voting_none : (f : Facts) (from : ℕ) (key : ClusterKey) (b : Bool)
+    → Answers (vote_effects f from key b)
 voting_none f from key true = (refl, tt)
 voting_none f from key false = (refl, tt)
 
@@ -63,7 +64,7 @@ unless_stale_none : (f : Facts) (b : Bool) → Answers (unless_stale f b)
 unless_stale_none f true = tt
 unless_stale_none f false = tt
 
-entering_if_none : (f : Facts) (key : ClusterKey) (ms : List Member) (b : Bool) → Answers (entering_if f key ms b)
+entering_if_none : (f : Facts) (key : ClusterKey) (ms : List Member) (b : Bool) → Answers (entry_effects_if f key ms b)
 entering_if_none f key ms true = tt
 entering_if_none f key ms false = tt
 
@@ -91,7 +92,7 @@ answer_progress_none : (n : ℕ) (now : Facts) (from : ℕ) (b : Bool) → Answe
 answer_progress_none n now from true = (refl, tt)
 answer_progress_none n now from false = tt
 
-progress_none : (n : ℕ) (f now : Facts) (from : ℕ) (wants b : Bool) → Answers (progress_came n f now from wants b)
+progress_none : (n : ℕ) (f now : Facts) (from : ℕ) (wants b : Bool) → Answers (progress_effects_if n f now from wants b)
 progress_none n f now from wants true = answer_progress_none n now from _
 progress_none n f now from wants false = tt
 
@@ -135,7 +136,7 @@ answer_of_none : (f : Facts) (clock from : ℕ) (v : Option Version) (o : Option
 answer_of_none f clock from v None = tt
 answer_of_none f clock from v (Some t) = answered_none f clock t from v (awaits_answer t from)
 
-answer_none : (f : Facts) (clock from number : ℕ) (v : Option Version) (b : Bool) → Answers (answer_came f clock from number v b)
+answer_none : (f : Facts) (clock from number : ℕ) (v : Option Version) (b : Bool) → Answers (answer_effects_if f clock from number v b)
 answer_none f clock from number v true = answer_of_none f clock from v (transaction f.transactions number)
 answer_none f clock from number v false = tt
 
@@ -148,7 +149,7 @@ message_none n f clock from (message.Heartbeat v promised hears role) = tt
 message_none n f clock from (message.Propose k ms) = voting_none f from k _
 message_none n f clock from (message.Accept k) = counting_none f from k f.agreement.proposal (proposes f.agreement.proposal k)
 message_none n f clock from (message.Refuse k promised) = unless_stale_none f (proposes f.agreement.proposal k)
-message_none n f clock from (message.Commit k ms) = entering_if_none f k ms (may_enter f k ms)
+message_none n f clock from (message.Commit k ms) = entering_if_none f k ms (may_enter_view f k ms)
 message_none n f clock from (message.State k wants row) = state_none f (reached f from (message.State k wants row)) from wants (in_view f k)
 message_none n f clock from (message.Batch b) = batch_none f from b (in_view f b.key)
 message_none n f clock from (message.BatchAck k number) = batch_ack_none f from number (in_view f k)
@@ -200,7 +201,7 @@ batches_none k c (t ∷ ts) = go (next_batch k c t) (batches_none k c ts)
     go None rest = rest
     go (Some b) rest = (refl, rest)
 
-proposing_none : (f : Facts) (k : ClusterKey) (set : List Member) (ns : List ℕ) → Silent (proposing_to f k set ns)
+proposing_none : (f : Facts) (k : ClusterKey) (set : List Member) (ns : List ℕ) → Silent (proposal_effects f k set ns)
 proposing_none f k set [] = tt
 proposing_none f k set (n ∷ ns) = each_silent (n ∷ ns) (message.Propose k set) refl
 
@@ -223,7 +224,7 @@ abbrev PartsNone : List Part → Type 0
 PartsNone [] = Unit {0}
 PartsNone (p ∷ ps) = PartNone p × PartsNone ps
 
-in_order_none : (ps : List Part) → PartsNone ps → (f : Facts) → Silent (in_order ps f)
+in_order_none : (ps : List Part) → PartsNone ps → (f : Facts) → Silent (parts_in_order ps f)
 in_order_none [] h f = tt
 in_order_none (p ∷ ps) h f = none_append is_one (p f).sends _ (h.0 f) (in_order_none ps h.1 (noted None f (p f).lines))
 
@@ -283,7 +284,7 @@ pub tick_sends : (n c : ℕ) (f : Facts) → f.up ≡ true → TickSends n c f
 tick_sends n c f up = go f.up up
   where
     rest : Effects
-    rest = in_order (silent_parts n) (after_ages f)
+    rest = parts_in_order (silent_parts n) (after_ages f)
 
     go : (b : Bool) → b ≡ true → TickSends n c f
     go b e = record {

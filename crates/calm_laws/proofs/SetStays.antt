@@ -16,10 +16,10 @@ use Rattle.node_rules.specs.Messages.{due_message_of}
 use Rattle.node_rules.specs.Notes as notes
 use Rattle.node_rules.specs.Notes.{note, noted, reached, sent, all_sent, in_view, after_ages}
 use Rattle.node_rules.specs.Tables.{Table}
-use Rattle.node_rules.specs.Tick.{in_order, tick_if}
+use Rattle.node_rules.specs.Tick.{parts_in_order, tick_if}
 use Rattle.journal_readings.specs.Lines.{has_node}
 use Rattle.cluster_rules.specs.World.{World}
-use Rattle.key_laws.specs.Sound.{Rises, IsUnder}
+use Rattle.key_laws.specs.Sound.{RisesByNumber, IsUnder}
 use Rattle.calm_laws.specs.Acts.{Input, Ticks, Gets, as_read, acted, served}
 use Rattle.calm_laws.specs.Flows.{inbox, Flowed, ticks_if, Rounded, look, Base}
 use Rattle.calm_laws.proofs.Hearing.{gets_inbox}
@@ -61,7 +61,7 @@ progress_set : (f : Facts) (from : ℕ) (done handed settled : List Bool) (b : B
 progress_set f from done handed settled true = refl
 progress_set f from done handed settled false = refl
 
-counted_set : (f : Facts) (key : ClusterKey) (l : List ℕ) (p nth : ℕ) (b : Bool) → set_of (notes.counted_if f key l p nth b) ≡ set_of f
+counted_set : (f : Facts) (key : ClusterKey) (l : List ℕ) (p nth : ℕ) (b : Bool) → set_of (notes.write_counted_if f key l p nth b) ≡ set_of f
 counted_set f key l p nth true = refl
 counted_set f key l p nth false = refl
 
@@ -99,7 +99,7 @@ tick_set : (n c : ℕ) (f : Facts) → f.up ≡ true → set_of (acted n c f Tic
 tick_set n c f up =
     ap (λ (b : Bool). set_of (all_sent (noted None f (tick_if n f b).lines) (as_read (tick_if n f b).sends))) up
     ∙ all_sent_set (noted None f (tick_if n f true).lines) (as_read (tick_if n f true).sends)
-    ∙ noted_set None (after_ages f) f.me (in_order (later_parts n) (after_ages f)).lines (later_steady n (after_ages f))
+    ∙ noted_set None (after_ages f) f.me (parts_in_order (later_parts n) (after_ages f)).lines (later_steady n (after_ages f))
 
 flow_set : (n : ℕ) (w v : World) (m : ℕ) → Flowed n w v → set_of (v.facts m) ≡ set_of (w.facts m)
 flow_set n w v m f = ap (λ (g : Facts). set_of g) (f.facts m) ∙ served_set n (w.clocks m) (w.facts m) (inbox w m) (gets_inbox w m)
@@ -125,11 +125,11 @@ under_aged n (e ∷ es) h = go (nat_lt (older e).1.age timeout) (under_aged n es
     go true rest = (h.0, rest)
     go false rest = rest
 
-pub rises_aged : (es : Table Heard) → Rises es → Rises (aged es)
+pub rises_aged : (es : Table Heard) → RisesByNumber es → RisesByNumber (aged es)
 rises_aged [] h = tt
 rises_aged (e ∷ es) h = go (nat_lt (older e).1.age timeout) (rises_aged es h.1)
   where
-    go : (b : Bool) → Rises (aged es) → Rises (cond b (older e ∷ aged es) (aged es))
+    go : (b : Bool) → RisesByNumber (aged es) → RisesByNumber (cond b (older e ∷ aged es) (aged es))
     go true rest = (under_aged e.0 es h.0, rest)
     go false rest = rest
 

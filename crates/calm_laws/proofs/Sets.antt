@@ -10,7 +10,7 @@ use Rattle.node_rules.specs.Hearing.{Heard, names}
 use Rattle.node_rules.specs.Tables.{Table, contains}
 use Rattle.cluster_rules.proofs.KeptFacts.{num_same}
 use Rattle.cluster_laws.proofs.GroundLaws.{apart}
-use Rattle.key_laws.specs.Sound.{Rises, IsUnder}
+use Rattle.key_laws.specs.Sound.{RisesByNumber, IsUnder}
 use Rattle.calm_laws.proofs.Hears.{ties}
 use Rattle.calm_laws.specs.Flows.{look}
 
@@ -30,7 +30,7 @@ under_below : {X : Type 0} (n : ℕ) (es : Table X) → IsUnder n es → T (belo
 under_below n [] h = tt
 under_below n (e ∷ es) h = both (is_lt (nat_cmp n e.0)) (below_all nat_cmp n es) (less_is n e.0 h.0) (under_below n es h.1)
 
-pub rises_sorted : {X : Type 0} (es : Table X) → Rises es → T (is_sorted nat_cmp es)
+pub rises_sorted : {X : Type 0} (es : Table X) → RisesByNumber es → T (is_sorted nat_cmp es)
 rises_sorted [] h = tt
 rises_sorted (e ∷ es) h = both (below_all nat_cmp e.0 es) (is_sorted nat_cmp es) (under_below e.0 es h.0) (rises_sorted es h.1)
 
@@ -47,11 +47,11 @@ under_roles x me (e ∷ t) h = go (names me e) (under_roles x me t h.1)
     go true rest = (h.0, rest)
     go false rest = rest
 
-pub rises_roles : (me : ℕ) (t : Table Heard) → Rises t → Rises (roles me t)
+pub rises_roles : (me : ℕ) (t : Table Heard) → RisesByNumber t → RisesByNumber (roles me t)
 rises_roles me [] h = tt
 rises_roles me (e ∷ t) h = go (names me e) (rises_roles me t h.1)
   where
-    go : (b : Bool) → Rises (roles me t) → Rises (map (λ (e : ℕ × Heard). (e.0, e.1.beat.role)) (cond b (e ∷ filter (names me) t) (filter (names me) t)))
+    go : (b : Bool) → RisesByNumber (roles me t) → RisesByNumber (map (λ (e : ℕ × Heard). (e.0, e.1.beat.role)) (cond b (e ∷ filter (names me) t) (filter (names me) t)))
     go true rest = (under_roles e.0 me t h.0, rest)
     go false rest = rest
 
@@ -67,7 +67,7 @@ pub not_under : (m : ℕ) (t : Table Heard) → IsUnder m t → look t m ≡ Non
 not_under m [] h = refl
 not_under m (e ∷ t) h = ap (λ (b : Bool). cond b (Some e.1) (look t m)) (ties m e.0 ∙ apart m e.0 (above_not m e.0 h.0)) ∙ not_under m t h.1
 
-pub find_roles : (me m : ℕ) (t : Table Heard) → Rises t → find nat_cmp m (roles me t) ≡ shown me (look t m)
+pub find_roles : (me m : ℕ) (t : Table Heard) → RisesByNumber t → find nat_cmp m (roles me t) ≡ shown me (look t m)
 find_roles me m [] h = refl
 find_roles me m (e ∷ t) h = go (names me e) refl (m == e.0) refl (find_roles me m t h.1)
   where

@@ -6,7 +6,7 @@ use Rattle.cluster_types.specs.Rows.{bit}
 use Rattle.partition_lists.specs.Lists.{list}
 use Rattle.partition_lists.proofs.InOrderLaws.{equal}
 use Rattle.node_rules.specs.Facts.{Facts}
-use Rattle.node_rules.specs.Map.{acting, master}
+use Rattle.node_rules.specs.Map.{acting_by_rows, list_master}
 use Rattle.node_rules.specs.Standing.{are_all_done, is_acting, is_all_empty, knows_all_settled, knows_settled}
 use Rattle.journal_readings.specs.Lines.{has_node}
 use Rattle.cluster_rules.specs.World.{World}
@@ -111,14 +111,14 @@ module _ (ns gs : List ℕ) (g : ℕ) (set : List Member) (w : World) (most : �
     pub tick_done : (m : ℕ) → has_node gs m ≡ true → ((y : ℕ) → has_node gs y ≡ true → (m ≡ y → ⊥) → KnowsDone partition_count y (begins.facts m).bits) → (q : ℕ) → q < partition_count → are_all_done (begins.facts m) q ≡ true
     tick_done = done_by ns gs g set a.key begins ends round.round telling closed_begin
 
-    pub tick_hands : (m q : ℕ) → has_node gs m ≡ true → q < partition_count → acting (list set q) (begins.facts m).exchange.rows q ≡ m → (master (list set q) == m) ≡ false → are_all_done (begins.facts m) q ≡ true → Reaches (begins.facts m).bits.handed q → (bit (begins.facts m).bits.own_handed q ≡ true → bit (begins.facts m).bits.handed q ≡ true) → Has true q (told m).bits
+    pub tick_hands : (m q : ℕ) → has_node gs m ≡ true → q < partition_count → acting_by_rows (list set q) (begins.facts m).exchange.rows q ≡ m → (list_master (list set q) == m) ≡ false → are_all_done (begins.facts m) q ≡ true → Reaches (begins.facts m).bits.handed q → (bit (begins.facts m).bits.own_handed q ≡ true → bit (begins.facts m).bits.handed q ≡ true) → Has true q (told m).bits
     tick_hands = hands_round ns gs g set a.key begins ends round.round telling closed_begin
 
-    pub tick_settles : (m q : ℕ) → has_node gs m ≡ true → q < partition_count → master (list set q) ≡ m → is_all_empty (begins.facts m) q ≡ false → (bit (begins.facts m).bits.handed q || (is_acting (begins.facts m) (list set q) q && are_all_done (begins.facts m) q)) ≡ true
+    pub tick_settles : (m q : ℕ) → has_node gs m ≡ true → q < partition_count → list_master (list set q) ≡ m → is_all_empty (begins.facts m) q ≡ false → (bit (begins.facts m).bits.handed q || (is_acting (begins.facts m) (list set q) q && are_all_done (begins.facts m) q)) ≡ true
         → Reaches (begins.facts m).bits.settled q → Has false q (told m).bits
     tick_settles = settles_round ns gs g set a.key begins ends round.round telling closed_begin
 
-    pub tick_acts : (m q : ℕ) → acting (list set q) (begins.facts m).exchange.rows q ≡ m → is_acting (begins.facts m) (list set q) q ≡ true
+    pub tick_acts : (m q : ℕ) → acting_by_rows (list set q) (begins.facts m).exchange.rows q ≡ m → is_acting (begins.facts m) (list set q) q ≡ true
     tick_acts = is_acting_by ns gs g set a.key begins ends round.round telling closed_begin
 
   -- ---- three rounds
@@ -177,7 +177,7 @@ module _ (ns gs : List ℕ) (g : ℕ) (set : List Member) (w : World) (most : �
     -- a partition of which some copy had a record
     module _ (r : ℕ) (lt : r < partition_count) (some : foot.empty r ≡ false) where
       abbrev leader : ℕ
-      leader = master (list set r)
+      leader = list_master (list set r)
 
       led : has_node gs leader ≡ true
       led = master_in gs g set x.roll r
@@ -204,7 +204,8 @@ module _ (ns gs : List ℕ) (g : ℕ) (set : List Member) (w : World) (most : �
       moved : Has false r (third.facts leader).bits ⊎ Has true r (third.facts leader).bits
       moved = subst (λ (i : ℕ). Has false r ((world_at partition_count w i).facts leader).bits ⊎ Has true r ((world_at partition_count w i).facts leader).bits) (next (suc (suc q))) (go (knowing (foot.actor r) acted_by))
         where
-          acts : acting (list set r) (second.facts (foot.actor r)).exchange.rows r ≡ foot.actor r
+          acts : acting_by_rows (list set r) (second.facts (foot.actor r)).exchange.rows r
+              ≡ foot.actor r
           acts = foot.acting_is (16 + suc (suc q)) (omega arith) (omega arith) (foot.actor r) acted_by r lt
 
           -- it hands over

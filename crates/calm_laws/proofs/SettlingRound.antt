@@ -14,9 +14,9 @@ use Rattle.node_rules.specs.Bits.{Bits, knows_done}
 use Rattle.node_rules.specs.Copies.{is_of}
 use Rattle.node_rules.specs.Exchange.{View, members_of}
 use Rattle.node_rules.specs.Facts.{Facts, list_at}
-use Rattle.node_rules.specs.Map.{acting, master}
+use Rattle.node_rules.specs.Map.{acting_by_rows, list_master}
 use Rattle.node_rules.specs.Notes.{after_ages, noted}
-use Rattle.node_rules.specs.Settling.{settling, settling_from, settling_if}
+use Rattle.node_rules.specs.Settling.{settling_due, settling_from, settling_if}
 use Rattle.node_rules.specs.Standing.{are_all_done, is_acting, is_all_empty, knows_all_settled, knows_settled, others}
 use Rattle.node_rules.specs.Tables.{contains}
 use Rattle.node_rules.specs.Transactions.{Transaction, is_busy}
@@ -76,7 +76,7 @@ module _ (ns gs : List ℕ) (g : ℕ) (set : List Member) (k : ClusterKey) (w v 
 
   settles : (m : ℕ) → has_node gs m ≡ true → progressing partition_count (w.facts m) ≡ noted None (after_ages (w.facts m)) (settling_from partition_count 0 (after_ages (w.facts m)))
   settles m here =
-      ap (λ (f : Facts). noted None f (settling partition_count f)) (rests_proposed (w.facts m) (none m here) (asks m here))
+      ap (λ (f : Facts). noted None f (settling_due partition_count f)) (rests_proposed (w.facts m) (none m here) (asks m here))
       ∙ ap (λ (b : Bool). noted None (after_ages (w.facts m)) (settling_if partition_count (after_ages (w.facts m)) b)) (h.hands.over m here)
 
   list_of : (m : ℕ) → has_node gs m ≡ true → (p : ℕ) → list_at (after_ages (w.facts m)) p ≡ list set p
@@ -102,26 +102,26 @@ module _ (ns gs : List ℕ) (g : ℕ) (set : List Member) (k : ClusterKey) (w v 
   done_by m here known p lt =
       ap (λ (b : Bool). b && list_all (knows_done (w.facts m).bits p) (others (w.facts m))) (all_done (w.facts m) (h.hands.over m here) (h.empty m here) p)
       ∙ ap (λ (xs : List ℕ). list_all (knows_done (w.facts m).bits p) xs) same
-      ∙ all_from (knows_done (w.facts m).bits p) (agreement.others m set) one
+      ∙ all_from (knows_done (w.facts m).bits p) (agreement.others_among m set) one
     where
-      same : others (w.facts m) ≡ agreement.others m set
-      same = ap (λ (y : ℕ). agreement.others y (members_of (w.facts m).exchange.view)) (h.hands.ready.base.named m) ∙ ap (λ (o : Option View). agreement.others m (members_of o)) (h.hands.steady.views m here)
+      same : others (w.facts m) ≡ agreement.others_among m set
+      same = ap (λ (y : ℕ). agreement.others_among y (members_of (w.facts m).exchange.view)) (h.hands.ready.base.named m) ∙ ap (λ (o : Option View). agreement.others_among m (members_of o)) (h.hands.steady.views m here)
 
-      one : (y : ℕ) → contains (agreement.others m set) y ≡ true → knows_done (w.facts m).bits p y ≡ true
+      one : (y : ℕ) → contains (agreement.others_among m set) y ≡ true → knows_done (w.facts m).bits p y ≡ true
       one y e =
           let z : KnowsDone partition_count y (w.facts m).bits = known y (other_here gs g set h.hands.ready.roll m y e) (λ i. not_gone (ids_of set) m y e (sym i)) in
           ap (λ (o : Option (List Bool)). bit (unwrap_or o []) p) z.told ∙ z.full p lt
 
   -- the acting master hands over what it doesn't keep
-  pub hands_round : (m p : ℕ) → has_node gs m ≡ true → p < partition_count → acting (list set p) (w.facts m).exchange.rows p ≡ m → (master (list set p) == m) ≡ false → are_all_done (w.facts m) p ≡ true → Reaches (w.facts m).bits.handed p
+  pub hands_round : (m p : ℕ) → has_node gs m ≡ true → p < partition_count → acting_by_rows (list set p) (w.facts m).exchange.rows p ≡ m → (list_master (list set p) == m) ≡ false → are_all_done (w.facts m) p ≡ true → Reaches (w.facts m).bits.handed p
       → (bit (w.facts m).bits.own_handed p ≡ true → bit (w.facts m).bits.handed p ≡ true) → Has true p (progressing partition_count (w.facts m)).bits
   hands_round m p here lt acts other done reach own =
       subst (λ (f : Facts). Has true p f.bits) (sym (settles m here))
       (hands_over partition_count p (list set p) (after_ages (w.facts m)) lt
       (record {
         list_is = list_of m here p;
-        acting = ap (λ (y : ℕ). acting (list set p) (w.facts m).exchange.rows p == y) (h.hands.ready.base.named m) ∙ equal (acting (list set p) (w.facts m).exchange.rows p) m acts;
-        master = ap (λ (y : ℕ). master (list set p) == y) (h.hands.ready.base.named m) ∙ other;
+        acting = ap (λ (y : ℕ). acting_by_rows (list set p) (w.facts m).exchange.rows p == y) (h.hands.ready.base.named m) ∙ equal (acting_by_rows (list set p) (w.facts m).exchange.rows p) m acts;
+        master = ap (λ (y : ℕ). list_master (list set p) == y) (h.hands.ready.base.named m) ∙ other;
         done = done;
         free = free m here p;
         reach = reach;
@@ -129,19 +129,19 @@ module _ (ns gs : List ℕ) (g : ℕ) (set : List Member) (k : ClusterKey) (w v 
       }))
 
   -- and the list master settles what was handed over to it, or what it may hand over to itself
-  pub settles_round : (m p : ℕ) → has_node gs m ≡ true → p < partition_count → master (list set p) ≡ m → is_all_empty (w.facts m) p ≡ false → (bit (w.facts m).bits.handed p || (is_acting (w.facts m) (list set p) p && are_all_done (w.facts m) p)) ≡ true
+  pub settles_round : (m p : ℕ) → has_node gs m ≡ true → p < partition_count → list_master (list set p) ≡ m → is_all_empty (w.facts m) p ≡ false → (bit (w.facts m).bits.handed p || (is_acting (w.facts m) (list set p) p && are_all_done (w.facts m) p)) ≡ true
       → Reaches (w.facts m).bits.settled p → Has false p (progressing partition_count (w.facts m)).bits
   settles_round m p here lt mine some may reach =
       subst (λ (f : Facts). Has false p f.bits) (sym (settles m here))
       (settles_it partition_count p (list set p) (after_ages (w.facts m)) lt
       (record {
         list_is = list_of m here p;
-        master = ap (λ (y : ℕ). master (list set p) == y) (h.hands.ready.base.named m) ∙ equal (master (list set p)) m mine;
+        master = ap (λ (y : ℕ). list_master (list set p) == y) (h.hands.ready.base.named m) ∙ equal (list_master (list set p)) m mine;
         some = some;
         free = free m here p;
         may = may;
         reach = reach;
       }))
 
-  pub is_acting_by : (m p : ℕ) → acting (list set p) (w.facts m).exchange.rows p ≡ m → is_acting (w.facts m) (list set p) p ≡ true
-  is_acting_by m p acts = ap (λ (y : ℕ). acting (list set p) (w.facts m).exchange.rows p == y) (h.hands.ready.base.named m) ∙ equal (acting (list set p) (w.facts m).exchange.rows p) m acts
+  pub is_acting_by : (m p : ℕ) → acting_by_rows (list set p) (w.facts m).exchange.rows p ≡ m → is_acting (w.facts m) (list set p) p ≡ true
+  is_acting_by m p acts = ap (λ (y : ℕ). acting_by_rows (list set p) (w.facts m).exchange.rows p == y) (h.hands.ready.base.named m) ∙ equal (acting_by_rows (list set p) (w.facts m).exchange.rows p) m acts

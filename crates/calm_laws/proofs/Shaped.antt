@@ -23,11 +23,12 @@ use Rattle.node_rules.specs.Standing.{others}
 use Rattle.node_rules.specs.Tables.{changed_if}
 use Rattle.journal_readings.specs.Messages.{Arrival, arrived, arrived_cut}
 use Rattle.cluster_rules.specs.Marks.{Mark, Begins, Writes, after_all, after_line, came, came_to, came_to_client, came_to_node, sent_by}
-use Rattle.cluster_rules.specs.Network.{client, posting, posting_at}
+use Rattle.cluster_rules.specs.Network.{posting, posting_at}
 use Rattle.cluster_rules.specs.Steps.{all_marks}
-use Rattle.cluster_rules.specs.World.{World, at, new_if, opened}
+use Rattle.cluster_rules.specs.World.{World, changed_at, new_if, opened}
 use Rattle.cluster_laws.proofs.At.{differ}
 use Rattle.run_laws.proofs.NodeLaws.{clear_length, set_length}
+use Rattle.node_rules.specs.Messages.{client}
 use Rattle.calm_laws.specs.Onward.{MayTake}
 use Rattle.calm_laws.specs.Shaped.{Shaped, Within}
 
@@ -36,7 +37,7 @@ use Rattle.calm_laws.specs.Shaped.{Shaped, Within}
 abbrev nodes_of : Targets → List ℕ
 nodes_of ts = map (λ (t : Target). t.node) ts
 
-changing_nodes : (ts : Targets) (n : ℕ) (change : Target → Target) → ((t : Target) → (change t).node ≡ t.node) → nodes_of (batches.changing ts n change) ≡ nodes_of ts
+changing_nodes : (ts : Targets) (n : ℕ) (change : Target → Target) → ((t : Target) → (change t).node ≡ t.node) → nodes_of (batches.change_target ts n change) ≡ nodes_of ts
 changing_nodes [] n change same = refl
 changing_nodes (t ∷ ts) n change same = ap (λ (ns : List ℕ). (changed_if change t (t.node == n)).node ∷ ns) (changing_nodes ts n change same) ∙ ap (λ (k : ℕ). k ∷ nodes_of ts) (go (t.node == n))
   where
@@ -44,9 +45,10 @@ changing_nodes (t ∷ ts) n change same = ap (λ (ns : List ℕ). (changed_if ch
     go true = same t
     go false = refl
 
-changing_shape : (f : Facts) (n : ℕ) (change : Target → Target) → ((t : Target) → (change t).node ≡ t.node) → (nodes_of f.batches ≡ others f) ⊎ (f.batches ≡ []) → (nodes_of (batches.changing f.batches n change) ≡ others f) ⊎ (batches.changing f.batches n change ≡ [])
+changing_shape : (f : Facts) (n : ℕ) (change : Target → Target) → ((t : Target) → (change t).node ≡ t.node) → (nodes_of f.batches ≡ others f) ⊎ (f.batches ≡ []) → (nodes_of (batches.change_target f.batches n change) ≡ others f) ⊎ (batches.change_target f.batches n change ≡ [])
 changing_shape f n change same (inl e) = inl (changing_nodes f.batches n change same ∙ e)
-changing_shape f n change same (inr e) = inr (ap (λ (ts : Targets). batches.changing ts n change) e)
+changing_shape f n change same (inr e) = inr
+    (ap (λ (ts : Targets). batches.change_target ts n change) e)
 
 target_nodes : (pending : ℕ → List ℕ → Bool) (content : Content) (ns : List ℕ) → nodes_of (batches.targets_of pending content ns) ≡ ns
 target_nodes pending content [] = refl
@@ -100,7 +102,7 @@ note_shaped q f (line.Learn n k p) h = record { targets = h.targets; learnt = se
 note_shaped q f (line.Handed n k p) h = record { targets = h.targets; learnt = h.learnt; own = within_set f.bits.own_handed f.bits.handed p h.own }
 note_shaped q f l h = record { targets = h.targets; learnt = h.learnt; own = h.own }
 
-counted_shaped : (f : Facts) (k : ClusterKey) (l : List ℕ) (p nth : ℕ) (b : Bool) → Shaped f → Shaped (notes.counted_if f k l p nth b)
+counted_shaped : (f : Facts) (k : ClusterKey) (l : List ℕ) (p nth : ℕ) (b : Bool) → Shaped f → Shaped (notes.write_counted_if f k l p nth b)
 counted_shaped f k l p nth true h = record { targets = h.targets; learnt = h.learnt; own = h.own }
 counted_shaped f k l p nth false h = h
 
@@ -146,7 +148,7 @@ sent_shaped f to m h = record { targets = h.targets; learnt = h.learnt; own = h.
 abbrev AllShaped : World → Type 0
 AllShaped w = (m : ℕ) → Shaped (w.facts m)
 
-at_shaped : (f : ℕ → Facts) (n : ℕ) (new : Facts) → Shaped new → ((m : ℕ) → Shaped (f m)) → (m : ℕ) → Shaped (at f n new m)
+at_shaped : (f : ℕ → Facts) (n : ℕ) (new : Facts) → Shaped new → ((m : ℕ) → Shaped (f m)) → (m : ℕ) → Shaped (changed_at f n new m)
 at_shaped f n new h all m = go (n == m)
   where
     go : (b : Bool) → Shaped (new_if new f m b)
@@ -200,7 +202,8 @@ line_shaped w l h = h
 
 marks_shaped : (ms : List Mark) (w : World) → AllShaped w → AllShaped (after_all w ms)
 marks_shaped [] w h = h
-marks_shaped (Begins e ∷ ms) w h = marks_shaped ms (Rattle.cluster_rules.specs.Marks.begun w e) h
+marks_shaped (Begins e ∷ ms) w h = marks_shaped ms
+    (Rattle.cluster_rules.specs.Marks.event_begun w e) h
 marks_shaped (Writes l ∷ ms) w h = marks_shaped ms (after_line w l) (line_shaped w l h)
 
 -- so it is in every world that steps lead to

@@ -13,19 +13,19 @@ use Rattle.journal_readings.specs.Messages.{Arrival, Posting, arrived, arrived_c
 use Rattle.journal_readings.proofs.AlongLaws.{some_same}
 use Rattle.node_rules.specs.Effects.{Effects}
 use Rattle.node_rules.specs.Facts.{Facts, list_at}
-use Rattle.node_rules.specs.Messages.{due_message_of}
+use Rattle.node_rules.specs.Messages.{due_message_of, client}
 use Rattle.node_rules.specs.Notes as notes
 use Rattle.node_rules.specs.Notes.{in_view, note, reached, sent}
 use Rattle.node_rules.specs.Tables.{changed_if}
 use Rattle.node_rules.specs.Tick.{tick_of}
-use Rattle.node_rules.specs.Transactions.{Transaction, Transactions, acknowledged, answered, awaits_ack, awaits_answer, changing, closing}
+use Rattle.node_rules.specs.Transactions.{Transaction, Transactions, acknowledged, answered, awaits_ack, awaits_answer, changing, without_transaction}
 use Rattle.cluster_rules.specs.declared.event.Event.{Event}
 use Rattle.cluster_rules.specs.declared.event.Event.TheVariants as event
 use Rattle.cluster_rules.specs.DueEvents.{arriving, delivery, due_arrival, due_at_client, due_at_end, due_of, full_unless, is_blocked, one_more_if, sent_lines, unless_blocked, written}
-use Rattle.cluster_rules.specs.Marks.{Begins, Mark, Writes, after_all, after_line, begun, by_node, came, came_to, came_to_client, sent_by}
-use Rattle.cluster_rules.specs.Network.{Network, client, flying_at, has_place, landed, posting, posting_at}
+use Rattle.cluster_rules.specs.Marks.{Begins, Mark, Writes, after_all, after_line, event_begun, by_node, came, came_to, came_to_client, sent_by}
+use Rattle.cluster_rules.specs.Network.{Network, flying_at, has_place, landed, posting, posting_at}
 use Rattle.cluster_rules.specs.Steps.{Step, all_marks, flow, flows, marks_of, play, play_all, round, rounds}
-use Rattle.cluster_rules.specs.World.{World, at, new_if, up_nodes}
+use Rattle.cluster_rules.specs.World.{World, changed_at, new_if, up_nodes}
 use Rattle.cluster_rules.proofs.MarkLaws.{rounds_follow}
 use Rattle.run_laws.specs.Tied.{Among}
 use Rattle.calm_laws.specs.Flows.{world_at}
@@ -168,13 +168,13 @@ line_groups w (line.Cut i a b size) u = came_groups w (option_and_then (arrived_
 line_groups w (line.Sent i a b bytes) u = sent_groups (record w { network = posting w.network i (record { from = a; to = b; bytes = bytes }) }) a b (message_of bytes)
 line_groups w l u = refl
 
-pub begun_groups : (w : World) (e : Event) → (begun w e).network.groups ≡ w.network.groups
+pub begun_groups : (w : World) (e : Event) → (event_begun w e).network.groups ≡ w.network.groups
 begun_groups w (event.Deliver i) = refl
 begun_groups w e = refl
 
 marks_groups : (ms : List Mark) (w : World) → QuietMarks ms → (after_all w ms).network.groups ≡ w.network.groups
 marks_groups [] w q = refl
-marks_groups (Begins e ∷ ms) w q = marks_groups ms (begun w e) q ∙ begun_groups w e
+marks_groups (Begins e ∷ ms) w q = marks_groups ms (event_begun w e) q ∙ begun_groups w e
 marks_groups (Writes l ∷ ms) w q = marks_groups ms (after_line w l) q.1 ∙ line_groups w l q.0
 
 -- rounds leave the network divided as it is
@@ -203,7 +203,7 @@ module _ (S : List ℕ → Type 0) where
       go (x ∷ xs) h y (inl e) = subst (λ (z : Transaction). S z.digest) e (one x (x.number == number) (h x (inl refl)))
       go (x ∷ xs) h y (inr i) = go xs (λ z j. h z (inr j)) y i
 
-  closing_runs : (ts : Transactions) (number : ℕ) → RunsOn S ts.running → RunsOn S (closing ts number).running
+  closing_runs : (ts : Transactions) (number : ℕ) → RunsOn S ts.running → RunsOn S (without_transaction ts number).running
   closing_runs ts number h = go ts.running h
     where
       kept : (x : Transaction) (xs : List Transaction) (b : Bool) → RunsOn S (x ∷ xs) → RunsOn S (filter (λ t. not (t.number == number)) xs)
@@ -249,7 +249,7 @@ module _ (S : List ℕ → Type 0) where
       go false = h
   reached_runs f from (message.Repl k t nth d v) h = go (in_view f k)
     where
-      counted : (l : List ℕ) (p : ℕ) (b : Bool) → FactsRun (notes.counted_if f k l p nth b)
+      counted : (l : List ℕ) (p : ℕ) (b : Bool) → FactsRun (notes.write_counted_if f k l p nth b)
       counted l p true = h
       counted l p false = h
 
@@ -282,7 +282,7 @@ module _ (S : List ℕ → Type 0) where
 
   -- ---- the world
 
-  at_runs : (f : ℕ → Facts) (n : ℕ) (new : Facts) → FactsRun new → ((m : ℕ) → FactsRun (f m)) → (m : ℕ) → FactsRun (at f n new m)
+  at_runs : (f : ℕ → Facts) (n : ℕ) (new : Facts) → FactsRun new → ((m : ℕ) → FactsRun (f m)) → (m : ℕ) → FactsRun (changed_at f n new m)
   at_runs f n new h all m = go (n == m)
     where
       go : (b : Bool) → FactsRun (new_if new f m b)

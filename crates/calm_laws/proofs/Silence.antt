@@ -4,7 +4,7 @@ use Rattle.std.specs.Prelude.{filter, flat_map}
 use Rattle.wire_messages.specs.declared.message.Message.{Message}
 use Rattle.wire_messages.specs.declared.message.Message.TheVariants as message
 use Rattle.node_rules.specs.Facts.{Facts}
-use Rattle.node_rules.specs.Messages.{answer_progress, answer_state, progress_came, state_came}
+use Rattle.node_rules.specs.Messages.{answer_progress, answer_state, progress_effects_if, state_came}
 use Rattle.node_rules.specs.Notes.{in_view, reached}
 use Rattle.node_rules.specs.Standing.{knows_all_settled}
 use Rattle.node_rules.specs.Tables.{contains}
@@ -79,7 +79,7 @@ progress_unasked n now from true to x (inl e) = sym (ap (λ (l : ℕ × Message)
 progress_unasked n now from true to x (inr i) = absurd i
 progress_unasked n now from false to x i = absurd i
 
-progress_came_unasked : (n : ℕ) (f now : Facts) (from : ℕ) (wants b : Bool) (to : ℕ) (x : Message) → Among (progress_came n f now from wants b).sends (to, x) → asking x ≡ false
+progress_came_unasked : (n : ℕ) (f now : Facts) (from : ℕ) (wants b : Bool) (to : ℕ) (x : Message) → Among (progress_effects_if n f now from wants b).sends (to, x) → asking x ≡ false
 progress_came_unasked n f now from wants true to x i = progress_unasked n now from (wants && knows_all_settled now n 0) to x i
 progress_came_unasked n f now from wants false to x i = absurd i
 
@@ -110,7 +110,7 @@ unasked_silent n c f from (message.State key false row) e to x i = absurd (none 
 unasked_silent n c f from (message.Progress key true done handed settled) e to x i = differ refl e
 unasked_silent n c f from (message.Progress key false done handed settled) e to x i = absurd (none (in_view f key) i)
   where
-    none : (b : Bool) → Among (as_read (progress_came n f (reached f from (message.Progress key false done handed settled)) from false b).sends) (to, x) → ⊥
+    none : (b : Bool) → Among (as_read (progress_effects_if n f (reached f from (message.Progress key false done handed settled)) from false b).sends) (to, x) → ⊥
     none true j = j
     none false j = j
 unasked_silent n c f from (message.Heartbeat view promised hears role) e to x i = (refl, refl)

@@ -8,11 +8,11 @@ use Rattle.cluster_types.specs.Rows.{bit}
 use Rattle.wire_messages.specs.declared.message.Message.{Message}
 use Rattle.wire_messages.specs.declared.message.Message.TheVariants as message
 use Rattle.node_rules.specs.declared.member_row.MemberRow.{MemberRow}
-use Rattle.node_rules.specs.Exchange.{View, is_view, key_of}
+use Rattle.node_rules.specs.Exchange.{View, is_view, exchange_key}
 use Rattle.node_rules.specs.Facts.{Facts, view_key}
 use Rattle.node_rules.specs.Keys.{same_key}
 use Rattle.node_rules.specs.Map.{lacks}
-use Rattle.node_rules.specs.Messages.{answer_progress, progress_came}
+use Rattle.node_rules.specs.Messages.{answer_progress, progress_effects_if}
 use Rattle.node_rules.specs.Notes as notes
 use Rattle.node_rules.specs.Standing.{knows_all_settled}
 use Rattle.node_rules.specs.Tick.{progress_message}
@@ -61,9 +61,9 @@ knower_acted n c k set rows p f from y free there s = record { settles = settles
 answers_settled : (c : ℕ) (k : ClusterKey) (set : List Member) (rows : List MemberRow) (p : ℕ) (f : Facts) → Knower k set rows p f → (m : ℕ) (key : ClusterKey) → key ≡ k → (done handed settled : List Bool)
     → Any (SettledTo k m p) (effects partition_count c f (Gets m (message.Progress key true done handed settled))).sends
 answers_settled c k set rows p f s m key e done handed settled =
-    subst (λ (b : Bool). Any (SettledTo k m p) (progress_came partition_count f (notes.progress_came f m done handed settled b) m true b).sends) (sym seen)
+    subst (λ (b : Bool). Any (SettledTo k m p) (progress_effects_if partition_count f (notes.progress_came f m done handed settled b) m true b).sends) (sym seen)
     (subst (λ (b : Bool). Any (SettledTo k m p) (answer_progress partition_count (notes.progress_came f m done handed settled true) m b).sends) (sym knows)
-    (record { which = (m, progress_message partition_count (notes.progress_came f m done handed settled true) false); among = inl refl; good = record { to = refl; tells = (ap (λ (o : Option View). key_of o) s.settles.over.view, (progress_bits f m done handed settled true).settled p s.has) } }))
+    (record { which = (m, progress_message partition_count (notes.progress_came f m done handed settled true) false); among = inl refl; good = record { to = refl; tells = (ap (λ (o : Option View). exchange_key o) s.settles.over.view, (progress_bits f m done handed settled true).settled p s.has) } }))
   where
     seen : is_view f.exchange.view key ≡ true
     seen = ap (λ (o : Option View). is_view o key) s.settles.over.view ∙ ap (λ (q : ClusterKey). same_key k q) e ∙ same_self k

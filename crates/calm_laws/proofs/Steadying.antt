@@ -9,7 +9,7 @@ use Rattle.cluster_types.specs.ClusterKeys as keys
 use Rattle.cluster_types.specs.MembersEqual.{same_members, same_members_decides}
 use Rattle.partition_lists.proofs.InOrderLaws.{equal}
 use Rattle.node_rules.specs.Agreement.{has_round}
-use Rattle.node_rules.specs.Exchange.{View, key_of}
+use Rattle.node_rules.specs.Exchange.{View, exchange_key}
 use Rattle.node_rules.specs.Facts.{Facts, view_key}
 use Rattle.node_rules.specs.Hearing.{Heard, aged, all_show, heard_ids, is_greatest, is_unchanged, quiet_ticks, quieter, timeout}
 use Rattle.node_rules.specs.Keys.{same_key}
@@ -21,7 +21,7 @@ use Rattle.cluster_rules.specs.World.{World}
 use Rattle.cluster_rules.proofs.KeptFacts.{num_same}
 use Rattle.cluster_laws.proofs.At.{differ}
 use Rattle.cluster_laws.proofs.ReadingLines.{or_left_false, or_right_false}
-use Rattle.key_laws.specs.Sound.{Listed, Sound, Views}
+use Rattle.key_laws.specs.Sound.{Listed, Sound, ViewStands}
 use Rattle.key_laws.specs.Traced.{Traced, facts_of}
 use Rattle.key_laws.proofs.Order.{same_is, same_self}
 use Rattle.calm_laws.specs.Laws.{is_to_propose, HasLaws}
@@ -89,7 +89,7 @@ same_itself ms = go (same_members ms ms) refl
     go false e = (same_members_decides ms ms).1 refl
 
 view_is : (f : Facts) (k : ClusterKey) (set : List Member) → f.exchange.view ≡ Some (record { key = k; members = set }) → view_key f ≡ k
-view_is f k set e = ap (λ (o : Option View). key_of o) e
+view_is f k set e = ap (λ (o : Option View). exchange_key o) e
 
 -- the greatest doesn't propose anew
 pub steady_rests : (ns gs : List ℕ) (g : ℕ) (set : List Member) (k : ClusterKey) (w : World) → Ready ns gs g set w → Steady gs g set k w → is_to_propose (after_ages (w.facts g)) ≡ false
@@ -107,7 +107,7 @@ steady_rests ns gs g set k w r s = go s.calm
     content_view : all_show g (w.facts g).hearing.heard k ≡ true → wants_view (after_ages (w.facts g)) ≡ false
     content_view all =
         ap (λ (ms : List Member). differs_from ms (w.facts g).exchange.view || not (all_show (w.facts g).me (aged (w.facts g).hearing.heard) (view_key (w.facts g)))) near
-        ∙ ap (λ (o : Option View). differs_from set o || not (all_show (w.facts g).me (aged (w.facts g).hearing.heard) (key_of o))) view
+        ∙ ap (λ (o : Option View). differs_from set o || not (all_show (w.facts g).me (aged (w.facts g).hearing.heard) (exchange_key o))) view
         ∙ ap (λ (x : ℕ). differs_from set (Some (record { key = k; members = set })) || not (all_show x (aged (w.facts g).hearing.heard) k)) (r.base.named g)
         ∙ ap (λ (b : Bool). differs_from set (Some (record { key = k; members = set })) || not b) (shows_aged g k (w.facts g).hearing.heard all)
         ∙ ap (λ (b : Bool). not b || false) (same_itself set)
@@ -147,13 +147,13 @@ steady_proposed n ns gs g set w v r h seen e = record { views = λ m here. (insi
 
 -- a node of a view has the list of its key
 list_of : (t : Traced) → Sound t → (m : ℕ) (v : View) → (facts_of t m).exchange.view ≡ Some v → t.lists v.key ≡ Some v.members
-list_of t s m v e = (subst (λ (o : Option View). Views t m (facts_of t m).agreement.last o) e (s.nodes m).view).list
+list_of t s m v e = (subst (λ (o : Option View). ViewStands t m (facts_of t m).agreement.last o) e (s.nodes m).view).list
 
 some_members : (xs ys : List Member) → ◌≡◌ {A = Option (List Member)} (Some xs) (Some ys) → xs ≡ ys
 some_members xs ys e = ap (λ (o : Option (List Member)). unwrap_or o xs) e
 
 -- who is in a view of that key has its members, and a view of some key at all
-same_list : (t : Traced) → Sound t → (g m : ℕ) (v : View) → (facts_of t g).exchange.view ≡ Some v → key_of (facts_of t m).exchange.view ≡ v.key → (facts_of t m).exchange.view ≡ Some v
+same_list : (t : Traced) → Sound t → (g m : ℕ) (v : View) → (facts_of t g).exchange.view ≡ Some v → exchange_key (facts_of t m).exchange.view ≡ v.key → (facts_of t m).exchange.view ≡ Some v
 same_list t s g m v e is = go (facts_of t m).exchange.view refl
   where
     listed : Listed t v.key v.members
@@ -166,9 +166,9 @@ same_list t s g m v e is = go (facts_of t m).exchange.view refl
         positive a b = omega (arith, a, b)
 
     go : (o : Option View) → (facts_of t m).exchange.view ≡ o → o ≡ Some v
-    go None i = absurd (none_key (ap (λ (o : Option View). key_of o) (sym i) ∙ is))
+    go None i = absurd (none_key (ap (λ (o : Option View). exchange_key o) (sym i) ∙ is))
     go (Some u) i =
-        let key : u.key ≡ v.key = ap (λ (o : Option View). key_of o) (sym i) ∙ is in
+        let key : u.key ≡ v.key = ap (λ (o : Option View). exchange_key o) (sym i) ∙ is in
         let members : u.members ≡ v.members = some_members u.members v.members (sym (list_of t s m u i) ∙ ap (λ (q : ClusterKey). t.lists q) key ∙ list_of t s g v e) in
         ap (λ (q : ClusterKey). Some (record { key = q; members = u.members })) key ∙ ap (λ (ms : List Member). Some (record { key = v.key; members = ms })) members
 
@@ -193,7 +193,7 @@ content_is me set f name near e = go f.exchange.view refl (or_left_false (differ
       view = v;
       is = i;
       members = sym ((same_members_decides (neighbours (after_ages f)) v.members).0 (not-false (same_members (neighbours (after_ages f)) v.members) (ap (λ (o : Option View). differs_from (neighbours (after_ages f)) o) (sym i) ∙ a))) ∙ near;
-      shown = ap (λ (x : ℕ). all_show x (aged f.hearing.heard) v.key) (sym name) ∙ ap (λ (o : Option View). all_show f.me (aged f.hearing.heard) (key_of o)) (sym i) ∙ not-false (all_show f.me (aged f.hearing.heard) (view_key f)) b;
+      shown = ap (λ (x : ℕ). all_show x (aged f.hearing.heard) v.key) (sym name) ∙ ap (λ (o : Option View). all_show f.me (aged f.hearing.heard) (exchange_key o)) (sym i) ∙ not-false (all_show f.me (aged f.hearing.heard) (view_key f)) b;
     }
 
 -- in two rounds without a proposal the greatest is content, and all are in its view
@@ -231,7 +231,7 @@ steady_quiet n ns gs g set w u v r q h j speaks speaks_on l m lawful set_before 
         let shown : same_key new.entry.beat.view c.view.key ≡ true =
         show_look g c.view.key (aged (u.facts g).hearing.heard) a (record { age = new.entry.age + 1; beat = new.entry.beat }) c.shown (look_aged (u.facts g).hearing.heard a new.entry new.stands fresh_age)
         (ap (λ (y : Heard). contains y.beat.hears g) (sym new.good) ∙ names) in
-        ap (λ (o : Option View). key_of o) (rests n ns gs g set w u r h e a here).view
+        ap (λ (o : Option View). exchange_key o) (rests n ns gs g set w u r h e a here).view
         ∙ same_is (view_key (w.facts a)) c.view.key (ap (λ (y : Heard). same_key y.beat.view c.view.key) new.good ∙ shown)
 
     in_view : (a : ℕ) → has_node gs a ≡ true → (u.facts a).exchange.view ≡ Some c.view

@@ -11,15 +11,15 @@ use Rattle.journal_lines.specs.declared.line.Line.TheVariants as line
 use Rattle.partition_lists.proofs.InOrderLaws.{equal}
 use Rattle.node_rules.specs.Effects.{Effects}
 use Rattle.node_rules.specs.Facts.{Facts}
-use Rattle.node_rules.specs.Messages.{due_message_of}
+use Rattle.node_rules.specs.Messages.{due_message_of, client}
 use Rattle.node_rules.specs.Notes.{reached}
 use Rattle.node_rules.specs.Tick.{tick_of}
 use Rattle.cluster_rules.specs.declared.event.Event.TheVariants as event
 use Rattle.cluster_rules.specs.CalmBound.{is_full_line}
 use Rattle.cluster_rules.specs.DueEvents.{written, due_of, due_at_client, due_at_end, due_arrival, arriving, is_blocked, unless_blocked, delivery}
-use Rattle.cluster_rules.specs.Marks.{Writes, begun, after_all, came, came_to, came_to_client, came_to_node}
+use Rattle.cluster_rules.specs.Marks.{Writes, event_begun, after_all, came, came_to, came_to_client, came_to_node}
 use Rattle.journal_readings.specs.Messages.{Posting, arrived}
-use Rattle.cluster_rules.specs.Network.{Network, client, posting_at, posting_if, flying_at, landed}
+use Rattle.cluster_rules.specs.Network.{Network, posting_at, posting_if, flying_at, landed}
 use Rattle.cluster_rules.specs.Steps.{play}
 use Rattle.cluster_rules.specs.World.{World}
 use Rattle.cluster_rules.proofs.KeptFacts.{num_same}
@@ -73,8 +73,8 @@ stepped_act n w u v a i left others nodes clocks net t = record {
 
 pub step_tick : (n : ℕ) (w : World) (a : ℕ) → Named w → list_any is_full_line (due_of n w (event.Tick a)) ≡ false → Stepped n w (play n (event.Tick a) w).world (Some (a, Ticks)) w.network.flying
 step_tick n w a named full =
-    stepped_act n w (begun w (event.Tick a)) (play n (event.Tick a) w).world a Ticks w.network.flying (λ m d. refl) refl refl refl
-    (took_written (begun w (event.Tick a)) w.network a (tick_of n (w.facts a)) refl (subst (λ (x : ℕ). OwnLines x (tick_of n (w.facts a)).lines) (named a) (tick_own n (w.facts a))) full)
+    stepped_act n w (event_begun w (event.Tick a)) (play n (event.Tick a) w).world a Ticks w.network.flying (λ m d. refl) refl refl refl
+    (took_written (event_begun w (event.Tick a)) w.network a (tick_of n (w.facts a)) refl (subst (λ (x : ℕ). OwnLines x (tick_of n (w.facts a)).lines) (named a) (tick_own n (w.facts a))) full)
 
 -- ---- a delivery
 
@@ -91,11 +91,11 @@ client_idle n w b (message.MapTable t) left facts nodes clocks net = stepped_idl
 client_idle n w b m left facts nodes clocks net = stepped_idle n w _ left facts nodes clocks (ap (λ (x : Network). x.groups) net) (ap (λ (x : Network). x.sent) net) (ap (λ (x : Network). x.flying) net)
 
 node_acts : (n : ℕ) (w : World) (i : ℕ) (p : Posting) (m : Message) → Named w → list_any is_full_line (written (landed w.network i) p.to (due_message_of n (w.facts p.to) (w.clocks p.to) p.from m)) ≡ false
-    → Stepped n w (after_all (came_to_node (begun w (event.Deliver i)) (record { from = p.from; to = p.to; message = m })) (map Writes (written (landed w.network i) p.to (due_message_of n (w.facts p.to) (w.clocks p.to) p.from m)))) (Some (p.to, Gets p.from m)) (without w.network.flying i)
+    → Stepped n w (after_all (came_to_node (event_begun w (event.Deliver i)) (record { from = p.from; to = p.to; message = m })) (map Writes (written (landed w.network i) p.to (due_message_of n (w.facts p.to) (w.clocks p.to) p.from m)))) (Some (p.to, Gets p.from m)) (without w.network.flying i)
 node_acts n w i p m named full =
     let a : ℕ = p.to in
     let e : Effects = due_message_of n (w.facts a) (w.clocks a) p.from m in
-    let u : World = came_to_node (begun w (event.Deliver i)) (record { from = p.from; to = a; message = m }) in
+    let u : World = came_to_node (event_begun w (event.Deliver i)) (record { from = p.from; to = a; message = m }) in
     let v : World = after_all u (map Writes (written (landed w.network i) a e)) in
     let ns : List ℕ = new_numbers (length w.network.sent) (postings a e.sends) in
     let t : Took u v a (carried (u.facts a) e) (postings a e.sends) ns = took_written u (landed w.network i) a e refl (subst (λ (x : ℕ). OwnLines x e.lines) (named a) (message_own n (w.facts a) (w.clocks a) p.from m)) full in
@@ -108,7 +108,7 @@ pub step_deliver : (n : ℕ) (w : World) (i : ℕ) (p : Posting) → Named w →
 step_deliver n w i p named flies stands full = start (flying_at w.network i) flies full
   where
     b : World
-    b = begun w (event.Deliver i)
+    b = event_begun w (event.Deliver i)
 
     lines : Posting → List Line
     lines q = line.Deliver i q.from q.to ∷ arriving n w (landed w.network i) q

@@ -15,7 +15,7 @@ use Rattle.node_rules.specs.Messages as due
 use Rattle.node_rules.specs.Messages.{due_message_of, finishes}
 use Rattle.node_rules.specs.Notes as notes
 use Rattle.node_rules.specs.Notes.{after_ages, all_sent, in_view, note, noted, reached, sent}
-use Rattle.node_rules.specs.Settling.{line_if, settling}
+use Rattle.node_rules.specs.Settling.{line_if, settling_due}
 use Rattle.node_rules.specs.Tick.{propose_new, propose_with}
 use Rattle.cluster_laws.proofs.At.{differ}
 use Rattle.key_laws.proofs.DueViews.{AllOfView, OfView, settling_of_view}
@@ -68,7 +68,7 @@ progress_still : (f : Facts) (from : ℕ) (done handed settled : List Bool) (b :
 progress_still f from done handed settled true = refl
 progress_still f from done handed settled false = refl
 
-counted_still : (f : Facts) (key : ClusterKey) (l : List ℕ) (p nth : ℕ) (b : Bool) → (notes.counted_if f key l p nth b).exchange ≡ f.exchange
+counted_still : (f : Facts) (key : ClusterKey) (l : List ℕ) (p nth : ℕ) (b : Bool) → (notes.write_counted_if f key l p nth b).exchange ≡ f.exchange
 counted_still f key l p nth true = refl
 counted_still f key l p nth false = refl
 
@@ -152,11 +152,11 @@ pub rests_exchange : (n c : ℕ) (f : Facts) → f.up ≡ true → (after_ages f
 rests_exchange n c f up none e =
     ap (λ (g : Facts). g.exchange) (tick_facts n c f up)
     ∙ all_sent_still (progressing n f) (as_read (tick_list n f))
-    ∙ noted_still None (proposed f) (settling n (proposed f)) (all_of_view_still (proposed f).me (view_key (proposed f)) (settling n (proposed f)) (settling_of_view n (proposed f)))
+    ∙ noted_still None (proposed f) (settling_due n (proposed f)) (all_of_view_still (proposed f).me (view_key (proposed f)) (settling_due n (proposed f)) (settling_of_view n (proposed f)))
     ∙ ap (λ (g : Facts). g.exchange) (rests_proposed f none e)
 
 -- and so do the lines of settling
 pub settled_exchange : (n : ℕ) (f : Facts) → (after_ages f).agreement.proposal ≡ None → is_to_propose (after_ages f) ≡ false → (progressing n f).exchange ≡ f.exchange
 settled_exchange n f none e =
-    noted_still None (proposed f) (settling n (proposed f)) (all_of_view_still (proposed f).me (view_key (proposed f)) (settling n (proposed f)) (settling_of_view n (proposed f)))
+    noted_still None (proposed f) (settling_due n (proposed f)) (all_of_view_still (proposed f).me (view_key (proposed f)) (settling_due n (proposed f)) (settling_of_view n (proposed f)))
     ∙ ap (λ (g : Facts). g.exchange) (rests_proposed f none e)

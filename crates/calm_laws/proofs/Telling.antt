@@ -15,7 +15,7 @@ use Rattle.node_rules.specs.Exchange.{Exchange}
 use Rattle.node_rules.specs.Effects.{to_each}
 use Rattle.node_rules.specs.Facts.{Facts, view_key}
 use Rattle.node_rules.specs.Keys.{same_key}
-use Rattle.node_rules.specs.Messages.{answer_progress, progress_came}
+use Rattle.node_rules.specs.Messages.{answer_progress, progress_effects_if}
 use Rattle.node_rules.specs.Notes as notes
 use Rattle.node_rules.specs.Notes.{after_ages, in_view, reached}
 use Rattle.node_rules.specs.Resolving.{repl}
@@ -102,7 +102,7 @@ full_answer n f done from true to x (inr i) = absurd i
 full_answer n f done from true to x (inl e) = subst (λ (y : Message). FullProgress n y) (ap (λ (l : ℕ × Message). l.1) e) (full_row f done n 0)
 
 -- the answer to a Progress tells that each partition is done
-pub full_came : (n : ℕ) (f now : Facts) → ((p : ℕ) → is_done now p ≡ true) → (from : ℕ) (wants b : Bool) (to : ℕ) (x : Message) → Among (progress_came n f now from wants b).sends (to, x) → FullProgress n x
+pub full_came : (n : ℕ) (f now : Facts) → ((p : ℕ) → is_done now p ≡ true) → (from : ℕ) (wants b : Bool) (to : ℕ) (x : Message) → Among (progress_effects_if n f now from wants b).sends (to, x) → FullProgress n x
 full_came n f now done from wants false to x i = absurd i
 full_came n f now done from wants true to x i = full_answer n now done from (wants && knows_all_settled now n 0) to x i
 

@@ -19,9 +19,9 @@ use Rattle.node_rules.specs.Effects.{to_each}
 use Rattle.node_rules.specs.Facts.{Facts, view_key}
 use Rattle.node_rules.specs.Notes.{after_ages, all_sent, neighbours, note, noted, sent}
 use Rattle.node_rules.specs.Resolving.{repl}
-use Rattle.node_rules.specs.Settling.{settling}
+use Rattle.node_rules.specs.Settling.{settling_due}
 use Rattle.node_rules.specs.Standing.{others}
-use Rattle.node_rules.specs.Tick.{beat, propose, propose_new, propose_with, proposing_to, rows, transactions, sends_again, batches, batch_to, progress, progress_if, state}
+use Rattle.node_rules.specs.Tick.{beat, propose, propose_new, propose_with, proposal_effects, rows, transactions, sends_again, batches, batch_to, progress, progress_if, state}
 use Rattle.node_rules.specs.Transactions.{Transaction, Write}
 use Rattle.node_rules.proofs.NoteLaws.{all_sent-append}
 use Rattle.cluster_rules.proofs.OwnLines.{noted_me}
@@ -161,12 +161,12 @@ all_of_view_calm : (a : ℕ) (k : ClusterKey) (ls : List Line) → AllOfView a k
 all_of_view_calm a k [] h = tt
 all_of_view_calm a k (l ∷ ls) h = (of_view_calm a k l h.0, all_of_view_calm a k ls h.1)
 
-promising_turns : (g : Facts) (key : ClusterKey) (set : List Member) (ns : List ℕ) → stance_of (noted None g (proposing_to g key set ns).lines) ≡ promises_to (stance_of g) key set ns
+promising_turns : (g : Facts) (key : ClusterKey) (set : List Member) (ns : List ℕ) → stance_of (noted None g (proposal_effects g key set ns).lines) ≡ promises_to (stance_of g) key set ns
 promising_turns g key set [] = entering_turns g (note None g (line.Promise g.me key)) key set
 promising_turns g key set (n ∷ ns) = refl
 
 new_turns : (g : Facts) (b : Bool) → stance_of (noted None g (propose_new g b).lines) ≡ promises_if g.me (stance_of g) (neighbours g) b
-new_turns g true = promising_turns g (next_key g.me g.agreement) (neighbours g) (agreement.others g.me (neighbours g))
+new_turns g true = promising_turns g (next_key g.me g.agreement) (neighbours g) (agreement.others_among g.me (neighbours g))
 new_turns g false = refl
 
 lines_turn : (g : Facts) (o : Option Proposal) → stance_of (noted None g (propose_with g o).lines) ≡ promises g.me (stance_of g) (neighbours g) o (is_to_propose g)
@@ -175,7 +175,7 @@ lines_turn g (Some p) = refl
 
 to_sends : (g h : Facts) (key : ClusterKey) (set : List Member) (ns : List ℕ) → h.me ≡ g.me
     → CanBeRead (message.Propose key set)
-    → stance_of h ≡ promises_to (stance_of g) key set ns → stance_of (all_sent h (as_read (proposing_to g key set ns).sends)) ≡ proposes_to g.me (stance_of g) key set ns
+    → stance_of h ≡ promises_to (stance_of g) key set ns → stance_of (all_sent h (as_read (proposal_effects g key set ns).sends)) ≡ proposes_to g.me (stance_of g) key set ns
 unfolding as_read
 to_sends g h key set [] me r e = e
 to_sends g h key set (n ∷ ns) me r e =
@@ -188,7 +188,7 @@ new_sends : (g h : Facts) (b : Bool) → h.me ≡ g.me
     → (b ≡ true → CanBeRead (message.Propose (next_key g.me g.agreement) (neighbours g)))
     → stance_of h ≡ promises_if g.me (stance_of g) (neighbours g) b → stance_of (all_sent h (as_read (propose_new g b).sends)) ≡ proposes_if g.me (stance_of g) (neighbours g) b
 unfolding as_read
-new_sends g h true me r e = to_sends g h (next_key g.me g.agreement) (neighbours g) (agreement.others g.me (neighbours g)) me (r refl) e
+new_sends g h true me r e = to_sends g h (next_key g.me g.agreement) (neighbours g) (agreement.others_among g.me (neighbours g)) me (r refl) e
 new_sends g h false me r e = e
 
 sends_turn : (g h : Facts) (o : Option Proposal) → h.me ≡ g.me → g.agreement.proposal ≡ o → ReadsWith g o → stance_of h ≡ promises g.me (stance_of g) (neighbours g) o (is_to_propose g)
@@ -210,10 +210,10 @@ tick_turns n c f up r =
     let rest : List (ℕ × Message) = as_read (later_sends n f) in
     let h : Facts = all_sent (progressing n f) told in
     let me : h.me ≡ g.me =
-    (all_sent_same (progressing n f) told).me ∙ noted_me None (proposed f) (settling n (proposed f)) ∙ noted_me None g (propose g).lines in
+    (all_sent_same (progressing n f) told).me ∙ noted_me None (proposed f) (settling_due n (proposed f)) ∙ noted_me None g (propose g).lines in
     let lines : stance_of h ≡ promises g.me (stance_of g) (neighbours g) g.agreement.proposal (is_to_propose g) =
     all_sent_free (progressing n f) told (none_read is_agreeing (beat g).sends (beat_free g))
-    ∙ noted_calm None (proposed f) (settling n (proposed f)) (all_of_view_calm (proposed f).me (view_key (proposed f)) (settling n (proposed f)) (settling_of_view n (proposed f)))
+    ∙ noted_calm None (proposed f) (settling_due n (proposed f)) (all_of_view_calm (proposed f).me (view_key (proposed f)) (settling_due n (proposed f)) (settling_of_view n (proposed f)))
     ∙ lines_turn g g.agreement.proposal in
     ap (λ (x : Facts). stance_of x) (tick_facts n c f up)
     ∙ ap (λ (xs : List (ℕ × Message)). stance_of (all_sent (progressing n f) xs)) (sym (tick_sent n c f up) ∙ tick_parts n c f up)

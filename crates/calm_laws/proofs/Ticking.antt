@@ -12,7 +12,7 @@ use Rattle.node_rules.specs.Effects.{to_each}
 use Rattle.node_rules.specs.Facts.{Facts}
 use Rattle.node_rules.specs.Map.{lacks}
 use Rattle.node_rules.specs.Notes.{noted, all_sent, after_ages}
-use Rattle.node_rules.specs.Settling.{settling}
+use Rattle.node_rules.specs.Settling.{settling_due}
 use Rattle.node_rules.specs.Standing.{others}
 use Rattle.node_rules.specs.Tick.{beat, propose, rows, transactions, batches, progress, progress_if, state, tick_if}
 use Rattle.node_rules.proofs.NoteLaws.{noted-append}
@@ -29,7 +29,7 @@ abbrev pub proposed : Facts → Facts
 proposed f = noted None (proposing f) (propose (proposing f)).lines
 
 abbrev pub progressing : ℕ → Facts → Facts
-progressing n f = noted None (proposed f) (settling n (proposed f))
+progressing n f = noted None (proposed f) (settling_due n (proposed f))
 
 progress_lines : (n : ℕ) (f : Facts) (b : Bool) → (progress_if n f b).lines ≡ []
 progress_lines n f true = refl
@@ -46,7 +46,7 @@ tick_sent n c f up = ap (λ (b : Bool). as_read (tick_if n f b).sends) up
 pub tick_facts : (n c : ℕ) (f : Facts) → f.up ≡ true → acted n c f Ticks ≡ all_sent (progressing n f) (as_read (tick_list n f))
 tick_facts n c f up =
     let g : Facts = proposing f in
-    let ls : List Line = settling n (proposed f) in
+    let ls : List Line = settling_due n (proposed f) in
     let end : List Line = (progress n (progressing n f)).lines ++ [] in
     ap (λ (b : Bool). all_sent (noted None f (tick_if n f b).lines) (as_read (tick_if n f b).sends)) up
     ∙ ap (λ (h : Facts). all_sent h (as_read (tick_list n f)))

@@ -16,7 +16,7 @@ use Rattle.cluster_rules.specs.DueEvents.{sent_lines, full_unless, one_more_if, 
 use Rattle.cluster_rules.specs.Marks.{Mark, Writes, after_line, after_all, by_node, sent_by}
 use Rattle.journal_readings.specs.Messages.{Posting}
 use Rattle.cluster_rules.specs.Network.{Network, has_place, posting}
-use Rattle.cluster_rules.specs.World.{World, at, new_if}
+use Rattle.cluster_rules.specs.World.{World, changed_at, new_if}
 use Rattle.cluster_rules.proofs.MarkLaws.{after_all-append}
 use Rattle.cluster_laws.proofs.At.{differ}
 use Rattle.cluster_laws.proofs.GroundLaws.{apart}
@@ -26,10 +26,11 @@ use Rattle.calm_laws.proofs.Own.{OwnLine, OwnLines}
 
 -- ---- one place of a function
 
-pub at_itself : {A : Type 0} (f : ℕ → A) (n : ℕ) (new : A) → at f n new n ≡ new
+pub at_itself : {A : Type 0} (f : ℕ → A) (n : ℕ) (new : A) → changed_at f n new n ≡ new
 at_itself f n new = ap (λ (b : Bool). new_if new f n b) (equal n n refl)
 
-pub at_other : {A : Type 0} (f : ℕ → A) (n : ℕ) (new : A) (m : ℕ) → (n ≡ m → ⊥) → at f n new m ≡ f m
+pub at_other : {A : Type 0} (f : ℕ → A) (n : ℕ) (new : A) (m : ℕ) → (n ≡ m → ⊥)
+    → changed_at f n new m ≡ f m
 at_other f n new m d = ap (λ (b : Bool). new_if new f m b) (apart n m d)
 
 -- ---- what a node's lines make of the world

@@ -21,7 +21,7 @@ use Rattle.journal_lines.specs.declared.line.Line.{Line}
 use Rattle.journal_lines.specs.declared.line.Line.TheVariants as line
 use Rattle.node_rules.specs.Copies.{Row, is_nil}
 use Rattle.node_rules.specs.Effects.{to_each}
-use Rattle.node_rules.specs.Facts.{Facts, list_at, members, view_key}
+use Rattle.node_rules.specs.Facts.{Facts, list_at, members_of_view, view_key}
 use Rattle.node_rules.specs.Messages as due
 use Rattle.node_rules.specs.Messages.{due_message_of}
 use Rattle.node_rules.specs.Notes as notes
@@ -80,7 +80,7 @@ progress_idle : (f : Facts) (from : ℕ) (done handed settled : List Bool) (b : 
 progress_idle f from done handed settled true = refl
 progress_idle f from done handed settled false = refl
 
-counted_idle : (f : Facts) (key : ClusterKey) (l : List ℕ) (p nth : ℕ) (b : Bool) → (notes.counted_if f key l p nth b).transactions ≡ f.transactions
+counted_idle : (f : Facts) (key : ClusterKey) (l : List ℕ) (p nth : ℕ) (b : Bool) → (notes.write_counted_if f key l p nth b).transactions ≡ f.transactions
 counted_idle f key l p nth true = refl
 counted_idle f key l p nth false = refl
 
@@ -170,7 +170,7 @@ ack_here f x number t e = go (awaits_ack t x) refl
 
     ends : awaits_ack t x ≡ true → (last : Bool) → open_at (noted None (acked f x number) (line_if (line.Done f.me (view_key f) t.number) last)) number ≡ ack_next t x true last
     ends i true =
-        ap (λ (y : ℕ). transaction (transactions.closing (acked f x number).transactions y) number) (found_number f.transactions.running number t e)
+        ap (λ (y : ℕ). transaction (transactions.without_transaction (acked f x number).transactions y) number) (found_number f.transactions.running number t e)
         ∙ find_closed (acked f x number).transactions.running number
     ends i false = now ∙ ap (λ (b : Bool). Some (changed_if (acknowledged x) t b)) i
 
@@ -236,11 +236,11 @@ among_taken : (k : ℕ) (xs : List ℕ) (x : ℕ) → Contains (take k xs) x →
 among_taken k xs x c = subst (λ (ys : List ℕ). Contains ys x) (take-append-drop k xs) (Contains-append_left (take k xs) (drop k xs) x c)
 
 -- who is to acknowledge a write is another member
-replica_member : (f : Facts) (p x : ℕ) → contains (other_replicas f (list_at f p)) x ≡ true → (contains (ids_of (members f)) x ≡ true) × (x ≡ f.me → ⊥)
+replica_member : (f : Facts) (p x : ℕ) → contains (other_replicas f (list_at f p)) x ≡ true → (contains (ids_of (members_of_view f)) x ≡ true) × (x ≡ f.me → ⊥)
 replica_member f p x e = (
-  among_contains (ids_of (members f)) x
-      (from_contains (ids_of (members f)) x
-      ((list_contains (members f) p x).0
+  among_contains (ids_of (members_of_view f)) x
+      (from_contains (ids_of (members_of_view f)) x
+      ((list_contains (members_of_view f) p x).0
       (among_taken f.factor (list_at f p) x
       (to_contains (replicas (list_at f p) f.factor) x
       (contains_among (replicas (list_at f p) f.factor) x (in_without (replicas (list_at f p) f.factor) f.me x e)))))),
@@ -272,7 +272,7 @@ module _ (f : Facts) (c x number : ℕ) (v : Option Version) (k : ClusterKey) (v
           → open_at (noted None (replied f x number v) (line.Apply f.me (view_key f) t.number t.digest ver ∷ done_if f t.number b)) number
           ≡ cond b None (Some (transactions.with_write ver (notes.next_nth f (partition_of t.digest)) (other_replicas f (list_at f (partition_of t.digest))) (answered f.store.by x v t)))
       then true n =
-          ap (λ (y : ℕ). transaction (transactions.closing (transactions.changing (replied f x number v).transactions t.number (transactions.with_write ver (notes.next_nth f (partition_of t.digest)) (other_replicas f (list_at f (partition_of t.digest))))) y) number) (found_number f.transactions.running number t e)
+          ap (λ (y : ℕ). transaction (transactions.without_transaction (transactions.changing (replied f x number v).transactions t.number (transactions.with_write ver (notes.next_nth f (partition_of t.digest)) (other_replicas f (list_at f (partition_of t.digest))))) y) number) (found_number f.transactions.running number t e)
           ∙ find_closed (transactions.changing (replied f x number v).transactions t.number (transactions.with_write ver (notes.next_nth f (partition_of t.digest)) (other_replicas f (list_at f (partition_of t.digest))))).running number
       then false n =
           ap (λ (y : ℕ). transaction (transactions.changing (replied f x number v).transactions y (transactions.with_write ver (notes.next_nth f (partition_of t.digest)) (other_replicas f (list_at f (partition_of t.digest))))) number) (found_number f.transactions.running number t e)
@@ -298,7 +298,7 @@ module _ (f : Facts) (c x number : ℕ) (v : Option Version) (k : ClusterKey) (v
   resolved_end : (t : Transaction) → open_at f number ≡ Some t → awaits_answer t x ≡ true → (w : Want)
       → Ended t (resolving_want f c (list_at f (partition_of t.digest)) (answered f.store.by x v t) w).lines (resolving_want f c (list_at f (partition_of t.digest)) (answered f.store.by x v t) w).sends
   resolved_end t e i want.Get =
-      inl (ap (λ (y : ℕ). transaction (transactions.closing (replied f x number v).transactions y) number) (found_number f.transactions.running number t e) ∙ find_closed (replied f x number v).transactions.running number)
+      inl (ap (λ (y : ℕ). transaction (transactions.without_transaction (replied f x number v).transactions y) number) (found_number f.transactions.running number t e) ∙ find_closed (replied f x number v).transactions.running number)
   resolved_end t e i (want.Put bytes) = written_end t e i (next (answered f.store.by x v t).best c (body.Value bytes))
   resolved_end t e i want.Del = written_end t e i (next (answered f.store.by x v t).best c body.Tombstone)
 
@@ -393,7 +393,7 @@ module _ (n c : ℕ) (k : ClusterKey) (f : Facts) (view : view_key f ≡ k) (x n
       go true e = subst (λ (y : ℕ). Turns k number f x (due.ack_of f x (open_at f y)).sends (open_at f number) (open_at (noted None (acked f x y) (due.ack_of f x (open_at f y)).lines) number)) (sym (num_same at number e)) (ack_turns k f x number (due.ack_of f x (open_at f number)).sends (open_at f number) refl)
       go false e = inl (ack_other f x number at e (open_at f at) refl)
 
-  came_answer : (key : ClusterKey) (at : ℕ) (v : Option Version) (b : Bool) → Turns k number f x (due.answer_came f c x at v b).sends (open_at f number) (open_at (noted None (notes.answer_came f x at v b) (due.answer_came f c x at v b).lines) number)
+  came_answer : (key : ClusterKey) (at : ℕ) (v : Option Version) (b : Bool) → Turns k number f x (due.answer_effects_if f c x at v b).sends (open_at f number) (open_at (noted None (notes.answer_came f x at v b) (due.answer_effects_if f c x at v b).lines) number)
   came_answer key at v false = inl refl
   came_answer key at v true = go (at == number) refl
     where
@@ -454,7 +454,7 @@ module _ (n c : ℕ) (k : ClusterKey) (f : Facts) (seen : in_view f k ≡ true) 
   acted_heard v =
       let m : Message = message.Answer k number v in
       subst (λ (ts : Transactions). Such (HeardFrom x) (transaction ts number)) (sym (all_sent_idle (noted None (reached f x m) (due_message_of n f c x m).lines) (as_read (due_message_of n f c x m).sends)))
-      (subst (λ (b : Bool). Such (HeardFrom x) (open_at (noted None (notes.answer_came f x number v b) (due.answer_came f c x number v b).lines) number)) (sym seen) (heard_here f c x number v k view (open_at f number) refl))
+      (subst (λ (b : Bool). Such (HeardFrom x) (open_at (noted None (notes.answer_came f x number v b) (due.answer_effects_if f c x number v b).lines) number)) (sym seen) (heard_here f c x number v k view (open_at f number) refl))
 
   pub acted_lost : (S : ℕ → Type 0) → Such (Awaits true S) (open_at f number) → Such (Lost x) (open_at (acted n c f (Gets x (message.ReplAck k number))) number)
   acted_lost S h =

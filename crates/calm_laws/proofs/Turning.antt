@@ -100,7 +100,7 @@ progress_calm : (f : Facts) (from : ℕ) (done handed settled : List Bool) (b : 
 progress_calm f from done handed settled true = refl
 progress_calm f from done handed settled false = refl
 
-counted_calm : (f : Facts) (key : ClusterKey) (l : List ℕ) (p nth : ℕ) (b : Bool) → stance_of (notes.counted_if f key l p nth b) ≡ stance_of f
+counted_calm : (f : Facts) (key : ClusterKey) (l : List ℕ) (p nth : ℕ) (b : Bool) → stance_of (notes.write_counted_if f key l p nth b) ≡ stance_of f
 counted_calm f key l p nth true = refl
 counted_calm f key l p nth false = refl
 
@@ -131,7 +131,7 @@ reached_turns f from m h = refl
 -- ---- what is due
 
 voted : (f : Facts) (from : ℕ) (key : ClusterKey) (b : Bool) → key_lt key f.agreement.promised ≡ b
-    → stance_of (noted None f (due.voting f from key b).lines) ≡ record (stance_of f) { agreement = agreement.voting f.agreement key }
+    → stance_of (noted None f (due.vote_effects f from key b).lines) ≡ record (stance_of f) { agreement = agreement.voting f.agreement key }
 voted f from key true e =
     sym (ap (λ (b : Bool). record (stance_of f) { agreement = agreement.promising_if f.agreement key b }) (at_most_lt f.agreement.promised key (below_at_most (lt_below key f.agreement.promised e))))
 voted f from key false e = go (key_lt f.agreement.promised key)
@@ -140,23 +140,23 @@ voted f from key false e = go (key_lt f.agreement.promised key)
     go true = refl
     go false = refl
 
-committed : (f g : Facts) (p : Proposal) (b : Bool) → stance_of (noted None g (due.committing f p b).lines) ≡ enters_if (stance_of g) p.key p.members b
+committed : (f g : Facts) (p : Proposal) (b : Bool) → stance_of (noted None g (due.commit_effects f p b).lines) ≡ enters_if (stance_of g) p.key p.members b
 committed f g p true = entering_turns f g p.key p.members
 committed f g p false = refl
 
-counted : (f g : Facts) (from : ℕ) (key : ClusterKey) (o : Option Proposal) (b : Bool) → stance_of (noted None g (due.counting f from key o b).lines) ≡ counts (stance_of g) from o b
+counted : (f g : Facts) (from : ℕ) (key : ClusterKey) (o : Option Proposal) (b : Bool) → stance_of (noted None g (due.accept_effects f from key o b).lines) ≡ counts (stance_of g) from o b
 counted f g from key None b = refl
 counted f g from key (Some p) false = refl
 counted f g from key (Some p) true = committed f g p (is_nil (without_missing p from).missing)
 
-entered : (f : Facts) (key : ClusterKey) (ms : List Member) (b : Bool) → stance_of (noted None f (due.entering_if f key ms b).lines) ≡ enters_if (stance_of f) key ms b
+entered : (f : Facts) (key : ClusterKey) (ms : List Member) (b : Bool) → stance_of (noted None f (due.entry_effects_if f key ms b).lines) ≡ enters_if (stance_of f) key ms b
 entered f key ms true = entering_turns f f key ms
 entered f key ms false = refl
 
 due_turns : (n : ℕ) (c : ℕ) (f : Facts) (from : ℕ) (m : Message) → stance_of (noted None (reached f from m) (due_message_of n f c from m).lines) ≡ turned f.me (stance_of f) from m
 due_turns n c f from (message.Propose key ms) = voted f from key (key_lt key f.agreement.promised) refl
 due_turns n c f from (message.Accept key) = counted f (reached f from (message.Accept key)) from key f.agreement.proposal (proposes f.agreement.proposal key)
-due_turns n c f from (message.Commit key ms) = entered f key ms (due.may_enter f key ms)
+due_turns n c f from (message.Commit key ms) = entered f key ms (due.may_enter_view f key ms)
 due_turns n c f from m = go (agrees m) refl
   where
     go : (b : Bool) → agrees m ≡ b → stance_of (noted None (reached f from m) (due_message_of n f c from m).lines) ≡ turned f.me (stance_of f) from m

@@ -12,7 +12,7 @@ use Rattle.node_rules.specs.Copies.{is_nil}
 use Rattle.node_rules.specs.Exchange.{View, is_member}
 use Rattle.node_rules.specs.Keys.{same_key}
 use Rattle.cluster_laws.proofs.At.{differ}
-use Rattle.key_laws.specs.Order.{AtMost}
+use Rattle.key_laws.specs.Order.{KeyAtMost}
 use Rattle.key_laws.proofs.Order.{at_most_eq, at_most_lt, below_lt, neither_lt, same_is, same_self}
 use Rattle.calm_laws.specs.Stances.{Stance, enters_view, enters_if, counts, turned}
 use Rattle.calm_laws.specs.Turns.{Only, Inside, Follows, Leads}
@@ -59,7 +59,7 @@ inside_kept p a c k ms me s from _ o h = h
 pub inside_follows : (k : ClusterKey) (ms : List Member) (s : Stance) → Inside k ms s → Follows k ms s
 inside_follows k ms s h = record { promised = at_most_eq h.promised; proposal = h.proposal; last = inr h }
 
-follows_below : (p a c : Bool) (k : ClusterKey) (ms : List Member) (me : ℕ) (s : Stance) (from : ℕ) (m : Message) → Only p a c k ms m → AtMost s.agreement.promised k → s.agreement.proposal ≡ None → IsBelow s.agreement.last k → Follows k ms (turned me s from m)
+follows_below : (p a c : Bool) (k : ClusterKey) (ms : List Member) (me : ℕ) (s : Stance) (from : ℕ) (m : Message) → Only p a c k ms m → KeyAtMost s.agreement.promised k → s.agreement.proposal ≡ None → IsBelow s.agreement.last k → Follows k ms (turned me s from m)
 follows_below p a c k ms me s from (message.Heartbeat view promised hears role) o most none below = record { promised = most; proposal = none; last = inl below }
 follows_below p a c k ms me s from (message.Propose l ns) o most none below = go (key_lt s.agreement.promised l)
   where

@@ -19,17 +19,17 @@ use Rattle.journal_lines.specs.declared.line.Line.TheVariants as line
 use Rattle.journal_lines.specs.declared.refusal.Refusal.{Refusal}
 use Rattle.partition_lists.proofs.InOrderLaws.{equal}
 use Rattle.node_rules.specs.Agreement as agreement
-use Rattle.node_rules.specs.Agreement.{Agreement, Proposal, accepted_by, is_accepted_with, kept_if, may_enter, others, proposes, proposes_anew, proposes_set, without_missing}
+use Rattle.node_rules.specs.Agreement.{Agreement, Proposal, accepted_by, is_accepted_with, kept_if, may_enter, others_among, proposes, proposes_anew, proposes_set, without_missing}
 use Rattle.node_rules.specs.ByParts.{asked_or_resolved, closed_if, exchanged_if, merged_if, proposed_facts, requested, resolved, resolved_by, resolved_with, view_entered, with_applied_write}
 use Rattle.node_rules.specs.Copies.{is_nil}
 use Rattle.node_rules.specs.Exchange.{is_single}
 use Rattle.node_rules.specs.Facts.{Facts, list_at, view_key}
-use Rattle.node_rules.specs.Map.{master}
+use Rattle.node_rules.specs.Map.{list_master}
 use Rattle.node_rules.specs.Messages as due
 use Rattle.node_rules.specs.Notes as notes
-use Rattle.node_rules.specs.Notes.{after_ages, if_view, in_view, neighbours, new_transaction, note, noted, reached}
-use Rattle.node_rules.specs.Requests.{refusal_of}
-use Rattle.node_rules.specs.Settling.{drop, hand, learn, line_if, settle, settling, settling_at, settling_from, settling_if}
+use Rattle.node_rules.specs.Notes.{after_ages, if_view, in_view, neighbours, opening_transaction, note, noted, reached}
+use Rattle.node_rules.specs.Requests.{request_refusal}
+use Rattle.node_rules.specs.Settling.{drop, hand, learn, line_if, settle, settling_due, settling_at, settling_from, settling_if}
 use Rattle.node_rules.specs.Standing.{other_replicas}
 use Rattle.node_rules.specs.Steps.{after_message, after_tick}
 use Rattle.node_rules.specs.Tick.{is_candidate, propose}
@@ -97,13 +97,14 @@ ticking_lacks me a set candidate h = go (proposes_anew still candidate) refl
     no_none None c e = refl
     no_none (Some p) c e = cc
 
-    new : (k : ClusterKey) (ns : List ℕ) → others me set ≡ ns → still.proposal ≡ None → LacksSome (agreement.proposing_to me still k set ns).proposal
+    new : (k : ClusterKey) (ns : List ℕ) → others_among me set ≡ ns → still.proposal ≡ None → LacksSome (agreement.proposing_to me still k set ns).proposal
     new k [] e none = tt
     new k (n ∷ ns) e none =
         subst (λ (o : Option Proposal). LacksSome (agreement.proposing (record still { promised = k; proposal = kept_if (proposes o k) o }) me k set).proposal) (sym none) (ap is_nil e)
 
     go : (b : Bool) → proposes_anew still candidate ≡ b → LacksSome (agreement.proposing_if me still set b).proposal
-    go true e = new (agreement.next_key me still) (others me set) refl (no_none still.proposal _ e)
+    go true e = new (agreement.next_key me still) (others_among me set) refl
+        (no_none still.proposal _ e)
     go false e = kept_lacks (proposes_set a.proposal set) a.proposal h
 
 -- ---- lists of transactions
@@ -194,7 +195,7 @@ resolved_awaits g clock l t h = go t.want
         write : Transaction → Transaction
         write = with_write v (notes.next_nth g (partition_of t.digest)) (other_replicas g l)
 
-        by_others : (b : Bool) → is_nil (other_replicas g l) ≡ b → AwaitSome (closed_if (notes.applied g (view_key g) l t.number t.digest v) t.number b).transactions.running
+        by_others : (b : Bool) → is_nil (other_replicas g l) ≡ b → AwaitSome (closed_if (notes.write_applied g (view_key g) l t.number t.digest v) t.number b).transactions.running
         by_others true e = closed_awaits t.number _ (changed_but write t.number g.transactions.running (λ x. refl) h)
         by_others false e = changed_awaits write t.number g.transactions.running h (λ x i s. e)
 
@@ -281,10 +282,10 @@ requested_waits f clock l digest w (Some cause) h = h
 requested_waits f clock l digest w None h = go t.awaiting refl
   where
     t : Transaction
-    t = new_transaction f l (f.transactions.opened + 1) digest w
+    t = opening_transaction f l (f.transactions.opened + 1) digest w
 
     g : Facts
-    g = notes.opened f l (f.transactions.opened + 1) digest w
+    g = notes.transaction_opened f l (f.transactions.opened + 1) digest w
 
     go : (ns : List ℕ) → t.awaiting ≡ ns → Waits (asked_or_resolved g clock l t ns)
     go [] e = record { lacks = subst (λ (a : Agreement). LacksSome a.proposal) (sym (resolved_agreement g clock l t)) h.lacks; awaits = resolved_awaits g clock l t (opened_but f.transactions.running t h.awaits) }
@@ -325,7 +326,7 @@ from_transactions (suc n) p f =
     let g : Facts = noted None f (settling_at (list_at f p) p f) in
     ap (λ (h : Facts). h.transactions) (noted-append None f (settling_at (list_at f p) p f) (settling_from n (p + 1) g)) ∙ from_transactions n (p + 1) g ∙ at_transactions (list_at f p) p f
 
-settling_transactions : (n : ℕ) (f : Facts) → (noted None f (settling n f)).transactions ≡ f.transactions
+settling_transactions : (n : ℕ) (f : Facts) → (noted None f (settling_due n f)).transactions ≡ f.transactions
 settling_transactions n f = go f.exchange.exchanged
   where
     go : (b : Bool) → (noted None f (settling_if n f b)).transactions ≡ f.transactions
@@ -382,13 +383,13 @@ merged_waits : (g : Facts) (k : ClusterKey) (d : List ℕ) (v : Version) (b : Bo
 merged_waits g k d v true h = record { lacks = h.lacks; awaits = h.awaits }
 merged_waits g k d v false h = h
 
-counted_waits : (f : Facts) (k : ClusterKey) (l : List ℕ) (p nth : ℕ) (b : Bool) → Waits f → Waits (notes.counted_if f k l p nth b)
+counted_waits : (f : Facts) (k : ClusterKey) (l : List ℕ) (p nth : ℕ) (b : Bool) → Waits f → Waits (notes.write_counted_if f k l p nth b)
 counted_waits f k l p nth true h = record { lacks = h.lacks; awaits = h.awaits }
 counted_waits f k l p nth false h = h
 
 -- a write of the list master counts
 abbrev pub counted : Facts → ClusterKey → ℕ → ℕ → List ℕ → Facts
-counted f k nth from d = notes.counted_if f k (list_at f (partition_of d)) (partition_of d) nth (from == master (list_at f (partition_of d)))
+counted f k nth from d = notes.write_counted_if f k (list_at f (partition_of d)) (partition_of d) nth (from == list_master (list_at f (partition_of d)))
 
 pub answer_agreement : (f : Facts) (clock from t : ℕ) (v : Option Version) (o : Option Transaction) → (resolved_with (notes.answer_came f from t v true) clock from v o).agreement ≡ f.agreement
 answer_agreement f clock from t v None = refl
@@ -408,7 +409,7 @@ message_waits f clock from (message.Accept k) found h = accept_waits f clock fro
 message_waits f clock from (message.Refuse k promised) found h = subst Waits (sym (parts.refuse_is f clock from k promised)) (record { lacks = refusing_lacks f.agreement k promised h.lacks; awaits = h.awaits })
 message_waits f clock from (message.Commit k ms) found h = record {
   lacks = subst (λ (a : Agreement). LacksSome a.proposal) (sym (commit_agrees f clock from k ms)) (committing_lacks f.me f.agreement k ms h.lacks);
-  awaits = subst (λ (g : Facts). AwaitSome g.transactions.running) (sym (parts.commit_is f clock from k ms)) (commit_awaits f k ms (due.may_enter f k ms) h.awaits);
+  awaits = subst (λ (g : Facts). AwaitSome g.transactions.running) (sym (parts.commit_is f clock from k ms)) (commit_awaits f k ms (due.may_enter_view f k ms) h.awaits);
 }
 message_waits f clock from (message.State k wants row) found h =
     subst Waits (sym (parts.state_is f clock from k wants row)) (view_waits f (in_view f k) (exchanged_if (notes.row_came f from row true) (view_key f) (due.finishes f (notes.row_came f from row true))) h
@@ -420,7 +421,7 @@ message_waits f clock from (message.Progress k wants done handed settled) found 
     subst Waits (sym (parts.progress_is f clock from k wants done handed settled)) (view_waits f (in_view f k) _ h (record { lacks = h.lacks; awaits = h.awaits }))
 message_waits f clock from (message.Repl k t nth d v) found h =
     subst Waits (sym (parts.repl_is f clock from k t nth d v)) (view_waits f (in_view f k) (merged_if (counted f k nth from d) (view_key f) d v (is_newer f.store.by v (finite.get f.store.content d))) h
-    (merged_waits (counted f k nth from d) (view_key f) d v (is_newer f.store.by v (finite.get f.store.content d)) (counted_waits f k (list_at f (partition_of d)) (partition_of d) nth (from == master (list_at f (partition_of d))) h)))
+    (merged_waits (counted f k nth from d) (view_key f) d v (is_newer f.store.by v (finite.get f.store.content d)) (counted_waits f k (list_at f (partition_of d)) (partition_of d) nth (from == list_master (list_at f (partition_of d))) h)))
 message_waits f clock from (message.ReplAck k t) found h =
     subst Waits (sym (parts.repl_ack_is f clock from k t))
     (view_waits f (in_view f k) _ h (record { lacks = h.lacks; awaits = ack_awaits f.transactions from t found h.awaits (ends_by_ack (transaction f.transactions t) from) refl }))
@@ -447,7 +448,7 @@ became_waits w ev m g (stayed e) found h = subst Waits (sym e) h
 became_waits w ev m g (ticked at e) found h = subst Waits (sym e) (tick_waits (w.facts m) h)
 became_waits w ev m g (heard i p x stands read to e) found h = subst Waits (sym e) (message_waits (w.facts m) (w.clocks m) p.from x found h)
 became_waits w ev m g (asked d q e) found h =
-    subst Waits (sym (e ∙ parts.request_is (w.facts m) (w.clocks m) d q)) (requested_waits (w.facts m) (w.clocks m) _ d q (refusal_of (w.facts m) (list_at (w.facts m) (partition_of d)) d) h)
+    subst Waits (sym (e ∙ parts.request_is (w.facts m) (w.clocks m) d q)) (requested_waits (w.facts m) (w.clocks m) _ d q (request_refusal (w.facts m) (list_at (w.facts m) (partition_of d)) d) h)
 became_waits w ev m g (stopped e) found h = subst Waits (sym (e ∙ parts.stop_is (w.facts m))) (stopped_waits (w.facts m) (w.facts m).up refl h)
 became_waits w ev m g (started e) found h = subst Waits (sym (e ∙ parts.start_is (w.facts m))) (started_waits (w.facts m) (w.facts m).up h)
 became_waits w ev m g (quiesced b e) found h = subst Waits (sym e) (record { lacks = h.lacks; awaits = h.awaits })

@@ -11,13 +11,13 @@ use Rattle.wire_messages.specs.declared.message.Message.TheVariants as message
 use Rattle.wire_messages.specs.Keys.{IsKeyField, IsKeyOrNone}
 use Rattle.journal_readings.proofs.Fronts.{and_right}
 use Rattle.node_rules.specs.Agreement as agreement
-use Rattle.node_rules.specs.Agreement.{Agreement, Proposal, kept_if, may_enter, next_key, others, proposal_of, proposes, proposes_set, without_missing}
+use Rattle.node_rules.specs.Agreement.{Agreement, Proposal, kept_if, may_enter, next_key, others_among, proposal_of, proposes, proposes_set, without_missing}
 use Rattle.node_rules.specs.Copies.{is_nil}
 use Rattle.node_rules.specs.Effects.{to_each}
 use Rattle.node_rules.specs.Facts.{Facts}
 use Rattle.node_rules.specs.Notes.{after_ages, neighbours}
 use Rattle.node_rules.specs.Tables.{contains}
-use Rattle.node_rules.specs.Tick.{is_candidate, propose, propose_new, propose_with, proposing_to}
+use Rattle.node_rules.specs.Tick.{is_candidate, propose, propose_new, propose_with, proposal_effects}
 use Rattle.journal_readings.specs.Lines.{has_node}
 use Rattle.cluster_rules.specs.World.{World}
 use Rattle.cluster_laws.proofs.At.{differ}
@@ -78,7 +78,7 @@ keyed_free _ e = tt
 ticks_promised : (m : ℕ) (s : Stance) (set : List Member) (o : Option Proposal) (b : Bool) → IsKeyOrNone s.agreement.promised → (b ≡ true → IsKeyOrNone (next_key m s.agreement)) → IsKeyOrNone (ticks m s set o b).agreement.promised
 ticks_promised m s set (Some p) b h next = h
 ticks_promised m s set None false h next = h
-ticks_promised m s set None true h next = go (others m set)
+ticks_promised m s set None true h next = go (others_among m set)
   where
     new : (a : Agreement) (p : Proposal) (c : Bool) → a.promised ≡ next_key m s.agreement → IsKeyOrNone (agreement.proposed_if a p c).promised
     new a p true e = subst (λ (q : ClusterKey). IsKeyOrNone q) (sym e) (next refl)
@@ -143,7 +143,7 @@ module _ (n : ℕ) (ns gs : List ℕ) (g : ℕ) (set : List Member) (w t : World
   lacking_aged m here = lacks_aged m (proposes_set (w.facts m).agreement.proposal (neighbours (after_ages (w.facts m)))) (w.facts m).agreement.proposal (j.lacking m here)
 
   tick_new : (m : ℕ) (here : has_node gs m ≡ true) → (after_ages (w.facts m)).agreement.proposal ≡ None → is_to_propose (after_ages (w.facts m)) ≡ true → Silent (w.facts m) (stance_of (t.facts m)) ⊎ Asking m set (w.facts m) (stance_of (t.facts m))
-  tick_new m here e b = go (others m set) refl
+  tick_new m here e b = go (others_among m set) refl
     where
       f : Facts
       f = w.facts m
@@ -157,15 +157,17 @@ module _ (n : ℕ) (ns gs : List ℕ) (g : ℕ) (set : List Member) (w t : World
       q : ClusterKey
       q = next_key m h.agreement
 
-      now : stance_of (t.facts m) ≡ proposes_to m s (next_key m h.agreement) set (others m set)
+      now : stance_of (t.facts m) ≡ proposes_to m s (next_key m h.agreement) set
+          (others_among m set)
       now = stance_then m here ∙ ap (λ (o : Option Proposal). ticks m s set o (is_to_propose h)) e ∙ ap (λ (c : Bool). ticks m s set None c) b
 
-      sent : (propose h).sends ≡ (proposing_to h (next_key m h.agreement) set (others m set)).sends
+      sent : (propose h).sends ≡
+          (proposal_effects h (next_key m h.agreement) set (others_among m set)).sends
       sent =
           ap (λ (o : Option Proposal). (propose_with h o).sends) e
           ∙ ap (λ (c : Bool). (propose_new h c).sends) b
-          ∙ ap (λ (ms : List Member). (proposing_to h (next_key h.me h.agreement) ms (others h.me ms)).sends) (j.sees m here)
-          ∙ ap (λ (y : ℕ). (proposing_to h (next_key y h.agreement) set (others y set)).sends) (j.base.named m)
+          ∙ ap (λ (ms : List Member). (proposal_effects h (next_key h.me h.agreement) ms (others_among h.me ms)).sends) (j.sees m here)
+          ∙ ap (λ (y : ℕ). (proposal_effects h (next_key y h.agreement) set (others_among y set)).sends) (j.base.named m)
 
       read : CanBeRead (message.Propose (next_key m h.agreement) set)
       read =
@@ -173,16 +175,16 @@ module _ (n : ℕ) (ns gs : List ℕ) (g : ℕ) (set : List Member) (w t : World
           (subst (λ (ms : List Member). CanBeRead (message.Propose (next_key h.me h.agreement) ms)) (j.sees m here)
           ((subst (λ (o : Option Proposal). ReadsWith h o) e (asks m here)) b))
 
-      nothing : (os : List ℕ) → os ≡ [] → (to : ℕ) (x : Message) → Among (as_read (proposing_to h (next_key m h.agreement) set os).sends) (to, x) → ⊥
-      nothing os is to x i = nothing_asked h to x (subst (λ (xs : List ℕ). Among (as_read (proposing_to h (next_key m h.agreement) set xs).sends) (to, x)) is i)
+      nothing : (os : List ℕ) → os ≡ [] → (to : ℕ) (x : Message) → Among (as_read (proposal_effects h (next_key m h.agreement) set os).sends) (to, x) → ⊥
+      nothing os is to x i = nothing_asked h to x (subst (λ (xs : List ℕ). Among (as_read (proposal_effects h (next_key m h.agreement) set xs).sends) (to, x)) is i)
 
       proposed : (o : Option Proposal) → o ≡ None → (agreement.proposing (record s.agreement { promised = next_key m h.agreement; proposal = kept_if (proposes o (next_key m h.agreement)) o }) m (next_key m h.agreement) set).proposal ≡ Some (proposal_of m (next_key m h.agreement) set)
       proposed o is = ap (λ (o : Option Proposal). (agreement.proposing (record s.agreement { promised = next_key m h.agreement; proposal = kept_if (proposes o (next_key m h.agreement)) o }) m (next_key m h.agreement) set).proposal) is
 
-      go : (os : List ℕ) → others m set ≡ os → Silent f (stance_of (t.facts m)) ⊎ Asking m set f (stance_of (t.facts m))
+      go : (os : List ℕ) → others_among m set ≡ os → Silent f (stance_of (t.facts m)) ⊎ Asking m set f (stance_of (t.facts m))
       go [] is = inl (record {
         none = ap (λ (x : Stance). x.agreement.proposal) (now ∙ ap (λ (os : List ℕ). proposes_to m s (next_key m h.agreement) set os) is);
-        quiet = λ to x i. nothing (others m set) is to x (subst (λ (ms : List (ℕ × Message)). Among (as_read ms) (to, x)) sent i);
+        quiet = λ to x i. nothing (others_among m set) is to x (subst (λ (ms : List (ℕ × Message)). Among (as_read ms) (to, x)) sent i);
       })
       go (x ∷ xs) is = inr (record {
         stands = proposal_of m (next_key m h.agreement) set;
@@ -190,7 +192,7 @@ module _ (n : ℕ) (ns gs : List ℕ) (g : ℕ) (set : List Member) (w t : World
         members = refl;
         key = next_is_key m h.agreement (j.roll.each m here) (and_right (is_candidate h) _ b);
         reads = read;
-        sends = sent ∙ sends_to h (next_key m h.agreement) set (others m set);
+        sends = sent ∙ sends_to h (next_key m h.agreement) set (others_among m set);
         lacking = (ap (λ (os : List ℕ). is_nil os) is, λ y e. e);
       })
 
@@ -263,7 +265,7 @@ round_shrunk n w v r m =
 
 module _ (n : ℕ) (ns gs : List ℕ) (g : ℕ) (set : List Member) (w v : World) (j : Joined ns gs g set w) (r : Rounded n w v) (k : Ticked n w r.ticks_end ns)
     (asks : (m : ℕ) → has_node gs m ≡ true → ReadsWith (after_ages (w.facts m)) (after_ages (w.facts m)).agreement.proposal) (m : ℕ) (here : has_node gs m ≡ true) (a : Asking m set (w.facts m) (stance_of (r.ticks_end.facts m))) where
-  gets : (x : ℕ) → contains (others m set) x ≡ true → contains a.stands.missing x ≡ true → Got a.stands.key x (prop (v.facts m))
+  gets : (x : ℕ) → contains (others_among m set) x ≡ true → contains a.stands.missing x ≡ true → Got a.stands.key x (prop (v.facts m))
   gets x other missed =
       let sender : has_node gs x ≡ true = other_here gs g set j.roll m x other in
       let d : x ≡ m → ⊥ = not_gone (ids_of set) m x other in
@@ -288,7 +290,7 @@ module _ (n : ℕ) (ns gs : List ℕ) (g : ℕ) (set : List Member) (w v : World
       missed : (x : ℕ) (b : Bool) → contains a.stands.missing x ≡ b → contains q.missing x ≡ false
       missed x false s = (subst (λ (o : Option Proposal). Shrunk o (Some a.stands)) e shrunk).missing x s
       missed x true s =
-          let other : contains (others m set) x ≡ true = ap (λ (ms : List Member). contains (others m ms) x) (sym a.members) ∙ a.lacking.1 x s in
+          let other : contains (others_among m set) x ≡ true = ap (λ (ms : List Member). contains (others_among m ms) x) (sym a.members) ∙ a.lacking.1 x s in
           (subst (λ (o : Option Proposal). Got a.stands.key x o) e (gets x other s)).1
 
 given_up : (o : Option Proposal) → Shrunk o None → o ≡ None

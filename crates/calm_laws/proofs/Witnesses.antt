@@ -35,7 +35,7 @@ use Rattle.cluster_rules.proofs.MarkLaws.{rounds_follow}
 use Rattle.cluster_laws.specs.Ground.{Ground}
 use Rattle.cluster_laws.proofs.At.{differ, digests, number_same}
 use Rattle.cluster_laws.proofs.Settled.{no_loss}
-use Rattle.run_laws.specs.Fronts.{Front, after, after_all, facts_at, world_of}
+use Rattle.run_laws.specs.Fronts.{Front, front_after, front_after_all, facts_at, world_of}
 use Rattle.run_laws.specs.LineOk.{Goes, LineOk}
 use Rattle.run_laws.specs.Ranges as ranges
 use Rattle.run_laws.specs.Taken.{Taken, first, ground_of}
@@ -86,7 +86,7 @@ below_apart d c (e ∷ es) h (inl t) s = not_below d (subst (λ (x : List ℕ). 
     not_below d l = differ (ap is_eq (tied_itself nat_list_cmp_total d)) (ap is_eq l)
 below_apart d c (e ∷ es) h (inr i) s = below_apart d c es h.1 i s
 
-fit_in : (ds ws : List (List ℕ)) → ranges.Rises ds → ((d : List ℕ) → Among ds d → Among ws d) → length ds ≤ length ws
+fit_in : (ds ws : List (List ℕ)) → ranges.RisesByDigest ds → ((d : List ℕ) → Among ds d → Among ws d) → length ds ≤ length ws
 fit_in [] ws r h = omega arith
 fit_in (d ∷ ds) ws r h =
     omega (arith, one_less d ws (h d (inl refl)), fit_in ds (dropped d ws (h d (inl refl))) r.1 (λ c i. left_in d c ws (h d (inl refl)) (below_apart d c ds r.0 i) (h c (inr i))))
@@ -164,8 +164,8 @@ applies_run G S z l ok r = tt
 
 each_applies : (G : Ground) (S : List ℕ → Type 0) (z : Front) (ms : List Mark) → Goes G z ms → QuietMarks ms → AllRunOn S (world_of z) → EachApplies S (lines_among ms)
 each_applies G S z [] g q r = tt
-each_applies G S z (Begins e ∷ ms) g q r = each_applies G S (after z (Begins e)) ms g q r
-each_applies G S z (Writes l ∷ ms) g q r = (applies_run G S z l g.1 r, each_applies G S (after z (Writes l)) ms g.2 q.1 (line_runs S (world_of z) l q.0 r))
+each_applies G S z (Begins e ∷ ms) g q r = each_applies G S (front_after z (Begins e)) ms g q r
+each_applies G S z (Writes l ∷ ms) g q r = (applies_run G S z l g.1 r, each_applies G S (front_after z (Writes l)) ms g.2 q.1 (line_runs S (world_of z) l q.0 r))
 
 step_applied : (S : List ℕ → Type 0) (by : Policy) (d : List ℕ) (o : Option Version) (l : Line) → AppliesOn S l → is_some (applied_step by d o l) ≡ true → (is_some o ≡ true) ⊎ S d
 step_applied S by d o (line.Apply n k t e v) h i = go (same_digest e d) refl i
@@ -243,8 +243,8 @@ module _ (h : Header) (ss run more : List Step) (w u : World) (leads : world_aft
       (pictured h (ss ++ run) more (subst (λ (xs : List Step). Taken h xs) (sym (append_assoc ss run more)) t)))
 
   lines : EachApplies S (lines_among (all_marks run))
-  lines = each_applies G S (after_all (first h) (all_marks ss)) (all_marks run)
-      (goes_front G (after_all (first h) (all_marks ss)) (all_marks run) (all_marks more) (subst (Goes G (after_all (first h) (all_marks ss))) (flat_map-append marks_of run more) (goes_behind h ss (run ++ more) t)))
+  lines = each_applies G S (front_after_all (first h) (all_marks ss)) (all_marks run)
+      (goes_front G (front_after_all (first h) (all_marks ss)) (all_marks run) (all_marks more) (subst (Goes G (front_after_all (first h) (all_marks ss))) (flat_map-append marks_of run more) (goes_behind h ss (run ++ more) t)))
       quiet (subst (AllRunOn S) (sym (world_all (first h) (all_marks ss) ∙ leads)) runs)
 
   -- what a node holds after these steps some node held before them, or a transaction was open on it

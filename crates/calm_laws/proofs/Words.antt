@@ -15,7 +15,7 @@ use Rattle.node_rules.specs.Batches.{out_to, has_number}
 use Rattle.node_rules.specs.Copies.{is_nil}
 use Rattle.node_rules.specs.Effects.{Effects}
 use Rattle.node_rules.specs.Facts.{Facts}
-use Rattle.node_rules.specs.Messages.{unless_stale, state_came, finishes, batch_came, batch_ack_came, unless_spent, progress_came, answer_progress, repl_came, done_by, ack_of, repl_ack_came, ask_came, resolving_if, answered_by, answer_of, answer_came, table_if, merging, merging_all, due_message_of}
+use Rattle.node_rules.specs.Messages.{unless_stale, state_came, finishes, batch_came, batch_ack_came, unless_spent, progress_effects_if, answer_progress, repl_came, done_by, ack_of, repl_ack_came, ask_came, resolving_if, answered_by, answer_of, answer_effects_if, table_if, merging, merging_all, due_message_of}
 use Rattle.node_rules.specs.Notes.{noted, reached, in_view}
 use Rattle.node_rules.specs.Resolving.{done_if, writing, resolving_want}
 use Rattle.node_rules.specs.Settling.{line_if}
@@ -94,7 +94,7 @@ module _ (P : Line → Type 0) (w : Words P) where
   answer_progress_words n now from true = tt
   answer_progress_words n now from false = tt
 
-  progress_words : (n : ℕ) (f now : Facts) (from : ℕ) (wants b : Bool) → Says (progress_came n f now from wants b)
+  progress_words : (n : ℕ) (f now : Facts) (from : ℕ) (wants b : Bool) → Says (progress_effects_if n f now from wants b)
   progress_words n f now from wants true = answer_progress_words n now from _
   progress_words n f now from wants false = (w.stale f.me, tt)
 
@@ -138,7 +138,7 @@ module _ (P : Line → Type 0) (w : Words P) where
   answer_of_words z f clock from v None = (w.spent f.me, tt)
   answer_of_words z f clock from v (Some t) = answered_words z f clock t from v (awaits_answer t from)
 
-  answer_words : Ends P → (f : Facts) (clock from number : ℕ) (v : Option Version) (b : Bool) → Says (answer_came f clock from number v b)
+  answer_words : Ends P → (f : Facts) (clock from number : ℕ) (v : Option Version) (b : Bool) → Says (answer_effects_if f clock from number v b)
   answer_words z f clock from number v true = answer_of_words z f clock from v (transaction f.transactions number)
   answer_words z f clock from number v false = (w.stale f.me, tt)
 

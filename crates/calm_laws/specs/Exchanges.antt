@@ -6,7 +6,7 @@ use Rattle.wire_messages.specs.declared.message.Message.{Message}
 use Rattle.wire_messages.specs.declared.message.Message.TheVariants as message
 use Rattle.node_rules.specs.Copies.{Row}
 use Rattle.node_rules.specs.Exchange.{Exchange, first_missing, is_view, members_of, with_row}
-use Rattle.node_rules.specs.Map.{lacks, row_of}
+use Rattle.node_rules.specs.Map.{lacks, row_of_member}
 use Rattle.journal_readings.specs.Lines.{has_node}
 use Rattle.cluster_rules.specs.World.{World}
 use Rattle.calm_laws.specs.Laws.{CanBeRead}
@@ -40,13 +40,14 @@ LacksRow e = e.exchanged ≡ false → is_none (first_missing e.rows (members_of
 -- the node is in that view and has its own row
 pub record Shares (k : ClusterKey) (set : List Member) (m : ℕ) (row : Row) (e : Exchange) : Type 0 where
   pub view : e.view ≡ Some (record { key = k; members = set })
-  pub own : row_of e.rows m ≡ Some row
+  pub own : row_of_member e.rows m ≡ Some row
 
 -- the rows of a group in a view: each node has its own, which can be sent, and lacks one as long as its exchange isn't
 -- over
 pub record Rows (gs : List ℕ) (k : ClusterKey) (w : World) : Type 0 where
   pub row : ℕ → Row
-  pub own : (m : ℕ) → has_node gs m ≡ true → row_of (w.facts m).exchange.rows m ≡ Some (row m)
+  pub own : (m : ℕ) → has_node gs m ≡ true
+      → row_of_member (w.facts m).exchange.rows m ≡ Some (row m)
   pub reads : (m : ℕ) → has_node gs m ≡ true → (b : Bool) → CanBeRead (message.State k b (row m))
   pub lacking : (m : ℕ) → has_node gs m ≡ true → LacksRow (w.facts m).exchange
 

@@ -18,10 +18,11 @@ use Rattle.cluster_rules.specs.CalmBound.{is_full_line, is_full_round}
 use Rattle.cluster_rules.specs.DueEvents.{due_of}
 use Rattle.journal_readings.specs.Lines.{has_node}
 use Rattle.journal_readings.specs.Messages.{Posting}
-use Rattle.cluster_rules.specs.Network.{client, are_apart}
+use Rattle.cluster_rules.specs.Network.{are_apart}
 use Rattle.cluster_rules.specs.Steps.{play, rounds}
 use Rattle.cluster_rules.specs.World.{World, is_up, up_nodes}
 use Rattle.run_laws.specs.Tied.{Among}
+use Rattle.node_rules.specs.Messages.{client}
 use Rattle.calm_laws.specs.Acts.{Input, Ticks, served, outbox}
 use Rattle.calm_laws.specs.Letters.{letters_from, ins, arriving_at}
 

@@ -8,8 +8,9 @@ use Rattle.cluster_rules.specs.declared.event.Event.{Event}
 use Rattle.cluster_rules.specs.declared.event.Event.TheVariants as event
 use Rattle.cluster_rules.specs.DueEvents.{is_blocked}
 use Rattle.journal_readings.specs.Messages.{Posting}
-use Rattle.cluster_rules.specs.Network.{client, posting_at}
+use Rattle.cluster_rules.specs.Network.{posting_at}
 use Rattle.cluster_rules.specs.World.{World}
+use Rattle.node_rules.specs.Messages.{client}
 use Rattle.calm_laws.specs.Acts.{Input, Ticks, Gets, read_to, effects}
 
 -- ---- postings

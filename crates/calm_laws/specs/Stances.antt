@@ -5,7 +5,7 @@ use Rattle.cluster_types.specs.declared.member.Member.{Member}
 use Rattle.wire_messages.specs.declared.message.Message.{Message}
 use Rattle.wire_messages.specs.declared.message.Message.TheVariants as message
 use Rattle.node_rules.specs.Agreement as agreement
-use Rattle.node_rules.specs.Agreement.{Agreement, Proposal, proposes, without_missing, may_enter, next_key, others}
+use Rattle.node_rules.specs.Agreement.{Agreement, Proposal, proposes, without_missing, may_enter, next_key, others_among}
 use Rattle.node_rules.specs.Copies.{is_nil}
 use Rattle.node_rules.specs.Exchange.{View}
 use Rattle.node_rules.specs.Facts.{Facts}
@@ -20,7 +20,7 @@ stance_of f = record { agreement = f.agreement; view = f.exchange.view; quiet = 
 
 -- the node enters a view
 abbrev pub enters_view : Stance → ClusterKey → List Member → Stance
-enters_view s key ms = record { agreement = agreement.entering s.agreement key; view = Some (record { key = key; members = ms }); quiet = 0 }
+enters_view s key ms = record { agreement = agreement.agreement_entered s.agreement key; view = Some (record { key = key; members = ms }); quiet = 0 }
 
 abbrev pub enters_if : Stance → ClusterKey → List Member → Bool → Stance
 enters_if s key ms true = enters_view s key ms
@@ -54,11 +54,11 @@ proposes_to me s key set [] = enters_view (record s { agreement = agreement.prom
 proposes_to me s key set (n ∷ ns) = record s { agreement = agreement.proposing (agreement.promising s.agreement key) me key set }
 
 abbrev pub promises_if : ℕ → Stance → List Member → Bool → Stance
-promises_if me s set true = promises_to s (next_key me s.agreement) set (others me set)
+promises_if me s set true = promises_to s (next_key me s.agreement) set (others_among me set)
 promises_if me s set false = s
 
 abbrev pub proposes_if : ℕ → Stance → List Member → Bool → Stance
-proposes_if me s set true = proposes_to me s (next_key me s.agreement) set (others me set)
+proposes_if me s set true = proposes_to me s (next_key me s.agreement) set (others_among me set)
 proposes_if me s set false = s
 
 -- the lines of a tick, where that proposal stands, and the test says whether a new one is made otherwise

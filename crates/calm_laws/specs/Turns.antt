@@ -9,15 +9,15 @@ use Rattle.wire_messages.specs.declared.message.Message.{Message}
 use Rattle.wire_messages.specs.declared.message.Message.TheVariants as message
 use Rattle.wire_messages.specs.Keys.{IsKeyField, IsKeyOrNone}
 use Rattle.wire_messages.specs.Nodes.{AreMembersField, IsId}
-use Rattle.node_rules.specs.Agreement.{Proposal, others, seen_round}
+use Rattle.node_rules.specs.Agreement.{Proposal, others_among, seen_round}
 use Rattle.node_rules.specs.Copies.{is_nil}
 use Rattle.node_rules.specs.Hearing.{all_show, member_of}
 use Rattle.node_rules.specs.Notes.{after_ages, neighbours}
 use Rattle.node_rules.specs.Tables.{Table, at, contains}
 use Rattle.journal_readings.specs.Lines.{has_node}
 use Rattle.cluster_rules.specs.World.{World}
-use Rattle.key_laws.specs.Order.{AtMost}
-use Rattle.key_laws.specs.Sound.{Rises}
+use Rattle.key_laws.specs.Order.{KeyAtMost}
+use Rattle.key_laws.specs.Sound.{RisesByNumber}
 use Rattle.run_laws.specs.Tied.{Among}
 use Rattle.calm_laws.specs.Acts.{Gets}
 use Rattle.calm_laws.specs.Flows.{Base, Fresh, HeardAs, inbox, look}
@@ -47,7 +47,7 @@ pub record Inside (k : ClusterKey) (ms : List Member) (s : Stance) : Type 0 wher
 
 -- the node proposes nothing and has promised no greater key; it has entered that view, or none of such a key
 pub record Follows (k : ClusterKey) (ms : List Member) (s : Stance) : Type 0 where
-  pub promised : AtMost s.agreement.promised k
+  pub promised : KeyAtMost s.agreement.promised k
   pub proposal : s.agreement.proposal ≡ None
   pub last : IsBelow s.agreement.last k ⊎ Inside k ms s
 
@@ -85,7 +85,7 @@ Cleared gs w = (m : ℕ) → has_node gs m ≡ true → (from : ℕ) (x : Messag
 
 -- no key that was entered is above the one that was promised
 abbrev pub Ordered : List ℕ → World → Type 0
-Ordered gs w = (m : ℕ) → has_node gs m ≡ true → AtMost (w.facts m).agreement.last (w.facts m).agreement.promised
+Ordered gs w = (m : ℕ) → has_node gs m ≡ true → KeyAtMost (w.facts m).agreement.last (w.facts m).agreement.promised
 
 -- the greatest has seen the round of every promise
 abbrev pub SeenAll : List ℕ → ℕ → World → Type 0
@@ -104,7 +104,7 @@ pub record Ready (ns gs : List ℕ) (g : ℕ) (set : List Member) (w : World) : 
 -- who proposes lacks an answer of some other member, and of other members alone
 abbrev pub Lacking : ℕ → Option Proposal → Type 0
 Lacking me None = Unit {0}
-Lacking me (Some p) = (is_nil p.missing ≡ false) × ((x : ℕ) → contains p.missing x ≡ true → contains (others me p.members) x ≡ true)
+Lacking me (Some p) = (is_nil p.missing ≡ false) × ((x : ℕ) → contains p.missing x ≡ true → contains (others_among me p.members) x ≡ true)
 
 -- what was promised and what is proposed has a spelling
 pub record Fit (gs : List ℕ) (w : World) : Type 0 where
@@ -128,12 +128,12 @@ pub record Listens (gs : List ℕ) (w : World) : Type 0 where
   pub near : (a m : ℕ) → has_node gs a ≡ true → has_node gs m ≡ true → (a ≡ m → ⊥) → HeardAs (Fresh (w.facts a).role m) (w.facts m).hearing.heard a
   pub others : (a m : ℕ) → has_node gs a ≡ false → has_node gs m ≡ true → look (w.facts m).hearing.heard a ≡ None
   pub own : (m : ℕ) → has_node gs m ≡ true → look (w.facts m).hearing.heard m ≡ None
-  pub rises : (m : ℕ) → has_node gs m ≡ true → Rises (w.facts m).hearing.heard
+  pub rises : (m : ℕ) → has_node gs m ≡ true → RisesByNumber (w.facts m).hearing.heard
 
 -- the list is that of the group's nodes with their roles
 pub record Roster (gs : List ℕ) (set : List Member) (w : World) : Type 0 where
   pub table : Table Role
-  pub rises : Rises table
+  pub rises : RisesByNumber table
   pub list : set ≡ reverse (map member_of table)
   pub here : (m : ℕ) → has_node gs m ≡ true → at table m ≡ Some (w.facts m).role
   pub others : (m : ℕ) → has_node gs m ≡ false → at table m ≡ None

@@ -12,7 +12,7 @@ use Rattle.cluster_rules.specs.Runs.{Plays, calming}
 use Rattle.cluster_rules.specs.Steps.{Played, no_steps, play, flow, round, rounds}
 use Rattle.cluster_rules.specs.World.{World}
 use Rattle.cluster_rules.proofs.AllowedLaws.{command_allowed}
-use Rattle.world.specs.Steps.{Run, MayCome, standing, written, next_lines, stepped}
+use Rattle.world.specs.Steps.{RunSoFar, MayCome, standing, run_lines, next_lines, stepped}
 use Rattle.world.proofs.KnownLaws.{same_nodes}
 use Rattle.calm_run.specs.Playing.{PlaysOn, ComesToRest, StopsIn, StandsIn}
 use Rattle.calm_run.proofs.Sequels.{followed_none, not_begun, stands_underway, step_of, stepped_followed, stops_underway}
@@ -40,11 +40,11 @@ whole_may : (n : ℕ) (w : World) (c : Command) (x : Played) → Plays n w c x �
 whole_may n w command.Calm x h = inl h
 whole_may n w c x h = h
 
-pub event_may_come : (r : Run) (c : Command) (e : Event) → event_of c ≡ Some e → IsTrue (is_playable (declared_nodes r.header) c) → MayCome r e
+pub event_may_come : (r : RunSoFar) (c : Command) (e : Event) → event_of c ≡ Some e → IsTrue (is_playable (declared_nodes r.header) c) → MayCome r e
 event_may_come r c e h playable =
     (command_allowed partition_count (standing r) c (play partition_count e (standing r)) (subst (λ (ns : List ℕ). is_playable ns c ≡ true) (sym (same_nodes r)) playable) (plays_event partition_count (standing r) c e h)).0.comes
 
-pub event_played : (old new : Run) (c : Command) (e : Event) → event_of c ≡ Some e → new ≡ stepped old e → PlaysOn old new c
+pub event_played : (old new : RunSoFar) (c : Command) (e : Event) → event_of c ≡ Some e → new ≡ stepped old e → PlaysOn old new c
 unfolding step_of
 event_played old new c e h s = record {
   played = play partition_count e (standing old);
@@ -52,7 +52,7 @@ event_played old new c e h s = record {
   steps = s ∙ stepped_followed old e;
 }
 
-pub event_not_fit : (old new : Run) (c : Command) (e : Event) → event_of c ≡ Some e → new ≡ old → ¬ IsWithin (written old ++ next_lines old e) → StopsIn old new c
+pub event_not_fit : (old new : RunSoFar) (c : Command) (e : Event) → event_of c ≡ Some e → new ≡ old → ¬ IsWithin (run_lines old ++ next_lines old e) → StopsIn old new c
 unfolding step_of next_lines
 event_not_fit old new c e h same passes =
     stops_underway old old new c (play partition_count e (standing old)) (step_of old e ∷ []) [] (step_of old e) []
@@ -60,7 +60,7 @@ event_not_fit old new c e h same passes =
     (not_begun old (step_of old e ∷ []))
     refl
     (same ∙ followed_none old)
-    (subst (λ (r : Run). ¬ IsWithin (written r ++ next_lines old e)) (sym same) passes)
+    (subst (λ (r : RunSoFar). ¬ IsWithin (run_lines r ++ next_lines old e)) (sym same) passes)
 
 -- ---- nothing was taken
 
@@ -76,7 +76,7 @@ may_be_played n w command.Round = record { whole = round n w; plays = refl }
 may_be_played n w command.Calm = record { whole = no_steps w; plays = inr (record { number = 0; uneasy = λ i less. absurd (omega (arith, less)); played = refl }) }
 may_be_played n w c = record { whole = play n _ w; plays = refl }
 
-pub nothing_taken : (old new : Run) (c : Command) → new ≡ old → StandsIn old new c
+pub nothing_taken : (old new : RunSoFar) (c : Command) → new ≡ old → StandsIn old new c
 nothing_taken old new c same =
     let may : MayBePlayed partition_count (standing old) c = may_be_played partition_count (standing old) c in
     stands_underway old old new c may.whole may.whole.steps [] may.whole.steps may.plays (not_begun old may.whole.steps) refl (same ∙ followed_none old)
@@ -89,7 +89,7 @@ is_calm_command command.Calm e flows rounds = refl
 is_calm_command c e flows rounds = absurd (not_none _ (sym e))
 
 -- rounds up to calm, and their number told, are what calm plays
-pub rest_played : (old new : Run) (c : Command) (count : ℕ) → c ≡ command.Calm → ComesToRest old new count → PlaysOn old new c
+pub rest_played : (old new : RunSoFar) (c : Command) (count : ℕ) → c ≡ command.Calm → ComesToRest old new count → PlaysOn old new c
 rest_played old new c count same h =
     subst (PlaysOn old new) (sym same) (record {
       played = calming partition_count count (standing old);

@@ -11,25 +11,25 @@ use Rattle.run_laws.specs.Taken.{Taken}
 use Rattle.calm_laws.specs.Claims.{AreInTime, MayComeIn}
 use Rattle.calm_laws.proofs.Onward.{taken_front}
 use Rattle.calm_laws.proofs.Runs.{whole_in_time}
-use Rattle.world.specs.Steps.{Run, standing, written}
+use Rattle.world.specs.Steps.{RunSoFar, standing, run_lines}
 use Rattle.calm_run.specs.Playing.{ComesToRest, PlaysOn, RestsInTime, followed}
 
 -- the steps that were added may come, as the journal with their lines passes no limit
-may_come : (old new : Run) (ss : List Step) → new ≡ followed old ss → Taken new.header new.steps → IsWithin (written new) → MayComeIn old.header old.steps ss
-unfolding written
+may_come : (old new : RunSoFar) (ss : List Step) → new ≡ followed old ss → Taken new.header new.steps → IsWithin (run_lines new) → MayComeIn old.header old.steps ss
+unfolding run_lines
 may_come old new ss steps taken within = record {
-  taken = taken_front old.header old.steps ss (subst (λ (r : Run). Taken r.header r.steps) steps taken);
-  room = omega (arith, within.lines_fit, length-append (header_lines new.header) (all_lines new.steps), ap (λ (r : Run). length (all_lines r.steps)) steps);
+  taken = taken_front old.header old.steps ss (subst (λ (r : RunSoFar). Taken r.header r.steps) steps taken);
+  room = omega (arith, within.lines_fit, length-append (header_lines new.header) (all_lines new.steps), ap (λ (r : RunSoFar). length (all_lines r.steps)) steps);
 }
 
-pub rounds_in_time : (old new : Run) (rounds : ℕ) → ComesToRest old new rounds → Taken new.header new.steps → IsWithin (written new) → AreInTime (standing old) rounds
+pub rounds_in_time : (old new : RunSoFar) (rounds : ℕ) → ComesToRest old new rounds → Taken new.header new.steps → IsWithin (run_lines new) → AreInTime (standing old) rounds
 unfolding standing
 rounds_in_time old new rounds rest taken within =
     whole_in_time old.header old.steps (calming partition_count rounds (standing old)) (record { number = rounds; reached = rest.least; played = refl })
     (may_come old new (calming partition_count rounds (standing old)).steps rest.steps taken within)
 
 -- the same of the command
-pub rests_in_time : (old new : Run) (c : Command) → c ≡ command.Calm → PlaysOn old new c → Taken new.header new.steps → IsWithin (written new) → RestsInTime old new
+pub rests_in_time : (old new : RunSoFar) (c : Command) → c ≡ command.Calm → PlaysOn old new c → Taken new.header new.steps → IsWithin (run_lines new) → RestsInTime old new
 rests_in_time old new c is played taken within =
     let p : PlaysOn old new command.Calm = subst (PlaysOn old new) is played in
     let k : Calms partition_count (standing old) p.played = p.plays in

@@ -17,7 +17,7 @@ use Rattle.node_rules.specs.Standing.{is_at_rest_of}
 use Rattle.cluster_rules.specs.Calm.{share_view, is_group_at_rest, is_calm_of}
 use Rattle.cluster_rules.specs.DueEvents.{arriving, due_of, delivery, unless_blocked, is_blocked, sent_lines}
 use Rattle.cluster_rules.specs.Network.{flying_at, landed}
-use Rattle.cluster_rules.specs.Steps.{Played, and_then, play, play_all, all_lines, flow, flows, round}
+use Rattle.cluster_rules.specs.Steps.{Played, then_played, play, play_all, all_lines, flow, flows, round}
 use Rattle.cluster_rules.specs.World.{World, is_up, up_nodes}
 
 -- there is a line
@@ -58,7 +58,7 @@ deliver_writes n w i =
 -- ---- a round
 
 -- what is played writes a line if its first event does
-events_write : (n : ℕ) (w : World) (e : Event) (es : List Event) (tail : World → Played) → HasLine (due_of n w e) → HasLine (all_lines (and_then (play_all n (e ∷ es) w) tail).steps)
+events_write : (n : ℕ) (w : World) (e : Event) (es : List Event) (tail : World → Played) → HasLine (due_of n w e) → HasLine (all_lines (then_played (play_all n (e ∷ es) w) tail).steps)
 events_write n w e es tail h =
     writes_more (due_of n w e) (all_lines ((play_all n es (play n e w).world).steps ++ (tail (play_all n es (play n e w).world).world).steps)) h
 
@@ -90,10 +90,10 @@ still_calm : (n : ℕ) (w : World) → IsNobodyUp w → w.network.flying ≡ [] 
 still_calm n w h e = ap (λ (is : List ℕ). list_all (is_group_at_rest n w) w.network.groups && is_nil is) e ∙ ap (λ b. b && true) (all_rest n w w.network.groups h)
 
 flow_writes : (n : ℕ) (w : World) (tail : World → Played) (flying : List ℕ) → w.network.flying ≡ flying → (flying ≡ [] → ⊥)
-    → HasLine (all_lines (and_then (flow n w) tail).steps)
+    → HasLine (all_lines (then_played (flow n w) tail).steps)
 flow_writes n w tail [] e some = absurd (some refl)
 flow_writes n w tail (i ∷ flying) e some =
-    subst (λ (is : List ℕ). HasLine (all_lines (and_then (play_all n (map event.Deliver is) w) tail).steps)) (sym e)
+    subst (λ (is : List ℕ). HasLine (all_lines (then_played (play_all n (map event.Deliver is) w) tail).steps)) (sym e)
     (events_write n w (event.Deliver i) (map event.Deliver flying) tail (deliver_writes n w i))
 
 -- a round of a world that isn't calm has a line
@@ -105,10 +105,10 @@ round_has_line n w known uneasy = go (up_nodes w) refl
 
     go : (ups : List ℕ) → up_nodes w ≡ ups → HasLine (all_lines (round n w).steps)
     go [] e =
-        subst (λ (ns : List ℕ). HasLine (all_lines (and_then (play_all n (map event.Tick ns) w) (flows n 4)).steps)) (sym e)
+        subst (λ (ns : List ℕ). HasLine (all_lines (then_played (play_all n (map event.Tick ns) w) (flows n 4)).steps)) (sym e)
         (flow_writes n w (flows n 3) w.network.flying refl (λ none. differ (is_calm_of n w) (still_calm n w (nobody_up w known e) none) uneasy))
     go (m ∷ ups) e =
-        subst (λ (ns : List ℕ). HasLine (all_lines (and_then (play_all n (map event.Tick ns) w) (flows n 4)).steps)) (sym e)
+        subst (λ (ns : List ℕ). HasLine (all_lines (then_played (play_all n (map event.Tick ns) w) (flows n 4)).steps)) (sym e)
         (events_write n w (event.Tick m) (map event.Tick ups) (flows n 4) (tick_writes n w m))
 
 pub round_writes : (n : ℕ) (w : World) → ((m : ℕ) → is_up w m ≡ true → Has w.nodes m) → is_calm_of n w ≡ false → 0 < length (all_lines (round n w).steps)

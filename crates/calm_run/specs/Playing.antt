@@ -8,44 +8,44 @@ use Rattle.cluster_rules.specs.FrontRuns.{IsFrontOf}
 use Rattle.cluster_rules.specs.Runs.{Plays, ComesToCalm, calming}
 use Rattle.cluster_rules.specs.Steps.{Step, Played}
 use Rattle.calm_laws.specs.Claims.{AreInTime}
-use Rattle.world.specs.Steps.{Run, standing, written}
+use Rattle.world.specs.Steps.{RunSoFar, standing, run_lines}
 
 -- the run with more steps
-abbrev pub followed : Run → List Step → Run
+abbrev pub followed : RunSoFar → List Step → RunSoFar
 followed r steps = record r { steps = r.steps ++ steps }
 
 -- the command was played whole
-pub record PlaysOn (old new : Run) (c : Command) : Type 0 where
+pub record PlaysOn (old new : RunSoFar) (c : Command) : Type 0 where
   pub played : Played
   pub plays : Plays partition_count (standing old) c played
   pub steps : new ≡ followed old played.steps
 
 -- so many rounds were played, of which the world was calm after the last and not before, and their number told
-pub record ComesToRest (old new : Run) (rounds : ℕ) : Type 0 where
+pub record ComesToRest (old new : RunSoFar) (rounds : ℕ) : Type 0 where
   pub least : ComesToCalm partition_count (standing old) rounds
   pub steps : new ≡ followed old (calming partition_count rounds (standing old)).steps
 
 -- calm was played whole, and its rounds are in time
-pub record RestsInTime (old new : Run) : Type 0 where
+pub record RestsInTime (old new : RunSoFar) : Type 0 where
   pub rounds : ℕ
   pub rest : ComesToRest old new rounds
   pub in_time : AreInTime (standing old) rounds
 
 -- the command was begun; the lines of the step that comes next don't fit behind those of the steps that were taken
-pub record StopsIn (old new : Run) (c : Command) : Type 0 where
+pub record StopsIn (old new : RunSoFar) (c : Command) : Type 0 where
   pub taken : List Step
   pub next : Step
   pub begun : IsBegun partition_count (standing old) c taken next
   pub steps : new ≡ followed old taken
-  pub passes : ¬ IsWithin (written new ++ next.lines)
+  pub passes : ¬ IsWithin (run_lines new ++ next.lines)
 
 -- some first steps of the command were taken
-pub record StandsIn (old new : Run) (c : Command) : Type 0 where
+pub record StandsIn (old new : RunSoFar) (c : Command) : Type 0 where
   pub taken : List Step
   pub front : IsFrontOf partition_count (standing old) c taken
   pub steps : new ≡ followed old taken
 
 -- lines were added, and the journal still fits: so rounds of a world that isn't calm come to an end
-pub record WritesMore (old new : Run) : Type 0 where
-  pub more : length (written old) < length (written new)
-  pub within : IsWithin (written new)
+pub record WritesMore (old new : RunSoFar) : Type 0 where
+  pub more : length (run_lines old) < length (run_lines new)
+  pub within : IsWithin (run_lines new)

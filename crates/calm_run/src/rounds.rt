@@ -7,7 +7,7 @@ ghost use Rattle.cluster_rules.specs.Opening.{declared_nodes};
 ghost use Rattle.calm_laws.specs.Claims.{AreInTime};
 ghost use Rattle.calm_run.specs.Playing.{PlaysOn, ComesToRest, RestsInTime, StopsIn, StandsIn, WritesMore};
 ghost use Rattle.world.specs.Claims.{HasClaims};
-ghost use Rattle.world.specs.Steps.{standing, written};
+ghost use Rattle.world.specs.Steps.{standing, run_lines};
 
 use crate::event_of::event_of;
 use cluster_rules::Event;
@@ -26,7 +26,7 @@ pub fn play(alloc: Global, world: &mut World, command: &Command) -> Result<(), S
     ensures rests { command.now ≡ command_of.Calm → OnOk result (RestsInTime world.old world.new) }
     ensures too_long { IsErrOf result StepFault.RunTooLong → StopsIn world.old world.new command.now }
     ensures err { OnErr result (StandsIn world.old world.new command.now) }
-    ensures claims { HasClaims (written world.new) }
+    ensures claims { HasClaims (run_lines world.new) }
 {
     let answer = play_command(alloc, world, command);
     // What the journal ensures of its lines.
@@ -63,7 +63,7 @@ pub fn calm(alloc: Global, world: &mut World) -> Result<u64, StepFault>
     ensures in_time { IfOk result (AreInTime (standing world.old)) }
     ensures too_long { IsErrOf result StepFault.RunTooLong → StopsIn world.old world.new command_of.Calm }
     ensures err { OnErr result (StandsIn world.old world.new command_of.Calm) }
-    ensures claims { HasClaims (written world.new) }
+    ensures claims { HasClaims (run_lines world.new) }
 {
     let rounds = come_to_rest(alloc, world);
     // What the journal ensures of its lines.

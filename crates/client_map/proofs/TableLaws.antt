@@ -8,7 +8,7 @@ use Rattle.cluster_types.specs.Rows.{bit}
 use Rattle.wire_messages.specs.declared.message.MapTable.{MapTable}
 use Rattle.node_rules.specs.Client.{Tables, is_later_at, latest_at, node_for}
 use Rattle.client_map.specs.declared.client_map.Entry.{Entry}
-use Rattle.client_map.specs.Entries.{Holds, entry_at, is_later, later_entry, told_at}
+use Rattle.client_map.specs.Entries.{Holds, told_entry, is_later, later_entry, told_at}
 use Rattle.client_map.proofs.BestLaws.{IsStrict, best_more, none_best, later_of}
 
 -- whether the first of two keys is greater, or it is the same and only the first has moved
@@ -42,25 +42,25 @@ later_is_strict p = record {
   through = λ a b c h i. beats_through a.key.round a.key.principal (bit a.moved p) b.key.round b.key.principal (bit b.moved p) c.key.round c.key.principal (bit c.moved p) h i;
 }
 
-entry_of_later : (p : ℕ) (o : Option MapTable) (t : MapTable) → later_entry (option_map (entry_at p) o) (entry_at p t) ≡ entry_at p (later_of (is_later_at p) o t)
+entry_of_later : (p : ℕ) (o : Option MapTable) (t : MapTable) → later_entry (option_map (told_entry p) o) (told_entry p t) ≡ told_entry p (later_of (is_later_at p) o t)
 entry_of_later p None t = refl
 entry_of_later p (Some u) t = go (is_later_at p t u) refl
   where
-    go : (b : Bool) → is_later_at p t u ≡ b → cond (is_later_at p t u) (entry_at p t) (entry_at p u) ≡ entry_at p (cond (is_later_at p t u) t u)
+    go : (b : Bool) → is_later_at p t u ≡ b → cond (is_later_at p t u) (told_entry p t) (told_entry p u) ≡ told_entry p (cond (is_later_at p t u) t u)
     go true h = rw h refl
     go false h = rw h refl
 
 -- one more table: what it tells takes the place of what was told, if it is later
-pub told_more : (ts : Tables) (t : MapTable) (p : ℕ) → told_at (ts ++ t ∷ []) p ≡ Some (later_entry (told_at ts p) (entry_at p t))
+pub told_more : (ts : Tables) (t : MapTable) (p : ℕ) → told_at (ts ++ t ∷ []) p ≡ Some (later_entry (told_at ts p) (told_entry p t))
 told_more ts t p =
-    ap (option_map (entry_at p)) (best_more (is_later_at p) (later_is_strict p) ts t)
+    ap (option_map (told_entry p)) (best_more (is_later_at p) (later_is_strict p) ts t)
     ∙ ap Some (sym (entry_of_later p (latest_at ts p) t))
 
 -- the node is that of the entry
 pub node_told : (ts : Tables) (p : ℕ) → option_map (λ e. e.node) (told_at ts p) ≡ node_for ts p
 node_told ts p = go (latest_at ts p)
   where
-    go : (o : Option MapTable) → option_map (λ e. e.node) (option_map (entry_at p) o) ≡ option_map (λ t. slice_index t.ids p) o
+    go : (o : Option MapTable) → option_map (λ e. e.node) (option_map (told_entry p) o) ≡ option_map (λ t. slice_index t.ids p) o
     go None = refl
     go (Some t) = refl
 
@@ -74,13 +74,13 @@ told_of_some ts p some none = some (none_best (is_later_at p) (later_is_strict p
 
 -- entries of which each is the later one are those of one more table
 pub refreshed : (ts : Tables) (t : MapTable) (n : ℕ) (new rest before now : List (Option Entry)) → n ≡ length new → before ≡ now → Holds ts now
-    → ((p : ℕ) → p < partition_count → slice_index_or new p None ≡ Some (later_entry (slice_index_or before p None) (entry_at p t)))
+    → ((p : ℕ) → p < partition_count → slice_index_or new p None ≡ Some (later_entry (slice_index_or before p None) (told_entry p t)))
     → Holds (ts ++ t ∷ []) (take n (new ++ rest))
 refreshed ts t n new rest before now size same holds each = record {
   told = λ p within.
       ap (λ (entries : List (Option Entry)). slice_index_or entries p None) (ap (λ k. take k (new ++ rest)) size ∙ take-append_seam new rest)
       ∙ each p within
-      ∙ ap (λ (entries : List (Option Entry)). Some (later_entry (slice_index_or entries p None) (entry_at p t))) same
-      ∙ ap (λ o. Some (later_entry o (entry_at p t))) (holds.told p within)
+      ∙ ap (λ (entries : List (Option Entry)). Some (later_entry (slice_index_or entries p None) (told_entry p t))) same
+      ∙ ap (λ o. Some (later_entry o (told_entry p t))) (holds.told p within)
       ∙ sym (told_more ts t p);
 }

@@ -9,8 +9,8 @@ use Rattle.node_rules.specs.Keys.{same_key}
 use Rattle.client_map.specs.declared.client_map.Entry.{Entry}
 
 -- what a table tells of a partition
-abbrev pub entry_at : ℕ → MapTable → Entry
-entry_at p t = record { key = t.key; moved = bit t.moved p; node = slice_index t.ids p }
+abbrev pub told_entry : ℕ → MapTable → Entry
+told_entry p t = record { key = t.key; moved = bit t.moved p; node = slice_index t.ids p }
 
 -- whether the first entry has a greater key, or the same key and only it has moved
 abbrev pub is_later : Entry → Entry → Bool
@@ -23,7 +23,7 @@ later_entry (Some before) e = if is_later e before then e else before
 
 -- what the table that counts for the partition tells of it
 abbrev pub told_at : Tables → ℕ → Option Entry
-told_at ts p = option_map (entry_at p) (latest_at ts p)
+told_at ts p = option_map (told_entry p) (latest_at ts p)
 
 -- the entries are those of these tables
 pub record Holds (ts : Tables) (entries : List (Option Entry)) : Type 0 where

@@ -3,7 +3,7 @@ ghost use Rattle.std.specs.Prelude.{◌≡◌, ◌≢◌, ◌<◌, ◌++◌, ◌
 ghost use Rattle.cluster_types.specs.Partitions.{partition_count};
 ghost use Rattle.std.specs.Option.{option_map};
 ghost use Rattle.node_rules.specs.Client.{Tables, node_for};
-ghost use Rattle.client_map.specs.Entries.{Holds, entry_at, is_later, later_entry};
+ghost use Rattle.client_map.specs.Entries.{Holds, told_entry, is_later, later_entry};
 
 use cluster_types::partition::PARTITIONS;
 use cluster_types::{ClusterKey, NoMemory, NodeId, PartitionId};
@@ -79,7 +79,7 @@ fn no_entries(alloc: Global) -> Result<Vec<Option<Entry>>, NoMemory>
 /// The later of each partition's entry and of what the table tells of it.
 fn refresh_each(entries: &mut [Option<Entry>], table: &MapTable)
     requires { length entries.old ≡ partition_count }
-    ensures { (p : ℕ) → p < partition_count → slice_index_or entries.new p None ≡ Some (later_entry (slice_index_or entries.old p None) (entry_at p table.now)) }
+    ensures { (p : ℕ) → p < partition_count → slice_index_or entries.new p None ≡ Some (later_entry (slice_index_or entries.old p None) (told_entry p table.now)) }
 {
     for number in 0..PARTITIONS {
         if let Some(p) = PartitionId::new(number) {
@@ -102,7 +102,7 @@ fn node_in(entries: &[Option<Entry>], p: PartitionId) -> Option<NodeId>
 
 /// What the table tells of the partition.
 fn entry_of(table: &MapTable, p: PartitionId) -> Entry
-    ensures { result ≡ entry_at p table.now }
+    ensures { result ≡ told_entry p table.now }
 {
     Entry {
         key: table.key,

@@ -7,8 +7,8 @@ use Rattle.cluster_laws.specs.Ground.{Ground, IsGround}
 use Rattle.cluster_laws.specs.Stay.{Stay}
 use Rattle.cluster_laws.specs.Picture.{Seen, Owed, Picture, start}
 use Rattle.cluster_laws.specs.Effect.{Effect, effect}
-use Rattle.cluster_laws.specs.Changes.{act, holding, merging}
-use Rattle.cluster_laws.specs.Licences.{Ok, after, after_all, Licensed}
+use Rattle.cluster_laws.specs.Changes.{act, holding, seen_after_merge}
+use Rattle.cluster_laws.specs.Licences.{Ok, picture_after, picture_after_all, Licensed}
 use Rattle.cluster_laws.proofs.At.{numbers, changed_either, stay_here, some_same, no_some, differ}
 use Rattle.cluster_laws.proofs.Allowed.{Allowed, allowed}
 use Rattle.cluster_laws.proofs.Stays.{entered_kept, entered_start}
@@ -37,8 +37,8 @@ pub record Sound (G : Ground) (w : Picture) : Type 0 where
 
 -- ---- what is owed
 
-paid : (G : Ground) (w : Picture) (l : Line) → Ok G w l → Paid G w (after G w l)
-paid G w (line.Merge n k d u) ok o e = subst (λ (z : Owed). AtMost G.by (Some z.version) (((after G w (line.Merge n k d u)).stay z.node z.key).held z.digest)) (sym (ok.owed o e))
+paid : (G : Ground) (w : Picture) (l : Line) → Ok G w l → Paid G w (picture_after G w l)
+paid G w (line.Merge n k d u) ok o e = subst (λ (z : Owed). AtMost G.by (Some z.version) (((picture_after G w (line.Merge n k d u)).stay z.node z.key).held z.digest)) (sym (ok.owed o e))
     (subst (λ (s : Stay). AtMost G.by (Some u) (s.held d)) (sym (stay_here w.stay n k (holding G d u (w.stay n k)))) (version_there G.by (w.stay n k).held d u))
 paid G w (line.Tick n) ok o e = no_some (sym ok.0 ∙ e)
 paid G w _ ok o e = no_some (sym ok.0 ∙ e)
@@ -48,8 +48,9 @@ owes_in_view G w (line.Merge n k d u) ok o e = subst (λ (z : Owed). (w.node z.n
 owes_in_view G w (line.Tick n) ok o e = no_some (sym ok.0 ∙ e)
 owes_in_view G w _ ok o e = no_some (sym ok.0 ∙ e)
 
-stops_quietly : (G : Ground) (w : Picture) (l : Line) → Ok G w l → StopsQuietly w (after G w l)
-stops_quietly G w (line.Merge n k d u) ok m = inr (changed_either numbers (λ (x : Seen). x.view ≡ (w.node m).view) w.node n (merging G k d u (w.node n)) m (λ i. ap (λ (z : ℕ). (w.node z).view) i) (λ _. refl))
+stops_quietly : (G : Ground) (w : Picture) (l : Line) → Ok G w l
+    → StopsQuietly w (picture_after G w l)
+stops_quietly G w (line.Merge n k d u) ok m = inr (changed_either numbers (λ (x : Seen). x.view ≡ (w.node m).view) w.node n (seen_after_merge G k d u (w.node n)) m (λ i. ap (λ (z : ℕ). (w.node z).view) i) (λ _. refl))
 stops_quietly G w (line.Tick n) ok m = inl ok.0
 stops_quietly G w _ ok m = inl ok.0
 
@@ -79,11 +80,11 @@ whole_kept G w e ok g a p pd = let k : Known G (act G e w) = known_kept G w e ok
   fine = fine_kept G w e ok g a.known a.based b a.folded a.settled a.writers a.fine;
 }
 
-pub sound_kept : (G : Ground) → IsGround G → (w : Picture) (l : Line) → Sound G w → Ok G w l → Sound G (after G w l)
+pub sound_kept : (G : Ground) → IsGround G → (w : Picture) (l : Line) → Sound G w → Ok G w l → Sound G (picture_after G w l)
 sound_kept G ground w l s ok =
     let al : Allowed G w (effect w l) = allowed G w l ok in
-    let g : Grows G.by w (after G w l) = grows G w (effect w l) al s.whole.known.entered s.whole.known.own s.whole.known.txns in
-    let wh : Whole_picture G (after G w l) = whole_kept G w (effect w l) al g s.whole s.applied (paid G w l ok) in
+    let g : Grows G.by w (picture_after G w l) = grows G w (effect w l) al s.whole.known.entered s.whole.known.own s.whole.known.txns in
+    let wh : Whole_picture G (picture_after G w l) = whole_kept G w (effect w l) al g s.whole s.applied (paid G w l ok) in
     record {
       whole = wh;
       snap = snap_kept G w (effect w l) al g s.whole s.stamps s.snap;
@@ -122,20 +123,20 @@ sound_start G = record {
 }
 
 -- at every line
-sound_along : (G : Ground) → IsGround G → (ls : List Line) (w : Picture) (i : ℕ) → Sound G w → Licensed G w ls → Sound G (after_all G w (take i ls))
+sound_along : (G : Ground) → IsGround G → (ls : List Line) (w : Picture) (i : ℕ) → Sound G w → Licensed G w ls → Sound G (picture_after_all G w (take i ls))
 sound_along G ground [] w zero s ok = s
 sound_along G ground [] w (suc i) s ok = s
 sound_along G ground (l ∷ ls) w zero s ok = s
-sound_along G ground (l ∷ ls) w (suc i) s ok = sound_along G ground ls (after G w l) i (sound_kept G ground w l s ok.0) ok.1
+sound_along G ground (l ∷ ls) w (suc i) s ok = sound_along G ground ls (picture_after G w l) i (sound_kept G ground w l s ok.0) ok.1
 
-pub sound_at : (G : Ground) → IsGround G → (ls : List Line) (i : ℕ) → Licensed G start ls → Sound G (after_all G start (take i ls))
+pub sound_at : (G : Ground) → IsGround G → (ls : List Line) (i : ℕ) → Licensed G start ls → Sound G (picture_after_all G start (take i ls))
 sound_at G ground ls i ok = sound_along G ground ls start i (sound_start G) ok
 
-ok_along : (G : Ground) (ls : List Line) (w : Picture) (i : ℕ) (l : Line) → Licensed G w ls → slice_get ls i ≡ Some l → Ok G (after_all G w (take i ls)) l
+ok_along : (G : Ground) (ls : List Line) (w : Picture) (i : ℕ) (l : Line) → Licensed G w ls → slice_get ls i ≡ Some l → Ok G (picture_after_all G w (take i ls)) l
 ok_along G [] w i l ok e = no_some e
 ok_along G (y ∷ ls) w zero l ok e = subst (Ok G w) (some_same e) ok.0
-ok_along G (y ∷ ls) w (suc i) l ok e = ok_along G ls (after G w y) i l ok.1 e
+ok_along G (y ∷ ls) w (suc i) l ok e = ok_along G ls (picture_after G w y) i l ok.1 e
 
 -- each line has its licence
-pub ok_at : (G : Ground) (ls : List Line) (i : ℕ) (l : Line) → Licensed G start ls → slice_get ls i ≡ Some l → Ok G (after_all G start (take i ls)) l
+pub ok_at : (G : Ground) (ls : List Line) (i : ℕ) (l : Line) → Licensed G start ls → slice_get ls i ≡ Some l → Ok G (picture_after_all G start (take i ls)) l
 ok_at G ls i l ok e = ok_along G ls start i l ok e

@@ -14,7 +14,7 @@ use Rattle.node_rules.specs.Transactions.{Write}
 use Rattle.cluster_laws.specs.Ground.{Ground}
 use Rattle.cluster_laws.specs.Stay.{Running}
 use Rattle.cluster_laws.specs.Picture.{Packet, Picture}
-use Rattle.cluster_laws.specs.Effect.{Effect, Nothing, Sets_clock, Enters, Stops, Exchanges, Opens, Answers, Applies, Finishes, Gives_up, Merges, Hands, Settles, Learns, Drops, Sends, Row_came, Batch_acked, Told, Write_came, Write_acked, Answered, is_view, effect_if, batch_ack, write_ack, answer, comes, comes_if, arrives, arrives_cut, effect}
+use Rattle.cluster_laws.specs.Effect.{Effect, Nothing, Sets_clock, Enters, Stops, Exchanges, Opens, Answers, Applies, Finishes, Gives_up, Merges, Hands, Settles, Learns, Drops, Sends, Row_came, Batch_acked, Told, Write_came, Write_acked, Answered, is_view_key, effect_if, batch_ack, write_ack, answer_effect, comes, comes_if, arrives, arrives_cut, effect}
 use Rattle.cluster_laws.specs.Licences.{WasSent, MayEnter, MayExchange, MayOpen, MayAnswer, MayApply, MayFinish, MayGiveUp, MayMerge, MayHand, MaySettle, MayLearn, MayDrop, MaySendIf, Ok}
 use Rattle.cluster_laws.proofs.At.{key_same, number_same, and_left, and_right}
 
@@ -77,7 +77,7 @@ Allowed G w (Write_came n k from nth d v) = WriteCame w n k from nth d v
 Allowed G w (Write_acked n k from t y) = WriteAcked w n k from t y
 Allowed G w (Answered n k from t v y) = WasAnswered w n k from t v y
 
-view_is : (o : Option ClusterKey) (k : ClusterKey) → is_view o k ≡ true → o ≡ Some k
+view_is : (o : Option ClusterKey) (k : ClusterKey) → is_view_key o k ≡ true → o ≡ Some k
 view_is None k e = absurd (grind arith)
 view_is (Some j) k e = ap Some (key_same j k e)
 
@@ -103,21 +103,21 @@ allowed_write_ack G w n k from t (Some y) e c = allowed_if G w (Write_acked n k 
     (λ i. let u = is_there y.applied (and_left (is_some y.applied) (contains y.awaiting from) i) in
     record { running = e; write = u.0; applied = u.1; awaited = and_right (is_some y.applied) (contains y.awaiting from) i; came = c })
 
-allowed_answer : (G : Ground) (w : Picture) (n : ℕ) (k : ClusterKey) (from t : ℕ) (v : Option Version) (o : Option Running) → (w.stay n k).running t ≡ o → Came w n k from (message.Answer k t v) → Allowed G w (answer n k from t v o)
+allowed_answer : (G : Ground) (w : Picture) (n : ℕ) (k : ClusterKey) (from t : ℕ) (v : Option Version) (o : Option Running) → (w.stay n k).running t ≡ o → Came w n k from (message.Answer k t v) → Allowed G w (answer_effect n k from t v o)
 allowed_answer G w n k from t v None e c = tt
 allowed_answer G w n k from t v (Some y) e c = allowed_if G w (Answered n k from t v y) (not (is_some y.applied) && contains y.awaiting from)
     (λ i. record { running = e; unapplied = not_there y.applied (and_left (not (is_some y.applied)) (contains y.awaiting from) i); awaited = and_right (not (is_some y.applied)) (contains y.awaiting from) i; came = c })
 
-came_in : (w : Picture) (n : ℕ) (k : ClusterKey) (from : ℕ) (m : Message) → WasSent w from n m → is_view (w.node n).view k ≡ true → Came w n k from m
+came_in : (w : Picture) (n : ℕ) (k : ClusterKey) (from : ℕ) (m : Message) → WasSent w from n m → is_view_key (w.node n).view k ≡ true → Came w n k from m
 came_in w n k from m s e = record { view = view_is (w.node n).view k e; sent = s }
 
 allowed_comes : (G : Ground) (w : Picture) (n from : ℕ) (m : Message) → WasSent w from n m → Allowed G w (comes w n from m)
-allowed_comes G w n from (message.State k wants row) s = allowed_if G w (Row_came n k from) (is_view (w.node n).view k) (λ e. record { wants = wants; row = row; came = came_in w n k from _ s e })
-allowed_comes G w n from (message.BatchAck k number) s = allowed_if G w (batch_ack n k from number ((w.stay n k).out from)) (is_view (w.node n).view k) (λ e. allowed_batch_ack G w n k from number _ refl (came_in w n k from _ s e))
-allowed_comes G w n from (message.Progress k wants done handed settled) s = allowed_if G w (Told n k from done handed settled) (is_view (w.node n).view k) (λ e. record { wants = wants; came = came_in w n k from _ s e })
-allowed_comes G w n from (message.Repl k t nth d v) s = allowed_if G w (Write_came n k from nth d v) (is_view (w.node n).view k) (λ e. record { number = t; came = came_in w n k from _ s e })
-allowed_comes G w n from (message.ReplAck k t) s = allowed_if G w (write_ack n k from t ((w.stay n k).running t)) (is_view (w.node n).view k) (λ e. allowed_write_ack G w n k from t _ refl (came_in w n k from _ s e))
-allowed_comes G w n from (message.Answer k t v) s = allowed_if G w (answer n k from t v ((w.stay n k).running t)) (is_view (w.node n).view k) (λ e. allowed_answer G w n k from t v _ refl (came_in w n k from _ s e))
+allowed_comes G w n from (message.State k wants row) s = allowed_if G w (Row_came n k from) (is_view_key (w.node n).view k) (λ e. record { wants = wants; row = row; came = came_in w n k from _ s e })
+allowed_comes G w n from (message.BatchAck k number) s = allowed_if G w (batch_ack n k from number ((w.stay n k).out from)) (is_view_key (w.node n).view k) (λ e. allowed_batch_ack G w n k from number _ refl (came_in w n k from _ s e))
+allowed_comes G w n from (message.Progress k wants done handed settled) s = allowed_if G w (Told n k from done handed settled) (is_view_key (w.node n).view k) (λ e. record { wants = wants; came = came_in w n k from _ s e })
+allowed_comes G w n from (message.Repl k t nth d v) s = allowed_if G w (Write_came n k from nth d v) (is_view_key (w.node n).view k) (λ e. record { number = t; came = came_in w n k from _ s e })
+allowed_comes G w n from (message.ReplAck k t) s = allowed_if G w (write_ack n k from t ((w.stay n k).running t)) (is_view_key (w.node n).view k) (λ e. allowed_write_ack G w n k from t _ refl (came_in w n k from _ s e))
+allowed_comes G w n from (message.Answer k t v) s = allowed_if G w (answer_effect n k from t v ((w.stay n k).running t)) (is_view_key (w.node n).view k) (λ e. allowed_answer G w n k from t v _ refl (came_in w n k from _ s e))
 allowed_comes G w n from _ s = tt
 
 allowed_packet : (G : Ground) (w : Picture) (i : ℕ) (p : Packet) → w.packet i ≡ Some p → (o : Option Message) → p.message ≡ o → Allowed G w (comes_if w p.to p.from o)

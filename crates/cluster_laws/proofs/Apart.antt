@@ -7,10 +7,10 @@ use Rattle.cluster_types.specs.Partitions.{partition_of}
 use Rattle.node_rules.specs.Keys.{same_key}
 use Rattle.node_rules.specs.Stamps.{no_class, recounted, spoiled}
 use Rattle.cluster_laws.specs.Changed.{at_number}
-use Rattle.cluster_laws.specs.Ground.{Ground, master, all_empty, is_replica}
+use Rattle.cluster_laws.specs.Ground.{Ground, view_master, is_view_empty, is_view_replica}
 use Rattle.cluster_laws.specs.Stay.{Versions, Stay}
 use Rattle.cluster_laws.specs.Picture.{Seen}
-use Rattle.cluster_laws.specs.Changes.{count, stamp_if, whole_where_empty, writing, merging, learning, dropping, counting, recounted_if, with_version, without_part}
+use Rattle.cluster_laws.specs.Changes.{copy_count, stamp_if, whole_where_empty, seen_after_write, seen_after_merge, seen_after_learning, seen_after_drop, seen_after_count, recounted_if, with_version, without_part}
 use Rattle.cluster_laws.proofs.At.{numbers, digests, changed_here, changed_other, number_same, number_cases, key_same, some_same, no_some}
 
 -- the stamp counts nothing, and was there under its key
@@ -31,11 +31,11 @@ other_key : {C : Type 0} (j k : ClusterKey) (b c : ℕ) → (j ≡ k → ⊥) �
 other_key {C} j k b c apart e = absurd (apart (ap (λ (z : ClusterKey × ℕ). z.0) (some_same e)))
 
 pub apart_exchange : (G : Ground) (n : ℕ) (j k : ClusterKey) (x : Seen) (s : Stay) → (j ≡ k → ⊥) → Apart k x x.content (whole_where_empty G n j x s)
-apart_exchange G n j k x s apart = record { part = λ p. go p (all_empty G j p && is_replica G j p n) refl }
+apart_exchange G n j k x s apart = record { part = λ p. go p (is_view_empty G j p && is_view_replica G j p n) refl }
   where
-    go : (p : ℕ) (b : Bool) → (all_empty G j p && is_replica G j p n) ≡ b → LeftAlone k x x.content (whole_where_empty G n j x s) p
-    go p true e = inr (λ c z. other_key j k (count G j n s p) c apart (sym (ap (λ (b : Bool). stamp_if b (j, count G j n s p) (x.stamp p)) e) ∙ z))
-    go p false e = inl (ap (λ (b : Bool). stamp_if b (j, count G j n s p) (x.stamp p)) e, λ d _. refl)
+    go : (p : ℕ) (b : Bool) → (is_view_empty G j p && is_view_replica G j p n) ≡ b → LeftAlone k x x.content (whole_where_empty G n j x s) p
+    go p true e = inr (λ c z. other_key j k (copy_count G j n s p) c apart (sym (ap (λ (b : Bool). stamp_if b (j, copy_count G j n s p) (x.stamp p)) e) ∙ z))
+    go p false e = inl (ap (λ (b : Bool). stamp_if b (j, copy_count G j n s p) (x.stamp p)) e, λ d _. refl)
 
 -- the stamps change at one partition, and the content at none or within it
 apart_at : (k : ClusterKey) (x : Seen) (content : Versions) (p : ℕ) (o : Option (ClusterKey × ℕ)) → ((d : List ℕ) → (p ≡ partition_of d → ⊥) → content d ≡ x.content d)
@@ -68,32 +68,32 @@ mapped_lost f k h (Some z) c e = let q = h c z (some_same e) in record { nothing
 stored_other : (G : Ground) (x : Seen) (d : List ℕ) (u : Version) (c : List ℕ) → (partition_of d ≡ partition_of c → ⊥) → with_version G.by x.content d u c ≡ x.content c
 stored_other G x d u c apart = changed_other digests x.content d (join G.by (x.content d) (Some u)) c (λ e. apart (ap partition_of e))
 
-pub apart_apply : (G : Ground) (n : ℕ) (j k : ClusterKey) (d : List ℕ) (u : Version) (s : Stay) (x : Seen) → (j ≡ k → ⊥) → Apart k x (writing G n j d u s x).content (writing G n j d u s x).stamp
+pub apart_apply : (G : Ground) (n : ℕ) (j k : ClusterKey) (d : List ℕ) (u : Version) (s : Stay) (x : Seen) → (j ≡ k → ⊥) → Apart k x (seen_after_write G n j d u s x).content (seen_after_write G n j d u s x).stamp
 apart_apply G n j k d u s x apart = apart_at k x (with_version G.by x.content d u) (partition_of d) _ (stored_other G x d u)
-    (inr (λ c e. mapped_lost _ k (λ c z. spoiled_lost j k (count G j n s (partition_of d)) c apart z) (x.stamp (partition_of d)) c (sym (changed_here numbers x.stamp (partition_of d) _) ∙ e)))
+    (inr (λ c e. mapped_lost _ k (λ c z. spoiled_lost j k (copy_count G j n s (partition_of d)) c apart z) (x.stamp (partition_of d)) c (sym (changed_here numbers x.stamp (partition_of d) _) ∙ e)))
 
-pub apart_merge : (G : Ground) (j k : ClusterKey) (d : List ℕ) (u : Version) (x : Seen) → (j ≡ k → ⊥) → Apart k x (merging G j d u x).content (merging G j d u x).stamp
+pub apart_merge : (G : Ground) (j k : ClusterKey) (d : List ℕ) (u : Version) (x : Seen) → (j ≡ k → ⊥) → Apart k x (seen_after_merge G j d u x).content (seen_after_merge G j d u x).stamp
 apart_merge G j k d u x apart = apart_at k x (with_version G.by x.content d u) (partition_of d) _ (stored_other G x d u)
     (inr (λ c e. mapped_lost (spoiled j) k (λ c z. spoiled_only j k c apart z) (x.stamp (partition_of d)) c (sym (changed_here numbers x.stamp (partition_of d) _) ∙ e)))
 
-pub apart_learn : (G : Ground) (n : ℕ) (j k : ClusterKey) (p : ℕ) (s : Stay) (x : Seen) → (j ≡ k → ⊥) → Apart k x (learning G n j p s x).content (learning G n j p s x).stamp
-apart_learn G n j k p s x apart = apart_at k x x.content p _ (λ d _. refl) (inr (λ c e. other_key j k (count G j n s p) c apart (sym (changed_here numbers x.stamp p _) ∙ e)))
+pub apart_learn : (G : Ground) (n : ℕ) (j k : ClusterKey) (p : ℕ) (s : Stay) (x : Seen) → (j ≡ k → ⊥) → Apart k x (seen_after_learning G n j p s x).content (seen_after_learning G n j p s x).stamp
+apart_learn G n j k p s x apart = apart_at k x x.content p _ (λ d _. refl) (inr (λ c e. other_key j k (copy_count G j n s p) c apart (sym (changed_here numbers x.stamp p _) ∙ e)))
 
-pub apart_drop : (j k : ClusterKey) (p : ℕ) (x : Seen) → (j ≡ k → ⊥) → Apart k x (dropping p x).content (dropping p x).stamp
+pub apart_drop : (j k : ClusterKey) (p : ℕ) (x : Seen) → (j ≡ k → ⊥) → Apart k x (seen_after_drop p x).content (seen_after_drop p x).stamp
 apart_drop j k p x apart = apart_at k x (without_part x.content p) p None (λ d z. go d z (partition_of d == p) refl) (inr (λ c e. no_some (sym (changed_here numbers x.stamp p None) ∙ e)))
   where
     go : (d : List ℕ) → (p ≡ partition_of d → ⊥) → (b : Bool) → (partition_of d == p) ≡ b → cond b None (x.content d) ≡ x.content d
     go d z true e = absurd (z (sym (number_same (partition_of d) p e)))
     go d z false e = refl
 
-pub apart_write : (G : Ground) (n : ℕ) (j k : ClusterKey) (from p : ℕ) (s : Stay) (x : Seen) → (j ≡ k → ⊥) → Apart k x (counting G n j from p s x).content (counting G n j from p s x).stamp
-apart_write G n j k from p s x apart = apart_at k x x.content p _ (λ d _. refl) (here (from == master G j p) (x.stamp p) refl)
+pub apart_write : (G : Ground) (n : ℕ) (j k : ClusterKey) (from p : ℕ) (s : Stay) (x : Seen) → (j ≡ k → ⊥) → Apart k x (seen_after_count G n j from p s x).content (seen_after_count G n j from p s x).stamp
+apart_write G n j k from p s x apart = apart_at k x x.content p _ (λ d _. refl) (here (from == view_master G j p) (x.stamp p) refl)
   where
-    here : (b : Bool) (o : Option (ClusterKey × ℕ)) → x.stamp p ≡ o → LeftAlone k x x.content (at_number x.stamp p (option_map (recounted_if b j (count G j n s p)) o)) p
+    here : (b : Bool) (o : Option (ClusterKey × ℕ)) → x.stamp p ≡ o → LeftAlone k x x.content (at_number x.stamp p (option_map (recounted_if b j (copy_count G j n s p)) o)) p
     here b None e = inl (changed_here numbers x.stamp p None ∙ sym e, λ d _. refl)
     here false (Some z) e = inl (changed_here numbers x.stamp p (Some z) ∙ sym e, λ d _. refl)
     here true (Some z) e = deep (same_key z.0 j)
       where
-        deep : (q : Bool) → LeftAlone k x x.content (at_number x.stamp p (Some (cond q (j, count G j n s p) z))) p
-        deep true = inr (λ c h. other_key j k (count G j n s p) c apart (sym (changed_here numbers x.stamp p _) ∙ h))
+        deep : (q : Bool) → LeftAlone k x x.content (at_number x.stamp p (Some (cond q (j, copy_count G j n s p) z))) p
+        deep true = inr (λ c h. other_key j k (copy_count G j n s p) c apart (sym (changed_here numbers x.stamp p _) ∙ h))
         deep false = inl (changed_here numbers x.stamp p (Some z) ∙ sym e, λ d _. refl)

@@ -8,12 +8,12 @@ use Rattle.cluster_types.specs.declared.cluster_key.ClusterKey.{ClusterKey}
 use Rattle.cluster_types.specs.Partitions.{partition_of}
 use Rattle.wire_messages.specs.declared.message.Message.TheVariants as message
 use Rattle.cluster_laws.specs.Changed.{at_number, at_key}
-use Rattle.cluster_laws.specs.Ground.{Ground, other_replicas}
+use Rattle.cluster_laws.specs.Ground.{Ground, other_view_replicas}
 use Rattle.cluster_laws.specs.Stay.{Versions, Running, Stay}
 use Rattle.cluster_laws.specs.Picture.{Seen, Picture, start}
 use Rattle.cluster_laws.specs.Effect.{Effect}
-use Rattle.cluster_laws.specs.Changes.{act, with_version, with_all, with_write, with_answer, acknowledged}
-use Rattle.cluster_laws.specs.Licences.{IsAmong, IsBatch, MayMerge}
+use Rattle.cluster_laws.specs.Changes.{act, with_version, with_all, running_with_write, running_with_answer, running_acknowledged}
+use Rattle.cluster_laws.specs.Licences.{IsAmong, IsBatchToSend, MayMerge}
 use Rattle.cluster_laws.proofs.At.{numbers, keys, changed_either, changed_here, pair_either, some_same, no_some}
 use Rattle.cluster_laws.proofs.Allowed.{Allowed}
 use Rattle.cluster_laws.proofs.Step.{Within, begin, answer, apply, finish, give_up, merge, batch, write_acked, answered, Step, enter, within, steps}
@@ -68,7 +68,7 @@ below_within G w v n k _ _ (apply t d u early ok e z) view a g h = record {
   best = best_change G v k (w.stay n k) t _ (λ y q. wrote y ((w.stay n k).running t) refl q) h;
 }
   where
-    wrote : (y : Running) (o : Option Running) → (w.stay n k).running t ≡ o → option_map (with_write u ((w.stay n k).applies (partition_of d) + 1) (other_replicas G k (partition_of d) n)) o ≡ Some y → AtMost G.by y.best (v.fold k y.digest)
+    wrote : (y : Running) (o : Option Running) → (w.stay n k).running t ≡ o → option_map (running_with_write u ((w.stay n k).applies (partition_of d) + 1) (other_view_replicas G k (partition_of d) n)) o ≡ Some y → AtMost G.by y.best (v.fold k y.digest)
     wrote y None i q = no_some q
     wrote y (Some z) i q = subst (λ (r : Running). AtMost G.by r.best (v.fold k r.digest)) (some_same q) (h.best t z i)
 below_within G w v n k _ _ (merge d u ok is) view a g h = record {
@@ -84,14 +84,14 @@ below_within G w v n k _ _ (batch r b ok i) view a g h = record {
   applied = h.applied;
   best = h.best;
   batch = λ q l es. pair_either (λ o. o ≡ Some es → (c : List ℕ) (x : Version) → IsAmong es c x → AtMost G.by (Some x) ((w.stay n k).held c)) (w.stay n k).batch r b.number (Some b.records) q l
-      (λ _ _ e c x m. new (subst (λ (z : ClusterKey). IsBatch (w.node n).content (w.stay n z) r b) i ok.batch) c x (subst (λ (z : List (List ℕ × Version)). IsAmong z c x) (sym (some_same e)) m)) (λ e. h.batch q l es e);
+      (λ _ _ e c x m. new (subst (λ (z : ClusterKey). IsBatchToSend (w.node n).content (w.stay n z) r b) i ok.batch) c x (subst (λ (z : List (List ℕ × Version)). IsAmong z c x) (sym (some_same e)) m)) (λ e. h.batch q l es e);
 }
   where
-    new : IsBatch (w.node n).content (w.stay n k) r b → (c : List ℕ) (x : Version) → IsAmong b.records c x → AtMost G.by (Some x) ((w.stay n k).held c)
+    new : IsBatchToSend (w.node n).content (w.stay n k) r b → (c : List ℕ) (x : Version) → IsAmong b.records c x → AtMost G.by (Some x) ((w.stay n k).held c)
     new (inl o) c x m = h.batch r b.number b.records ((a.own n k).out r b o).0 c x m
     new (inr o) c x m = subst (λ (z : Option Version). AtMost G.by z ((w.stay n k).held c)) (o.2.held c x m) ((a.inside n k view).held c)
-below_within G w v n k _ _ (write_acked r t y ok) view a g h = record { held = h.held; applied = h.applied; batch = h.batch; best = best_change G v k (w.stay n k) t (Some (acknowledged r y)) (λ z e. subst (λ (q : Running). AtMost G.by q.best (v.fold k q.digest)) (some_same e) (h.best t y ok.running)) h }
-below_within G w v n k _ _ (answered r t o y ok) view a g h = record { held = h.held; applied = h.applied; batch = h.batch; best = best_change G v k (w.stay n k) t (Some (with_answer G.by r o y)) (λ z e. subst (λ (q : Running). AtMost G.by q.best (v.fold k q.digest)) (some_same e) (join_least (h.best t y ok.running) came)) h }
+below_within G w v n k _ _ (write_acked r t y ok) view a g h = record { held = h.held; applied = h.applied; batch = h.batch; best = best_change G v k (w.stay n k) t (Some (running_acknowledged r y)) (λ z e. subst (λ (q : Running). AtMost G.by q.best (v.fold k q.digest)) (some_same e) (h.best t y ok.running)) h }
+below_within G w v n k _ _ (answered r t o y ok) view a g h = record { held = h.held; applied = h.applied; batch = h.batch; best = best_change G v k (w.stay n k) t (Some (running_with_answer G.by r o y)) (λ z e. subst (λ (q : Running). AtMost G.by q.best (v.fold k q.digest)) (some_same e) (join_least (h.best t y ok.running) came)) h }
   where
     said : Replied G w r n k t o
     said = a.says r n (message.Answer k t o) ok.came.sent

@@ -6,7 +6,7 @@ use Rattle.std.proofs.lemmas.List.{get_or-replicate, get_or_past}
 use Rattle.std.proofs.lemmas.List.FromFn.{length-map-range_with_len, get_or-map-range_with_len}
 use Rattle.cluster_types.specs.Rows.{bit}
 use Rattle.wire_messages.specs.Rows.{row_bit, row_of}
-use Rattle.cluster_laws.specs.Weaker.{all_bits, no_bits, last_bit}
+use Rattle.cluster_laws.specs.Weaker.{all_bits, no_bits_bytes, last_bit}
 use Rattle.cluster_laws.proofs.At.{differ}
 
 bit_of : (bytes : List ℕ) (p : ℕ) → p < 4096 → bit (row_of bytes) p ≡ (get_or bytes (p / 8) 0 / 2 ^ (p % 8) % 2 == 1)
@@ -31,8 +31,8 @@ within bytes p e = ⊎_elim (λ lt. lt) (λ le. differ e (get_or_past (row_of by
 no_bit : (n b : ℕ) → n ≡ 0 → (n / 2 ^ b % 2 == 1) ≡ false
 no_bit n b e = ap (λ (m : ℕ). m / 2 ^ b % 2 == 1) e ∙ ap (λ (m : ℕ). m % 2 == 1) (zero-div (2 ^ b))
 
-pub is_clear : (p : ℕ) → bit (row_of no_bits) p ≡ true → ⊥
-is_clear p e = let lt : p < 4096 = within no_bits p e in differ (sym (bit_of no_bits p lt) ∙ e) (no_bit _ (p % 8) (get_or-replicate 512 (p / 8) 0 0 (omega (arith, lt))))
+pub is_clear : (p : ℕ) → bit (row_of no_bits_bytes) p ≡ true → ⊥
+is_clear p e = let lt : p < 4096 = within no_bits_bytes p e in differ (sym (bit_of no_bits_bytes p lt) ∙ e) (no_bit _ (p % 8) (get_or-replicate 512 (p / 8) 0 0 (omega (arith, lt))))
 
 -- of a byte of 128 the last bit alone is set
 top_bit : (b : ℕ) → b < 8 → (128 / 2 ^ b % 2 == 1) ≡ true → b ≡ 7

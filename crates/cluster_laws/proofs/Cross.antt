@@ -12,11 +12,11 @@ use Rattle.node_rules.specs.Batches.{is_among}
 use Rattle.node_rules.specs.Tables.{contains}
 use Rattle.node_rules.specs.Transactions.{Write}
 use Rattle.cluster_laws.specs.Changed.{at_number, at_key}
-use Rattle.cluster_laws.specs.Ground.{Ground, is_replica, other_replicas, sends_to}
+use Rattle.cluster_laws.specs.Ground.{Ground, is_view_replica, other_view_replicas, view_sends_to}
 use Rattle.cluster_laws.specs.Stay.{Running, Applied, Stay}
 use Rattle.cluster_laws.specs.Picture.{Seen, Picture, start}
 use Rattle.cluster_laws.specs.Effect.{Effect}
-use Rattle.cluster_laws.specs.Changes.{act, with_write, with_answer, acknowledged, entering}
+use Rattle.cluster_laws.specs.Changes.{act, running_with_write, running_with_answer, running_acknowledged, stay_at_entry}
 use Rattle.cluster_laws.specs.Licences.{IsAmong, IsDone}
 use Rattle.cluster_laws.proofs.At.{numbers, keys, changed_either, changed_here, part_here, number_cases, differ, some_same, no_some, or_cases}
 use Rattle.cluster_laws.proofs.Lists.{contains_without, not_in_without, Found, among_found}
@@ -43,10 +43,10 @@ cross_grows G w v g n k s h = record {
 
 -- the running transactions change at one number, where the new one has applied nothing
 acked_change : (G : Ground) (v : Picture) (n : ℕ) (k : ClusterKey) (s : Stay) (t : ℕ) (o : Option Running)
-    → ((r : ℕ) (y : Running) (u : Write) → o ≡ Some y → y.applied ≡ Some u → is_replica G k (partition_of y.digest) r ≡ true → (r ≡ n → ⊥) → contains y.awaiting r ≡ false → HasWrite G v n r k y.digest u.version u.nth) → Cross G v n k s
-    → (r i : ℕ) (y : Running) (u : Write) → at_number s.running t o i ≡ Some y → y.applied ≡ Some u → is_replica G k (partition_of y.digest) r ≡ true → (r ≡ n → ⊥) → contains y.awaiting r ≡ false → HasWrite G v n r k y.digest u.version u.nth
+    → ((r : ℕ) (y : Running) (u : Write) → o ≡ Some y → y.applied ≡ Some u → is_view_replica G k (partition_of y.digest) r ≡ true → (r ≡ n → ⊥) → contains y.awaiting r ≡ false → HasWrite G v n r k y.digest u.version u.nth) → Cross G v n k s
+    → (r i : ℕ) (y : Running) (u : Write) → at_number s.running t o i ≡ Some y → y.applied ≡ Some u → is_view_replica G k (partition_of y.digest) r ≡ true → (r ≡ n → ⊥) → contains y.awaiting r ≡ false → HasWrite G v n r k y.digest u.version u.nth
 acked_change G v n k s t o new h r i y u =
-    changed_either numbers (λ z. z ≡ Some y → y.applied ≡ Some u → is_replica G k (partition_of y.digest) r ≡ true → (r ≡ n → ⊥) → contains y.awaiting r ≡ false → HasWrite G v n r k y.digest u.version u.nth) s.running t o i
+    changed_either numbers (λ z. z ≡ Some y → y.applied ≡ Some u → is_view_replica G k (partition_of y.digest) r ≡ true → (r ≡ n → ⊥) → contains y.awaiting r ≡ false → HasWrite G v n r k y.digest u.version u.nth) s.running t o i
     (λ _. new r y u) (λ _. h.acked r i y u)
 
 not_some : (o : Option Version) → is_some o ≡ false → o ≡ None
@@ -59,14 +59,14 @@ last_false a b p q = grind arith
 either_false : (a b : Bool) → (a && not b) ≡ false → (a ≡ false) ⊎ (b ≡ true)
 either_false a b e = grind arith
 
-in_other_replicas : (G : Ground) (k : ClusterKey) (p n r : ℕ) → is_replica G k p r ≡ true → (r ≡ n → ⊥) → contains (other_replicas G k p n) r ≡ true
-unfolding is_replica other_replicas
+in_other_replicas : (G : Ground) (k : ClusterKey) (p n r : ℕ) → is_view_replica G k p r ≡ true → (r ≡ n → ⊥) → contains (other_view_replicas G k p n) r ≡ true
+unfolding is_view_replica other_view_replicas
 in_other_replicas G k p n r e apart = contains_without _ n r e apart
 
 cross_within : (G : Ground) (w v : Picture) (n : ℕ) (k : ClusterKey) (x : Seen) (s : Stay) → Within G w v n k x s → (w.node n).view ≡ Some k → Known G w → Grows G.by w v → Cross G v n k (w.stay n k) → Cross G v n k s
 cross_within G w v n k _ _ (exchange ok) view a g h = record {
   arrived = λ r d ex to e. AtMost_trans
-      (subst (λ (o : Option Version). AtMost G.by ((w.stay n k).entry d) o) (not_some ((w.node n).content d) (last_false (sends_to G k (partition_of d) n r) (is_some ((w.node n).content d)) to e)) ((a.inside n k view).unexchanged ok.first d))
+      (subst (λ (o : Option Version). AtMost G.by ((w.stay n k).entry d) o) (not_some ((w.node n).content d) (last_false (view_sends_to G k (partition_of d) n r) (is_some ((w.node n).content d)) to e)) ((a.inside n k view).unexchanged ok.first d))
       (AtMost_none ((v.stay r k).held d));
   acked = h.acked;
   done = h.done;
@@ -78,7 +78,7 @@ cross_within G w v n k _ _ (exchange ok) view a g h = record {
   all_in = λ ex m mem. h.rows m (ok.rows m mem);
 }
 cross_within G w v n k _ _ (begin t d ok opens_it) view a g h =
-    let f : (r i : ℕ) (y : Running) (u : Write) → at_number (w.stay n k).running t (Some (Rattle.cluster_laws.specs.Changes.opening G k n (w.node n).content (w.stay n k) d)) i ≡ Some y → y.applied ≡ Some u → is_replica G k (partition_of y.digest) r ≡ true → (r ≡ n → ⊥) → contains y.awaiting r ≡ false → HasWrite G v n r k y.digest u.version u.nth =
+    let f : (r i : ℕ) (y : Running) (u : Write) → at_number (w.stay n k).running t (Some (Rattle.cluster_laws.specs.Changes.running_at_opening G k n (w.node n).content (w.stay n k) d)) i ≡ Some y → y.applied ≡ Some u → is_view_replica G k (partition_of y.digest) r ≡ true → (r ≡ n → ⊥) → contains y.awaiting r ≡ false → HasWrite G v n r k y.digest u.version u.nth =
     acked_change G v n k (w.stay n k) t _ (λ r y u e b. no_some (ap (λ (z : Running). z.applied) (some_same e) ∙ b)) h in
     assumption h
 cross_within G w v n k _ _ (answer t d o ok) view a g h = record { arrived = h.arrived; acked = acked_change G v n k (w.stay n k) t None (λ r y u e. no_some e) h; done = h.done; handed = h.handed; settled = h.settled; own_settled = h.own_settled; told = h.told; rows = h.rows; all_in = h.all_in }
@@ -96,16 +96,16 @@ cross_within G w v n k _ _ (apply t d u early ok e z) view a g h = record {
   all_in = h.all_in;
 }
   where
-    acks : {C : Type 0} (r : ℕ) (y : Running) (o : Option Running) → (w.stay n k).running t ≡ o → option_map (with_write u ((w.stay n k).applies (partition_of d) + 1) (other_replicas G k (partition_of d) n)) o ≡ Some y
-        → is_replica G k (partition_of y.digest) r ≡ true → (r ≡ n → ⊥) → contains y.awaiting r ≡ false → C
+    acks : {C : Type 0} (r : ℕ) (y : Running) (o : Option Running) → (w.stay n k).running t ≡ o → option_map (running_with_write u ((w.stay n k).applies (partition_of d) + 1) (other_view_replicas G k (partition_of d) n)) o ≡ Some y
+        → is_view_replica G k (partition_of y.digest) r ≡ true → (r ≡ n → ⊥) → contains y.awaiting r ≡ false → C
     acks {C} r y None i q rep apart c = no_some q
     acks {C} r y (Some z) i q rep apart c = differ
-        (in_other_replicas G k (partition_of d) n r (subst (λ (b : List ℕ). is_replica G k (partition_of b) r ≡ true) (sym (ap (λ (b : Running). b.digest) (some_same q)) ∙ (ap (λ (b : Running). b.digest) (some_same (sym i ∙ ok.resolved.running)) ∙ ok.resolved.digest)) rep) apart)
+        (in_other_replicas G k (partition_of d) n r (subst (λ (b : List ℕ). is_view_replica G k (partition_of b) r ≡ true) (sym (ap (λ (b : Running). b.digest) (some_same q)) ∙ (ap (λ (b : Running). b.digest) (some_same (sym i ∙ ok.resolved.running)) ∙ ok.resolved.digest)) rep) apart)
         (ap (λ (b : Running). contains b.awaiting r) (some_same q) ∙ c)
 cross_within G w v n k _ _ (finish t ok) view a g h = record {
   arrived = h.arrived;
   acked = acked_change G v n k (w.stay n k) t None (λ r y u e. no_some e) h;
-  done = λ r i f. changed_either numbers (λ (b : Bool). b ≡ true → (w.stay n k).writes i ≡ Some f → is_replica G k (partition_of f.digest) r ≡ true → (r ≡ n → ⊥) → HasWrite G v n r k f.digest f.version f.nth) (w.stay n k).done t true i
+  done = λ r i f. changed_either numbers (λ (b : Bool). b ≡ true → (w.stay n k).writes i ≡ Some f → is_view_replica G k (partition_of f.digest) r ≡ true → (r ≡ n → ⊥) → HasWrite G v n r k f.digest f.version f.nth) (w.stay n k).done t true i
       (λ j _ b rep apart. this r f (subst (λ (z : ℕ). (w.stay n k).writes z ≡ Some f) (sym j) b) rep apart) (λ _ dn. h.done r i f dn);
   handed = h.handed;
   settled = h.settled;
@@ -118,8 +118,8 @@ cross_within G w v n k _ _ (finish t ok) view a g h = record {
     o : WriteOf (w.stay n k).writes t ok.transaction.digest ok.write
     o = (a.txns n k).applied t ok.transaction ok.write ok.running ok.applied
 
-    this : (r : ℕ) (f : Applied) → (w.stay n k).writes t ≡ Some f → is_replica G k (partition_of f.digest) r ≡ true → (r ≡ n → ⊥) → HasWrite G v n r k f.digest f.version f.nth
-    this r f b rep apart = subst (λ (z : Applied). is_replica G k (partition_of z.digest) r ≡ true → HasWrite G v n r k z.digest z.version z.nth) (some_same (sym o.here ∙ b))
+    this : (r : ℕ) (f : Applied) → (w.stay n k).writes t ≡ Some f → is_view_replica G k (partition_of f.digest) r ≡ true → (r ≡ n → ⊥) → HasWrite G v n r k f.digest f.version f.nth
+    this r f b rep apart = subst (λ (z : Applied). is_view_replica G k (partition_of z.digest) r ≡ true → HasWrite G v n r k z.digest z.version z.nth) (some_same (sym o.here ∙ b))
         (λ mine. h.acked r t ok.transaction ok.write ok.running ok.applied mine apart (ap (λ (l : List ℕ). contains l r) ok.acked)) rep
 cross_within G w v n k _ _ (hand p ok e) view a g h = record {
   arrived = h.arrived;
@@ -207,15 +207,16 @@ cross_within G w v n k _ _ (write_acked r t y ok) view a g h = record {
   told = h.told;
   rows = h.rows;
   all_in = h.all_in;
-  acked = acked_change G v n k (w.stay n k) t (Some (acknowledged r y)) (λ q z u e b rep apart c.
-      subst (λ (j : Running). j.applied ≡ Some u → is_replica G k (partition_of j.digest) q ≡ true → contains j.awaiting q ≡ false → HasWrite G v n q k j.digest u.version u.nth) (some_same e)
+  acked = acked_change G v n k (w.stay n k) t (Some (running_acknowledged r y))
+      (λ q z u e b rep apart c.
+      subst (λ (j : Running). j.applied ≡ Some u → is_view_replica G k (partition_of j.digest) q ≡ true → contains j.awaiting q ≡ false → HasWrite G v n q k j.digest u.version u.nth) (some_same e)
       (λ b2 rep2 c2. this q u b2 rep2 apart c2 (number_cases q r)) b rep c) h;
 }
   where
     said : AckedWrite G w r n k t
     said = a.says r n (message.ReplAck k t) ok.came.sent
 
-    this : (q : ℕ) (u : Write) → y.applied ≡ Some u → is_replica G k (partition_of y.digest) q ≡ true → (q ≡ n → ⊥) → contains (without y.awaiting r) q ≡ false → (q ≡ r) ⊎ (q ≡ r → ⊥) → HasWrite G v n q k y.digest u.version u.nth
+    this : (q : ℕ) (u : Write) → y.applied ≡ Some u → is_view_replica G k (partition_of y.digest) q ≡ true → (q ≡ n → ⊥) → contains (without y.awaiting r) q ≡ false → (q ≡ r) ⊎ (q ≡ r → ⊥) → HasWrite G v n q k y.digest u.version u.nth
     this q u b rep apart c (inr i) = h.acked q t y u ok.running b rep apart (not_in_without y.awaiting r q c i)
     this q u b rep apart c (inl i) =
         let o : WriteOf (w.stay n k).writes t y.digest u = (a.txns n k).applied t y u ok.running b in
@@ -230,7 +231,7 @@ cross_within G w v n k _ _ (answered r t o y ok) view a g h = record {
   told = h.told;
   rows = h.rows;
   all_in = h.all_in;
-  acked = acked_change G v n k (w.stay n k) t (Some (with_answer G.by r o y)) (λ q z u e b. no_some (sym ok.unapplied ∙ (ap (λ (j : Running). j.applied) (some_same e) ∙ b))) h;
+  acked = acked_change G v n k (w.stay n k) t (Some (running_with_answer G.by r o y)) (λ q z u e b. no_some (sym ok.unapplied ∙ (ap (λ (j : Running). j.applied) (some_same e) ∙ b))) h;
 }
 cross_within G w v n k _ _ _ view a g h = assumption h
 
@@ -250,7 +251,7 @@ cross_step G w v n k _ _ (enter ok e) a g = record {
   where
     in_now : ((Rattle.cluster_laws.specs.Changes.enters G n k w).stay n k).entered ≡ true
     in_now = ap (λ (s : Stay). s.entered)
-        (ap (λ (f : ClusterKey → Stay). f k) (changed_here numbers w.stay n (at_key (w.stay n) k (entering n (w.node n).content))) ∙ changed_here keys (w.stay n) k (entering n (w.node n).content))
+        (ap (λ (f : ClusterKey → Stay). f k) (changed_here numbers w.stay n (at_key (w.stay n) k (stay_at_entry n (w.node n).content))) ∙ changed_here keys (w.stay n) k (stay_at_entry n (w.node n).content))
 cross_step G w v n k _ _ (within x s view c) a g = cross_within G w v n k x s c view a g (cross_grows G w v g n k (w.stay n k) (a.cross n k))
 cross_step G w v n k _ _ _ a g = cross_grows G w v g n k (w.stay n k) (a.cross n k)
 

@@ -15,12 +15,12 @@ use Rattle.node_rules.specs.Batches.{is_among}
 use Rattle.node_rules.specs.Stamps.{with_number}
 use Rattle.node_rules.specs.Tables.{contains}
 use Rattle.cluster_laws.specs.Changed.{at_number, at_key, at_pair}
-use Rattle.cluster_laws.specs.Ground.{Ground, master}
+use Rattle.cluster_laws.specs.Ground.{Ground, view_master}
 use Rattle.cluster_laws.specs.Stay.{Versions, Applied, Stay}
 use Rattle.cluster_laws.specs.Picture.{Seen, Packet, Picture}
 use Rattle.cluster_laws.specs.Effect.{Effect, Enters, Applies, Hands, Settles, Sends}
-use Rattle.cluster_laws.specs.Changes.{act, with_version, with_all, with_write_of, heard, entering, exchanging, hearing, without_batch}
-use Rattle.cluster_laws.specs.Licences.{WasSent, IsBatch}
+use Rattle.cluster_laws.specs.Changes.{act, with_version, with_all, with_write_of, heard, stay_at_entry, stay_after_exchange, hearing, stay_without_batch}
+use Rattle.cluster_laws.specs.Licences.{WasSent, IsBatchToSend}
 use Rattle.cluster_laws.proofs.At.{numbers, keys, digests, changed_either, changed_here, changed_other, pair_either, part_grows, differ, no_some, or_cases}
 use Rattle.cluster_laws.proofs.Allowed.{Allowed}
 use Rattle.cluster_laws.proofs.Step.{Within, exchange, begin, apply, finish, merge, hand, settle, batch, batch_acked, told, write, Step, enter, within, steps}
@@ -109,7 +109,7 @@ more_heard false ms n x e = e
 stay_within : (G : Ground) (w v : Picture) (n : ℕ) (k : ClusterKey) (x : Seen) (s : Stay) → Within G w v n k x s → Own G n k (w.stay n k) → Txns (w.stay n k) → StayGrows G.by (w.stay n k) s
 stay_within G w v n k _ _ (exchange ok) o h =
     let f : (w.stay n k).exchanged ≡ true → true ≡ true = λ e. refl in
-    let g : (w.stay n k).exchanged ≡ true → (r : ℕ) (d : List ℕ) → (w.stay n k).pending r d ≡ false → (exchanging G n k (w.node n).content (w.stay n k)).pending r d ≡ false = λ e. differ e ok.first in
+    let g : (w.stay n k).exchanged ≡ true → (r : ℕ) (d : List ℕ) → (w.stay n k).pending r d ≡ false → (stay_after_exchange G n k (w.node n).content (w.stay n k)).pending r d ≡ false = λ e. differ e ok.first in
     assumption (stay_same G.by (w.stay n k))
 stay_within G w v n k _ _ (begin t d ok opens_it) o h =
     let f : (u : ℕ) (c : List ℕ) → (w.stay n k).begun u ≡ Some c → at_number (w.stay n k).begun t (Some d) u ≡ Some c =
@@ -137,14 +137,14 @@ stay_within G w v n k _ _ (settle p ok e) o h =
 stay_within G w v n k _ _ (batch r b ok i) o h =
     let f : (q l : ℕ) (es : List (List ℕ × Version)) → (w.stay n k).batch q l ≡ Some es → at_pair (w.stay n k).batch r b.number (Some b.records) q l ≡ Some es =
     λ q l es e. pair_either (λ z. z ≡ Some es) (w.stay n k).batch r b.number (Some b.records) q l
-    (λ rq bl. sent rq bl es e (subst (λ (z : ClusterKey). IsBatch (w.node n).content (w.stay n z) r b) i ok.batch)) e in
+    (λ rq bl. sent rq bl es e (subst (λ (z : ClusterKey). IsBatchToSend (w.node n).content (w.stay n z) r b) i ok.batch)) e in
     assumption (stay_same G.by (w.stay n k))
   where
-    sent : {q l : ℕ} → r ≡ q → b.number ≡ l → (es : List (List ℕ × Version)) → (w.stay n k).batch q l ≡ Some es → IsBatch (w.node n).content (w.stay n k) r b → Some b.records ≡ Some es
+    sent : {q l : ℕ} → r ≡ q → b.number ≡ l → (es : List (List ℕ × Version)) → (w.stay n k).batch q l ≡ Some es → IsBatchToSend (w.node n).content (w.stay n k) r b → Some b.records ≡ Some es
     sent {q} {l} rq bl es e (inl out) = sym (o.out r b out).0 ∙ (ap (λ (z : ℕ). (w.stay n k).batch z b.number) rq ∙ (ap ((w.stay n k).batch q) bl ∙ e))
     sent {q} {l} rq bl es e (inr new) = absurd (omega (arith, bl, new.1, ap (w.stay n k).batches rq, (o.numbered q l es e).1))
 stay_within G w v n k _ _ (batch_acked r b ok) o h =
-    let f : (w.stay n k).exchanged ≡ true → (q : ℕ) (d : List ℕ) → (w.stay n k).pending q d ≡ false → (without_batch r b (w.stay n k)).pending q d ≡ false =
+    let f : (w.stay n k).exchanged ≡ true → (q : ℕ) (d : List ℕ) → (w.stay n k).pending q d ≡ false → (stay_without_batch r b (w.stay n k)).pending q d ≡ false =
     λ x q d e. changed_either numbers (λ (f : List ℕ → Bool). f d ≡ false) (w.stay n k).pending r (λ c. (w.stay n k).pending r c && not (is_among b.records c)) q
     (λ i. less ((w.stay n k).pending r d) (not (is_among b.records d)) (ap (λ (z : ℕ). (w.stay n k).pending z d) i ∙ e)) (λ _. e) in
     assumption (stay_same G.by (w.stay n k))
@@ -154,14 +154,14 @@ stay_within G w v n k _ _ (told r done handed settled ok) o h =
     assumption (stay_same G.by (w.stay n k))
 stay_within G w v n k _ _ (write r nth d u ok is) o h =
     let f : (p x : ℕ) → contains ((w.stay n k).numbers p) x ≡ true → contains ((hearing G k r nth (partition_of d) (w.stay n k)).numbers p) x ≡ true =
-    λ p x e. changed_either numbers (λ ms. contains ms x ≡ true) (w.stay n k).numbers (partition_of d) (heard (r == master G k (partition_of d)) ((w.stay n k).numbers (partition_of d)) nth) p
-    (λ i. more_heard (r == master G k (partition_of d)) ((w.stay n k).numbers (partition_of d)) nth x (ap (λ (z : ℕ). contains ((w.stay n k).numbers z) x) i ∙ e)) (λ _. e) in
+    λ p x e. changed_either numbers (λ ms. contains ms x ≡ true) (w.stay n k).numbers (partition_of d) (heard (r == view_master G k (partition_of d)) ((w.stay n k).numbers (partition_of d)) nth) p
+    (λ i. more_heard (r == view_master G k (partition_of d)) ((w.stay n k).numbers (partition_of d)) nth x (ap (λ (z : ℕ). contains ((w.stay n k).numbers z) x) i ∙ e)) (λ _. e) in
     assumption (stay_same G.by (w.stay n k))
 stay_within G w v n k _ _ _ o h = assumption (stay_same G.by (w.stay n k))
 
 -- a stay begins from nothing
-stay_enter : (G : Ground) (n : ℕ) (k : ClusterKey) (x : Seen) (s : Stay) → Entered G n k x s → key_lt x.last k ≡ true → (content : Versions) → StayGrows G.by s (entering n content)
-stay_enter G n k x s h above content = subst (λ (z : Stay). StayGrows G.by z (entering n content)) (sym (h.fresh (unentered s.entered refl))) (record {
+stay_enter : (G : Ground) (n : ℕ) (k : ClusterKey) (x : Seen) (s : Stay) → Entered G n k x s → key_lt x.last k ≡ true → (content : Versions) → StayGrows G.by s (stay_at_entry n content)
+stay_enter G n k x s h above content = subst (λ (z : Stay). StayGrows G.by z (stay_at_entry n content)) (sym (h.fresh (unentered s.entered refl))) (record {
   entered = λ e. differ e refl;
   exchanged = λ e. e;
   held = λ d. AtMost_none (content d);
@@ -220,7 +220,7 @@ key_grows : (by : Policy) (f : ClusterKey → Versions) (k : ClusterKey) (new : 
 key_grows by f k new h j d = changed_either keys (λ (g : Versions). AtMost by (f j d) (g d)) f k new j (λ i. subst (λ (z : ClusterKey). AtMost by (f z d) (new d)) i (h d)) (λ _. AtMost_refl (f j d))
 
 base_grows : (G : Ground) (n : ℕ) (k : ClusterKey) (d : List ℕ) (v : Version) (f : ClusterKey → Versions) (j : ClusterKey) (e : List ℕ) → AtMost G.by (f j e) (with_write_of G n k d v f j e)
-base_grows G n k d v f j e = go (master G k (partition_of d) == n)
+base_grows G n k d v f j e = go (view_master G k (partition_of d) == n)
   where
     go : (b : Bool) → AtMost G.by (f j e) ((cond b f (at_key f k (with_version G.by (f k) d v))) j e)
     go true = AtMost_refl (f j e)

@@ -10,7 +10,7 @@ use Rattle.cluster_types.specs.Partitions.{partition_of}
 use Rattle.wire_messages.specs.declared.message.Message.TheVariants as message
 use Rattle.node_rules.specs.Stamps.{with_number}
 use Rattle.node_rules.specs.Tables.{contains}
-use Rattle.cluster_laws.specs.Ground.{Ground, master, is_replica}
+use Rattle.cluster_laws.specs.Ground.{Ground, view_master, is_view_replica}
 use Rattle.cluster_laws.specs.Stay.{Applied, Stay}
 use Rattle.cluster_laws.specs.Picture.{Seen, Owed, Picture, start}
 use Rattle.cluster_laws.specs.Effect.{Effect}
@@ -46,26 +46,26 @@ new_write G w v n k _ _ _ t e a = inl a
 pub record Named (G : Ground) (w : Picture) (n : ℕ) (k : ClusterKey) (p x : ℕ) : Type 0 where
   pub number : ℕ
   pub write : Applied
-  pub made : (w.stay (master G k p) k).writes number ≡ Some write
+  pub made : (w.stay (view_master G k p) k).writes number ≡ Some write
   pub part : partition_of write.digest ≡ p
   pub nth : write.nth ≡ x
-  pub replica : is_replica G k p n ≡ true
-  pub other : n ≡ master G k p → ⊥
+  pub replica : is_view_replica G k p n ≡ true
+  pub other : n ≡ view_master G k p → ⊥
 
 -- what the numbers tell: each is a write of the list master, which is held, or the merge of which is owed
 pub record Hears (G : Ground) (w : Picture) (n : ℕ) (k : ClusterKey) (s : Stay) : Type 0 where
   pub named : (p x : ℕ) → contains (s.numbers p) x ≡ true → Named G w n k p x
-  pub held : (t : ℕ) (e : Applied) → (w.stay (master G k (partition_of e.digest)) k).writes t ≡ Some e → contains (s.numbers (partition_of e.digest)) e.nth ≡ true
+  pub held : (t : ℕ) (e : Applied) → (w.stay (view_master G k (partition_of e.digest)) k).writes t ≡ Some e → contains (s.numbers (partition_of e.digest)) e.nth ≡ true
       → AtMost G.by (Some e.version) (s.held e.digest) ⊎ (w.owed ≡ Some (record { node = n; key = k; digest = e.digest; version = e.version }))
 
 pub named_grows : (G : Ground) (w v : Picture) → Grows G.by w v → (n : ℕ) (k : ClusterKey) (p x : ℕ) → Named G w n k p x → Named G v n k p x
-named_grows G w v g n k p x h = record { number = h.number; write = h.write; made = (g.stay (master G k p) k).writes h.number h.write h.made; part = h.part; nth = h.nth; replica = h.replica; other = h.other }
+named_grows G w v g n k p x h = record { number = h.number; write = h.write; made = (g.stay (view_master G k p) k).writes h.number h.write h.made; part = h.part; nth = h.nth; replica = h.replica; other = h.other }
 
 -- a write of the list master of which the number came stood before the line
-pub old_write : (G : Ground) (w v : Picture) → Known G w → (n : ℕ) (k : ClusterKey) (m : ℕ) (x : Seen) (s : Stay) → Step G w v m k x s → (t : ℕ) (e : Applied) → m ≡ master G k (partition_of e.digest) → s.writes t ≡ Some e
+pub old_write : (G : Ground) (w v : Picture) → Known G w → (n : ℕ) (k : ClusterKey) (m : ℕ) (x : Seen) (s : Stay) → Step G w v m k x s → (t : ℕ) (e : Applied) → m ≡ view_master G k (partition_of e.digest) → s.writes t ≡ Some e
     → Named G w n k (partition_of e.digest) e.nth → (w.stay m k).writes t ≡ Some e
 old_write G w v a n k m x s c t e mm b h = ⊎_elim (λ z. z)
-    (λ z. let q = (a.txns (master G k (partition_of e.digest)) k).nth h.number h.write h.made in absurd (omega (arith, q.1, h.nth, z.nth, ap (w.stay (master G k (partition_of e.digest)) k).applies h.part, ap (λ (i : ℕ). (w.stay i k).applies (partition_of e.digest)) mm)))
+    (λ z. let q = (a.txns (view_master G k (partition_of e.digest)) k).nth h.number h.write h.made in absurd (omega (arith, q.1, h.nth, z.nth, ap (w.stay (view_master G k (partition_of e.digest)) k).applies h.part, ap (λ (i : ℕ). (w.stay i k).applies (partition_of e.digest)) mm)))
     (new_write G w v m k x s c t e b)
 
 is_number : (ms : List ℕ) (n x : ℕ) → contains (with_number ms n) x ≡ true → (n ≡ x) ⊎ (contains ms x ≡ true)
@@ -90,7 +90,7 @@ is_heard false ms n x e = inr e
 -- ---- the invariant
 
 -- where nothing is owed, all that was heard is held
-now_held : (G : Ground) (w : Picture) (n : ℕ) (k : ClusterKey) (s : Stay) → w.owed ≡ None → Hears G w n k s → (t : ℕ) (e : Applied) → (w.stay (master G k (partition_of e.digest)) k).writes t ≡ Some e → contains (s.numbers (partition_of e.digest)) e.nth ≡ true → AtMost G.by (Some e.version) (s.held e.digest)
+now_held : (G : Ground) (w : Picture) (n : ℕ) (k : ClusterKey) (s : Stay) → w.owed ≡ None → Hears G w n k s → (t : ℕ) (e : Applied) → (w.stay (view_master G k (partition_of e.digest)) k).writes t ≡ Some e → contains (s.numbers (partition_of e.digest)) e.nth ≡ true → AtMost G.by (Some e.version) (s.held e.digest)
 now_held G w n k s none h t e a c = ⊎_elim (λ z. z) (λ z. no_some (sym none ∙ z)) (h.held t e a c)
 
 -- a number that a line adds
@@ -99,10 +99,10 @@ pub record NewNumber (G : Ground) (w v : Picture) (n : ℕ) (k : ClusterKey) (p 
   pub digest : List ℕ
   pub version : Version
   pub came : WriteCame w n k from x digest version
-  pub by_master : from ≡ master G k p
+  pub by_master : from ≡ view_master G k p
   pub part : partition_of digest ≡ p
   pub view : (w.node n).view ≡ Some k
-  pub is : v ≡ changes.write_came G n k from x digest version w
+  pub is : v ≡ changes.takes_write G n k from x digest version w
 
 pub new_number : (G : Ground) (w v : Picture) (n : ℕ) (k : ClusterKey) (x : Seen) (s : Stay) → Step G w v n k x s → (p i : ℕ) → contains (s.numbers p) i ≡ true → (contains ((w.stay n k).numbers p) i ≡ true) ⊎ NewNumber G w v n k p i
 new_number G w v n k _ _ (enter ok z) p i e = differ e refl
@@ -113,12 +113,12 @@ new_number G w v n k _ _ (within _ _ view (write r nth d u ok is)) p i e = chang
       digest = d;
       version = u;
       came = ok;
-      by_master = number_same r (master G k (partition_of d)) z.0 ∙ ap (master G k) j;
+      by_master = number_same r (view_master G k (partition_of d)) z.0 ∙ ap (view_master G k) j;
       part = j;
       view = view;
       is = is;
     })))
-    (λ z. inl (subst (λ (l : ℕ). contains ((w.stay n k).numbers l) i ≡ true) j z)) (is_heard (r == master G k (partition_of d)) ((w.stay n k).numbers (partition_of d)) nth i q)) (λ _ q. inl q) e
+    (λ z. inl (subst (λ (l : ℕ). contains ((w.stay n k).numbers l) i ≡ true) j z)) (is_heard (r == view_master G k (partition_of d)) ((w.stay n k).numbers (partition_of d)) nth i q)) (λ _ q. inl q) e
 new_number G w v n k _ _ (within _ _ view (exchange ok)) p i e = inl e
 new_number G w v n k _ _ (within _ _ view _) p i e = inl e
 new_number G w v n k _ _ _ p i e = inl e
@@ -136,10 +136,10 @@ new_named G w v a g n k p x z =
     record {
       number = z.came.number;
       write = record { digest = z.digest; version = z.version; nth = x; early = o.early };
-      made = (g.stay (master G k p) k).writes z.came.number _ (subst (λ (m : ℕ). (w.stay m k).writes z.came.number ≡ Some (record { digest = z.digest; version = z.version; nth = x; early = o.early })) z.by_master o.write);
+      made = (g.stay (view_master G k p) k).writes z.came.number _ (subst (λ (m : ℕ). (w.stay m k).writes z.came.number ≡ Some (record { digest = z.digest; version = z.version; nth = x; early = o.early })) z.by_master o.write);
       part = z.part;
       nth = refl;
-      replica = subst (λ (q : ℕ). is_replica G k q n ≡ true) z.part o.replica;
+      replica = subst (λ (q : ℕ). is_view_replica G k q n ≡ true) z.part o.replica;
       other = λ i. o.other (i ∙ sym z.by_master);
     }
 
@@ -152,11 +152,11 @@ hears_kept G w e ok g a ts paid h n k = record {
     v : Picture
     v = act G e w
 
-    old : (t : ℕ) (f : Applied) → (v.stay (master G k (partition_of f.digest)) k).writes t ≡ Some f → contains ((w.stay n k).numbers (partition_of f.digest)) f.nth ≡ true → AtMost G.by (Some f.version) ((v.stay n k).held f.digest)
+    old : (t : ℕ) (f : Applied) → (v.stay (view_master G k (partition_of f.digest)) k).writes t ≡ Some f → contains ((w.stay n k).numbers (partition_of f.digest)) f.nth ≡ true → AtMost G.by (Some f.version) ((v.stay n k).held f.digest)
     old t f b c = ⊎_elim (λ z. AtMost_trans z ((g.stay n k).held f.digest)) (λ z. paid (record { node = n; key = k; digest = f.digest; version = f.version }) z)
-        ((h n k).held t f (old_write G w v a n k (master G k (partition_of f.digest)) _ _ (steps G w e ok (master G k (partition_of f.digest)) k) t f refl b ((h n k).named (partition_of f.digest) f.nth c)) c)
+        ((h n k).held t f (old_write G w v a n k (view_master G k (partition_of f.digest)) _ _ (steps G w e ok (view_master G k (partition_of f.digest)) k) t f refl b ((h n k).named (partition_of f.digest) f.nth c)) c)
 
-    new : (t : ℕ) (f : Applied) → (v.stay (master G k (partition_of f.digest)) k).writes t ≡ Some f → NewNumber G w v n k (partition_of f.digest) f.nth
+    new : (t : ℕ) (f : Applied) → (v.stay (view_master G k (partition_of f.digest)) k).writes t ≡ Some f → NewNumber G w v n k (partition_of f.digest) f.nth
         → AtMost G.by (Some f.version) ((v.stay n k).held f.digest) ⊎ (v.owed ≡ Some (record { node = n; key = k; digest = f.digest; version = f.version }))
     new t f b z = subst (λ (q : Applied). AtMost G.by (Some q.version) ((v.stay n k).held q.digest) ⊎ (v.owed ≡ Some (record { node = n; key = k; digest = q.digest; version = q.version }))) same_write (go (is_newer G.by z.version ((w.node n).content z.digest)) refl)
       where
@@ -166,11 +166,11 @@ hears_kept G w e ok g a ts paid h n k = record {
         that : Applied
         that = record { digest = z.digest; version = z.version; nth = f.nth; early = o.early }
 
-        made : (v.stay (master G k (partition_of f.digest)) k).writes z.came.number ≡ Some that
-        made = (g.stay (master G k (partition_of f.digest)) k).writes z.came.number _ (subst (λ (m : ℕ). (w.stay m k).writes z.came.number ≡ Some that) z.by_master o.write)
+        made : (v.stay (view_master G k (partition_of f.digest)) k).writes z.came.number ≡ Some that
+        made = (g.stay (view_master G k (partition_of f.digest)) k).writes z.came.number _ (subst (λ (m : ℕ). (w.stay m k).writes z.came.number ≡ Some that) z.by_master o.write)
 
         same_write : that ≡ f
-        same_write = some_same (sym made ∙ (ap (v.stay (master G k (partition_of f.digest)) k).writes ((ts (master G k (partition_of f.digest)) k).once z.came.number t that f made b z.part refl) ∙ b))
+        same_write = some_same (sym made ∙ (ap (v.stay (view_master G k (partition_of f.digest)) k).writes ((ts (view_master G k (partition_of f.digest)) k).once z.came.number t that f made b z.part refl) ∙ b))
 
         go : (q : Bool) → is_newer G.by z.version ((w.node n).content z.digest) ≡ q → AtMost G.by (Some z.version) ((v.stay n k).held z.digest) ⊎ (v.owed ≡ Some (record { node = n; key = k; digest = z.digest; version = z.version }))
         go true i = inr (ap (λ (y : Picture). y.owed) z.is ∙ ap (owes (record { node = n; key = k; digest = z.digest; version = z.version })) i)

@@ -7,7 +7,7 @@ use Rattle.cluster_types.specs.declared.cluster_key.ClusterKey.{ClusterKey}
 use Rattle.cluster_types.specs.Partitions.{partition_of}
 use Rattle.wire_messages.specs.declared.message.Message.TheVariants as message
 use Rattle.node_rules.specs.Batches.{is_among}
-use Rattle.cluster_laws.specs.Ground.{Ground, is_replica, sends_to}
+use Rattle.cluster_laws.specs.Ground.{Ground, is_view_replica, view_sends_to}
 use Rattle.cluster_laws.specs.Stay.{Versions, Applied, Stay}
 use Rattle.cluster_laws.specs.Picture.{Seen, Picture, start}
 use Rattle.cluster_laws.specs.Effect.{Effect}
@@ -58,11 +58,11 @@ AllSays G w = (n r : ℕ) (m : Rattle.wire_messages.specs.declared.message.Messa
 abbrev pub AllCross : Ground → Picture → Type 0
 AllCross G w = (n : ℕ) (k : ClusterKey) → Cross G w n k (w.stay n k)
 
-pub sends_to_replica : (G : Ground) (k : ClusterKey) (p n r : ℕ) → sends_to G k p n r ≡ true → is_replica G k p r ≡ true
-unfolding sends_to
-sends_to_replica G k p n r e = and_left (is_replica G k p r) _ e
+pub sends_to_replica : (G : Ground) (k : ClusterKey) (p n r : ℕ) → view_sends_to G k p n r ≡ true → is_view_replica G k p r ≡ true
+unfolding view_sends_to
+sends_to_replica G k p n r e = and_left (is_view_replica G k p r) _ e
 
-pub merged_replica : (G : Ground) (w : Picture) (n : ℕ) (k : ClusterKey) (d : List ℕ) (u : Version) → AllOwn G w → AllSays G w → MayMerge G w n k d u → is_replica G k (partition_of d) n ≡ true
+pub merged_replica : (G : Ground) (w : Picture) (n : ℕ) (k : ClusterKey) (d : List ℕ) (u : Version) → AllOwn G w → AllSays G w → MayMerge G w n k d u → is_view_replica G k (partition_of d) n ≡ true
 merged_replica G w n k d u own says ok = ⊎_elim
     (λ z. let s : (w.stay ok.from z.0.key).batch n z.0.number ≡ Some z.0.records = says ok.from n (message.Batch z.0) z.1 in
     sends_to_replica G k (partition_of d) ok.from n ((own ok.from k).records n z.0.number z.0.records (subst (λ (j : ClusterKey). (w.stay ok.from j).batch n z.0.number ≡ Some z.0.records) z.2 s) d u z.3).0)
@@ -90,7 +90,7 @@ inside_store : (G : Ground) (v : Picture) (n : ℕ) (k : ClusterKey) (x y : Seen
     → y.content ≡ with_version G.by x.content d u → t.held ≡ with_version G.by s.held d u → t.entry ≡ s.entry → t.pending ≡ s.pending → t.exchanged ≡ s.exchanged
     → ((i : ℕ) (e : Applied) → s.writes i ≡ Some e → t.writes i ≡ Some e)
     → ((i : ℕ) (e : Applied) → t.writes i ≡ Some e → (s.writes i ≡ Some e) ⊎ ((e.digest ≡ d) × (e.version ≡ u)))
-    → (is_replica G k (partition_of d) n ≡ true) ⊎ ((i : ℕ) × (e : Applied) × (t.writes i ≡ Some e) × (e.digest ≡ d) × (e.version ≡ u))
+    → (is_view_replica G k (partition_of d) n ≡ true) ⊎ ((i : ℕ) × (e : Applied) × (t.writes i ≡ Some e) × (e.digest ≡ d) × (e.version ≡ u))
     → Inside G v n k x s → Inside G v n k y t
 inside_store G v n k x y s t d u ec eh ee ep ex more less why h = record {
   held = λ c. subst₂ (λ (f g : Versions). AtMost G.by (f c) (g c)) (sym ec) (sym eh) (version_both G.by x.content s.held d u c (h.held c));
@@ -104,7 +104,7 @@ inside_store G v n k x y s t d u ec eh ee ep ex more less why h = record {
       (subst₂ (λ (c : List ℕ) (b : Version). AtMost G.by (Some b) (with_version G.by x.content d u c)) (sym z.0) (sym z.1) (version_there G.by x.content d u)))) (less i e a);
   outside = λ c b r en ws. subst (λ (f : Versions). AtMost G.by (f c) b) (sym ec) (version_below G.by x.content d u c b
       (h.outside c b r (subst (λ (f : Versions). AtMost G.by (f c) b) ee en) (λ i e a. ws i e (more i e a)))
-      (λ z. ⊎_elim (λ q. differ (subst (λ (g : List ℕ). is_replica G k (partition_of g) n ≡ true) z q) r)
+      (λ z. ⊎_elim (λ q. differ (subst (λ (g : List ℕ). is_view_replica G k (partition_of g) n ≡ true) z q) r)
       (λ q. subst (λ (g : Version). AtMost G.by (Some g) b) q.4 (ws q.0 q.1 q.2 (q.3 ∙ z))) why));
 }
 
@@ -141,8 +141,8 @@ inside_within G w v n k _ _ (drop p ok) g own says cr ts h = record {
     less d true o z = AtMost_none o
     less d false o z = z
 
-    keeps : (d : List ℕ) → is_replica G k (partition_of d) n ≡ true → (b : Bool) → (partition_of d == p) ≡ b → AtMost G.by ((w.stay n k).held d) ((w.node n).content d) → AtMost G.by ((w.stay n k).held d) (cond b None ((w.node n).content d))
-    keeps d r true e z = differ (subst (λ (q : ℕ). is_replica G k q n ≡ true) (number_same (partition_of d) p e) r) ok.outside
+    keeps : (d : List ℕ) → is_view_replica G k (partition_of d) n ≡ true → (b : Bool) → (partition_of d == p) ≡ b → AtMost G.by ((w.stay n k).held d) ((w.node n).content d) → AtMost G.by ((w.stay n k).held d) (cond b None ((w.node n).content d))
+    keeps d r true e z = differ (subst (λ (q : ℕ). is_view_replica G k q n ≡ true) (number_same (partition_of d) p e) r) ok.outside
     keeps d r false e z = z
 
     pends : (r : ℕ) (d : List ℕ) → (w.stay n k).pending r d ≡ true → (b : Bool) → (partition_of d == p) ≡ b → AtMost G.by ((w.stay n k).entry d) ((w.node n).content d) → AtMost G.by ((w.stay n k).entry d) (cond b None ((w.node n).content d))

@@ -8,11 +8,11 @@ use Rattle.cluster_types.specs.declared.cluster_key.ClusterKey.{ClusterKey}
 use Rattle.cluster_types.specs.ClusterKeys.{key_lt}
 use Rattle.cluster_types.specs.Partitions.{partition_of}
 use Rattle.cluster_laws.specs.Changed.{at_number}
-use Rattle.cluster_laws.specs.Ground.{Ground, IsGround, is_member, master, is_replica}
+use Rattle.cluster_laws.specs.Ground.{Ground, IsGround, is_view_member, view_master, is_view_replica}
 use Rattle.cluster_laws.specs.Stay.{Versions, Applied, Stay}
 use Rattle.cluster_laws.specs.Picture.{Seen, Picture, start}
 use Rattle.cluster_laws.specs.Effect.{Effect, Nothing, Sets_clock, Enters, Stops, Exchanges, Applies, Merges, Learns, Drops, Write_came}
-use Rattle.cluster_laws.specs.Changes.{act, with_version, dropping}
+use Rattle.cluster_laws.specs.Changes.{act, with_version, seen_after_drop}
 use Rattle.cluster_laws.specs.Licences.{MayEnter, MayDrop}
 use Rattle.cluster_laws.proofs.At.{numbers, digests, changed_either, changed_each, changed_here, changed_other, number_same, number_cases, differ, some_same, no_some}
 use Rattle.cluster_laws.proofs.Keys.{lt_irrefl, lt_trans}
@@ -66,7 +66,7 @@ applied_step G w v n _ (stored x e u c l z) g h d = subst (λ (f : Versions). At
     (version_below G.by (w.node n).content e u d (v.applied d) (AtMost_trans (h n d) (g.applied d)) (λ i. subst (λ (q : List ℕ). AtMost G.by (Some u) (v.applied q)) i z))
 
 pub applied_kept : (G : Ground) (w : Picture) (e : Effect) → Allowed G w e → Whole_picture G w → Grows G.by w (act G e w) → AllApplied G w → AllApplied G (act G e w)
-applied_kept G w (Drops n k p) ok a g h m d = changed_either numbers (λ (x : Seen). AtMost G.by (x.content d) (w.applied d)) w.node n (dropping p (w.node n)) m (λ _. less (partition_of d == p)) (λ _. h m d)
+applied_kept G w (Drops n k p) ok a g h m d = changed_either numbers (λ (x : Seen). AtMost G.by (x.content d) (w.applied d)) w.node n (seen_after_drop p (w.node n)) m (λ _. less (partition_of d == p)) (λ _. h m d)
   where
     less : (b : Bool) → AtMost G.by (cond b None ((w.node n).content d)) (w.applied d)
     less true = AtMost_none (w.applied d)
@@ -83,10 +83,10 @@ applied_start G n d = AtMost_none None
 pub record Place (G : Ground) (w : Picture) (k : ClusterKey) (d : List ℕ) (v : Version) : Type 0 where
   pub node : ℕ
   pub has : AtMost G.by (Some v) ((w.node node).content d)
-  pub late : (key_lt k (w.node node).last ≡ true) ⊎ (((w.node node).last ≡ k) × (is_replica G k (partition_of d) node ≡ true))
+  pub late : (key_lt k (w.node node).last ≡ true) ⊎ (((w.node node).last ≡ k) × (is_view_replica G k (partition_of d) node ≡ true))
 
 abbrev pub Kept : Ground → Picture → Type 0
-Kept G w = (k : ClusterKey) (r : ℕ) (d : List ℕ) (v : Version) → is_replica G k (partition_of d) r ≡ true → AtMost G.by (Some v) ((w.stay r k).held d) → Place G w k d v
+Kept G w = (k : ClusterKey) (r : ℕ) (d : List ℕ) (v : Version) → is_view_replica G k (partition_of d) r ≡ true → AtMost G.by (Some v) ((w.stay r k).held d) → Place G w k d v
 
 pub record Somewhere (G : Ground) (w : Picture) (d : List ℕ) (v : Version) : Type 0 where
   pub node : ℕ
@@ -96,20 +96,20 @@ abbrev pub Lossless : Ground → Picture → Type 0
 Lossless G w = (d : List ℕ) (v : Version) → w.applied d ≡ Some v → Somewhere G w d v
 
 -- a node that may drop holds no more than each replica has held
-covered : (G : Ground) (w : Picture) → IsGround G → Whole_picture G w → AllSnap G w → (n : ℕ) (k : ClusterKey) (p : ℕ) → MayDrop G w n k p → (r : ℕ) → is_replica G k p r ≡ true → (d : List ℕ) → partition_of d ≡ p → AtMost G.by ((w.node n).content d) ((w.stay r k).held d)
-covered G w ground a sn n k p ok r rep d dp = (a.known.inside n k ok.is_in.view).outside d _ (subst (λ (q : ℕ). is_replica G k q n ≡ false) (sym dp) ok.outside)
+covered : (G : Ground) (w : Picture) → IsGround G → Whole_picture G w → AllSnap G w → (n : ℕ) (k : ClusterKey) (p : ℕ) → MayDrop G w n k p → (r : ℕ) → is_view_replica G k p r ≡ true → (d : List ℕ) → partition_of d ≡ p → AtMost G.by ((w.node n).content d) ((w.stay r k).held d)
+covered G w ground a sn n k p ok r rep d dp = (a.known.inside n k ok.is_in.view).outside d _ (subst (λ (q : ℕ). is_view_replica G k q n ≡ false) (sym dp) ok.outside)
     (arrive G w a sn k p (a.settled k p settled).moved n r mem rep d dp)
     (λ t e z i. subst (λ (c : List ℕ). AtMost G.by (Some e.version) ((w.stay r k).held c)) i (done_held G w a n r t k e z (others_done G w a n t k e z (subst (λ (q : ℕ). w.settled k q ≡ true) (sym (ap partition_of i ∙ dp)) settled) (other e i))
-    (subst (λ (q : ℕ). is_replica G k q r ≡ true) (sym (ap partition_of i ∙ dp)) rep)))
+    (subst (λ (q : ℕ). is_view_replica G k q r ≡ true) (sym (ap partition_of i ∙ dp)) rep)))
   where
     settled : w.settled k p ≡ true
     settled = (a.known.cross n k).settled p ok.settled
 
-    mem : is_member G k n ≡ true
+    mem : is_view_member G k n ≡ true
     mem = (a.known.entered n k).member ((a.known.entered n k).now ok.is_in.view).0
 
-    other : (e : Applied) → e.digest ≡ d → n ≡ master G k (partition_of e.digest) → ⊥
-    other e i z = differ (subst (λ (m : ℕ). is_replica G k p m ≡ true) (sym (z ∙ ap (master G k) (ap partition_of i ∙ dp))) (master_replica G ground k p n mem)) ok.outside
+    other : (e : Applied) → e.digest ≡ d → n ≡ view_master G k (partition_of e.digest) → ⊥
+    other e i z = differ (subst (λ (m : ℕ). is_view_replica G k p m ≡ true) (sym (z ∙ ap (view_master G k) (ap partition_of i ∙ dp))) (master_replica G ground k p n mem)) ok.outside
 
 -- the version that a node drops stands at another node, at least as late
 record Elsewhere (G : Ground) (w : Picture) (n : ℕ) (k : ClusterKey) (d : List ℕ) (v : Version) : Type 0 where
@@ -130,23 +130,23 @@ elsewhere G w ground a sn kept n k p ok d dp v has = record {
     now = (a.known.entered n k).now ok.is_in.view
 
     r : ℕ
-    r = master G k p
+    r = view_master G k p
 
-    rep : is_replica G k p r ≡ true
+    rep : is_view_replica G k p r ≡ true
     rep = master_replica G ground k p n ((a.known.entered n k).member now.0)
 
     y : Place G w k d v
-    y = kept k r d v (subst (λ (q : ℕ). is_replica G k q r ≡ true) (sym dp) rep) (AtMost_trans has (covered G w ground a sn n k p ok r rep d dp))
+    y = kept k r d v (subst (λ (q : ℕ). is_view_replica G k q r ≡ true) (sym dp) rep) (AtMost_trans has (covered G w ground a sn n k p ok r rep d dp))
 
-    away_from : n ≡ y.node → (key_lt k (w.node y.node).last ≡ true) ⊎ (((w.node y.node).last ≡ k) × (is_replica G k (partition_of d) y.node ≡ true)) → ⊥
+    away_from : n ≡ y.node → (key_lt k (w.node y.node).last ≡ true) ⊎ (((w.node y.node).last ≡ k) × (is_view_replica G k (partition_of d) y.node ≡ true)) → ⊥
     away_from i (inl z) = differ (ap (key_lt k) (sym now.1 ∙ ap (λ (m : ℕ). (w.node m).last) i) ∙ z) (lt_irrefl k)
-    away_from i (inr z) = differ (subst₂ (λ (m q : ℕ). is_replica G k q m ≡ true) (sym i) dp z.1) ok.outside
+    away_from i (inr z) = differ (subst₂ (λ (m q : ℕ). is_view_replica G k q m ≡ true) (sym i) dp z.1) ok.outside
 
 -- a place stays, at a line that drops nothing
 place_rises : (G : Ground) (w v : Picture) → ((m : ℕ) → Rise G w v m (v.node m)) → (k : ClusterKey) (d : List ℕ) (u : Version) → Place G w k d u → Place G v k d u
 place_rises G w v rise k d u h = record { node = h.node; has = AtMost_trans h.has (content_rises G w v h.node (v.node h.node) (rise h.node) d); late = later h.node (v.node h.node) (rise h.node) h.late }
   where
-    later : (m : ℕ) (x : Seen) → Rise G w v m x → (key_lt k (w.node m).last ≡ true) ⊎ (((w.node m).last ≡ k) × (is_replica G k (partition_of d) m ≡ true)) → (key_lt k x.last ≡ true) ⊎ ((x.last ≡ k) × (is_replica G k (partition_of d) m ≡ true))
+    later : (m : ℕ) (x : Seen) → Rise G w v m x → (key_lt k (w.node m).last ≡ true) ⊎ (((w.node m).last ≡ k) × (is_view_replica G k (partition_of d) m ≡ true)) → (key_lt k x.last ≡ true) ⊎ ((x.last ≡ k) × (is_view_replica G k (partition_of d) m ≡ true))
     later m _ (still x c l) z = ⊎_elim (λ q. inl (ap (key_lt k) l ∙ q)) (λ q. inr (l ∙ q.0, q.1)) z
     later m _ (stored x e b c l y) z = ⊎_elim (λ q. inl (ap (key_lt k) l ∙ q)) (λ q. inr (l ∙ q.0, q.1)) z
     later m _ (entered j ok) z = ⊎_elim (λ q. inl (lt_trans k (w.node m).last j q ok.above)) (λ q. inl (subst (λ (l : ClusterKey). key_lt l j ≡ true) q.0 ok.above)) z
@@ -159,26 +159,26 @@ place_drop G w ground a sn kept n j p ok k d u h = go (number_cases n h.node) (n
     v = act G (Drops n j p) w
 
     last_same : (m : ℕ) → (v.node m).last ≡ (w.node m).last
-    last_same m = changed_either numbers (λ (x : Seen). x.last ≡ (w.node m).last) w.node n (dropping p (w.node n)) m (λ i. ap (λ (z : ℕ). (w.node z).last) i) (λ _. refl)
+    last_same m = changed_either numbers (λ (x : Seen). x.last ≡ (w.node m).last) w.node n (seen_after_drop p (w.node n)) m (λ i. ap (λ (z : ℕ). (w.node z).last) i) (λ _. refl)
 
     survives : (m : ℕ) → ((n ≡ m → ⊥) ⊎ (partition_of d ≡ p → ⊥)) → AtMost G.by (Some u) ((w.node m).content d) → AtMost G.by (Some u) ((v.node m).content d)
-    survives m c z = changed_either numbers (λ (x : Seen). AtMost G.by (Some u) (x.content d)) w.node n (dropping p (w.node n)) m (λ i. here i c (partition_of d == p) refl) (λ _. z)
+    survives m c z = changed_either numbers (λ (x : Seen). AtMost G.by (Some u) (x.content d)) w.node n (seen_after_drop p (w.node n)) m (λ i. here i c (partition_of d == p) refl) (λ _. z)
       where
         here : n ≡ m → ((n ≡ m → ⊥) ⊎ (partition_of d ≡ p → ⊥)) → (b : Bool) → (partition_of d == p) ≡ b → AtMost G.by (Some u) (cond b None ((w.node n).content d))
         here i (inl q) b e = absurd (q i)
         here i (inr q) true e = absurd (q (number_same (partition_of d) p e))
         here i (inr q) false e = subst (λ (x : ℕ). AtMost G.by (Some u) ((w.node x).content d)) (sym i) z
 
-    at_last : (m : ℕ) → (key_lt k (w.node m).last ≡ true) ⊎ (((w.node m).last ≡ k) × (is_replica G k (partition_of d) m ≡ true)) → (key_lt k (v.node m).last ≡ true) ⊎ (((v.node m).last ≡ k) × (is_replica G k (partition_of d) m ≡ true))
-    at_last m = subst (λ (l : ClusterKey). (key_lt k l ≡ true) ⊎ ((l ≡ k) × (is_replica G k (partition_of d) m ≡ true))) (sym (last_same m))
+    at_last : (m : ℕ) → (key_lt k (w.node m).last ≡ true) ⊎ (((w.node m).last ≡ k) × (is_view_replica G k (partition_of d) m ≡ true)) → (key_lt k (v.node m).last ≡ true) ⊎ (((v.node m).last ≡ k) × (is_view_replica G k (partition_of d) m ≡ true))
+    at_last m = subst (λ (l : ClusterKey). (key_lt k l ≡ true) ⊎ ((l ≡ k) × (is_view_replica G k (partition_of d) m ≡ true))) (sym (last_same m))
 
     now : (w.node n).last ≡ j
     now = ((a.known.entered n j).now ok.is_in.view).1
 
     -- the node that drops isn't a replica, so it is later than the view
-    before : n ≡ h.node → partition_of d ≡ p → (key_lt k (w.node h.node).last ≡ true) ⊎ (((w.node h.node).last ≡ k) × (is_replica G k (partition_of d) h.node ≡ true)) → key_lt k j ≡ true
+    before : n ≡ h.node → partition_of d ≡ p → (key_lt k (w.node h.node).last ≡ true) ⊎ (((w.node h.node).last ≡ k) × (is_view_replica G k (partition_of d) h.node ≡ true)) → key_lt k j ≡ true
     before i dp (inl z) = ap (key_lt k) (sym (ap (λ (m : ℕ). (w.node m).last) (sym i) ∙ now)) ∙ z
-    before i dp (inr z) = differ (subst₂ (λ (m q : ℕ). is_replica G j q m ≡ true) (sym i) dp (subst (λ (l : ClusterKey). is_replica G l (partition_of d) h.node ≡ true) (sym z.0 ∙ (ap (λ (m : ℕ). (w.node m).last) (sym i) ∙ now)) z.1)) ok.outside
+    before i dp (inr z) = differ (subst₂ (λ (m q : ℕ). is_view_replica G j q m ≡ true) (sym i) dp (subst (λ (l : ClusterKey). is_view_replica G l (partition_of d) h.node ≡ true) (sym z.0 ∙ (ap (λ (m : ℕ). (w.node m).last) (sym i) ∙ now)) z.1)) ok.outside
 
     go : (n ≡ h.node) ⊎ (n ≡ h.node → ⊥) → (partition_of d ≡ p) ⊎ (partition_of d ≡ p → ⊥) → Place G v k d u
     go (inr i) q = record { node = h.node; has = survives h.node (inl i) h.has; late = at_last h.node h.late }
@@ -227,7 +227,7 @@ lossless_kept G w (Drops n j p) ground ok g a sn kept h d u e = go (number_cases
     o = h d u e
 
     survives : (m : ℕ) → ((n ≡ m → ⊥) ⊎ (partition_of d ≡ p → ⊥)) → AtMost G.by (Some u) ((w.node m).content d) → AtMost G.by (Some u) ((v.node m).content d)
-    survives m c z = changed_either numbers (λ (x : Seen). AtMost G.by (Some u) (x.content d)) w.node n (dropping p (w.node n)) m (λ i. here i c (partition_of d == p) refl) (λ _. z)
+    survives m c z = changed_either numbers (λ (x : Seen). AtMost G.by (Some u) (x.content d)) w.node n (seen_after_drop p (w.node n)) m (λ i. here i c (partition_of d == p) refl) (λ _. z)
       where
         here : n ≡ m → ((n ≡ m → ⊥) ⊎ (partition_of d ≡ p → ⊥)) → (b : Bool) → (partition_of d == p) ≡ b → AtMost G.by (Some u) (cond b None ((w.node n).content d))
         here i (inl q) b e = absurd (q i)

@@ -22,13 +22,13 @@ use Rattle.partition_lists.specs.Hashes.{fnv1a, jenkins_state, jenkins_end, node
 use Rattle.partition_lists.specs.Lists.{list}
 use Rattle.journal_readings.specs.Examples.{digest, key, version, one}
 use Rattle.cluster_laws.specs.Changed.{at_digest}
-use Rattle.cluster_laws.specs.Changes.{opening}
-use Rattle.cluster_laws.specs.Ground.{is_member, master, is_replica, other_replicas, acting, all_empty, same_class, is_first, sends_to, asks}
+use Rattle.cluster_laws.specs.Changes.{running_at_opening}
+use Rattle.cluster_laws.specs.Ground.{is_view_member, view_master, is_view_replica, other_view_replicas, view_acting, is_view_empty, same_view_class, is_view_class_first, view_sends_to, asks}
 use Rattle.cluster_laws.specs.Stay.{Versions, Running}
 use Rattle.cluster_laws.specs.Picture.{Picture, start}
-use Rattle.cluster_laws.specs.Laws.{SettledJoin}
-use Rattle.cluster_laws.specs.Licences.{IsState, IsAmong, IsDone, WasSent, Licensed, after_all}
-use Rattle.cluster_laws.specs.Weaker.{Late, side, handing, handed_on, no_bits, last_bit, progress, moving, handed_over, writing_late, written_late, Breaks, AtEnd}
+use Rattle.cluster_laws.specs.Laws.{SettledHoldFold}
+use Rattle.cluster_laws.specs.Licences.{IsState, IsAmong, IsDone, WasSent, Licensed, picture_after_all}
+use Rattle.cluster_laws.specs.Weaker.{Late, side, handing_ground, handed_on, no_bits_bytes, last_bit, progress_bytes, moving, handed_over, writing_late, written_late, Breaks, AtEnd}
 use Rattle.cluster_laws.proofs.At.{numbers, changed_either, number_same, or_cases, some_same, no_some, differ}
 use Rattle.cluster_laws.proofs.LoneRun.{licensed_or}
 use Rattle.cluster_laws.proofs.BitRows.{is_set, is_clear, is_last, only_last}
@@ -36,14 +36,14 @@ use Rattle.cluster_laws.proofs.SidesRun.{licensed_both, own_row, alone, write, w
 use Rattle.cluster_laws.proofs.PartRun.{both_rows, and_false, one_left}
 
 unfoldable computing : Unit {0}
-unfolding join next version_cmp is_newer fnv1a jenkins_state jenkins_end node_bytes partition_bytes place list master is_replica other_replicas acting all_empty same_class is_first sends_to asks number_field number_at byte_field byte_at flag_field flag_at field items_at key_field key_where key_at bytes_at digest_at digest_above_at value_field value_at body_field body_at version_field version_at record_field record_at records_field records_at row_at state_field state_at entry_field entry_at state_row_field state_row_at state_message_at batch_at batch_ack_at progress_at spelling decoded message_of
+unfolding join next version_cmp is_newer fnv1a jenkins_state jenkins_end node_bytes partition_bytes place list view_master is_view_replica other_view_replicas view_acting is_view_empty same_view_class is_view_class_first view_sends_to asks number_field number_at byte_field byte_at flag_field flag_at field items_at key_field key_where key_at bytes_at digest_at digest_above_at value_field value_at body_field body_at version_field version_at record_field record_at records_field records_at row_at state_field state_at entry_field entry_at state_row_field state_row_at state_message_at batch_at batch_ack_at progress_at spelling decoded message_of
 computing = tt
 
-read_handed : message_of (progress no_bits last_bit) ≡ Some (message.Progress (key 4 2) false (row_of no_bits) (row_of last_bit) (row_of no_bits))
+read_handed : message_of (progress_bytes no_bits_bytes last_bit) ≡ Some (message.Progress (key 4 2) false (row_of no_bits_bytes) (row_of last_bit) (row_of no_bits_bytes))
 unfolding computing
 read_handed = refl
 
-first_licensed : Licensed handing start (side 1 one digest (version 0 1 97))
+first_licensed : Licensed handing_ground start (side 1 one digest (version 0 1 97))
 unfolding computing
 first_licensed = (
   (refl, (refl, record { above = refl; member = refl; row = λ p d e. refl; quiet = refl })),
@@ -65,9 +65,9 @@ first_licensed = (
 -- ---- node 1 hands its record on
 
 abbrev at_line : ℕ → Picture
-at_line i = after_all handing start (take i written_late)
+at_line i = picture_after_all handing_ground start (take i written_late)
 
-first_enters : (p : ℕ) → IsState ((at_line 5).node 1).content (((at_line 5).node 1).stamp p) p (handing.row (key 4 2) 1 p)
+first_enters : (p : ℕ) → IsState ((at_line 5).node 1).content (((at_line 5).node 1).stamp p) p (handing_ground.row (key 4 2) 1 p)
 unfolding computing
 first_enters = whole_there ((at_line 5).node 1).content digest (version 0 1 97) (key 1 1) 1 ((at_line 5).node 1).stamp refl refl refl (away_with no_records digest (version 0 1 97) refl (λ x _. refl))
 
@@ -83,7 +83,7 @@ abbrev content : Versions
 content = at_digest no_records digest (Some (version 0 1 97))
 
 abbrev held_on : ℕ → List ℕ → Bool
-held_on r d = sends_to handing (key 4 2) (partition_of d) 1 r && is_some (content d)
+held_on r d = view_sends_to handing_ground (key 4 2) (partition_of d) 1 r && is_some (content d)
 
 batch_sent : WasSent (at_line 14) 1 2 (message.Batch handed_on)
 unfolding computing
@@ -96,9 +96,9 @@ batch_still = record { number = 3; packet = record { from = 1; to = 2; size = _;
 -- node 2 had nothing to hand on
 second_done : (p : ℕ) → IsDone ((at_line 17).stay 2 (key 4 2)) p
 unfolding computing
-second_done p = record { exchanged = refl; none = λ r d dp. and_false (sends_to handing (key 4 2) (partition_of d) 2 r) }
+second_done p = record { exchanged = refl; none = λ r d dp. and_false (view_sends_to handing_ground (key 4 2) (partition_of d) 2 r) }
 
-sends_no_other : (r : ℕ) → (2 ≡ r → ⊥) → sends_to handing (key 4 2) 4095 1 r ≡ false
+sends_no_other : (r : ℕ) → (2 ≡ r → ⊥) → view_sends_to handing_ground (key 4 2) 4095 1 r ≡ false
 unfolding computing
 sends_no_other r apart = one_left (2 == r) _ (go (2 == r) refl)
   where
@@ -116,22 +116,22 @@ first_done : IsDone ((at_line 19).stay 1 (key 4 2)) 4095
 unfolding computing
 first_done = record {
   exchanged = refl;
-  none = λ r d dp. changed_either numbers (λ (f : List ℕ → Bool). f d ≡ false) held_on 2 _ r (λ _. unpending (sends_to handing (key 4 2) (partition_of d) 1 2) (bytes_eq digest d))
-      (λ apart. ap (λ (b : Bool). b && is_some (content d)) (ap (λ (q : ℕ). sends_to handing (key 4 2) q 1 r) dp ∙ sends_no_other r apart));
+  none = λ r d dp. changed_either numbers (λ (f : List ℕ → Bool). f d ≡ false) held_on 2 _ r (λ _. unpending (view_sends_to handing_ground (key 4 2) (partition_of d) 1 2) (bytes_eq digest d))
+      (λ apart. ap (λ (b : Bool). b && is_some (content d)) (ap (λ (q : ℕ). view_sends_to handing_ground (key 4 2) q 1 r) dp ∙ sends_no_other r apart));
 }
 
-other_told : (m : ℕ) → is_member handing (key 4 2) m ≡ true → (m ≡ 1 → ⊥) → ((at_line 19).stay 1 (key 4 2)).told m 4095 ≡ true
+other_told : (m : ℕ) → is_view_member handing_ground (key 4 2) m ≡ true → (m ≡ 1 → ⊥) → ((at_line 19).stay 1 (key 4 2)).told m 4095 ≡ true
 unfolding computing
 other_told m e apart = ⊎_elim (λ z. subst (λ (n : ℕ). ((at_line 19).stay 1 (key 4 2)).told n 4095 ≡ true) (number_same 2 m z) is_set)
     (λ z. ⊎_elim (λ q. absurd (apart (sym (number_same 1 m q)))) (λ q. differ q refl) (or_cases (1 == m) false z)) (or_cases (2 == m) ((1 == m) || false) e)
 
-other_master : 1 ≡ master handing (key 4 2) 4095 → ⊥
+other_master : 1 ≡ view_master handing_ground (key 4 2) 4095 → ⊥
 unfolding computing
 other_master e = differ refl (ap (λ (q : ℕ). q == 1) e)
 
-handed_licensed : Licensed handing start handed_over
+handed_licensed : Licensed handing_ground start handed_over
 unfolding computing
-handed_licensed = licensed_both handing start (side 1 one digest (version 0 1 97)) moving first_licensed (
+handed_licensed = licensed_both handing_ground start (side 1 one digest (version 0 1 97)) moving first_licensed (
   (refl, (refl, record { above = refl; member = refl; row = λ p d e. refl; quiet = refl })),
   (
     (refl, (refl, record { above = refl; member = refl; row = first_enters; quiet = refl })),
@@ -203,12 +203,12 @@ handed_licensed = licensed_both handing start (side 1 one digest (version 0 1 97
 -- ---- the write
 
 abbrev opened_late : Running
-opened_late = opening handing (key 4 2) 1 ((at_line 20).node 1).content ((at_line 20).stay 1 (key 4 2)) digest
+opened_late = running_at_opening handing_ground (key 4 2) 1 ((at_line 20).node 1).content ((at_line 20).stay 1 (key 4 2)) digest
 
 -- it asks nobody
 asks_nobody : opened_late.awaiting ≡ []
 unfolding computing
-asks_nobody = go (bit (row_of no_bits) 4095) [] refl
+asks_nobody = go (bit (row_of no_bits_bytes) 4095) [] refl
   where
     go : (b : Bool) (ids : List ℕ) → ids ≡ [] → (if b || false then ids else ids) ≡ []
     go true ids e = e
@@ -218,15 +218,15 @@ handed_alone : (p : ℕ) → bit (row_of last_bit) p ≡ true → ((at_line 22).
 unfolding computing
 handed_alone p e = subst (λ (q : ℕ). ((at_line 22).stay 1 (key 4 2)).handed q ≡ true) (sym (only_last p e)) refl
 
-missed : AtEnd SettledJoin handing written_late → ⊥
+missed : AtEnd SettledHoldFold handing_ground written_late → ⊥
 unfolding computing
 missed law = let q : version 0 1 97 ≡ version 0 2 98 = some_same (law (key 4 2) 4095 2 digest (inl refl) (λ t e f. no_some f) refl refl refl) in omega (arith, ap (λ (v : Version). v.generation) q)
 
-pub late_breaks : Breaks Late (AtEnd SettledJoin) handing written_late
+pub late_breaks : Breaks Late (AtEnd SettledHoldFold) handing_ground written_late
 unfolding computing
 late_breaks = record {
   ground = record { some = omega arith };
-  allowed = licensed_or Late handing start handed_over writing_late handed_licensed (
+  allowed = licensed_or Late handing_ground start handed_over writing_late handed_licensed (
     inr (record { is_in = record { view = refl; stays = refl }; exchanged = refl; number = refl; acts = refl; free = λ u y e. no_some e }),
     (
       inl (refl, record { transaction = opened_late; resolved = record { is_in = record { view = refl; stays = refl }; running = refl; digest = refl; unapplied = refl; answered = asks_nobody }; next = refl }),

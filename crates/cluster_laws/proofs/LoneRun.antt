@@ -12,16 +12,16 @@ use Rattle.journal_lines.specs.declared.line.Line.TheVariants as line
 use Rattle.partition_lists.specs.Hashes.{fnv1a, jenkins_state, jenkins_end, node_bytes, partition_bytes, place}
 use Rattle.partition_lists.specs.Lists.{list}
 use Rattle.journal_readings.specs.Examples.{digest, key, version}
-use Rattle.cluster_laws.specs.Ground.{Ground, is_member, master, is_replica, other_replicas, acting, all_empty, same_class, is_first, sends_to, asks}
+use Rattle.cluster_laws.specs.Ground.{Ground, is_view_member, view_master, is_view_replica, other_view_replicas, view_acting, is_view_empty, same_view_class, is_view_class_first, view_sends_to, asks}
 use Rattle.cluster_laws.specs.Stay.{Running}
 use Rattle.cluster_laws.specs.Picture.{Picture, start}
-use Rattle.cluster_laws.specs.Laws.{NoLoss}
-use Rattle.cluster_laws.specs.Licences.{IsState, IsDone, Licensed, after, after_all}
-use Rattle.cluster_laws.specs.Weaker.{Replica, LicensedOr, lone, first_view, kept, thrown_away, Breaks, AtEnd}
+use Rattle.cluster_laws.specs.Laws.{GreatestIsStored}
+use Rattle.cluster_laws.specs.Licences.{IsState, IsDone, Licensed, picture_after, picture_after_all}
+use Rattle.cluster_laws.specs.Weaker.{Replica, LicensedOr, lone, first_view, lone_run, thrown_away, Breaks, AtEnd}
 use Rattle.cluster_laws.proofs.At.{digests, changed_either, number_same, number_cases, or_cases, no_some, differ}
 
 unfoldable computing : Unit {0}
-unfolding join next version_cmp is_newer fnv1a jenkins_state jenkins_end node_bytes partition_bytes place list master is_replica other_replicas acting all_empty same_class is_first sends_to asks
+unfolding join next version_cmp is_newer fnv1a jenkins_state jenkins_end node_bytes partition_bytes place list view_master is_view_replica other_view_replicas view_acting is_view_empty same_view_class is_view_class_first view_sends_to asks
 computing = tt
 
 -- a row is there where the node is the only member
@@ -40,7 +40,7 @@ opened = record { digest = digest; best = None; asked = []; awaiting = []; appli
 
 -- the picture as node 1 enters the second view
 unfoldable before : Picture
-before = after_all lone start first_view
+before = picture_after_all lone start first_view
 
 -- the copy is whole in partition 4095, and empty in each other one
 states : (p : ℕ) → IsState (before.node 1).content ((before.node 1).stamp p) p (lone.row (key 2 1) 1 p)
@@ -53,18 +53,18 @@ states p = go (p == 4095) refl
         (λ i. differ (ap (λ (q : ℕ). q == 4095) (sym dp ∙ ap partition_of (sym i))) e) (λ _. refl)
 
 -- nothing is handed on
-hands_nothing : (r : ℕ) (d : List ℕ) → ((after_all lone start kept).stay 1 (key 2 1)).pending r d ≡ false
+hands_nothing : (r : ℕ) (d : List ℕ) → ((picture_after_all lone start lone_run).stay 1 (key 2 1)).pending r d ≡ false
 unfolding computing
 hands_nothing r d = sends_nothing (1 == r) _ _
 
-done : IsDone ((after_all lone start kept).stay 1 (key 2 1)) 4095
+done : IsDone ((picture_after_all lone start lone_run).stay 1 (key 2 1)) 4095
 unfolding computing
 done = record { exchanged = refl; none = λ r d dp. hands_nothing r d }
 
-only_member : (m : ℕ) → is_member lone (key 2 1) m ≡ true → m ≡ 1
+only_member : (m : ℕ) → is_view_member lone (key 2 1) m ≡ true → m ≡ 1
 only_member m e = ⊎_elim (λ z. sym (number_same 1 m z)) (λ z. differ z refl) (or_cases (1 == m) false e)
 
-pub kept_licensed : Licensed lone start kept
+pub kept_licensed : Licensed lone start lone_run
 unfolding computing before
 kept_licensed = (
   (refl, (refl, record { above = refl; member = refl; row = λ p d e. refl; quiet = refl })),
@@ -103,26 +103,28 @@ kept_licensed = (
 )
 
 -- a licensed run is licensed besides, and goes on from its end
-pub licensed_or : (Extra : Ground → Picture → Line → Type 0) (G : Ground) (w : Picture) (ls ms : List Line) → Licensed G w ls → LicensedOr Extra G (after_all G w ls) ms → LicensedOr Extra G w (ls ++ ms)
+pub licensed_or : (Extra : Ground → Picture → Line → Type 0) (G : Ground) (w : Picture) (ls ms : List Line) → Licensed G w ls → LicensedOr Extra G (picture_after_all G w ls) ms → LicensedOr Extra G w (ls ++ ms)
 licensed_or Extra G w [] ms a b = b
-licensed_or Extra G w (l ∷ ls) ms a b = (inl a.0, licensed_or Extra G (after G w l) ls ms a.1 b)
+licensed_or Extra G w (l ∷ ls) ms a b =
+    (inl a.0, licensed_or Extra G (picture_after G w l) ls ms a.1 b)
 
-gone : (n : ℕ) → ((after_all lone start thrown_away).node n).content digest ≡ None
+gone : (n : ℕ) → ((picture_after_all lone start thrown_away).node n).content digest ≡ None
 unfolding computing
 gone n = go (number_cases 1 n)
   where
-    go : (1 ≡ n) ⊎ (1 ≡ n → ⊥) → ((after_all lone start thrown_away).node n).content digest ≡ None
-    go (inl e) = subst (λ (m : ℕ). ((after_all lone start thrown_away).node m).content digest ≡ None) e refl
+    go : (1 ≡ n) ⊎ (1 ≡ n → ⊥)
+        → ((picture_after_all lone start thrown_away).node n).content digest ≡ None
+    go (inl e) = subst (λ (m : ℕ). ((picture_after_all lone start thrown_away).node m).content digest ≡ None) e refl
     go (inr e) = by_test (1 == n) refl
       where
-        by_test : (b : Bool) → (1 == n) ≡ b → ((after_all lone start thrown_away).node n).content digest ≡ None
+        by_test : (b : Bool) → (1 == n) ≡ b → ((picture_after_all lone start thrown_away).node n).content digest ≡ None
         by_test true i = absurd (e (number_same 1 n i))
         by_test false i = rw i refl
 
-pub replica_breaks : Breaks Replica (AtEnd NoLoss) lone thrown_away
+pub replica_breaks : Breaks Replica (AtEnd GreatestIsStored) lone thrown_away
 unfolding computing
 replica_breaks = record {
   ground = record { some = omega arith };
-  allowed = licensed_or Replica lone start kept (line.Drop 1 (key 2 1) 4095 ∷ []) kept_licensed (inr (record { is_in = record { view = refl; stays = refl }; settled = refl; done = done }), tt);
-  broken = λ law. let o : (n : ℕ) × (((after_all lone start thrown_away).node n).content digest ≡ Some (version 0 1 97)) = law digest (version 0 1 97) refl in no_some (sym (gone o.0) ∙ o.1);
+  allowed = licensed_or Replica lone start lone_run (line.Drop 1 (key 2 1) 4095 ∷ []) kept_licensed (inr (record { is_in = record { view = refl; stays = refl }; settled = refl; done = done }), tt);
+  broken = λ law. let o : (n : ℕ) × (((picture_after_all lone start thrown_away).node n).content digest ≡ Some (version 0 1 97)) = law digest (version 0 1 97) refl in no_some (sym (gone o.0) ∙ o.1);
 }

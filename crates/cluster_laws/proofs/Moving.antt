@@ -3,11 +3,11 @@ use Rattle.std.proofs.Common.{◌≡◌, ℕ, ◌+◌, Bool, true, false, not, L
 use Rattle.cluster_types.specs.declared.cluster_key.ClusterKey.{ClusterKey}
 use Rattle.cluster_types.specs.Partitions.{partition_of}
 use Rattle.cluster_laws.specs.Changed.{at_number, at_key}
-use Rattle.cluster_laws.specs.Ground.{Ground, master, acting, other_replicas}
+use Rattle.cluster_laws.specs.Ground.{Ground, view_master, view_acting, other_view_replicas}
 use Rattle.cluster_laws.specs.Stay.{Running, Applied, Stay}
 use Rattle.cluster_laws.specs.Picture.{Seen, Picture, start}
 use Rattle.cluster_laws.specs.Effect.{Effect, Hands, Settles}
-use Rattle.cluster_laws.specs.Changes.{act, with_write, handing, settling}
+use Rattle.cluster_laws.specs.Changes.{act, running_with_write, stay_after_hand_over, stay_after_settling}
 use Rattle.cluster_laws.specs.Licences.{IsDone, IsFree, AllDone, Acts}
 use Rattle.cluster_laws.proofs.At.{numbers, keys, changed_either, changed_here, part_cases, number_cases, differ, some_same, no_some}
 use Rattle.cluster_laws.proofs.Allowed.{Allowed}
@@ -41,7 +41,7 @@ shut_within G w v n k p _ _ (apply t d u early ok e z) idle h = record {
       (λ _ q c. absurd (h.free t ok.transaction ok.resolved.running (ap partition_of ok.resolved.digest ∙ (ap (λ (a : Applied). partition_of a.digest) (some_same q) ∙ c)))) (λ _. h.done i f);
 }
   where
-    old : (y : Running) (o : Option Running) → (w.stay n k).running t ≡ o → option_map (with_write u ((w.stay n k).applies (partition_of d) + 1) (other_replicas G k (partition_of d) n)) o ≡ Some y → partition_of y.digest ≡ p → ⊥
+    old : (y : Running) (o : Option Running) → (w.stay n k).running t ≡ o → option_map (running_with_write u ((w.stay n k).applies (partition_of d) + 1) (other_view_replicas G k (partition_of d) n)) o ≡ Some y → partition_of y.digest ≡ p → ⊥
     old y None i q = no_some q
     old y (Some c) i q = λ j. h.free t c i (ap (λ (r : Running). partition_of r.digest) (some_same q) ∙ j)
 shut_within G w v n k p _ _ (write_acked r t y ok) idle h = record { free = free_change p (w.stay n k) t _ (λ z e q. h.free t y ok.running (ap (λ (r : Running). partition_of r.digest) (some_same e) ∙ q)) h; done = h.done }
@@ -91,8 +91,8 @@ writes_done s p h stays free t e a q = ⊎_elim (λ z. z) (⊎_elim (λ z. diffe
 handed_old : (G : Ground) (w : Picture) (e : Effect) → Allowed G w e → Grows G.by w (act G e w) → AllHanded G w → (k : ClusterKey) (p : ℕ) → w.handed k p ≡ true → HandedOver G (act G e w) k p
 handed_old G w e ok g h k p z = let o : HandedOver G w k p = h k p z in record {
   other = o.other;
-  known = (g.stay (acting G k p) k).own_handed p o.known;
-  shut = shut_step G w (act G e w) (acting G k p) k p _ _ (steps G w e ok (acting G k p) k) (⊎_elim (λ q. differ o.known q.1) (λ q. o.other q.0)) o.shut;
+  known = (g.stay (view_acting G k p) k).own_handed p o.known;
+  shut = shut_step G w (act G e w) (view_acting G k p) k p _ _ (steps G w e ok (view_acting G k p) k) (⊎_elim (λ q. differ o.known q.1) (λ q. o.other q.0)) o.shut;
   moved = moved_grows G w (act G e w) g k p o.moved;
 }
 
@@ -102,8 +102,8 @@ handed_kept G w (Hands n k p) ok g a h j q z = ⊎_elim (λ i. subst₂ (HandedO
     v : Picture
     v = act G (Hands n k p) w
 
-    now : v.stay n k ≡ handing p (w.stay n k)
-    now = ap (λ (f : ClusterKey → Stay). f k) (changed_here numbers w.stay n (at_key (w.stay n) k (handing p (w.stay n k)))) ∙ changed_here keys (w.stay n) k (handing p (w.stay n k))
+    now : v.stay n k ≡ stay_after_hand_over p (w.stay n k)
+    now = ap (λ (f : ClusterKey → Stay). f k) (changed_here numbers w.stay n (at_key (w.stay n) k (stay_after_hand_over p (w.stay n k)))) ∙ changed_here keys (w.stay n) k (stay_after_hand_over p (w.stay n k))
 
     new : HandedOver G v k p
     new = record {
@@ -117,9 +117,9 @@ handed_kept G w e ok g a h j q z = handed_old G w e ok g h j q z
 settled_old : (G : Ground) (w : Picture) (e : Effect) → Allowed G w e → Grows G.by w (act G e w) → AllSettled G w → (k : ClusterKey) (p : ℕ) → w.settled k p ≡ true → HasSettled G (act G e w) k p
 settled_old G w e ok g h k p z = let o : HasSettled G w k p = h k p z in record {
   some = o.some;
-  known = (g.stay (master G k p) k).settled p o.known;
+  known = (g.stay (view_master G k p) k).settled p o.known;
   after = ⊎_elim inl (λ q. inr (g.handed k p q)) o.after;
-  early = early_step G w (act G e w) (master G k p) k p _ _ (steps G w e ok (master G k p) k) z o.early;
+  early = early_step G w (act G e w) (view_master G k p) k p _ _ (steps G w e ok (view_master G k p) k) z o.early;
   moved = moved_grows G w (act G e w) g k p o.moved;
 }
 
@@ -129,8 +129,8 @@ settled_kept G w (Settles n k p) ok g a hs h j q z = ⊎_elim (λ i. subst₂ (H
     v : Picture
     v = act G (Settles n k p) w
 
-    now : v.stay n k ≡ settling p (w.stay n k)
-    now = ap (λ (f : ClusterKey → Stay). f k) (changed_here numbers w.stay n (at_key (w.stay n) k (settling p (w.stay n k)))) ∙ changed_here keys (w.stay n) k (settling p (w.stay n k))
+    now : v.stay n k ≡ stay_after_settling p (w.stay n k)
+    now = ap (λ (f : ClusterKey → Stay). f k) (changed_here numbers w.stay n (at_key (w.stay n) k (stay_after_settling p (w.stay n k)))) ∙ changed_here keys (w.stay n) k (stay_after_settling p (w.stay n k))
 
     new : HasSettled G v k p
     new = record {
@@ -156,7 +156,7 @@ writers_grow G w v g n k s h = record {
 }
 
 -- a node with an open transaction on a settled partition is its list master
-pub holder : (G : Ground) (w : Picture) → AllHanded G w → AllSettled G w → (n : ℕ) (k : ClusterKey) (t : ℕ) (y : Running) → (w.stay n k).running t ≡ Some y → Who G w n k (partition_of y.digest) → w.settled k (partition_of y.digest) ≡ true → n ≡ master G k (partition_of y.digest)
+pub holder : (G : Ground) (w : Picture) → AllHanded G w → AllSettled G w → (n : ℕ) (k : ClusterKey) (t : ℕ) (y : Running) → (w.stay n k).running t ≡ Some y → Who G w n k (partition_of y.digest) → w.settled k (partition_of y.digest) ≡ true → n ≡ view_master G k (partition_of y.digest)
 holder G w hs st n k t y e (inr q) z = q.0
 holder G w hs st n k t y e (inl q) z = ⊎_elim (λ i. q ∙ i)
     (λ i. absurd ((hs k (partition_of y.digest) i).shut.free t y (subst (λ (m : ℕ). (w.stay m k).running t ≡ Some y) q e) refl)) (st k (partition_of y.digest) z).after
@@ -180,20 +180,20 @@ writers_within G w v n k _ _ (apply t d u early ok e z) a hs st old g h = record
   running = running_change G v n k (w.stay n k) t _ (λ y q. was y ((w.stay n k).running t) refl q) h;
   write = λ i f. changed_either numbers (λ o. o ≡ Some f → Who G v n k (partition_of f.digest)) (w.stay n k).writes t _ i
       (λ _ q. subst (λ (b : Applied). Who G v n k (partition_of b.digest)) (some_same q) (subst (λ (b : List ℕ). Who G v n k (partition_of b)) ok.resolved.digest (h.running t ok.transaction ok.resolved.running))) (λ _. h.write i f);
-  late = λ i f. changed_either numbers (λ o. o ≡ Some f → f.early ≡ false → (n ≡ master G k (partition_of f.digest)) × (v.settled k (partition_of f.digest) ≡ true)) (w.stay n k).writes t _ i
-      (λ _ q b. subst (λ (c : List ℕ). (n ≡ master G k (partition_of c)) × (v.settled k (partition_of c) ≡ true)) (ap (λ (c : Applied). c.digest) (some_same q)) (now (sym z ∙ (ap (λ (c : Applied). c.early) (some_same q) ∙ b)))) (λ _. h.late i f);
+  late = λ i f. changed_either numbers (λ o. o ≡ Some f → f.early ≡ false → (n ≡ view_master G k (partition_of f.digest)) × (v.settled k (partition_of f.digest) ≡ true)) (w.stay n k).writes t _ i
+      (λ _ q b. subst (λ (c : List ℕ). (n ≡ view_master G k (partition_of c)) × (v.settled k (partition_of c) ≡ true)) (ap (λ (c : Applied). c.digest) (some_same q)) (now (sym z ∙ (ap (λ (c : Applied). c.early) (some_same q) ∙ b)))) (λ _. h.late i f);
 }
   where
-    was : (y : Running) (o : Option Running) → (w.stay n k).running t ≡ o → option_map (with_write u ((w.stay n k).applies (partition_of d) + 1) (other_replicas G k (partition_of d) n)) o ≡ Some y → Who G v n k (partition_of y.digest)
+    was : (y : Running) (o : Option Running) → (w.stay n k).running t ≡ o → option_map (running_with_write u ((w.stay n k).applies (partition_of d) + 1) (other_view_replicas G k (partition_of d) n)) o ≡ Some y → Who G v n k (partition_of y.digest)
     was y None i q = no_some q
     was y (Some c) i q = subst (λ (j : Running). Who G v n k (partition_of j.digest)) (some_same q) (h.running t c i)
 
     is_true : (b : Bool) → not b ≡ false → b ≡ true
     is_true b i = grind arith
 
-    now : not (w.settled k (partition_of d)) ≡ false → (n ≡ master G k (partition_of d)) × (v.settled k (partition_of d) ≡ true)
+    now : not (w.settled k (partition_of d)) ≡ false → (n ≡ view_master G k (partition_of d)) × (v.settled k (partition_of d) ≡ true)
     now i = let s : w.settled k (partition_of d) ≡ true = is_true (w.settled k (partition_of d)) i in (
-      subst (λ (c : List ℕ). n ≡ master G k (partition_of c)) ok.resolved.digest
+      subst (λ (c : List ℕ). n ≡ view_master G k (partition_of c)) ok.resolved.digest
           (holder G w hs st n k t ok.transaction ok.resolved.running (old.running t ok.transaction ok.resolved.running) (subst (λ (c : List ℕ). w.settled k (partition_of c) ≡ true) (sym ok.resolved.digest) s)),
       g.settled k (partition_of d) s,
     )

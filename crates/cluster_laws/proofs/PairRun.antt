@@ -25,21 +25,21 @@ use Rattle.node_rules.specs.Batches.{is_among}
 use Rattle.node_rules.specs.Transactions.{Write}
 use Rattle.journal_readings.specs.Examples.{digest, key, version}
 use Rattle.cluster_laws.specs.Changed.{at_digest}
-use Rattle.cluster_laws.specs.Ground.{is_member, master, is_replica, other_replicas, acting, all_empty, same_class, is_first, sends_to, asks}
+use Rattle.cluster_laws.specs.Ground.{is_view_member, view_master, is_view_replica, other_view_replicas, view_acting, is_view_empty, same_view_class, is_view_class_first, view_sends_to, asks}
 use Rattle.cluster_laws.specs.Stay.{Running}
 use Rattle.cluster_laws.specs.Picture.{Picture, start}
-use Rattle.cluster_laws.specs.Laws.{NoLoss}
-use Rattle.cluster_laws.specs.Licences.{IsState, IsAmong, IsDone, WasSent, Licensed, after_all}
-use Rattle.cluster_laws.specs.Weaker.{DropsEarly, Unsettled, Stale, pair, handed_on, met, dropped_early, Breaks, AtEnd}
+use Rattle.cluster_laws.specs.Laws.{GreatestIsStored}
+use Rattle.cluster_laws.specs.Licences.{IsState, IsAmong, IsDone, WasSent, Licensed, picture_after_all}
+use Rattle.cluster_laws.specs.Weaker.{DropsEarly, Unsettled, Stale, pair, handed_on, met_run, dropped_early, Breaks, AtEnd}
 use Rattle.cluster_laws.proofs.LoneRun.{licensed_or}
 use Rattle.cluster_laws.proofs.At.{numbers, digests, changed_either, number_same, or_cases, some_same, no_some, differ}
 
 unfoldable computing : Unit {0}
-unfolding join next version_cmp is_newer fnv1a jenkins_state jenkins_end node_bytes partition_bytes place list master is_replica other_replicas acting all_empty same_class is_first sends_to asks number_field number_at byte_field byte_at flag_field flag_at field items_at key_field key_where key_at bytes_at digest_at digest_above_at value_field value_at body_field body_at version_field version_at record_field record_at records_field records_at entry_field entry_at state_row_field state_row_at batch_at batch_ack_at state_message_at spelling decoded message_of
+unfolding join next version_cmp is_newer fnv1a jenkins_state jenkins_end node_bytes partition_bytes place list view_master is_view_replica other_view_replicas view_acting is_view_empty same_view_class is_view_class_first view_sends_to asks number_field number_at byte_field byte_at flag_field flag_at field items_at key_field key_where key_at bytes_at digest_at digest_above_at value_field value_at body_field body_at version_field version_at record_field record_at records_field records_at entry_field entry_at state_row_field state_row_at batch_at batch_ack_at state_message_at spelling decoded message_of
 computing = tt
 
 abbrev at_line : ℕ → Picture
-at_line i = after_all pair start (take i dropped_early)
+at_line i = picture_after_all pair start (take i dropped_early)
 
 -- the messages are read back
 read_state : message_of (spelling (message.State (key 4 2) true [])) ≡ Some (message.State (key 4 2) true [])
@@ -55,11 +55,11 @@ unfolding computing
 read_ack = refl
 
 -- whom node 1 hands on to
-sends_two : sends_to pair (key 4 2) 4095 1 2 ≡ true
+sends_two : view_sends_to pair (key 4 2) 4095 1 2 ≡ true
 unfolding computing
 sends_two = refl
 
-acts_one : (acting pair (key 4 2) 4095 ≡ 1) × (master pair (key 4 2) 4095 ≡ 2)
+acts_one : (view_acting pair (key 4 2) 4095 ≡ 1) × (view_master pair (key 4 2) 4095 ≡ 2)
 unfolding computing
 acts_one = (refl, refl)
 
@@ -71,7 +71,7 @@ one_left : (b x : Bool) → b ≡ false → ((b || false) && x) ≡ false
 one_left b x e = ap (λ (c : Bool). (c || false) && x) e
 
 -- and to nobody else
-sends_no_other : (r : ℕ) → (2 ≡ r → ⊥) → sends_to pair (key 4 2) 4095 1 r ≡ false
+sends_no_other : (r : ℕ) → (2 ≡ r → ⊥) → view_sends_to pair (key 4 2) 4095 1 r ≡ false
 unfolding computing
 sends_no_other r apart = one_left (2 == r) _ (go (2 == r) refl)
   where
@@ -86,7 +86,7 @@ own_row true e = refl
 own_row false e = e
 
 -- both rows are there
-both_rows : (m : ℕ) → is_member pair (key 4 2) m ≡ true → ((at_line 12).stay 1 (key 4 2)).rows m ≡ true
+both_rows : (m : ℕ) → is_view_member pair (key 4 2) m ≡ true → ((at_line 12).stay 1 (key 4 2)).rows m ≡ true
 unfolding computing
 both_rows m e = go (or_cases (2 == m) ((1 == m) || false) e)
   where
@@ -118,7 +118,7 @@ sends_nothing : (b x y : Bool) → (((b || false) && (not b && x)) && y) ≡ fal
 sends_nothing true x y = refl
 sends_nothing false x y = refl
 
-only_member : (m : ℕ) → is_member pair (key 2 1) m ≡ true → m ≡ 1
+only_member : (m : ℕ) → is_view_member pair (key 2 1) m ≡ true → m ≡ 1
 only_member m e = ⊎_elim (λ z. sym (number_same 1 m z)) (λ z. differ z refl) (or_cases (1 == m) false e)
 
 -- what holds of the one record holds of each
@@ -142,8 +142,8 @@ done : IsDone ((at_line 19).stay 1 (key 4 2)) 4095
 unfolding computing
 done = record {
   exchanged = refl;
-  none = λ r d dp. changed_either numbers (λ (f : List ℕ → Bool). f d ≡ false) (λ q c. sends_to pair (key 4 2) (partition_of c) 1 q && is_some (at_digest (λ _. None) digest (Some (version 0 1 97)) c)) 2 _ r
-      (λ i. here d) (λ i. none (sends_to pair (key 4 2) (partition_of d) 1 r) _ (ap (λ (q : ℕ). sends_to pair (key 4 2) q 1 r) dp ∙ sends_no_other r i));
+  none = λ r d dp. changed_either numbers (λ (f : List ℕ → Bool). f d ≡ false) (λ q c. view_sends_to pair (key 4 2) (partition_of c) 1 q && is_some (at_digest (λ _. None) digest (Some (version 0 1 97)) c)) 2 _ r
+      (λ i. here d) (λ i. none (view_sends_to pair (key 4 2) (partition_of d) 1 r) _ (ap (λ (q : ℕ). view_sends_to pair (key 4 2) q 1 r) dp ∙ sends_no_other r i));
 }
   where
     none : (x y : Bool) → x ≡ false → (x && y) ≡ false
@@ -155,10 +155,10 @@ done = record {
     absent : (x y z : Bool) → y ≡ false → ((x && y) && z) ≡ false
     absent x y z e = grind arith
 
-    here : (d : List ℕ) → ((sends_to pair (key 4 2) (partition_of d) 1 2 && is_some (at_digest (λ _. None) digest (Some (version 0 1 97)) d)) && not (is_among handed_on.records d)) ≡ false
+    here : (d : List ℕ) → ((view_sends_to pair (key 4 2) (partition_of d) 1 2 && is_some (at_digest (λ _. None) digest (Some (version 0 1 97)) d)) && not (is_among handed_on.records d)) ≡ false
     here d = go (bytes_eq digest d) refl
       where
-        go : (b : Bool) → bytes_eq digest d ≡ b → ((sends_to pair (key 4 2) (partition_of d) 1 2 && is_some (cond b (Some (version 0 1 97)) None)) && not (b || false)) ≡ false
+        go : (b : Bool) → bytes_eq digest d ≡ b → ((view_sends_to pair (key 4 2) (partition_of d) 1 2 && is_some (cond b (Some (version 0 1 97)) None)) && not (b || false)) ≡ false
         go true e = acked _ true refl
         go false e = absent _ false _ refl
 
@@ -169,7 +169,7 @@ opened best = record { digest = digest; best = best; asked = []; awaiting = []; 
 abbrev first_write : Write
 first_write = record { version = version 0 1 97; nth = 1 }
 
-met_licensed : Licensed pair start met
+met_licensed : Licensed pair start met_run
 unfolding computing
 met_licensed = (
   (refl, (refl, record { above = refl; member = refl; row = λ p d e. refl; quiet = refl })),
@@ -269,35 +269,35 @@ met_licensed = (
   ),
 )
 
-drops_early : DropsEarly pair (after_all pair start met) 1 (key 4 2) 4095
+drops_early : DropsEarly pair (picture_after_all pair start met_run) 1 (key 4 2) 4095
 unfolding computing
 drops_early = record { is_in = record { view = refl; stays = refl }; done = done; outside = refl }
 
 -- the second version is nowhere
-gone : (n : ℕ) → ((after_all pair start dropped_early).node n).content digest ≡ Some (version 0 2 98) → ⊥
+gone : (n : ℕ) → ((picture_after_all pair start dropped_early).node n).content digest ≡ Some (version 0 2 98) → ⊥
 unfolding computing
 gone n = go (1 == n) refl (2 == n) refl
   where
-    go : (a : Bool) → (1 == n) ≡ a → (b : Bool) → (2 == n) ≡ b → ((after_all pair start dropped_early).node n).content digest ≡ Some (version 0 2 98) → ⊥
-    go true i b j e = no_some (subst (λ (m : ℕ). ((after_all pair start dropped_early).node m).content digest ≡ Some (version 0 2 98)) (sym (number_same 1 n i)) e)
-    go false i true j e = let q : version 0 1 97 ≡ version 0 2 98 = some_same (subst (λ (m : ℕ). ((after_all pair start dropped_early).node m).content digest ≡ Some (version 0 2 98)) (sym (number_same 2 n j)) e) in omega (arith, ap (λ (v : Version). v.generation) q)
+    go : (a : Bool) → (1 == n) ≡ a → (b : Bool) → (2 == n) ≡ b → ((picture_after_all pair start dropped_early).node n).content digest ≡ Some (version 0 2 98) → ⊥
+    go true i b j e = no_some (subst (λ (m : ℕ). ((picture_after_all pair start dropped_early).node m).content digest ≡ Some (version 0 2 98)) (sym (number_same 1 n i)) e)
+    go false i true j e = let q : version 0 1 97 ≡ version 0 2 98 = some_same (subst (λ (m : ℕ). ((picture_after_all pair start dropped_early).node m).content digest ≡ Some (version 0 2 98)) (sym (number_same 2 n j)) e) in omega (arith, ap (λ (v : Version). v.generation) q)
     go false i false j e = no_some (rw (i, j) at e)
 
-lost : AtEnd NoLoss pair dropped_early → ⊥
+lost : AtEnd GreatestIsStored pair dropped_early → ⊥
 unfolding computing
-lost law = let o : (n : ℕ) × (((after_all pair start dropped_early).node n).content digest ≡ Some (version 0 2 98)) = law digest (version 0 2 98) refl in gone o.0 o.1
+lost law = let o : (n : ℕ) × (((picture_after_all pair start dropped_early).node n).content digest ≡ Some (version 0 2 98)) = law digest (version 0 2 98) refl in gone o.0 o.1
 
-pub unsettled_breaks : Breaks Unsettled (AtEnd NoLoss) pair dropped_early
+pub unsettled_breaks : Breaks Unsettled (AtEnd GreatestIsStored) pair dropped_early
 unsettled_breaks = record {
   ground = record { some = omega arith };
-  allowed = licensed_or Unsettled pair start met (line.Drop 1 (key 4 2) 4095 ∷ []) met_licensed (inr drops_early, tt);
+  allowed = licensed_or Unsettled pair start met_run (line.Drop 1 (key 4 2) 4095 ∷ []) met_licensed (inr drops_early, tt);
   broken = lost;
 }
 
-pub stale_breaks : Breaks Stale (AtEnd NoLoss) pair dropped_early
+pub stale_breaks : Breaks Stale (AtEnd GreatestIsStored) pair dropped_early
 unfolding computing
 stale_breaks = record {
   ground = record { some = omega arith };
-  allowed = licensed_or Stale pair start met (line.Drop 1 (key 4 2) 4095 ∷ []) met_licensed (inr (record { drop = drops_early; other = key 2 1; settled = refl }), tt);
+  allowed = licensed_or Stale pair start met_run (line.Drop 1 (key 4 2) 4095 ∷ []) met_licensed (inr (record { drop = drops_early; other = key 2 1; settled = refl }), tt);
   broken = lost;
 }

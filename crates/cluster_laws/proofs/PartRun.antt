@@ -20,19 +20,19 @@ use Rattle.partition_lists.specs.Hashes.{fnv1a, jenkins_state, jenkins_end, node
 use Rattle.partition_lists.specs.Lists.{list}
 use Rattle.journal_readings.specs.Examples.{digest, second, key, version, two}
 use Rattle.cluster_laws.specs.Changed.{at_number, at_digest}
-use Rattle.cluster_laws.specs.Ground.{Ground, is_member, master, is_replica, other_replicas, acting, all_empty, same_class, is_first, sends_to, asks}
+use Rattle.cluster_laws.specs.Ground.{Ground, is_view_member, view_master, is_view_replica, other_view_replicas, view_acting, is_view_empty, same_view_class, is_view_class_first, view_sends_to, asks}
 use Rattle.cluster_laws.specs.Stay.{Versions, Running}
 use Rattle.cluster_laws.specs.Picture.{Picture, start}
-use Rattle.cluster_laws.specs.Laws.{SettledJoin}
-use Rattle.cluster_laws.specs.Licences.{IsState, IsAmong, IsDone, WasSent, Licensed, after_all}
-use Rattle.cluster_laws.specs.Weaker.{Incomplete, sides, side, third, laden, laden_apart, AcksPart, two_records, sending, sent, all_bits, no_bits, progress, settling, settled_in_part, Breaks, AtEnd}
+use Rattle.cluster_laws.specs.Laws.{SettledHoldFold}
+use Rattle.cluster_laws.specs.Licences.{IsState, IsAmong, IsDone, WasSent, Licensed, picture_after_all}
+use Rattle.cluster_laws.specs.Weaker.{Incomplete, sides, side, third, laden, laden_apart, AcksPart, two_records, batch_lines, batch_run, all_bits, no_bits_bytes, progress_bytes, early_settling_lines, settled_in_part, Breaks, AtEnd}
 use Rattle.cluster_laws.proofs.At.{numbers, digests, changed_either, number_same, or_cases, some_same, no_some, differ}
 use Rattle.cluster_laws.proofs.LoneRun.{licensed_or}
 use Rattle.cluster_laws.proofs.BitRows.{is_set, is_clear}
 use Rattle.cluster_laws.proofs.SidesRun.{licensed_both, own_row, alone, write, whole_there, away_with, no_records, sends_nothing, none}
 
 unfoldable computing : Unit {0}
-unfolding join next version_cmp is_newer fnv1a jenkins_state jenkins_end node_bytes partition_bytes place list master is_replica other_replicas acting all_empty same_class is_first sends_to asks number_field number_at byte_field byte_at flag_field flag_at field items_at key_field key_where key_at bytes_at digest_at digest_above_at value_field value_at body_field body_at version_field version_at record_field record_at records_field records_at row_at state_field state_at entry_field entry_at state_row_field state_row_at state_message_at batch_at batch_ack_at progress_at spelling decoded message_of
+unfolding join next version_cmp is_newer fnv1a jenkins_state jenkins_end node_bytes partition_bytes place list view_master is_view_replica other_view_replicas view_acting is_view_empty same_view_class is_view_class_first view_sends_to asks number_field number_at byte_field byte_at flag_field flag_at field items_at key_field key_where key_at bytes_at digest_at digest_above_at value_field value_at body_field body_at version_field version_at record_field record_at records_field records_at row_at state_field state_at entry_field entry_at state_row_field state_row_at state_message_at batch_at batch_ack_at progress_at spelling decoded message_of
 computing = tt
 
 abbrev G : Ground
@@ -44,7 +44,7 @@ read_batch : message_of (spelling (message.Batch two_records)) ≡ Some (message
 unfolding computing
 read_batch = refl
 
-read_progress : message_of (progress all_bits no_bits) ≡ Some (message.Progress (key 4 2) false (row_of all_bits) (row_of no_bits) (row_of no_bits))
+read_progress : message_of (progress_bytes all_bits no_bits_bytes) ≡ Some (message.Progress (key 4 2) false (row_of all_bits) (row_of no_bits_bytes) (row_of no_bits_bytes))
 unfolding computing
 read_progress = refl
 
@@ -83,7 +83,7 @@ first_licensed = (
     closed true x z y e = no_some e
     closed false x z y e = no_some e
 
-second_licensed : Licensed G (after_all G start laden) (side 2 two second (version 0 1 98))
+second_licensed : Licensed G (picture_after_all G start laden) (side 2 two second (version 0 1 98))
 unfolding computing
 second_licensed = (
   (refl, (refl, record { above = refl; member = refl; row = λ p d e. refl; quiet = refl })),
@@ -105,7 +105,7 @@ second_licensed = (
 -- ---- they meet
 
 abbrev at_apart : Picture
-at_apart = after_all G start laden_apart
+at_apart = picture_after_all G start laden_apart
 
 second_enters : (p : ℕ) → IsState (at_apart.node 2).content ((at_apart.node 2).stamp p) p (G.row (key 4 2) 2 p)
 unfolding computing
@@ -117,7 +117,7 @@ first_enters = whole_there (at_apart.node 1).content digest (version 0 1 97) (ke
     (away_with (at_digest no_records digest (Some (version 0 1 97))) third (version 0 1 99) refl (away_with no_records digest (version 0 1 97) refl (λ x _. refl)))
 
 -- both rows are there: the one that came, and the own one
-pub both_rows : (own other m : ℕ) → is_member G (key 4 2) m ≡ true → (own ≡ 1) × (other ≡ 2) ⊎ (own ≡ 2) × (other ≡ 1) → at_number (at_number (λ _. false) own true) other true m ≡ true
+pub both_rows : (own other m : ℕ) → is_view_member G (key 4 2) m ≡ true → (own ≡ 1) × (other ≡ 2) ⊎ (own ≡ 2) × (other ≡ 1) → at_number (at_number (λ _. false) own true) other true m ≡ true
 both_rows own other m e a = changed_either numbers (λ b. b ≡ true) (at_number (λ _. false) own true) other true m (λ _. refl)
     (λ i. changed_either numbers (λ b. b ≡ true) (λ _. false) own true m (λ _. refl) (λ j. absurd (grind (arith, a, i, j, is_two))))
   where
@@ -138,10 +138,10 @@ abbrev content : Versions
 content = at_digest (at_digest no_records digest (Some (version 0 1 97))) third (Some (version 0 1 99))
 
 abbrev held_on : ℕ → List ℕ → Bool
-held_on r d = sends_to G (key 4 2) (partition_of d) 1 r && is_some (content d)
+held_on r d = view_sends_to G (key 4 2) (partition_of d) 1 r && is_some (content d)
 
 abbrev at_line : ℕ → Picture
-at_line i = after_all G start (take i settled_in_part)
+at_line i = picture_after_all G start (take i settled_in_part)
 
 batch_sent : WasSent (at_line 22) 1 2 (message.Batch two_records)
 unfolding computing
@@ -151,9 +151,9 @@ batch_still : WasSent (at_line 23) 1 2 (message.Batch two_records)
 unfolding computing
 batch_still = record { number = 3; packet = record { from = 1; to = 2; size = _; message = Some (message.Batch two_records) }; sent = refl; ends = (refl, refl); message = refl }
 
-sent_licensed : Licensed G start sent
+sent_licensed : Licensed G start batch_run
 unfolding computing
-sent_licensed = licensed_both G start laden_apart sending (licensed_both G start laden (side 2 two second (version 0 1 98)) first_licensed second_licensed) (
+sent_licensed = licensed_both G start laden_apart batch_lines (licensed_both G start laden (side 2 two second (version 0 1 98)) first_licensed second_licensed) (
   (refl, (refl, record { above = refl; member = refl; row = second_enters; quiet = refl })),
   (
     (refl, (refl, record { above = refl; member = refl; row = first_enters; quiet = refl })),
@@ -211,7 +211,7 @@ pub one_left : (b x : Bool) → b ≡ false → ((b || false) && x) ≡ false
 one_left b x e = ap (λ (c : Bool). (c || false) && x) e
 
 -- node 1 hands on to nobody but node 2
-sends_no_other : (r : ℕ) → (2 ≡ r → ⊥) → sends_to G (key 4 2) 4095 1 r ≡ false
+sends_no_other : (r : ℕ) → (2 ≡ r → ⊥) → view_sends_to G (key 4 2) 4095 1 r ≡ false
 unfolding computing
 sends_no_other r apart = one_left (2 == r) _ (go (2 == r) refl)
   where
@@ -235,35 +235,35 @@ first_done : (p : ℕ) → IsDone ((at_line 25).stay 1 (key 4 2)) p
 unfolding computing
 first_done p = record {
   exchanged = refl;
-  none = λ r d dp. changed_either numbers (λ (f : List ℕ → Bool). f d ≡ false) held_on 2 _ r (λ _. unpending (sends_to G (key 4 2) (partition_of d) 1 2) (bytes_eq digest d) (bytes_eq third d)) (λ apart. elsewhere r d apart);
+  none = λ r d dp. changed_either numbers (λ (f : List ℕ → Bool). f d ≡ false) held_on 2 _ r (λ _. unpending (view_sends_to G (key 4 2) (partition_of d) 1 2) (bytes_eq digest d) (bytes_eq third d)) (λ apart. elsewhere r d apart);
 }
   where
-    sends_none : (r : ℕ) (d e : List ℕ) (x : Bool) → (2 ≡ r → ⊥) → partition_of d ≡ 4095 → d ≡ e → (sends_to G (key 4 2) (partition_of e) 1 r && x) ≡ false
-    sends_none r d e x apart is same = none (sends_to G (key 4 2) (partition_of e) 1 r) x (ap (λ (q : ℕ). sends_to G (key 4 2) q 1 r) (ap partition_of (sym same) ∙ is) ∙ sends_no_other r apart)
+    sends_none : (r : ℕ) (d e : List ℕ) (x : Bool) → (2 ≡ r → ⊥) → partition_of d ≡ 4095 → d ≡ e → (view_sends_to G (key 4 2) (partition_of e) 1 r && x) ≡ false
+    sends_none r d e x apart is same = none (view_sends_to G (key 4 2) (partition_of e) 1 r) x (ap (λ (q : ℕ). view_sends_to G (key 4 2) q 1 r) (ap partition_of (sym same) ∙ is) ∙ sends_no_other r apart)
 
     elsewhere : (r : ℕ) (d : List ℕ) → (2 ≡ r → ⊥) → held_on r d ≡ false
-    elsewhere r d apart = changed_either digests (λ (o : Option Version). (sends_to G (key 4 2) (partition_of d) 1 r && is_some o) ≡ false) (at_digest no_records digest (Some (version 0 1 97))) third (Some (version 0 1 99)) d
+    elsewhere r d apart = changed_either digests (λ (o : Option Version). (view_sends_to G (key 4 2) (partition_of d) 1 r && is_some o) ≡ false) (at_digest no_records digest (Some (version 0 1 97))) third (Some (version 0 1 99)) d
         (λ i. sends_none r third d true apart refl i)
-        (λ _. changed_either digests (λ (o : Option Version). (sends_to G (key 4 2) (partition_of d) 1 r && is_some o) ≡ false) no_records digest (Some (version 0 1 97)) d
-        (λ i. sends_none r digest d true apart refl i) (λ _. and_false (sends_to G (key 4 2) (partition_of d) 1 r)))
+        (λ _. changed_either digests (λ (o : Option Version). (view_sends_to G (key 4 2) (partition_of d) 1 r && is_some o) ≡ false) no_records digest (Some (version 0 1 97)) d
+        (λ i. sends_none r digest d true apart refl i) (λ _. and_false (view_sends_to G (key 4 2) (partition_of d) 1 r)))
 
-sends_nobody : (r : ℕ) → sends_to G (key 4 2) 4095 2 r ≡ false
+sends_nobody : (r : ℕ) → view_sends_to G (key 4 2) 4095 2 r ≡ false
 unfolding computing
 sends_nobody r = sends_nothing (2 == r) _
 
 second_done : IsDone ((at_line 27).stay 2 (key 4 2)) 4095
 unfolding computing
-second_done = record { exchanged = refl; none = λ r d dp. none (sends_to G (key 4 2) (partition_of d) 2 r) _ (ap (λ (q : ℕ). sends_to G (key 4 2) q 2 r) dp ∙ sends_nobody r) }
+second_done = record { exchanged = refl; none = λ r d dp. none (view_sends_to G (key 4 2) (partition_of d) 2 r) _ (ap (λ (q : ℕ). view_sends_to G (key 4 2) q 2 r) dp ∙ sends_nobody r) }
 
-other_told : (m : ℕ) → is_member G (key 4 2) m ≡ true → (m ≡ 2 → ⊥) → ((at_line 27).stay 2 (key 4 2)).told m 4095 ≡ true
+other_told : (m : ℕ) → is_view_member G (key 4 2) m ≡ true → (m ≡ 2 → ⊥) → ((at_line 27).stay 2 (key 4 2)).told m 4095 ≡ true
 unfolding computing
 other_told m e apart = ⊎_elim (λ z. absurd (apart (sym (number_same 2 m z)))) (λ z. ⊎_elim (λ q. subst (λ (n : ℕ). ((at_line 27).stay 2 (key 4 2)).told n 4095 ≡ true) (number_same 1 m q) is_set) (λ q. differ q refl) (or_cases (1 == m) false z)) (or_cases (2 == m) ((1 == m) || false) e)
 
-pub incomplete_breaks : Breaks Incomplete (AtEnd SettledJoin) G settled_in_part
+pub incomplete_breaks : Breaks Incomplete (AtEnd SettledHoldFold) G settled_in_part
 unfolding computing
 incomplete_breaks = record {
   ground = record { some = omega arith };
-  allowed = licensed_or Incomplete G start sent settling sent_licensed (
+  allowed = licensed_or Incomplete G start batch_run early_settling_lines sent_licensed (
     inr (refl, acks_part),
     (
       inl (refl, tt),

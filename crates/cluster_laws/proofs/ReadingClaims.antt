@@ -19,7 +19,7 @@ use Rattle.node_rules.specs.Map as the_map
 use Rattle.node_rules.specs.Map.{is_empty}
 use Rattle.node_rules.specs.Tables.{contains}
 use Rattle.cluster_rules.specs.Opening.{Header}
-use Rattle.journal_readings.specs.Lines.{same_digest, is_done, is_exchanged, is_settled_line}
+use Rattle.journal_readings.specs.Lines.{same_digest, is_done_line, is_exchanged, is_settled_line}
 use Rattle.journal_readings.specs.Settings.{policy_of, nodes}
 use Rattle.journal_readings.specs.Contents.{content, applied, join_all}
 use Rattle.journal_readings.specs.Entries.{fold_of}
@@ -29,7 +29,7 @@ use Rattle.journal_readings.specs.Settled.{is_settled, is_open_write, has_open_w
 use Rattle.journal_readings.specs.Claims.{NoLoss, SettledJoin, JoinsView, ReadJoin}
 use Rattle.journal_readings.proofs.CopyLaws.{same_digest_is}
 use Rattle.cluster_laws.specs.Ground as ground
-use Rattle.cluster_laws.specs.Ground.{Ground, is_member, list, all_empty}
+use Rattle.cluster_laws.specs.Ground.{Ground, is_view_member, view_list, is_view_empty}
 use Rattle.cluster_laws.specs.Picture.{Picture}
 use Rattle.cluster_laws.specs.Laws.{picture, IsSettled, HasNoOpenWrite}
 use Rattle.cluster_laws.specs.Journals.{journal, IsJournal}
@@ -76,17 +76,17 @@ no_loss h G lines o = record {
 
 -- ---- settled partitions
 
-pub first_is : (ids : List ℕ) → first_of ids ≡ the_map.master ids
+pub first_is : (ids : List ℕ) → first_of ids ≡ the_map.list_master ids
 first_is [] = refl
 first_is (n ∷ ids) = refl
 
-pub master_is : (G : Ground) (k : ClusterKey) (p : ℕ) (j : List Line) → members k j ≡ G.members k → master k p j ≡ ground.master G k p
-unfolding ground.master
-master_is G k p j e = first_is (lists.list (members k j) p) ∙ ap (λ (ms : List Member). the_map.master (lists.list ms p)) e
+pub master_is : (G : Ground) (k : ClusterKey) (p : ℕ) (j : List Line) → members k j ≡ G.members k → master k p j ≡ ground.view_master G k p
+unfolding ground.view_master
+master_is G k p j e = first_is (lists.list (members k j) p) ∙ ap (λ (ms : List Member). the_map.list_master (lists.list ms p)) e
 
-pub replica_is : (G : Ground) (k : ClusterKey) (p n : ℕ) (j : List Line) → members k j ≡ G.members k → is_replica G.factor k p n j ≡ ground.is_replica G k p n
-unfolding ground.is_replica
-replica_is G k p n j e = ap (λ (ms : List Member). lists.is_replica n ms p G.factor) e
+pub replica_is : (G : Ground) (k : ClusterKey) (p n : ℕ) (j : List Line) → members k j ≡ G.members k → is_replica G.factor k p n j ≡ ground.is_view_replica G k p n
+unfolding ground.is_view_replica
+replica_is G k p n j e = ap (λ (ms : List Member). lists.is_replica_of n ms p G.factor) e
 
 pub all_at : (test : ℕ → Bool) (ms : List Member) → list_all (λ m. test m.id) ms ≡ true → (n : ℕ) → contains (ids_of ms) n ≡ true → test n ≡ true
 all_at test [] h n e = cc
@@ -101,10 +101,10 @@ all_from test [] h = refl
 all_from test (n ∷ ns) h = Rattle.cluster_laws.proofs.At.and_both (test n) (list_all test ns) (h n (Rattle.cluster_laws.proofs.ReadingLines.or_left_true (n == n) (contains ns n) (Rattle.cluster_laws.proofs.At.number_here n)))
     (all_from test ns (λ m e. h m (Rattle.cluster_laws.proofs.ReadingLines.or_right_true (n == m) (contains ns m) e)))
 
-pub empty_everywhere : (G : Ground) (ns : List ℕ) (j : List Line) (w : Picture) → Tied G ns j w → (k : ClusterKey) (p : ℕ) → ((m : ℕ) → is_member G k m ≡ true → (w.stay m k).entered ≡ true) → members k j ≡ G.members k → is_empty_everywhere k p j ≡ true → all_empty G k p ≡ true
-unfolding is_empty_everywhere all_empty
-empty_everywhere G ns j w t k p all ms e = all_from (λ m. is_empty (G.row k m p)) (list G k p) (λ m i.
-    let mem : is_member G k m ≡ true = listed_member G k p m i in
+pub empty_everywhere : (G : Ground) (ns : List ℕ) (j : List Line) (w : Picture) → Tied G ns j w → (k : ClusterKey) (p : ℕ) → ((m : ℕ) → is_view_member G k m ≡ true → (w.stay m k).entered ≡ true) → members k j ≡ G.members k → is_empty_everywhere k p j ≡ true → is_view_empty G k p ≡ true
+unfolding is_empty_everywhere is_view_empty
+empty_everywhere G ns j w t k p all ms e = all_from (λ m. is_empty (G.row k m p)) (view_list G k p) (λ m i.
+    let mem : is_view_member G k m ≡ true = listed_member G k p m i in
     sym (t.empties m k p (all m mem))
     ∙ all_at (λ z. is_empty_at_entry k z p j) (G.members k) (subst (λ (x : List Member). list_all (λ z. is_empty_at_entry k z.id p j) x ≡ true) ms e) m mem)
 
@@ -128,12 +128,13 @@ some_but f g (x ∷ xs) e q = go (f x) refl (some_but f g xs) e
     go true i rest z = (x, i, Rattle.cluster_laws.proofs.ReadingLines.or_left_false (g x) (list_any g xs) q)
     go false i rest z = rest z (Rattle.cluster_laws.proofs.ReadingLines.or_right_false (g x) (list_any g xs) q)
 
-not_open : (j : List Line) (k : ClusterKey) (p n t : ℕ) (d : List ℕ) → partition_of d ≡ p → (l : Line) → is_write k n t d l ≡ true → is_open_write k p n j l ≡ false → list_any (is_done k n t) j ≡ true
+not_open : (j : List Line) (k : ClusterKey) (p n t : ℕ) (d : List ℕ) → partition_of d ≡ p → (l : Line) → is_write k n t d l ≡ true → is_open_write k p n j l ≡ false → list_any (is_done_line k n t) j ≡ true
 not_open j k p n t d dp (line.Apply m l u c v) e q =
     let b : (same_key l k && ((u == t) && same_digest c d)) ≡ true = and_right (m == n) _ e in
     let f : ((u == t) && same_digest c d) ≡ true = and_right (same_key l k) _ b in
-    subst (λ (z : ℕ). list_any (is_done k n z) j ≡ true) (number_same u t (and_left (u == t) _ f))
-    (finished (m == n) (same_key l k) (partition_of c == p) (list_any (is_done k n u) j) (and_left (m == n) _ e) (and_left (same_key l k) _ b)
+    subst (λ (z : ℕ). list_any (is_done_line k n z) j ≡ true)
+    (number_same u t (and_left (u == t) _ f))
+    (finished (m == n) (same_key l k) (partition_of c == p) (list_any (is_done_line k n u) j) (and_left (m == n) _ e) (and_left (same_key l k) _ b)
     (ap (λ (z : ℕ). z == p) (ap partition_of (same_digest_is c d (and_right (u == t) _ f)) ∙ dp) ∙ Rattle.cluster_laws.proofs.At.number_here p) q)
   where
     finished : (a b c o : Bool) → a ≡ true → b ≡ true → c ≡ true → (a && (b && (c && not o))) ≡ false → o ≡ true
@@ -148,7 +149,7 @@ not_open j k p n t d dp l e q = cc
 no_open_write : (G : Ground) (ns : List ℕ) (j : List Line) (w : Picture) → Tied G ns j w → (k : ClusterKey) (p : ℕ) → members k j ≡ G.members k → has_open_write k p j ≡ false → HasNoOpenWrite G w k p
 unfolding has_open_write
 no_open_write G ns j w t k p ms e u a is dp =
-    let m : ℕ = ground.master G k p in
+    let m : ℕ = ground.view_master G k p in
     let x : (l : Line) × (is_write k m u a.digest l ≡ true) × (is_open_write k p m j l ≡ false) =
     some_but (is_write k m u a.digest) (is_open_write k p m j) j (t.writes m k u a is) (subst (λ (z : ℕ). list_any (is_open_write k p z j) j ≡ false) (master_is G k p j ms) e) in
     t.done m k u (not_open j k p m u a.digest dp x.0 x.1 x.2)

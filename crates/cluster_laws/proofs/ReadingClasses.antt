@@ -21,22 +21,22 @@ use Rattle.journal_readings.specs.Contents.{holds_any}
 use Rattle.journal_readings.specs.Entries.{entry}
 use Rattle.journal_readings.specs.Views.{members, master}
 use Rattle.journal_readings.specs.Messages.{posted}
-use Rattle.journal_readings.specs.Counts.{is_apply_in, own_numbers, heard_numbers, numbers, is_foreign, has_foreign, has_number, has_no_gap, count}
+use Rattle.journal_readings.specs.Counts.{is_apply_in, own_numbers, heard_numbers, numbers, is_foreign, has_foreign, contains_number, has_no_gap, count}
 use Rattle.journal_readings.specs.Rows.{stamped, copy_state, row}
 use Rattle.journal_readings.specs.Classes.{has_records, are_alike, is_in_class_of, class_of, are_in_one_class}
 use Rattle.journal_readings.specs.Claims.{EqualClasses}
 use Rattle.journal_readings.proofs.StepLaws.{row-more}
 use Rattle.cluster_laws.specs.Changed.{at_number}
 use Rattle.cluster_laws.specs.Ground as ground
-use Rattle.cluster_laws.specs.Ground.{Ground, IsGround, is_in_class, same_class}
+use Rattle.cluster_laws.specs.Ground.{Ground, IsGround, is_in_view_class, same_view_class}
 use Rattle.cluster_laws.specs.Stay.{Stay}
 use Rattle.cluster_laws.specs.Picture.{Seen, Picture, start}
 use Rattle.cluster_laws.specs.Effect.{Effect, Nothing, Row_came, Batch_acked, Told, Write_came, Write_acked, Answered, effect, arrives, arrives_cut}
 use Rattle.cluster_laws.specs.Changes as changes
 use Rattle.cluster_laws.specs.Changes.{act, restamped, recounted_if, stamp_if}
-use Rattle.cluster_laws.specs.Licences.{Ok, IsState, after}
+use Rattle.cluster_laws.specs.Licences.{Ok, IsState, picture_after}
 use Rattle.cluster_laws.specs.Laws.{picture}
-use Rattle.cluster_laws.specs.Journals.{journal, Fits, IsJournal}
+use Rattle.cluster_laws.specs.Journals.{journal, FitsGround, IsJournal}
 use Rattle.cluster_laws.proofs.At as at
 use Rattle.cluster_laws.proofs.At.{changed_either, number_same, number_here, key_same, key_cases, and_left, and_right, and_both, differ, some_same, no_some}
 use Rattle.cluster_laws.proofs.Allowed.{Allowed, allowed}
@@ -108,7 +108,7 @@ message_moved G w (Told m l from done handed settled) h al n k p c e out = e
 message_moved G w (Write_acked m l from t y) h al n k p c e out = e
 message_moved G w (Answered m l from t v y) h al n k p c e out = e
 message_moved G w (Write_came m l from nth d v) h al n k p c e out = node_moved w (line.Tick m) m _ n k p c
-    (λ x apart _. stamp_moved (w.node m) (partition_of d) _ k p c (λ i z zs zc. subst (λ (q : ℕ). (w.node m).stamp q ≡ Some (k, c)) i (zs ∙ ap Some (same_stamp apart z (from == ground.master G l (partition_of d)) _ zc))) x) e out refl
+    (λ x apart _. stamp_moved (w.node m) (partition_of d) _ k p c (λ i z zs zc. subst (λ (q : ℕ). (w.node m).stamp q ≡ Some (k, c)) i (zs ∙ ap Some (same_stamp apart z (from == ground.view_master G l (partition_of d)) _ zc))) x) e out refl
   where
     same_stamp : ((w.node m).view ≡ Some k → ⊥) → (z : ClusterKey × ℕ) (b : Bool) (a : ℕ) → recounted_if b l a z ≡ (k, c) → z ≡ (k, c)
     same_stamp apart z false a q = q
@@ -119,7 +119,7 @@ message_moved G w (Write_came m l from nth d v) h al n k p c e out = node_moved 
         deep false r = r
 message_moved G w _ h al n k p c e out = absurd h
 
-moved : (G : Ground) (w : Picture) (l : Line) → Ok G w l → (n : ℕ) (k : ClusterKey) (p c : ℕ) → ((after G w l).node n).stamp p ≡ Some (k, c) → (((after G w l).node n).view ≡ Some k → ⊥) → is_foreign k n p l ≡ false → Was w n k p c
+moved : (G : Ground) (w : Picture) (l : Line) → Ok G w l → (n : ℕ) (k : ClusterKey) (p c : ℕ) → ((picture_after G w l).node n).stamp p ≡ Some (k, c) → (((picture_after G w l).node n).view ≡ Some k → ⊥) → is_foreign k n p l ≡ false → Was w n k p c
 moved G w (line.Apply m l t d u) ok n k p c = node_moved w (line.Apply m l t d u) m _ n k p c
     (λ e out f. stamp_moved (w.node m) (partition_of d) _ k p c (λ i z zs zc. absurd (out (ok.1.resolved.is_in.view ∙ ap Some (not_foreign m l k (partition_of d) p f i)))) e)
 moved G w (line.Merge m l d u) ok n k p c = node_moved w (line.Merge m l d u) m _ n k p c
@@ -129,7 +129,7 @@ moved G w (line.Learn m l q) ok n k p c = node_moved w (line.Learn m l q) m _ n 
     (λ i x. absurd (out (ok.1.is_in.view ∙ ap Some (ap (λ (y : ClusterKey × ℕ). y.0) (some_same x))))) (λ _ x. x) e)
 moved G w (line.Drop m l q) ok n k p c = node_moved w (line.Drop m l q) m _ n k p c
     (λ e out f. changed_either at.numbers (λ (o : Option (ClusterKey × ℕ)). o ≡ Some (k, c) → Was w m k p c) (w.node m).stamp q None p (λ i x. no_some x) (λ _ x. x) e)
-moved G w (line.Exchanged m l) ok n k p c = node_moved w (line.Exchanged m l) m _ n k p c (λ e out f. go out (ground.all_empty G l p && ground.is_replica G l p m) (changes.count G l m (w.stay m l) p) e)
+moved G w (line.Exchanged m l) ok n k p c = node_moved w (line.Exchanged m l) m _ n k p c (λ e out f. go out (ground.is_view_empty G l p && ground.is_view_replica G l p m) (changes.copy_count G l m (w.stay m l) p) e)
   where
     go : ((w.node m).view ≡ Some k → ⊥) → (b : Bool) (a : ℕ) → stamp_if b (l, a) ((w.node m).stamp p) ≡ Some (k, c) → Was w m k p c
     go out true a x = absurd (out (ok.1.is_in.view ∙ ap Some (ap (λ (y : ClusterKey × ℕ). y.0) (some_same x))))
@@ -153,35 +153,36 @@ view_cases None k = inr (λ e. no_some e)
 view_cases (Some j) k = ⊎_elim (λ e. inl (ap Some e)) (λ e. inr (λ z. e (some_same z))) (key_cases j k)
 
 abbrev pub Unspoiled_tied : Ground → List Line → Picture → Type 0
-Unspoiled_tied G j w = (n : ℕ) (k : ClusterKey) (p c : ℕ) → (w.node n).stamp p ≡ Some (k, c) → has_foreign k n p j ≡ false → c ≡ changes.count G k n (w.stay n k) p
+Unspoiled_tied G j w = (n : ℕ) (k : ClusterKey) (p c : ℕ) → (w.node n).stamp p ≡ Some (k, c) → has_foreign k n p j ≡ false → c ≡ changes.copy_count G k n (w.stay n k) p
 
-unspoiled_tied : (G : Ground) (j : List Line) (w : Picture) (l : Line) → Sound G (after G w l) → Ok G w l → Entered_tied j w → Unspoiled_tied G j w → Unspoiled_tied G (j ++ l ∷ []) (after G w l)
-unspoiled_tied G j w l s ok en h n k p c e f = ⊎_elim (λ view. ((s.stamps n k).now p c e view).counts) outside (view_cases ((after G w l).node n).view k)
+unspoiled_tied : (G : Ground) (j : List Line) (w : Picture) (l : Line) → Sound G (picture_after G w l) → Ok G w l → Entered_tied j w → Unspoiled_tied G j w → Unspoiled_tied G (j ++ l ∷ []) (picture_after G w l)
+unspoiled_tied G j w l s ok en h n k p c e f = ⊎_elim (λ view. ((s.stamps n k).now p c e view).counts) outside (view_cases ((picture_after G w l).node n).view k)
   where
-    outside : (((after G w l).node n).view ≡ Some k → ⊥) → c ≡ changes.count G k n ((after G w l).stay n k) p
+    outside : (((picture_after G w l).node n).view ≡ Some k → ⊥) → c ≡ changes.copy_count G k n ((picture_after G w l).stay n k) p
     outside out =
-        let still : (after G w l).stay n k ≡ w.stay n k = stay_same G w (after G w l) n k _ _ (steps G w (effect w l) (allowed G w l ok) n k) out in
+        let still : (picture_after G w l).stay n k ≡ w.stay n k = stay_same G w (picture_after G w l) n k _ _ (steps G w (effect w l) (allowed G w l ok) n k) out in
         let was : list_any (is_enter k n) j ≡ true = en n k ∙ (sym (ap (λ (z : Stay). z.entered) still) ∙ (s.stamps n k).entered p c e) in
         let free : (has_foreign k n p j || is_foreign k n p l) ≡ false = sym (foreign-more k n p j l was) ∙ f in
         h n k p c (moved G w l ok n k p c e out (or_right_false (has_foreign k n p j) (is_foreign k n p l) free)) (or_left_false (has_foreign k n p j) (is_foreign k n p l) free)
-        ∙ ap (λ (z : Stay). changes.count G k n z p) (sym still)
+        ∙ ap (λ (z : Stay). changes.copy_count G k n z p) (sym still)
 
 -- ---- counts
 
-numbers_are : (G : Ground) (j : List Line) (n : ℕ) (k : ClusterKey) (p : ℕ) → members k j ≡ G.members k → numbers k n p j ≡ cond (n == ground.master G k p) (own_numbers k n p j) (heard_numbers k n p (ground.master G k p) j)
+numbers_are : (G : Ground) (j : List Line) (n : ℕ) (k : ClusterKey) (p : ℕ) → members k j ≡ G.members k → numbers k n p j ≡ cond (n == ground.view_master G k p) (own_numbers k n p j) (heard_numbers k n p (ground.view_master G k p) j)
 unfolding numbers
 numbers_are G j n k p ms = ap (λ (m : ℕ). cond (n == m) (own_numbers k n p j) (heard_numbers k n p m j)) (master_is G k p j ms)
 
 gapless : (xs ys : List ℕ) → SameNumbers xs ys → has_no_gap xs ≡ true → stamps.count_of ys ≡ length xs
 gapless xs ys h e = ap (λ (b : Bool). cond b (length ys) no_class)
-    (in_succession ys 1 h.rising (λ x lo hi. sym (h.same x) ∙ all_in_range (has_number xs) 1 (length xs) e x lo (omega (arith, hi, h.size)))) ∙ sym h.size
+    (in_succession ys 1 h.rising (λ x lo hi. sym (h.same x) ∙ all_in_range (contains_number xs) 1 (length xs) e x lo (omega (arith, hi, h.size)))) ∙ sym h.size
 
-counts_one : (G : Ground) (j : List Line) (w : Picture) → Applies_tied j w → Heard_tied G j w → (n : ℕ) (k : ClusterKey) (p : ℕ) (b : Bool) → (n == ground.master G k p) ≡ b → has_no_gap (cond b (own_numbers k n p j) (heard_numbers k n p (ground.master G k p) j)) ≡ true
-    → changes.count G k n (w.stay n k) p ≡ length (cond b (own_numbers k n p j) (heard_numbers k n p (ground.master G k p) j))
-counts_one G j w own he n k p true i e = ap (λ (b : Bool). cond b ((w.stay n k).applies p) (stamps.count_of ((w.stay n k).numbers p))) (eq_turned (ground.master G k p) n ∙ i)
+counts_one : (G : Ground) (j : List Line) (w : Picture) → Applies_tied j w → Heard_tied G j w → (n : ℕ) (k : ClusterKey) (p : ℕ) (b : Bool) → (n == ground.view_master G k p) ≡ b → has_no_gap (cond b (own_numbers k n p j) (heard_numbers k n p (ground.view_master G k p) j)) ≡ true
+    → changes.copy_count G k n (w.stay n k) p ≡ length (cond b (own_numbers k n p j) (heard_numbers k n p (ground.view_master G k p) j))
+counts_one G j w own he n k p true i e = ap (λ (b : Bool). cond b ((w.stay n k).applies p) (stamps.count_of ((w.stay n k).numbers p))) (eq_turned (ground.view_master G k p) n ∙ i)
     ∙ (sym (own n k p) ∙ sym (length-range_with_len 1 (count_by (is_apply_in k n p) j)))
-counts_one G j w own he n k p false i e = ap (λ (b : Bool). cond b ((w.stay n k).applies p) (stamps.count_of ((w.stay n k).numbers p))) (eq_turned (ground.master G k p) n ∙ i)
-    ∙ gapless (heard_numbers k n p (ground.master G k p) j) ((w.stay n k).numbers p) (he n k p) e
+counts_one G j w own he n k p false i e = ap (λ (b : Bool). cond b ((w.stay n k).applies p) (stamps.count_of ((w.stay n k).numbers p))) (eq_turned (ground.view_master G k p) n ∙ i)
+    ∙ gapless (heard_numbers k n p (ground.view_master G k p) j) ((w.stay n k).numbers p)
+    (he n k p) e
 
 counted : (G : Ground) (ns : List ℕ) (j : List Line) (w : Picture) → Tied G ns j w → Applies_tied j w → Heard_tied G j w → Unspoiled_tied G j w → (n : ℕ) (k : ClusterKey) (p c : ℕ) → (w.node n).stamp p ≡ Some (k, c) → (count k n p j == no_class) ≡ false → c ≡ count k n p j
 unfolding count
@@ -193,7 +194,7 @@ counted G ns j w t own he un n k p c e some = go (has_no_gap (numbers k n p j) &
     go : (b : Bool) → (has_no_gap (numbers k n p j) && not (has_foreign k n p j)) ≡ b → (cond b (length (numbers k n p j)) no_class == no_class) ≡ false → c ≡ cond b (length (numbers k n p j)) no_class
     go false i q = differ (number_here no_class) q
     go true i q = un n k p c e (not_false (has_foreign k n p j) (and_right (has_no_gap (numbers k n p j)) (not (has_foreign k n p j)) i))
-        ∙ (counts_one G j w own he n k p (n == ground.master G k p) refl (ap has_no_gap (sym (numbers_are G j n k p ms)) ∙ and_left (has_no_gap (numbers k n p j)) (not (has_foreign k n p j)) i)
+        ∙ (counts_one G j w own he n k p (n == ground.view_master G k p) refl (ap has_no_gap (sym (numbers_are G j n k p ms)) ∙ and_left (has_no_gap (numbers k n p j)) (not (has_foreign k n p j)) i)
         ∙ ap length (sym (numbers_are G j n k p ms)))
 
 -- ---- rows
@@ -233,7 +234,7 @@ record Counted (G : Ground) (ns : List ℕ) (j : List Line) (w : Picture) : Type
   unspoiled : Unspoiled_tied G j w
   wholes : Wholes_tied G j
 
-counted_step : (G : Ground) → IsGround G → (ns : List ℕ) (j : List Line) (w : Picture) (l : Line) → Counted G ns j w → Ok G w l → Fits G ns w l → Counted G ns (j ++ l ∷ []) (after G w l)
+counted_step : (G : Ground) → IsGround G → (ns : List ℕ) (j : List Line) (w : Picture) (l : Line) → Counted G ns j w → Ok G w l → FitsGround G ns w l → Counted G ns (j ++ l ∷ []) (picture_after G w l)
 counted_step G g ns j w l t ok f = record {
   keyed = keyed_step G g ns j w l t.keyed ok f;
   posts = posts_tied G j w l ok t.posts;
@@ -298,9 +299,9 @@ row_entered factor k n p j x e = go (list_any (is_enter k n) j) refl
     go true i = refl
     go false i = no_some (sym (ap (option_map (λ before. copy_state factor n p before)) (unentered (is_enter k n) j i)) ∙ e)
 
-one_class : (G : Ground) (k : ClusterKey) (p n m : ℕ) (l : ClusterKey) (a : ℕ) → G.row k n p ≡ Whole l a → G.row k m p ≡ Whole l a → (a == no_class) ≡ false → same_class G k p n m ≡ true
-unfolding same_class
-one_class G k p n m l a en em some = ap (is_in_class G k p n m) en
+one_class : (G : Ground) (k : ClusterKey) (p n m : ℕ) (l : ClusterKey) (a : ℕ) → G.row k n p ≡ Whole l a → G.row k m p ≡ Whole l a → (a == no_class) ≡ false → same_view_class G k p n m ≡ true
+unfolding same_view_class
+one_class G k p n m l a en em some = ap (is_in_view_class G k p n m) en
     ∙ (ap (λ (b : Bool). cond b (n == m) (Rattle.node_rules.specs.Classes.is_whole_with l a (G.row k m p))) some
     ∙ (ap (Rattle.node_rules.specs.Classes.is_whole_with l a) em ∙ and_both (same_key l l) (a == a) (at.keys.here l) (number_here a)))
 
@@ -312,7 +313,7 @@ same_entry G ns j w t k n m d e = ⊎_elim one two (or_cases ((m == n) && has_re
     p = partition_of d
 
     passes : is_in_class_of G.factor k p n m j ≡ true
-    passes = filter_passes (λ z. is_in_class_of G.factor k p n z j) (Rattle.journal_readings.specs.Views.list k p j) m (and_right (has_node (class_of G.factor k p n j) n) (has_node (class_of G.factor k p n j) m) e)
+    passes = filter_passes (λ z. is_in_class_of G.factor k p n z j) (Rattle.journal_readings.specs.Views.succession_list k p j) m (and_right (has_node (class_of G.factor k p n j) n) (has_node (class_of G.factor k p n j) m) e)
 
     one : ((m == n) && has_records (row G.factor k n p j)) ≡ true → entry G.by k n d j ≡ entry G.by k m d j
     one z = ap (λ (y : ℕ). entry G.by k y d j) (sym (number_same m n (and_left (m == n) (has_records (row G.factor k n p j)) z)))

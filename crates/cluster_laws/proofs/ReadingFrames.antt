@@ -18,9 +18,9 @@ use Rattle.cluster_laws.specs.Changed.{at_number, at_key, at_stay}
 use Rattle.cluster_laws.specs.Ground.{Ground}
 use Rattle.cluster_laws.specs.Stay.{Running, Stay}
 use Rattle.cluster_laws.specs.Picture.{Seen, Packet, Picture}
-use Rattle.cluster_laws.specs.Effect.{Effect, Nothing, Row_came, Batch_acked, Told, Write_came, Write_acked, Answered, effect_if, is_view, batch_ack, write_ack, answer, comes, comes_if, arrives, arrives_cut}
+use Rattle.cluster_laws.specs.Effect.{Effect, Nothing, Row_came, Batch_acked, Told, Write_came, Write_acked, Answered, effect_if, is_view_key, batch_ack, write_ack, answer_effect, comes, comes_if, arrives, arrives_cut}
 use Rattle.cluster_laws.specs.Changes.{act, sends_message}
-use Rattle.cluster_laws.specs.Licences.{after}
+use Rattle.cluster_laws.specs.Licences.{picture_after}
 use Rattle.cluster_laws.proofs.At.{number_same, digests}
 
 -- ---- changes at a place
@@ -161,17 +161,17 @@ write_message : (n : ℕ) (k : ClusterKey) (from t : ℕ) (o : Option Running) �
 write_message n k from t None = tt
 write_message n k from t (Some y) = if_message (Write_acked n k from t y) (is_some y.applied && contains y.awaiting from) tt
 
-answer_message : (n : ℕ) (k : ClusterKey) (from t : ℕ) (v : Option Version) (o : Option Running) → IsMessage (answer n k from t v o)
+answer_message : (n : ℕ) (k : ClusterKey) (from t : ℕ) (v : Option Version) (o : Option Running) → IsMessage (answer_effect n k from t v o)
 answer_message n k from t v None = tt
 answer_message n k from t v (Some y) = if_message (Answered n k from t v y) (not (is_some y.applied) && contains y.awaiting from) tt
 
 comes_message : (w : Picture) (n from : ℕ) (m : Message) → IsMessage (comes w n from m)
-comes_message w n from (message.State k wants row) = if_message (Row_came n k from) (is_view (w.node n).view k) tt
-comes_message w n from (message.BatchAck k number) = if_message (batch_ack n k from number ((w.stay n k).out from)) (is_view (w.node n).view k) (batch_message n k from number ((w.stay n k).out from))
-comes_message w n from (message.Progress k wants done handed settled) = if_message (Told n k from done handed settled) (is_view (w.node n).view k) tt
-comes_message w n from (message.Repl k t nth d v) = if_message (Write_came n k from nth d v) (is_view (w.node n).view k) tt
-comes_message w n from (message.ReplAck k t) = if_message (write_ack n k from t ((w.stay n k).running t)) (is_view (w.node n).view k) (write_message n k from t ((w.stay n k).running t))
-comes_message w n from (message.Answer k t v) = if_message (answer n k from t v ((w.stay n k).running t)) (is_view (w.node n).view k) (answer_message n k from t v ((w.stay n k).running t))
+comes_message w n from (message.State k wants row) = if_message (Row_came n k from) (is_view_key (w.node n).view k) tt
+comes_message w n from (message.BatchAck k number) = if_message (batch_ack n k from number ((w.stay n k).out from)) (is_view_key (w.node n).view k) (batch_message n k from number ((w.stay n k).out from))
+comes_message w n from (message.Progress k wants done handed settled) = if_message (Told n k from done handed settled) (is_view_key (w.node n).view k) tt
+comes_message w n from (message.Repl k t nth d v) = if_message (Write_came n k from nth d v) (is_view_key (w.node n).view k) tt
+comes_message w n from (message.ReplAck k t) = if_message (write_ack n k from t ((w.stay n k).running t)) (is_view_key (w.node n).view k) (write_message n k from t ((w.stay n k).running t))
+comes_message w n from (message.Answer k t v) = if_message (answer_effect n k from t v ((w.stay n k).running t)) (is_view_key (w.node n).view k) (answer_message n k from t v ((w.stay n k).running t))
 comes_message w n from _ = tt
 
 comes_if_message : (w : Picture) (n from : ℕ) (o : Option Message) → IsMessage (comes_if w n from o)
@@ -224,7 +224,7 @@ IsQuiet (line.Drop n k p) = ⊥
 IsQuiet (line.Settled n k p) = ⊥
 IsQuiet _ = Unit {0}
 
-pub quiet_frame : (G : Ground) (w : Picture) (l : Line) → IsQuiet l → Frame w (after G w l)
+pub quiet_frame : (G : Ground) (w : Picture) (l : Line) → IsQuiet l → Frame w (picture_after G w l)
 quiet_frame G w (line.Clock n time) h = absurd h
 quiet_frame G w (line.Enter n k ms) h = absurd h
 quiet_frame G w (line.Stop n) h = absurd h
@@ -234,11 +234,11 @@ quiet_frame G w (line.Done n k t) h = absurd h
 quiet_frame G w (line.Merge n k d v) h = absurd h
 quiet_frame G w (line.Drop n k p) h = absurd h
 quiet_frame G w (line.Settled n k p) h = absurd h
-quiet_frame G w (line.Opened n k t d a) h = stay_frame w (after G w (line.Opened n k t d a)) n k _ refl refl refl refl refl (record { entered = refl; exchanged = refl; entry = refl; writes = refl; done = refl })
-quiet_frame G w (line.Value n k t d v) h = stay_frame w (after G w (line.Value n k t d v)) n k _ refl refl refl refl refl (record { entered = refl; exchanged = refl; entry = refl; writes = refl; done = refl })
-quiet_frame G w (line.Aborted n k t) h = stay_frame w (after G w (line.Aborted n k t)) n k _ refl refl refl refl refl (record { entered = refl; exchanged = refl; entry = refl; writes = refl; done = refl })
-quiet_frame G w (line.Doubt n k t) h = stay_frame w (after G w (line.Doubt n k t)) n k _ refl refl refl refl refl (record { entered = refl; exchanged = refl; entry = refl; writes = refl; done = refl })
-quiet_frame G w (line.Handed n k p) h = stay_frame w (after G w (line.Handed n k p)) n k _ refl refl refl refl refl (record { entered = refl; exchanged = refl; entry = refl; writes = refl; done = refl })
+quiet_frame G w (line.Opened n k t d a) h = stay_frame w (picture_after G w (line.Opened n k t d a)) n k _ refl refl refl refl refl (record { entered = refl; exchanged = refl; entry = refl; writes = refl; done = refl })
+quiet_frame G w (line.Value n k t d v) h = stay_frame w (picture_after G w (line.Value n k t d v)) n k _ refl refl refl refl refl (record { entered = refl; exchanged = refl; entry = refl; writes = refl; done = refl })
+quiet_frame G w (line.Aborted n k t) h = stay_frame w (picture_after G w (line.Aborted n k t)) n k _ refl refl refl refl refl (record { entered = refl; exchanged = refl; entry = refl; writes = refl; done = refl })
+quiet_frame G w (line.Doubt n k t) h = stay_frame w (picture_after G w (line.Doubt n k t)) n k _ refl refl refl refl refl (record { entered = refl; exchanged = refl; entry = refl; writes = refl; done = refl })
+quiet_frame G w (line.Handed n k p) h = stay_frame w (picture_after G w (line.Handed n k p)) n k _ refl refl refl refl refl (record { entered = refl; exchanged = refl; entry = refl; writes = refl; done = refl })
 quiet_frame G w (line.Learn n k p) h = record {
   content = λ m. node_kept (λ (x : Seen). x.content) w.node n _ m refl;
   view = λ m. node_kept (λ (x : Seen). x.view) w.node n _ m refl;
@@ -248,7 +248,7 @@ quiet_frame G w (line.Learn n k p) h = record {
   fold = refl;
   applied = refl;
 }
-quiet_frame G w (line.Sent i a b bytes) h = sends_frame w (after G w (line.Sent i a b bytes)) a b (message_of bytes) refl refl refl refl refl
+quiet_frame G w (line.Sent i a b bytes) h = sends_frame w (picture_after G w (line.Sent i a b bytes)) a b (message_of bytes) refl refl refl refl refl
 quiet_frame G w (line.Deliver i a b) h = message_frame G w (arrives w (w.packet i)) (arrives_message w (w.packet i))
 quiet_frame G w (line.Repeat i a b) h = message_frame G w (arrives w (w.packet i)) (arrives_message w (w.packet i))
 quiet_frame G w (line.Cut i a b size) h = message_frame G w (arrives_cut w size (w.packet i)) (arrives_cut_message w size (w.packet i))

@@ -8,16 +8,17 @@ use Rattle.script_lang.specs.declared.script.HeaderLine.TheVariants as header
 use Rattle.journal_lines.specs.declared.line.Line.{Line}
 use Rattle.journal_lines.specs.declared.line.Line.TheVariants as line
 use Rattle.cluster_rules.specs.Opening as opening
-use Rattle.cluster_rules.specs.Opening.{Header, header_line, header_lines, declared_policy, declared_factor, declared_nodes}
+use Rattle.cluster_rules.specs.Opening.{Header, journal_header_line, header_lines, declared_policy, declared_factor, declared_nodes}
 use Rattle.journal_readings.specs.Settings.{policy_step, policy_of, factor_step, factor_of, declared_in, nodes}
-use Rattle.cluster_laws.specs.Ground.{Ground, master, acting}
+use Rattle.journal_readings.specs.Shape.{is_header}
+use Rattle.cluster_laws.specs.Ground.{Ground, view_master, view_acting}
 use Rattle.cluster_laws.specs.Picture.{Picture, start}
-use Rattle.cluster_laws.specs.Licences.{Licensed, after, after_all}
-use Rattle.cluster_laws.specs.Journals.{journal, Fits, IsJournal, is_header, ShowsGround, lone_header, shown}
+use Rattle.cluster_laws.specs.Licences.{Licensed, picture_after, picture_after_all}
+use Rattle.cluster_laws.specs.Journals.{journal, FitsGround, IsJournal, ShowsGround, lone_header, shown_run}
 use Rattle.journal_readings.specs.Examples.{one, key}
 use Rattle.partition_lists.specs.Hashes.{fnv1a, jenkins_state, jenkins_end, node_bytes, partition_bytes, place}
 use Rattle.partition_lists.specs.Lists as lists
-use Rattle.cluster_laws.specs.Weaker.{lone, kept}
+use Rattle.cluster_laws.specs.Weaker.{lone, lone_run}
 use Rattle.cluster_laws.proofs.At.{differ, some_same, no_some}
 use Rattle.cluster_laws.proofs.LoneRun.{kept_licensed}
 use Rattle.cluster_laws.proofs.ReadingLines.{or_left_false, or_right_false}
@@ -34,7 +35,7 @@ policy_stays by (l ∷ ls) e = ap (λ (z : Policy). fold policy_step z ls) (one 
     one (line.Policy named) q = differ refl q
     one x q = refl
 
-policy_from : (by : Policy) (h : Header) (ls : List Line) → list_any is_header ls ≡ false → fold policy_step by (header_lines h ++ ls) ≡ fold opening.policy_step by h
+policy_from : (by : Policy) (h : Header) (ls : List Line) → list_any is_header ls ≡ false → fold policy_step by (header_lines h ++ ls) ≡ fold opening.header_policy_step by h
 policy_from by [] ls e = policy_stays by ls e
 policy_from by (header.Script v ∷ h) ls e = policy_from by h ls e
 policy_from by (header.Factor n ∷ h) ls e = policy_from by h ls e
@@ -54,7 +55,7 @@ factor_stays factor (l ∷ ls) e = ap (λ (z : ℕ). fold factor_step z ls) (one
     one (line.Factor named) q = differ refl q
     one x q = refl
 
-factor_from : (factor : ℕ) (h : Header) (ls : List Line) → list_any is_header ls ≡ false → fold factor_step factor (header_lines h ++ ls) ≡ fold opening.factor_step factor h
+factor_from : (factor : ℕ) (h : Header) (ls : List Line) → list_any is_header ls ≡ false → fold factor_step factor (header_lines h ++ ls) ≡ fold opening.header_factor_step factor h
 factor_from factor [] ls e = factor_stays factor ls e
 factor_from factor (header.Script v ∷ h) ls e = factor_from factor h ls e
 factor_from factor (header.Factor n ∷ h) ls e = factor_from n h ls e
@@ -88,29 +89,29 @@ header_nodes (header.Policy by ∷ h) ls e = header_nodes h ls e
 -- each line fits after those before it
 abbrev Fitting : Ground → List ℕ → Picture → List Line → Type 0
 Fitting G ns w [] = Unit {0}
-Fitting G ns w (l ∷ ls) = Fits G ns w l × Fitting G ns (after G w l) ls
+Fitting G ns w (l ∷ ls) = FitsGround G ns w l × Fitting G ns (picture_after G w l) ls
 
 each_fits : (G : Ground) (ns : List ℕ) (w : Picture) (ls : List Line) → Fitting G ns w ls → AllFit G ns w ls
 each_fits G ns w [] f i l e = no_some e
-each_fits G ns w (x ∷ ls) f zero l e = subst (Fits G ns w) (some_same e) f.0
-each_fits G ns w (x ∷ ls) f (suc i) l e = each_fits G ns (after G w x) ls f.1 i l e
+each_fits G ns w (x ∷ ls) f zero l e = subst (FitsGround G ns w) (some_same e) f.0
+each_fits G ns w (x ∷ ls) f (suc i) l e = each_fits G ns (picture_after G w x) ls f.1 i l e
 
 -- lines that are licensed, and then more
-licensed_more : (G : Ground) (w : Picture) (ls ms : List Line) → Licensed G w ls → Licensed G (after_all G w ls) ms → Licensed G w (ls ++ ms)
+licensed_more : (G : Ground) (w : Picture) (ls ms : List Line) → Licensed G w ls → Licensed G (picture_after_all G w ls) ms → Licensed G w (ls ++ ms)
 licensed_more G w [] ms a b = b
-licensed_more G w (l ∷ ls) ms a b = (a.0, licensed_more G (after G w l) ls ms a.1 b)
+licensed_more G w (l ∷ ls) ms a b = (a.0, licensed_more G (picture_after G w l) ls ms a.1 b)
 
 -- the map of node 1 alone
-lone_map : ShowsGround lone (after_all lone start kept) 1 (key 2 1) 4095 one 1
-unfolding fnv1a jenkins_state jenkins_end node_bytes partition_bytes place lists.list acting master
+lone_map : ShowsGround lone (picture_after_all lone start lone_run) 1 (key 2 1) 4095 one 1
+unfolding fnv1a jenkins_state jenkins_end node_bytes partition_bytes place lists.list view_acting view_master
 lone_map = record { exchanged = refl; members = refl; acting = refl }
 
-pub lone_journal : IsJournal lone_header lone shown
+pub lone_journal : IsJournal lone_header lone shown_run
 unfolding policy_of factor_of nodes
 lone_journal = record {
   ground = record { some = omega arith };
   by = refl;
   factor = refl;
-  licensed = licensed_more lone start kept (line.Map 1 (key 2 1) 4095 one 1 ∷ []) kept_licensed ((refl, tt), tt);
-  fits = each_fits lone (nodes (journal lone_header shown)) start shown (tt, (tt, (tt, (refl, (tt, (tt, (tt, (tt, (lone_map, tt)))))))));
+  licensed = licensed_more lone start lone_run (line.Map 1 (key 2 1) 4095 one 1 ∷ []) kept_licensed ((refl, tt), tt);
+  fits = each_fits lone (nodes (journal lone_header shown_run)) start shown_run (tt, (tt, (tt, (refl, (tt, (tt, (tt, (tt, (lone_map, tt)))))))));
 }

@@ -15,17 +15,17 @@ use Rattle.journal_lines.specs.declared.line.Line.TheVariants as line
 use Rattle.node_rules.specs.Keys.{same_key}
 use Rattle.node_rules.specs.Stamps as stamps
 use Rattle.journal_readings.specs.Messages.{Posting, Arrival, posted, posting_of, arrived, arrival, message_between}
-use Rattle.journal_readings.specs.Views.{is_key, is_in_view}
-use Rattle.journal_readings.specs.Counts.{is_apply_in, repl_number, with_number, heard_numbers}
+use Rattle.journal_readings.specs.Views.{is_key_of_view, is_in_view}
+use Rattle.journal_readings.specs.Counts.{is_apply_in, repl_number, with_new_number, heard_numbers}
 use Rattle.journal_readings.proofs.StepLaws.{heard_numbers-more}
 use Rattle.cluster_laws.specs.Ground as ground
 use Rattle.cluster_laws.specs.Ground.{Ground}
 use Rattle.cluster_laws.specs.Stay.{Running, Stay}
 use Rattle.cluster_laws.specs.Picture.{Packet, Picture}
-use Rattle.cluster_laws.specs.Effect.{Effect, Nothing, Row_came, Batch_acked, Told, Write_came, Write_acked, Answered, effect_if, is_view, batch_ack, write_ack, answer, comes, comes_if, arrives, arrives_cut}
+use Rattle.cluster_laws.specs.Effect.{Effect, Nothing, Row_came, Batch_acked, Told, Write_came, Write_acked, Answered, effect_if, is_view_key, batch_ack, write_ack, answer_effect, comes, comes_if, arrives, arrives_cut}
 use Rattle.cluster_laws.specs.Changes.{act, sends_message, heard, hearing}
-use Rattle.cluster_laws.specs.Licences.{Ok, after}
-use Rattle.cluster_laws.specs.Journals.{IsFor, Fits}
+use Rattle.cluster_laws.specs.Licences.{Ok, picture_after}
+use Rattle.cluster_laws.specs.Journals.{IsFor, FitsGround}
 use Rattle.cluster_laws.proofs.At.{numbers, changed_either, number_same, number_here, key_same, and_left, and_right, and_both, differ, no_some}
 use Rattle.cluster_laws.proofs.All.{Sound}
 use Rattle.cluster_laws.proofs.ReadingFrames.{stay_kept, IsMessage, arrives_message, arrives_cut_message}
@@ -80,7 +80,7 @@ message_packet G w _ h = absurd h
 same_posts : (j : List Line) (w v : Picture) (l : Line) → v.packet ≡ w.packet → ((i : ℕ) → posting_of i l ≡ None) → Posts_tied j w → Posts_tied (j ++ l ∷ []) v
 same_posts j w v l e none h i = ap (λ (f : ℕ → Option Packet). f i) e ∙ (h i ∙ sym (ap (option_map packet_of) (posted-more i j l ∙ (ap (or_first (posted i j)) (none i) ∙ or_first-none (posted i j)))))
 
-pub posts_tied : (G : Ground) (j : List Line) (w : Picture) (l : Line) → Ok G w l → Posts_tied j w → Posts_tied (j ++ l ∷ []) (after G w l)
+pub posts_tied : (G : Ground) (j : List Line) (w : Picture) (l : Line) → Ok G w l → Posts_tied j w → Posts_tied (j ++ l ∷ []) (picture_after G w l)
 posts_tied G j w (line.Sent m a b bytes) ok h i = go (m == i) refl ∙ sym (ap (option_map packet_of) (posted-more i j (line.Sent m a b bytes)))
   where
     x : Posting
@@ -89,10 +89,10 @@ posts_tied G j w (line.Sent m a b bytes) ok h i = go (m == i) refl ∙ sym (ap (
     go : (c : Bool) → (m == i) ≡ c → cond c (Some (packet_of x)) (w.packet i) ≡ option_map packet_of (or_first (posted i j) (cond c (Some x) None))
     go true e = sym (ap (λ (o : Option Posting). option_map packet_of (or_first o (Some x))) (unposted (posted i j) (sym (ap w.packet (sym (number_same m i e)) ∙ ok.1.0) ∙ h i)))
     go false e = h i ∙ sym (ap (option_map packet_of) (or_first-none (posted i j)))
-posts_tied G j w (line.Deliver m a b) ok h i = same_posts j w (after G w (line.Deliver m a b)) (line.Deliver m a b) (message_packet G w (arrives w (w.packet m)) (arrives_message w (w.packet m))) (λ z. refl) h i
-posts_tied G j w (line.Repeat m a b) ok h i = same_posts j w (after G w (line.Repeat m a b)) (line.Repeat m a b) (message_packet G w (arrives w (w.packet m)) (arrives_message w (w.packet m))) (λ z. refl) h i
-posts_tied G j w (line.Cut m a b size) ok h i = same_posts j w (after G w (line.Cut m a b size)) (line.Cut m a b size) (message_packet G w (arrives_cut w size (w.packet m)) (arrives_cut_message w size (w.packet m))) (λ z. refl) h i
-posts_tied G j w l ok h i = same_posts j w (after G w l) l refl (λ z. refl) h i
+posts_tied G j w (line.Deliver m a b) ok h i = same_posts j w (picture_after G w (line.Deliver m a b)) (line.Deliver m a b) (message_packet G w (arrives w (w.packet m)) (arrives_message w (w.packet m))) (λ z. refl) h i
+posts_tied G j w (line.Repeat m a b) ok h i = same_posts j w (picture_after G w (line.Repeat m a b)) (line.Repeat m a b) (message_packet G w (arrives w (w.packet m)) (arrives_message w (w.packet m))) (λ z. refl) h i
+posts_tied G j w (line.Cut m a b size) ok h i = same_posts j w (picture_after G w (line.Cut m a b size)) (line.Cut m a b size) (message_packet G w (arrives_cut w size (w.packet m)) (arrives_cut_message w size (w.packet m))) (λ z. refl) h i
+posts_tied G j w l ok h i = same_posts j w (picture_after G w l) l refl (λ z. refl) h i
 
 -- ---- what no line but a write and an arrival changes
 
@@ -111,7 +111,7 @@ sends_tally m r None stay n k = refl
 sends_tally m r (Some (message.Batch b)) stay n k = stay_kept tally stay m b.key _ n k refl
 sends_tally m r (Some x) stay n k = refl
 
-tally_kept : (G : Ground) (w : Picture) (l : Line) → Sound G w → Ok G w l → KeepsTally l → (n : ℕ) (k : ClusterKey) → tally ((after G w l).stay n k) ≡ tally (w.stay n k)
+tally_kept : (G : Ground) (w : Picture) (l : Line) → Sound G w → Ok G w l → KeepsTally l → (n : ℕ) (k : ClusterKey) → tally ((picture_after G w l).stay n k) ≡ tally (w.stay n k)
 tally_kept G w (line.Apply m l t d v) s ok h n k = absurd h
 tally_kept G w (line.Deliver i a b) s ok h n k = absurd h
 tally_kept G w (line.Repeat i a b) s ok h n k = absurd h
@@ -165,7 +165,7 @@ message_applies G w _ h n k = absurd h
 same_applies : (j : List Line) (w v : Picture) (l : Line) → ((n : ℕ) (k : ClusterKey) → (v.stay n k).applies ≡ (w.stay n k).applies) → ((n : ℕ) (k : ClusterKey) (p : ℕ) → is_apply_in k n p l ≡ false) → Applies_tied j w → Applies_tied (j ++ l ∷ []) v
 same_applies j w v l e none h n k p = count-more (is_apply_in k n p) j l ∙ (ap (λ (b : Bool). cond b (1 + count_by (is_apply_in k n p) j) (count_by (is_apply_in k n p) j)) (none n k p) ∙ (h n k p ∙ sym (ap (λ (f : ℕ → ℕ). f p) (e n k))))
 
-pub applies_tied : (G : Ground) (j : List Line) (w : Picture) (l : Line) → Sound G w → Ok G w l → Applies_tied j w → Applies_tied (j ++ l ∷ []) (after G w l)
+pub applies_tied : (G : Ground) (j : List Line) (w : Picture) (l : Line) → Sound G w → Ok G w l → Applies_tied j w → Applies_tied (j ++ l ∷ []) (picture_after G w l)
 applies_tied G j w (line.Apply m l t e v) s ok h n k p = count-more (is_apply_in k n p) j (line.Apply m l t e v) ∙ stay_cases (λ (z : Stay). cond ((m == n) && (same_key l k && (partition_of e == p))) (1 + x) x ≡ z.applies p) w.stay m l _ n k
     (λ i q. changed_either numbers (λ (a : ℕ). cond ((m == n) && (same_key l k && (partition_of e == p))) (1 + x) x ≡ a) (w.stay m l).applies (partition_of e) _ p
     (λ y. ap (λ (b : Bool). cond b (1 + x) x) (both i q y) ∙ omega (arith, old i q, ap (w.stay m l).applies y))
@@ -190,10 +190,10 @@ applies_tied G j w (line.Apply m l t e v) s ok h n k p = count-more (is_apply_in
         go true true false i q y = refl
         go true false c i q y = refl
         go false b c i q y = refl
-applies_tied G j w (line.Deliver i a b) s ok h n k p = same_applies j w (after G w (line.Deliver i a b)) (line.Deliver i a b) (message_applies G w (arrives w (w.packet i)) (arrives_message w (w.packet i))) (λ x y z. refl) h n k p
-applies_tied G j w (line.Repeat i a b) s ok h n k p = same_applies j w (after G w (line.Repeat i a b)) (line.Repeat i a b) (message_applies G w (arrives w (w.packet i)) (arrives_message w (w.packet i))) (λ x y z. refl) h n k p
-applies_tied G j w (line.Cut i a b size) s ok h n k p = same_applies j w (after G w (line.Cut i a b size)) (line.Cut i a b size) (message_applies G w (arrives_cut w size (w.packet i)) (arrives_cut_message w size (w.packet i))) (λ x y z. refl) h n k p
-applies_tied G j w l s ok h n k p = same_applies j w (after G w l) l (λ x y. ap (λ (z : (ℕ → ℕ) × (ℕ → List ℕ)). z.0) (tally_kept G w l s ok tt x y)) (λ x y z. refl) h n k p
+applies_tied G j w (line.Deliver i a b) s ok h n k p = same_applies j w (picture_after G w (line.Deliver i a b)) (line.Deliver i a b) (message_applies G w (arrives w (w.packet i)) (arrives_message w (w.packet i))) (λ x y z. refl) h n k p
+applies_tied G j w (line.Repeat i a b) s ok h n k p = same_applies j w (picture_after G w (line.Repeat i a b)) (line.Repeat i a b) (message_applies G w (arrives w (w.packet i)) (arrives_message w (w.packet i))) (λ x y z. refl) h n k p
+applies_tied G j w (line.Cut i a b size) s ok h n k p = same_applies j w (picture_after G w (line.Cut i a b size)) (line.Cut i a b size) (message_applies G w (arrives_cut w size (w.packet i)) (arrives_cut_message w size (w.packet i))) (λ x y z. refl) h n k p
+applies_tied G j w l s ok h n k p = same_applies j w (picture_after G w l) l (λ x y. ap (λ (z : (ℕ → ℕ) × (ℕ → List ℕ)). z.0) (tally_kept G w l s ok tt x y)) (λ x y z. refl) h n k p
 
 -- ---- the list master's writes
 
@@ -251,25 +251,25 @@ write_other : (n : ℕ) (k : ClusterKey) (from t : ℕ) (o : Option Running) →
 write_other n k from t None = tt
 write_other n k from t (Some y) = if_other (Write_acked n k from t y) (Rattle.std.specs.Prelude.is_some y.applied && Rattle.node_rules.specs.Tables.contains y.awaiting from) tt
 
-answer_other : (n : ℕ) (k : ClusterKey) (from t : ℕ) (v : Option Version) (o : Option Running) → IsOther (answer n k from t v o)
+answer_other : (n : ℕ) (k : ClusterKey) (from t : ℕ) (v : Option Version) (o : Option Running) → IsOther (answer_effect n k from t v o)
 answer_other n k from t v None = tt
 answer_other n k from t v (Some y) = if_other (Answered n k from t v y) (not (Rattle.std.specs.Prelude.is_some y.applied) && Rattle.node_rules.specs.Tables.contains y.awaiting from) tt
 
 -- what a message that came adds
 abbrev heard_of : Ground → Picture → ℕ → ℕ → Message → ℕ → ClusterKey → ℕ → List ℕ → List ℕ
-heard_of G w to from m n k p ys = cond (is_view (w.node n).view k) (hear (cond ((from == ground.master G k p) && (to == n)) (repl_number k p m) None) ys) ys
+heard_of G w to from m n k p ys = cond (is_view_key (w.node n).view k) (hear (cond ((from == ground.view_master G k p) && (to == n)) (repl_number k p m) None) ys) ys
 
 nothing_heard : (v b : Bool) (ys : List ℕ) → ys ≡ cond v (hear (cond b None None) ys) ys
 nothing_heard true true ys = refl
 nothing_heard true false ys = refl
 nothing_heard false b ys = refl
 
-other_heard : (G : Ground) (w : Picture) (e : Effect) (to from n : ℕ) (k : ClusterKey) (p : ℕ) → IsOther e → ((act G e w).stay n k).numbers p ≡ cond (is_view (w.node n).view k) (hear (cond ((from == ground.master G k p) && (to == n)) None None) ((w.stay n k).numbers p)) ((w.stay n k).numbers p)
-other_heard G w e to from n k p h = ap (λ (f : ℕ → List ℕ). f p) (other_numbers G w e h n k) ∙ nothing_heard (is_view (w.node n).view k) ((from == ground.master G k p) && (to == n)) ((w.stay n k).numbers p)
+other_heard : (G : Ground) (w : Picture) (e : Effect) (to from n : ℕ) (k : ClusterKey) (p : ℕ) → IsOther e → ((act G e w).stay n k).numbers p ≡ cond (is_view_key (w.node n).view k) (hear (cond ((from == ground.view_master G k p) && (to == n)) None None) ((w.stay n k).numbers p)) ((w.stay n k).numbers p)
+other_heard G w e to from n k p h = ap (λ (f : ℕ → List ℕ). f p) (other_numbers G w e h n k) ∙ nothing_heard (is_view_key (w.node n).view k) ((from == ground.view_master G k p) && (to == n)) ((w.stay n k).numbers p)
 
 write_heard : (G : Ground) (w : Picture) (to from : ℕ) (l : ClusterKey) (nth : ℕ) (d : List ℕ) (u : Version) (n : ℕ) (k : ClusterKey) (p : ℕ)
-    → ((act G (effect_if (Write_came to l from nth d u) (is_view (w.node to).view l)) w).stay n k).numbers p ≡ hears (is_view (w.node n).view k) (from == ground.master G k p) (to == n) (same_key l k && (partition_of d == p)) nth ((w.stay n k).numbers p)
-write_heard G w to from l nth d u n k p = go (is_view (w.node to).view l) refl
+    → ((act G (effect_if (Write_came to l from nth d u) (is_view_key (w.node to).view l)) w).stay n k).numbers p ≡ hears (is_view_key (w.node n).view k) (from == ground.view_master G k p) (to == n) (same_key l k && (partition_of d == p)) nth ((w.stay n k).numbers p)
+write_heard G w to from l nth d u n k p = go (is_view_key (w.node to).view l) refl
   where
     q : ℕ
     q = partition_of d
@@ -278,47 +278,47 @@ write_heard G w to from l nth d u n k p = go (is_view (w.node to).view l) refl
     ys = (w.stay n k).numbers p
 
     goal : List ℕ → Type 0
-    goal zs = zs ≡ hears (is_view (w.node n).view k) (from == ground.master G k p) (to == n) (same_key l k && (q == p)) nth ys
+    goal zs = zs ≡ hears (is_view_key (w.node n).view k) (from == ground.view_master G k p) (to == n) (same_key l k && (q == p)) nth ys
 
-    off : (is_view (w.node n).view k ≡ true → to ≡ n → l ≡ k → q ≡ p → ⊥) → goal ys
-    off h = hears_not (is_view (w.node n).view k) (from == ground.master G k p) (to == n) (same_key l k && (q == p)) nth ys
+    off : (is_view_key (w.node n).view k ≡ true → to ≡ n → l ≡ k → q ≡ p → ⊥) → goal ys
+    off h = hears_not (is_view_key (w.node n).view k) (from == ground.view_master G k p) (to == n) (same_key l k && (q == p)) nth ys
         (λ v b c. h v (number_same to n b) (key_same l k (and_left (same_key l k) (q == p) c)) (number_same q p (and_right (same_key l k) (q == p) c)))
 
-    base : is_view (w.node to).view l ≡ true → heard (from == ground.master G l q) ((w.stay to l).numbers q) nth
-        ≡ hears (is_view (w.node to).view l) (from == ground.master G l q) (to == to) (same_key l l && (q == q)) nth ((w.stay to l).numbers q)
-    base v = hears_it (is_view (w.node to).view l) (from == ground.master G l q) (to == to) (same_key l l && (q == q)) nth ((w.stay to l).numbers q) v (number_here to)
+    base : is_view_key (w.node to).view l ≡ true → heard (from == ground.view_master G l q) ((w.stay to l).numbers q) nth
+        ≡ hears (is_view_key (w.node to).view l) (from == ground.view_master G l q) (to == to) (same_key l l && (q == q)) nth ((w.stay to l).numbers q)
+    base v = hears_it (is_view_key (w.node to).view l) (from == ground.view_master G l q) (to == to) (same_key l l && (q == q)) nth ((w.stay to l).numbers q) v (number_here to)
         (and_both (same_key l l) (q == q) (Rattle.cluster_laws.proofs.At.keys.here l) (number_here q))
 
-    here : is_view (w.node to).view l ≡ true → to ≡ n → l ≡ k → q ≡ p → goal (heard (from == ground.master G l q) ((w.stay to l).numbers q) nth)
-    here v i e z = subst (λ (a : ℕ). heard (from == ground.master G l q) ((w.stay to l).numbers q) nth ≡ hears (is_view (w.node n).view k) (from == ground.master G k a) (to == n) (same_key l k && (q == a)) nth ((w.stay n k).numbers a)) z
-        (subst₂ (λ (a : ℕ) (b : ClusterKey). heard (from == ground.master G l q) ((w.stay to l).numbers q) nth ≡ hears (is_view (w.node a).view b) (from == ground.master G b q) (to == a) (same_key l b && (q == q)) nth ((w.stay a b).numbers q)) i e (base v))
+    here : is_view_key (w.node to).view l ≡ true → to ≡ n → l ≡ k → q ≡ p → goal (heard (from == ground.view_master G l q) ((w.stay to l).numbers q) nth)
+    here v i e z = subst (λ (a : ℕ). heard (from == ground.view_master G l q) ((w.stay to l).numbers q) nth ≡ hears (is_view_key (w.node n).view k) (from == ground.view_master G k a) (to == n) (same_key l k && (q == a)) nth ((w.stay n k).numbers a)) z
+        (subst₂ (λ (a : ℕ) (b : ClusterKey). heard (from == ground.view_master G l q) ((w.stay to l).numbers q) nth ≡ hears (is_view_key (w.node a).view b) (from == ground.view_master G b q) (to == a) (same_key l b && (q == q)) nth ((w.stay a b).numbers q)) i e (base v))
 
-    go : (b : Bool) → is_view (w.node to).view l ≡ b → goal (((act G (effect_if (Write_came to l from nth d u) b) w).stay n k).numbers p)
-    go false v = off (λ x i e z. differ x (subst₂ (λ (a : ℕ) (b : ClusterKey). is_view (w.node a).view b ≡ false) i e v))
+    go : (b : Bool) → is_view_key (w.node to).view l ≡ b → goal (((act G (effect_if (Write_came to l from nth d u) b) w).stay n k).numbers p)
+    go false v = off (λ x i e z. differ x (subst₂ (λ (a : ℕ) (b : ClusterKey). is_view_key (w.node a).view b ≡ false) i e v))
     go true v = stay_cases (λ (s : Stay). goal (s.numbers p)) w.stay to l (hearing G l from nth q (w.stay to l)) n k
-        (λ i e. changed_either numbers goal (w.stay to l).numbers q (heard (from == ground.master G l q) ((w.stay to l).numbers q) nth) p (here v i e)
+        (λ i e. changed_either numbers goal (w.stay to l).numbers q (heard (from == ground.view_master G l q) ((w.stay to l).numbers q) nth) p (here v i e)
         (λ y. subst₂ (λ (a : ℕ) (b : ClusterKey). goal ((w.stay a b).numbers p)) (sym i) (sym e) (off (λ _ _ _ z. y z))))
         (λ apart. off (λ _ i e _. apart i e))
 
 comes_heard : (G : Ground) (w : Picture) (to from : ℕ) (m : Message) (n : ℕ) (k : ClusterKey) (p : ℕ) → ((act G (comes w to from m) w).stay n k).numbers p ≡ heard_of G w to from m n k p ((w.stay n k).numbers p)
 comes_heard G w to from (message.Repl l t nth d u) n k p = write_heard G w to from l nth d u n k p
-comes_heard G w to from (message.State l wants row) n k p = other_heard G w (comes w to from (message.State l wants row)) to from n k p (if_other (Row_came to l from) (is_view (w.node to).view l) tt)
-comes_heard G w to from (message.BatchAck l number) n k p = other_heard G w (comes w to from (message.BatchAck l number)) to from n k p (if_other (batch_ack to l from number ((w.stay to l).out from)) (is_view (w.node to).view l) (batch_other to l from number ((w.stay to l).out from)))
-comes_heard G w to from (message.Progress l wants done handed settled) n k p = other_heard G w (comes w to from (message.Progress l wants done handed settled)) to from n k p (if_other (Told to l from done handed settled) (is_view (w.node to).view l) tt)
-comes_heard G w to from (message.ReplAck l t) n k p = other_heard G w (comes w to from (message.ReplAck l t)) to from n k p (if_other (write_ack to l from t ((w.stay to l).running t)) (is_view (w.node to).view l) (write_other to l from t ((w.stay to l).running t)))
-comes_heard G w to from (message.Answer l t v) n k p = other_heard G w (comes w to from (message.Answer l t v)) to from n k p (if_other (answer to l from t v ((w.stay to l).running t)) (is_view (w.node to).view l) (answer_other to l from t v ((w.stay to l).running t)))
+comes_heard G w to from (message.State l wants row) n k p = other_heard G w (comes w to from (message.State l wants row)) to from n k p (if_other (Row_came to l from) (is_view_key (w.node to).view l) tt)
+comes_heard G w to from (message.BatchAck l number) n k p = other_heard G w (comes w to from (message.BatchAck l number)) to from n k p (if_other (batch_ack to l from number ((w.stay to l).out from)) (is_view_key (w.node to).view l) (batch_other to l from number ((w.stay to l).out from)))
+comes_heard G w to from (message.Progress l wants done handed settled) n k p = other_heard G w (comes w to from (message.Progress l wants done handed settled)) to from n k p (if_other (Told to l from done handed settled) (is_view_key (w.node to).view l) tt)
+comes_heard G w to from (message.ReplAck l t) n k p = other_heard G w (comes w to from (message.ReplAck l t)) to from n k p (if_other (write_ack to l from t ((w.stay to l).running t)) (is_view_key (w.node to).view l) (write_other to l from t ((w.stay to l).running t)))
+comes_heard G w to from (message.Answer l t v) n k p = other_heard G w (comes w to from (message.Answer l t v)) to from n k p (if_other (answer_effect to l from t v ((w.stay to l).running t)) (is_view_key (w.node to).view l) (answer_other to l from t v ((w.stay to l).running t)))
 comes_heard G w to from m n k p = other_heard G w Nothing to from n k p tt
 
 abbrev pub Heard_tied : Ground → List Line → Picture → Type 0
-Heard_tied G j w = (n : ℕ) (k : ClusterKey) (p : ℕ) → SameNumbers (heard_numbers k n p (ground.master G k p) j) ((w.stay n k).numbers p)
+Heard_tied G j w = (n : ℕ) (k : ClusterKey) (p : ℕ) → SameNumbers (heard_numbers k n p (ground.view_master G k p) j) ((w.stay n k).numbers p)
 
 -- the two add alike
-added : (v : Bool) (o : Option ℕ) (xs ys : List ℕ) → SameNumbers xs ys → SameNumbers (cond v (with_number o xs) xs) (cond v (hear o ys) ys)
+added : (v : Bool) (o : Option ℕ) (xs ys : List ℕ) → SameNumbers xs ys → SameNumbers (cond v (with_new_number o xs) xs) (cond v (hear o ys) ys)
 added false o xs ys h = h
 added true None xs ys h = h
 added true (Some x) xs ys h = one_number xs ys x h
 
-view_is : (k : ClusterKey) (o : Option ClusterKey) → is_key k o ≡ is_view o k
+view_is : (k : ClusterKey) (o : Option ClusterKey) → is_key_of_view k o ≡ is_view_key o k
 view_is k None = refl
 view_is k (Some l) = refl
 
@@ -328,32 +328,32 @@ between_is false k p m = refl
 
 -- a message that arrives where it was sent to
 came_tied : (G : Ground) (j : List Line) (w : Picture) (l : Line) → Views_tied j w → Heard_tied G j w → (to from : ℕ) (m : Message) → arrival j l ≡ Some (record { from = from; to = to; message = m })
-    → (n : ℕ) (k : ClusterKey) (p : ℕ) → SameNumbers (heard_numbers k n p (ground.master G k p) (j ++ l ∷ [])) (((act G (comes w to from m) w).stay n k).numbers p)
+    → (n : ℕ) (k : ClusterKey) (p : ℕ) → SameNumbers (heard_numbers k n p (ground.view_master G k p) (j ++ l ∷ [])) (((act G (comes w to from m) w).stay n k).numbers p)
 came_tied G j w l vs h to from m e n k p = subst₂ SameNumbers (sym reading) (sym (comes_heard G w to from m n k p))
-    (added (is_view (w.node n).view k) (cond ((from == ground.master G k p) && (to == n)) (repl_number k p m) None) (heard_numbers k n p (ground.master G k p) j) ((w.stay n k).numbers p) (h n k p))
+    (added (is_view_key (w.node n).view k) (cond ((from == ground.view_master G k p) && (to == n)) (repl_number k p m) None) (heard_numbers k n p (ground.view_master G k p) j) ((w.stay n k).numbers p) (h n k p))
   where
     xs : List ℕ
-    xs = heard_numbers k n p (ground.master G k p) j
+    xs = heard_numbers k n p (ground.view_master G k p) j
 
-    reading : heard_numbers k n p (ground.master G k p) (j ++ l ∷ []) ≡ cond (is_view (w.node n).view k) (with_number (cond ((from == ground.master G k p) && (to == n)) (repl_number k p m) None) xs) xs
-    reading = heard_numbers-more k n p (ground.master G k p) j l
-        ∙ ap₂ (λ (b : Bool) (o : Option ℕ). cond b (with_number o xs) xs) (ap (is_key k) (vs n) ∙ view_is k (w.node n).view)
-        (ap (λ (o : Option Arrival). option_and_then (repl_number k p) (option_and_then (message_between (ground.master G k p) n) o)) e ∙ between_is ((from == ground.master G k p) && (to == n)) k p m)
+    reading : heard_numbers k n p (ground.view_master G k p) (j ++ l ∷ []) ≡ cond (is_view_key (w.node n).view k) (with_new_number (cond ((from == ground.view_master G k p) && (to == n)) (repl_number k p m) None) xs) xs
+    reading = heard_numbers-more k n p (ground.view_master G k p) j l
+        ∙ ap₂ (λ (b : Bool) (o : Option ℕ). cond b (with_new_number o xs) xs) (ap (is_key_of_view k) (vs n) ∙ view_is k (w.node n).view)
+        (ap (λ (o : Option Arrival). option_and_then (repl_number k p) (option_and_then (message_between (ground.view_master G k p) n) o)) e ∙ between_is ((from == ground.view_master G k p) && (to == n)) k p m)
 
 -- no message arrives
 none_tied : (G : Ground) (j : List Line) (w v : Picture) (l : Line) → Heard_tied G j w → arrival j l ≡ None → ((n : ℕ) (k : ClusterKey) → (v.stay n k).numbers ≡ (w.stay n k).numbers) → Heard_tied G (j ++ l ∷ []) v
 none_tied G j w v l h e same n k p = subst₂ SameNumbers (sym reading) (sym (ap (λ (f : ℕ → List ℕ). f p) (same n k))) (h n k p)
   where
     xs : List ℕ
-    xs = heard_numbers k n p (ground.master G k p) j
+    xs = heard_numbers k n p (ground.view_master G k p) j
 
     either : (b : Bool) → cond b xs xs ≡ xs
     either true = refl
     either false = refl
 
-    reading : heard_numbers k n p (ground.master G k p) (j ++ l ∷ []) ≡ xs
-    reading = heard_numbers-more k n p (ground.master G k p) j l
-        ∙ (ap (λ (o : Option Arrival). cond (is_in_view k n j) (with_number (option_and_then (repl_number k p) (option_and_then (message_between (ground.master G k p) n) o)) xs) xs) e ∙ either (is_in_view k n j))
+    reading : heard_numbers k n p (ground.view_master G k p) (j ++ l ∷ []) ≡ xs
+    reading = heard_numbers-more k n p (ground.view_master G k p) j l
+        ∙ (ap (λ (o : Option Arrival). cond (is_in_view k n j) (with_new_number (option_and_then (repl_number k p) (option_and_then (message_between (ground.view_master G k p) n) o)) xs) xs) e ∙ either (is_in_view k n j))
 
 -- the effect of a message that was sent, where the test lets it through
 abbrev by_posting : Picture → (Posting → Bool) → Option Posting → Effect
@@ -385,10 +385,10 @@ cut_effect : (w : Picture) (size : ℕ) (o : Option Posting) → arrives_cut w s
 cut_effect w size None = refl
 cut_effect w size (Some x) = refl
 
-pub heard_tied : (G : Ground) (ns : List ℕ) (j : List Line) (w : Picture) (l : Line) → Sound G w → Ok G w l → Fits G ns w l → Views_tied j w → Posts_tied j w → Heard_tied G j w → Heard_tied G (j ++ l ∷ []) (after G w l)
+pub heard_tied : (G : Ground) (ns : List ℕ) (j : List Line) (w : Picture) (l : Line) → Sound G w → Ok G w l → FitsGround G ns w l → Views_tied j w → Posts_tied j w → Heard_tied G j w → Heard_tied G (j ++ l ∷ []) (picture_after G w l)
 unfolding arrival
 heard_tied G ns j w (line.Deliver i a b) s ok f vs ps h = arrival_tied G j w (line.Deliver i a b) vs h b (λ _. true) (posted i j) (is_for j w i b ps f) refl (arrives w (w.packet i)) (ap (arrives w) (ps i) ∙ whole_effect w (posted i j))
 heard_tied G ns j w (line.Repeat i a b) s ok f vs ps h = arrival_tied G j w (line.Repeat i a b) vs h b (λ _. true) (posted i j) (is_for j w i b ps f) refl (arrives w (w.packet i)) (ap (arrives w) (ps i) ∙ whole_effect w (posted i j))
 heard_tied G ns j w (line.Cut i a b size) s ok f vs ps h = arrival_tied G j w (line.Cut i a b size) vs h b (λ x. nat_le (length x.bytes) size) (posted i j) (is_for j w i b ps f) refl (arrives_cut w size (w.packet i)) (ap (arrives_cut w size) (ps i) ∙ cut_effect w size (posted i j))
-heard_tied G ns j w (line.Apply m k t e v) s ok f vs ps h = none_tied G j w (after G w (line.Apply m k t e v)) (line.Apply m k t e v) h refl (λ x y. stay_kept (λ (z : Stay). z.numbers) w.stay m k _ x y refl)
-heard_tied G ns j w l s ok f vs ps h = none_tied G j w (after G w l) l h refl (λ x y. ap (λ (z : (ℕ → ℕ) × (ℕ → List ℕ)). z.1) (tally_kept G w l s ok tt x y))
+heard_tied G ns j w (line.Apply m k t e v) s ok f vs ps h = none_tied G j w (picture_after G w (line.Apply m k t e v)) (line.Apply m k t e v) h refl (λ x y. stay_kept (λ (z : Stay). z.numbers) w.stay m k _ x y refl)
+heard_tied G ns j w l s ok f vs ps h = none_tied G j w (picture_after G w l) l h refl (λ x y. ap (λ (z : (ℕ → ℕ) × (ℕ → List ℕ)). z.1) (tally_kept G w l s ok tt x y))

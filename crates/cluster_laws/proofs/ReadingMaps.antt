@@ -18,16 +18,16 @@ use Rattle.journal_readings.specs.Lines.{is_enter}
 use Rattle.journal_readings.specs.Settings.{nodes}
 use Rattle.journal_readings.specs.Stamps.{stamp}
 use Rattle.journal_readings.specs.Views.{members, first_of}
-use Rattle.journal_readings.specs.Rows.{row, whole_key}
-use Rattle.journal_readings.specs.Maps.{is_above, is_newest_whole, acting, with_roles}
+use Rattle.journal_readings.specs.Rows.{row, row_whole_key}
+use Rattle.journal_readings.specs.Maps.{has_key_above, is_newest_whole, acting, with_roles}
 use Rattle.journal_readings.specs.Claims.{OneMap, ShowsMap}
 use Rattle.journal_readings.proofs.AlongLaws.{one_map}
 use Rattle.cluster_laws.specs.Ground as ground
-use Rattle.cluster_laws.specs.Ground.{Ground, IsGround, is_member, list, is_wholest}
+use Rattle.cluster_laws.specs.Ground.{Ground, IsGround, is_view_member, view_list, is_view_wholest}
 use Rattle.cluster_laws.specs.Picture.{Picture, start}
-use Rattle.cluster_laws.specs.Licences.{Ok, after}
+use Rattle.cluster_laws.specs.Licences.{Ok, picture_after}
 use Rattle.cluster_laws.specs.Laws.{picture}
-use Rattle.cluster_laws.specs.Journals.{journal, Fits, ShowsGround, IsJournal}
+use Rattle.cluster_laws.specs.Journals.{journal, FitsGround, ShowsGround, IsJournal}
 use Rattle.cluster_laws.proofs.At.{number_here, differ}
 use Rattle.cluster_laws.proofs.Keys.{lt_none}
 use Rattle.cluster_laws.proofs.GroundLaws.{listed_member}
@@ -43,7 +43,7 @@ pub record Keyed (G : Ground) (ns : List ℕ) (j : List Line) (w : Picture) : Ty
   pub stamps : Stamps_tied G j w
   pub keys : Keys_tied G j w
 
-pub keyed_step : (G : Ground) → IsGround G → (ns : List ℕ) (j : List Line) (w : Picture) (l : Line) → Keyed G ns j w → Ok G w l → Fits G ns w l → Keyed G ns (j ++ l ∷ []) (after G w l)
+pub keyed_step : (G : Ground) → IsGround G → (ns : List ℕ) (j : List Line) (w : Picture) (l : Line) → Keyed G ns j w → Ok G w l → FitsGround G ns w l → Keyed G ns (j ++ l ∷ []) (picture_after G w l)
 keyed_step G g ns j w l t ok f = record {
   tied = tied_step G g ns j w l t.tied ok f;
   stamps = stamp_tied G ns j w l ok t.tied t.stamps;
@@ -63,34 +63,35 @@ find_same : (f g : ℕ → Bool) (l : List ℕ) → ((n : ℕ) → contains l n 
 find_same f g [] h = refl
 find_same f g (n ∷ l) h = ap₂ (λ (b : Bool) (o : Option ℕ). cond b (Some n) o) (h n (or_left_true (n == n) (contains l n) (number_here n))) (find_same f g l (λ m e. h m (or_right_true (n == m) (contains l m) e)))
 
-above_is : (l : ClusterKey) (o : Option ClusterKey) (x : CopyState) → o ≡ state_key x → is_above l o ≡ key_lt l (the_map.whole_key x)
-above_is l o Empty e = ap (is_above l) e ∙ sym (lt_none l)
-above_is l o Part e = ap (is_above l) e ∙ sym (lt_none l)
-above_is l o (Whole k writes) e = ap (is_above l) e
+above_is : (l : ClusterKey) (o : Option ClusterKey) (x : CopyState) → o ≡ state_key x → has_key_above l o ≡ key_lt l (the_map.whole_key x)
+above_is l o Empty e = ap (has_key_above l) e ∙ sym (lt_none l)
+above_is l o Part e = ap (has_key_above l) e ∙ sym (lt_none l)
+above_is l o (Whole k writes) e = ap (has_key_above l) e
 
 not_any : (a b : Bool) → not (a || b) ≡ (not a && not b)
 not_any true b = refl
 not_any false b = refl
 
 none_above : (l : ClusterKey) (f : ℕ → Option ClusterKey) (g : ℕ → CopyState) (ids : List ℕ) → ((n : ℕ) → contains ids n ≡ true → f n ≡ state_key (g n))
-    → not (list_any (λ m. is_above l (f m)) ids) ≡ list_all (λ m. not (key_lt l (the_map.whole_key (g m)))) ids
+    → not (list_any (λ m. has_key_above l (f m)) ids) ≡ list_all (λ m. not (key_lt l (the_map.whole_key (g m)))) ids
 none_above l f g [] h = refl
-none_above l f g (n ∷ ids) h = not_any (is_above l (f n)) (list_any (λ m. is_above l (f m)) ids)
+none_above l f g (n ∷ ids) h = not_any (has_key_above l (f n))
+    (list_any (λ m. has_key_above l (f m)) ids)
     ∙ ap₂ (λ (a b : Bool). not a && b) (above_is l (f n) (g n) (h n (or_left_true (n == n) (contains ids n) (number_here n)))) (none_above l f g ids (λ m e. h m (or_right_true (n == m) (contains ids m) e)))
 
-newest_is : (G : Ground) (k : ClusterKey) (p : ℕ) (j : List Line) (o : Option ClusterKey) (x : CopyState) → o ≡ state_key x → ((n : ℕ) → contains (list G k p) n ≡ true → whole_key (row G.factor k n p j) ≡ state_key (G.row k n p))
-    → is_newest_whole G.factor k p j (list G k p) o ≡ (is_whole x && list_all (λ m. not (key_lt (the_map.whole_key x) (the_map.whole_key (G.row k m p)))) (list G k p))
-newest_is G k p j o Empty e h = ap (is_newest_whole G.factor k p j (list G k p)) e
-newest_is G k p j o Part e h = ap (is_newest_whole G.factor k p j (list G k p)) e
-newest_is G k p j o (Whole l writes) e h = ap (is_newest_whole G.factor k p j (list G k p)) e ∙ none_above l (λ n. whole_key (row G.factor k n p j)) (λ n. G.row k n p) (list G k p) h
+newest_is : (G : Ground) (k : ClusterKey) (p : ℕ) (j : List Line) (o : Option ClusterKey) (x : CopyState) → o ≡ state_key x → ((n : ℕ) → contains (view_list G k p) n ≡ true → row_whole_key (row G.factor k n p j) ≡ state_key (G.row k n p))
+    → is_newest_whole G.factor k p j (view_list G k p) o ≡ (is_whole x && list_all (λ m. not (key_lt (the_map.whole_key x) (the_map.whole_key (G.row k m p)))) (view_list G k p))
+newest_is G k p j o Empty e h = ap (is_newest_whole G.factor k p j (view_list G k p)) e
+newest_is G k p j o Part e h = ap (is_newest_whole G.factor k p j (view_list G k p)) e
+newest_is G k p j o (Whole l writes) e h = ap (is_newest_whole G.factor k p j (view_list G k p)) e ∙ none_above l (λ n. row_whole_key (row G.factor k n p j)) (λ n. G.row k n p) (view_list G k p) h
 
-acting_is : (G : Ground) (k : ClusterKey) (p : ℕ) (j : List Line) → members k j ≡ G.members k → ((n : ℕ) → contains (list G k p) n ≡ true → whole_key (row G.factor k n p j) ≡ state_key (G.row k n p)) → acting G.factor k p j ≡ ground.acting G k p
-unfolding acting ground.acting ground.master
+acting_is : (G : Ground) (k : ClusterKey) (p : ℕ) (j : List Line) → members k j ≡ G.members k → ((n : ℕ) → contains (view_list G k p) n ≡ true → row_whole_key (row G.factor k n p j) ≡ state_key (G.row k n p)) → acting G.factor k p j ≡ ground.view_acting G k p
+unfolding acting ground.view_acting ground.view_master
 acting_is G k p j ms h =
-    ap (λ (ids : List ℕ). unwrap_or (find (λ n. is_newest_whole G.factor k p j ids (whole_key (row G.factor k n p j))) ids) (first_of ids)) (ap (λ (x : List Member). lists.list x p) ms)
+    ap (λ (ids : List ℕ). unwrap_or (find (λ n. is_newest_whole G.factor k p j ids (row_whole_key (row G.factor k n p j))) ids) (first_of ids)) (ap (λ (x : List Member). lists.list x p) ms)
     ∙ ap₂ (λ (o : Option ℕ) (m : ℕ). unwrap_or o m)
-    (find_same (λ n. is_newest_whole G.factor k p j (list G k p) (whole_key (row G.factor k n p j))) (is_wholest G k p) (list G k p) (λ n e. newest_is G k p j (whole_key (row G.factor k n p j)) (G.row k n p) (h n e) h))
-    (first_is (list G k p))
+    (find_same (λ n. is_newest_whole G.factor k p j (view_list G k p) (row_whole_key (row G.factor k n p j))) (is_view_wholest G k p) (view_list G k p) (λ n e. newest_is G k p j (row_whole_key (row G.factor k n p j)) (G.row k n p) (h n e) h))
+    (first_is (view_list G k p))
 
 -- ---- at the end of the journal
 
@@ -133,7 +134,7 @@ shown h G lines o i n k p ms a s = (s.members ∙ sym (ap (λ (x : List Member).
     same : members k (journal h lines) ≡ G.members k
     same = members_of G (nodes (journal h lines)) (journal h lines) (picture G (journal h lines) last) end.tied n k (still_entered h G lines o i n k (entered ((picture G (journal h lines) i).stay n k).entered refl))
 
-    keys : (m : ℕ) → contains (list G k p) m ≡ true → whole_key (row G.factor k m p (journal h lines)) ≡ state_key (G.row k m p)
+    keys : (m : ℕ) → contains (view_list G k p) m ≡ true → row_whole_key (row G.factor k m p (journal h lines)) ≡ state_key (G.row k m p)
     keys m e = end.keys m k p (still_entered h G lines o i m k ((t.sound.whole.known.cross n k).all_in s.exchanged m (listed_member G k p m e)))
 
 shows_map : (h : Header) (G : Ground) (lines : List Line) → IsJournal h G lines → (i : ℕ) (l : Line) → slice_get (journal h lines) i ≡ Some l → ShowsMap (journal h lines) l

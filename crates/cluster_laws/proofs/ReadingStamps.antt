@@ -17,15 +17,15 @@ use Rattle.journal_readings.specs.Lines.{is_enter}
 use Rattle.journal_readings.specs.Contents.{holds_any}
 use Rattle.journal_readings.specs.Views.{members}
 use Rattle.journal_readings.specs.Stamps.{stamp, is_empty_at_entry, is_empty_everywhere, begins_whole}
-use Rattle.journal_readings.specs.Rows.{stamped, copy_state, row, whole_key}
+use Rattle.journal_readings.specs.Rows.{stamped, copy_state, row, row_whole_key}
 use Rattle.journal_readings.proofs.StepLaws.{stamp-more, row-more}
 use Rattle.cluster_laws.specs.Changed.{at_number}
 use Rattle.cluster_laws.specs.Ground as ground
-use Rattle.cluster_laws.specs.Ground.{Ground, is_member, list, all_empty}
+use Rattle.cluster_laws.specs.Ground.{Ground, is_view_member, view_list, is_view_empty}
 use Rattle.cluster_laws.specs.Picture.{Seen, Picture}
 use Rattle.cluster_laws.specs.Effect.{Effect, Nothing, Row_came, Batch_acked, Told, Write_came, Write_acked, Answered, arrives, arrives_cut}
-use Rattle.cluster_laws.specs.Changes.{act, count, restamped, recounted_if, stamp_if, whole_where_empty}
-use Rattle.cluster_laws.specs.Licences.{Ok, IsState, after}
+use Rattle.cluster_laws.specs.Changes.{act, copy_count, restamped, recounted_if, stamp_if, whole_where_empty}
+use Rattle.cluster_laws.specs.Licences.{Ok, IsState, picture_after}
 use Rattle.cluster_laws.proofs.At.{numbers, changed_either, and_left, and_right, and_both, number_same, number_here, key_same, differ, no_some}
 use Rattle.cluster_laws.proofs.GroundLaws.{member_listed}
 use Rattle.cluster_laws.proofs.ReadingFrames.{node_kept, any-more, IsMessage, arrives_message, arrives_cut_message}
@@ -86,10 +86,10 @@ all_members test [] h = refl
 all_members test (m ∷ ms) h = and_both (test m.id) (list_all (λ z. test z.id) ms) (h m.id (or_left_true (m.id == m.id) (contains (ids_of ms) m.id) (number_here m.id)))
     (all_members test ms (λ n e. h n (or_right_true (m.id == n) (contains (ids_of ms) n) e)))
 
-full_everywhere : (G : Ground) (ns : List ℕ) (j : List Line) (w : Picture) → Tied G ns j w → (k : ClusterKey) (p : ℕ) → ((m : ℕ) → is_member G k m ≡ true → (w.stay m k).entered ≡ true) → members k j ≡ G.members k → all_empty G k p ≡ true → is_empty_everywhere k p j ≡ true
-unfolding is_empty_everywhere all_empty
+full_everywhere : (G : Ground) (ns : List ℕ) (j : List Line) (w : Picture) → Tied G ns j w → (k : ClusterKey) (p : ℕ) → ((m : ℕ) → is_view_member G k m ≡ true → (w.stay m k).entered ≡ true) → members k j ≡ G.members k → is_view_empty G k p ≡ true → is_empty_everywhere k p j ≡ true
+unfolding is_empty_everywhere is_view_empty
 full_everywhere G ns j w t k p all ms e = subst (λ (x : List Member). list_all (λ z. is_empty_at_entry k z.id p j) x ≡ true) (sym ms)
-    (all_members (λ z. is_empty_at_entry k z p j) (G.members k) (λ n i. t.empties n k p (all n i) ∙ listed (list G k p) n e (member_listed G k p n i)))
+    (all_members (λ z. is_empty_at_entry k z p j) (G.members k) (λ n i. t.empties n k p (all n i) ∙ listed (view_list G k p) n e (member_listed G k p n i)))
   where
     listed : (l : List ℕ) (n : ℕ) → list_all (λ m. is_empty (G.row k m p)) l ≡ true → contains l n ≡ true → is_empty (G.row k n p) ≡ true
     listed [] n a c = differ c refl
@@ -101,8 +101,8 @@ same_truth true b f g = sym (f refl)
 same_truth false true f g = g refl
 same_truth false false f g = refl
 
-everywhere_is : (G : Ground) (ns : List ℕ) (j : List Line) (w : Picture) → Tied G ns j w → (k : ClusterKey) (p : ℕ) → ((m : ℕ) → is_member G k m ≡ true → (w.stay m k).entered ≡ true) → members k j ≡ G.members k → is_empty_everywhere k p j ≡ all_empty G k p
-everywhere_is G ns j w t k p all ms = same_truth (is_empty_everywhere k p j) (all_empty G k p) (empty_everywhere G ns j w t k p all ms) (full_everywhere G ns j w t k p all ms)
+everywhere_is : (G : Ground) (ns : List ℕ) (j : List Line) (w : Picture) → Tied G ns j w → (k : ClusterKey) (p : ℕ) → ((m : ℕ) → is_view_member G k m ≡ true → (w.stay m k).entered ≡ true) → members k j ≡ G.members k → is_empty_everywhere k p j ≡ is_view_empty G k p
+everywhere_is G ns j w t k p all ms = same_truth (is_empty_everywhere k p j) (is_view_empty G k p) (empty_everywhere G ns j w t k p all ms) (full_everywhere G ns j w t k p all ms)
 
 -- ---- stamps
 
@@ -117,26 +117,26 @@ message_keeps_stamp G w (Told m k from done handed settled) h n p = refl
 message_keeps_stamp G w (Write_acked m k from t y) h n p = refl
 message_keeps_stamp G w (Answered m k from t v y) h n p = refl
 message_keeps_stamp G w (Write_came m k from nth d v) h n p = node_kept (λ (x : Seen). key_of (x.stamp p)) w.node m _ n
-    (restamped_key (w.node m) (partition_of d) (recounted_if (from == ground.master G k (partition_of d)) k _) (λ z. recounted_if_key (from == ground.master G k (partition_of d)) k _ z) p)
+    (restamped_key (w.node m) (partition_of d) (recounted_if (from == ground.view_master G k (partition_of d)) k _) (λ z. recounted_if_key (from == ground.view_master G k (partition_of d)) k _ z) p)
 message_keeps_stamp G w _ h n p = absurd h
 
 key_if : (b : Bool) (k : ClusterKey) (c : ℕ) (o : Option (ClusterKey × ℕ)) → key_of (stamp_if b (k, c) o) ≡ cond b (Some k) (key_of o)
 key_if true k c o = refl
 key_if false k c o = refl
 
-pub stamp_tied : (G : Ground) (ns : List ℕ) (j : List Line) (w : Picture) (l : Line) → Ok G w l → Tied G ns j w → Stamps_tied G j w → Stamps_tied G (j ++ l ∷ []) (after G w l)
+pub stamp_tied : (G : Ground) (ns : List ℕ) (j : List Line) (w : Picture) (l : Line) → Ok G w l → Tied G ns j w → Stamps_tied G j w → Stamps_tied G (j ++ l ∷ []) (picture_after G w l)
 stamp_tied G ns j w (line.Learn m k q) ok t h n p = stamp-more G.factor n p j (line.Learn m k q) ∙ (ap (λ (o : Option ClusterKey). cond ((m == n) && (q == p)) (Some k) o) (h n p)
-    ∙ sym (stamp_at w.node m q n p (Some (k, count G k m (w.stay m k) q)) _ refl))
+    ∙ sym (stamp_at w.node m q n p (Some (k, copy_count G k m (w.stay m k) q)) _ refl))
 stamp_tied G ns j w (line.Drop m k q) ok t h n p = stamp-more G.factor n p j (line.Drop m k q) ∙ (ap (λ (o : Option ClusterKey). cond ((m == n) && (q == p)) None o) (h n p) ∙ sym (stamp_at w.node m q n p None _ refl))
 stamp_tied G ns j w (line.Exchanged m k) ok t h n p = stamp-more G.factor n p j (line.Exchanged m k) ∙ go (m == n) refl
   where
-    all : (i : ℕ) → is_member G k i ≡ true → (w.stay i k).entered ≡ true
+    all : (i : ℕ) → is_view_member G k i ≡ true → (w.stay i k).entered ≡ true
     all i e = (t.sound.whole.known.cross m k).rows i (ok.1.rows i e)
 
     ms : members k j ≡ G.members k
     ms = members_of G ns j w t m k ((t.sound.whole.known.entered m k).now ok.1.is_in.view).0
 
-    whole : begins_whole G.factor k m p j ≡ (all_empty G k p && ground.is_replica G k p m)
+    whole : begins_whole G.factor k m p j ≡ (is_view_empty G k p && ground.is_view_replica G k p m)
     whole = ap₂ (λ (a b : Bool). a && b) (everywhere_is G ns j w t k p all ms) (replica_is G k p m j ms)
 
     new : Seen
@@ -144,7 +144,7 @@ stamp_tied G ns j w (line.Exchanged m k) ok t h n p = stamp-more G.factor n p j 
 
     go : (b : Bool) → (m == n) ≡ b → cond (b && begins_whole G.factor k n p j) (Some k) (stamp G.factor n p j) ≡ key_of ((cond b new (w.node n)).stamp p)
     go true i = subst (λ (z : ℕ). cond (begins_whole G.factor k z p j) (Some k) (stamp G.factor z p j) ≡ key_of (new.stamp p)) (number_same m n i)
-        (ap₂ (λ (b : Bool) (o : Option ClusterKey). cond b (Some k) o) whole (h m p) ∙ sym (key_if (all_empty G k p && ground.is_replica G k p m) k (count G k m (w.stay m k) p) ((w.node m).stamp p)))
+        (ap₂ (λ (b : Bool) (o : Option ClusterKey). cond b (Some k) o) whole (h m p) ∙ sym (key_if (is_view_empty G k p && ground.is_view_replica G k p m) k (copy_count G k m (w.stay m k) p) ((w.node m).stamp p)))
     go false i = h n p
 stamp_tied G ns j w (line.Apply m k t e v) ok ti h n p = stamp-more G.factor n p j (line.Apply m k t e v) ∙ (h n p ∙ sym (node_kept (λ (x : Seen). key_of (x.stamp p)) w.node m _ n
     (restamped_key (w.node m) (partition_of e) (λ z. recounted k _ (spoiled k z)) (λ z. recounted_key k _ (spoiled k z) ∙ spoiled_key k z) p)))
@@ -167,7 +167,7 @@ state_key Part = None
 state_key (Whole k writes) = Some k
 
 abbrev pub Keys_tied : Ground → List Line → Picture → Type 0
-Keys_tied G j w = (n : ℕ) (k : ClusterKey) (p : ℕ) → (w.stay n k).entered ≡ true → whole_key (row G.factor k n p j) ≡ state_key (G.row k n p)
+Keys_tied G j w = (n : ℕ) (k : ClusterKey) (p : ℕ) → (w.stay n k).entered ≡ true → row_whole_key (row G.factor k n p j) ≡ state_key (G.row k n p)
 
 pub row-other : (factor : ℕ) (k : ClusterKey) (n p : ℕ) (ls : List Line) (l : Line) → list_any (is_enter k n) ls ≡ true → row factor k n p (ls ++ l ∷ []) ≡ row factor k n p ls
 row-other factor k n p ls l e = row-more factor k n p ls l ∙ ap (λ (b : Bool). cond b (row factor k n p ls) (cond (is_enter k n l) (Some (copy_state factor n p ls)) None)) e
@@ -175,7 +175,7 @@ row-other factor k n p ls l e = row-more factor k n p ls l ∙ ap (λ (b : Bool)
 pub row-here : (factor : ℕ) (k : ClusterKey) (n p : ℕ) (ls : List Line) (l : Line) → is_enter k n l ≡ true → list_any (is_enter k n) ls ≡ false → row factor k n p (ls ++ l ∷ []) ≡ Some (copy_state factor n p ls)
 row-here factor k n p ls l e f = row-more factor k n p ls l ∙ ap₂ (λ (a b : Bool). cond a (row factor k n p ls) (cond b (Some (copy_state factor n p ls)) None)) f e
 
-stamped_whole : (n p : ℕ) (j : List Line) (o : Option ClusterKey) → whole_key (Some (stamped n p j o)) ≡ o
+stamped_whole : (n p : ℕ) (j : List Line) (o : Option ClusterKey) → row_whole_key (Some (stamped n p j o)) ≡ o
 stamped_whole n p j None = refl
 stamped_whole n p j (Some k) = refl
 
@@ -196,16 +196,16 @@ pub state_none : (factor n p : ℕ) (j : List Line) → holds_any n p j ≡ fals
 unfolding copy_state
 state_none factor n p j e = ap (λ (b : Bool). cond b (stamped n p j (stamp factor n p j)) Empty) e
 
-state_key_is : (G : Ground) (j : List Line) (w : Picture) (n p : ℕ) → Contents_tied G j w → Stamps_tied G j w → (x : CopyState) → IsState (w.node n).content ((w.node n).stamp p) p x → whole_key (Some (copy_state G.factor n p j)) ≡ state_key x
-state_key_is G j w n p c h Empty st = ap (λ (y : CopyState). whole_key (Some y)) (state_none G.factor n p j (not_false (holds_any n p j) (state_empty G j w n p c Empty st)))
-state_key_is G j w n p c h Part st = ap (λ (y : CopyState). whole_key (Some y)) (state_full G.factor n p j (not_true (holds_any n p j) (state_empty G j w n p c Part st))) ∙ (stamped_whole n p j (stamp G.factor n p j) ∙ (h n p ∙ ap key_of st.0))
-state_key_is G j w n p c h (Whole k writes) st = ap (λ (y : CopyState). whole_key (Some y)) (state_full G.factor n p j (not_true (holds_any n p j) (state_empty G j w n p c (Whole k writes) st))) ∙ (stamped_whole n p j (stamp G.factor n p j) ∙ (h n p ∙ ap key_of st.0))
+state_key_is : (G : Ground) (j : List Line) (w : Picture) (n p : ℕ) → Contents_tied G j w → Stamps_tied G j w → (x : CopyState) → IsState (w.node n).content ((w.node n).stamp p) p x → row_whole_key (Some (copy_state G.factor n p j)) ≡ state_key x
+state_key_is G j w n p c h Empty st = ap (λ (y : CopyState). row_whole_key (Some y)) (state_none G.factor n p j (not_false (holds_any n p j) (state_empty G j w n p c Empty st)))
+state_key_is G j w n p c h Part st = ap (λ (y : CopyState). row_whole_key (Some y)) (state_full G.factor n p j (not_true (holds_any n p j) (state_empty G j w n p c Part st))) ∙ (stamped_whole n p j (stamp G.factor n p j) ∙ (h n p ∙ ap key_of st.0))
+state_key_is G j w n p c h (Whole k writes) st = ap (λ (y : CopyState). row_whole_key (Some y)) (state_full G.factor n p j (not_true (holds_any n p j) (state_empty G j w n p c (Whole k writes) st))) ∙ (stamped_whole n p j (stamp G.factor n p j) ∙ (h n p ∙ ap key_of st.0))
 
-pub keys_tied : (G : Ground) (j : List Line) (w : Picture) (l : Line) → Ok G w l → Contents_tied G j w → Entered_tied j w → Entered_tied (j ++ l ∷ []) (after G w l) → Stamps_tied G j w → Keys_tied G j w → Keys_tied G (j ++ l ∷ []) (after G w l)
+pub keys_tied : (G : Ground) (j : List Line) (w : Picture) (l : Line) → Ok G w l → Contents_tied G j w → Entered_tied j w → Entered_tied (j ++ l ∷ []) (picture_after G w l) → Stamps_tied G j w → Keys_tied G j w → Keys_tied G (j ++ l ∷ []) (picture_after G w l)
 keys_tied G j w l ok c en later st h n k p e = go (list_any (is_enter k n) j) refl
   where
-    go : (b : Bool) → list_any (is_enter k n) j ≡ b → whole_key (row G.factor k n p (j ++ l ∷ [])) ≡ state_key (G.row k n p)
-    go true i = ap whole_key (row-other G.factor k n p j l i) ∙ h n k p (sym (en n k) ∙ i)
+    go : (b : Bool) → list_any (is_enter k n) j ≡ b → row_whole_key (row G.factor k n p (j ++ l ∷ [])) ≡ state_key (G.row k n p)
+    go true i = ap row_whole_key (row-other G.factor k n p j l i) ∙ h n k p (sym (en n k) ∙ i)
     go false i =
         let here : is_enter k n l ≡ true = sym (ap (λ (b : Bool). b || is_enter k n l) i) ∙ (sym (any-more (is_enter k n) j l) ∙ (later n k ∙ e)) in
-        ap whole_key (row-here G.factor k n p j l here i) ∙ state_key_is G j w n p c st (G.row k n p) ((enter_ok G w k n l here ok).row p)
+        ap row_whole_key (row-here G.factor k n p j l here i) ∙ state_key_is G j w n p c st (G.row k n p) ((enter_ok G w k n l here ok).row p)

@@ -19,9 +19,9 @@ use Rattle.cluster_laws.specs.Changed.{at_number}
 use Rattle.cluster_laws.specs.Ground.{Ground}
 use Rattle.cluster_laws.specs.Stay.{Versions, Stay, blank}
 use Rattle.cluster_laws.specs.Picture.{Seen, Picture}
-use Rattle.cluster_laws.specs.Changes.{dropping}
-use Rattle.cluster_laws.specs.Licences.{Ok, MayEnter, after}
-use Rattle.cluster_laws.specs.Journals.{Fits}
+use Rattle.cluster_laws.specs.Changes.{seen_after_drop}
+use Rattle.cluster_laws.specs.Licences.{Ok, MayEnter, picture_after}
+use Rattle.cluster_laws.specs.Journals.{FitsGround}
 use Rattle.cluster_laws.proofs.At.{numbers, changed_either, number_same, key_same, truth, differ, no_some}
 use Rattle.cluster_laws.proofs.Keys.{lt_none}
 use Rattle.cluster_laws.proofs.All.{Sound}
@@ -33,14 +33,14 @@ use Rattle.cluster_laws.proofs.ReadingLines.{or_none, eq_turned, stored, version
 abbrev pub Contents_tied : Ground → List Line → Picture → Type 0
 Contents_tied G j w = (n : ℕ) (d : List ℕ) → content G.by n d j ≡ (w.node n).content d
 
-drop_as : (w : Picture) (m q n : ℕ) (d : List ℕ) → (at_number w.node m (dropping q (w.node m)) n).content d ≡ cond ((m == n) && (q == partition_of d)) None ((w.node n).content d)
+drop_as : (w : Picture) (m q n : ℕ) (d : List ℕ) → (at_number w.node m (seen_after_drop q (w.node m)) n).content d ≡ cond ((m == n) && (q == partition_of d)) None ((w.node n).content d)
 drop_as w m q n d = go (m == n) refl
   where
-    go : (b : Bool) → (m == n) ≡ b → (cond b (dropping q (w.node m)) (w.node n)).content d ≡ cond (b && (q == partition_of d)) None ((w.node n).content d)
+    go : (b : Bool) → (m == n) ≡ b → (cond b (seen_after_drop q (w.node m)) (w.node n)).content d ≡ cond (b && (q == partition_of d)) None ((w.node n).content d)
     go true i = ap (λ (b : Bool). cond b None ((w.node m).content d)) (eq_turned (partition_of d) q) ∙ ap (λ (z : ℕ). cond (q == partition_of d) None ((w.node z).content d)) (number_same m n i)
     go false i = refl
 
-pub content_tied : (G : Ground) (j : List Line) (w : Picture) (l : Line) → Contents_tied G j w → Contents_tied G (j ++ l ∷ []) (after G w l)
+pub content_tied : (G : Ground) (j : List Line) (w : Picture) (l : Line) → Contents_tied G j w → Contents_tied G (j ++ l ∷ []) (picture_after G w l)
 content_tied G j w (line.Apply m k t e v) h n d = content-more G.by n d j (line.Apply m k t e v) ∙ (ap (λ (o : Option Version). joined_if ((m == n) && same_digest e d) G.by o v) (h n d) ∙ sym (stored G.by w.node m _ e v n d refl))
 content_tied G j w (line.Merge m k e v) h n d = content-more G.by n d j (line.Merge m k e v) ∙ (ap (λ (o : Option Version). joined_if ((m == n) && same_digest e d) G.by o v) (h n d) ∙ sym (stored G.by w.node m _ e v n d refl))
 content_tied G j w (line.Drop m k q) h n d = content-more G.by n d j (line.Drop m k q) ∙ (ap (λ (o : Option Version). cond ((m == n) && (q == partition_of d)) None o) (h n d) ∙ sym (drop_as w m q n d))
@@ -67,24 +67,25 @@ none_some : {A : Type 0} (b : Bool) (o : Option A) (a : A) → cond b None o ≡
 none_some true o a e = no_some e
 none_some false o a e = e
 
-pub declared_tied : (G : Ground) (ns : List ℕ) (w : Picture) (l : Line) → Fits G ns w l → Holders_declared ns w → Holders_declared ns (after G w l)
+pub declared_tied : (G : Ground) (ns : List ℕ) (w : Picture) (l : Line) → FitsGround G ns w l → Holders_declared ns w → Holders_declared ns (picture_after G w l)
 declared_tied G ns w (line.Apply m k t e v) f h = this_holder ns w m _ f h
 declared_tied G ns w (line.Merge m k e v) f h = this_holder ns w m _ f h
 declared_tied G ns w (line.Drop m k q) f h = λ n d v e. h n d v (none_some ((m == n) && (q == partition_of d)) ((w.node n).content d) v (sym (drop_as w m q n d) ∙ e))
-declared_tied G ns w (line.Clock m time) f h = same_holders ns w (after G w (line.Clock m time)) (λ n. node_kept (λ (x : Seen). x.content) w.node m _ n refl) h
-declared_tied G ns w (line.Enter m k ms) f h = same_holders ns w (after G w (line.Enter m k ms)) (λ n. node_kept (λ (x : Seen). x.content) w.node m _ n refl) h
-declared_tied G ns w (line.Stop m) f h = same_holders ns w (after G w (line.Stop m)) (λ n. node_kept (λ (x : Seen). x.content) w.node m _ n refl) h
-declared_tied G ns w (line.Exchanged m k) f h = same_holders ns w (after G w (line.Exchanged m k)) (λ n. node_kept (λ (x : Seen). x.content) w.node m _ n refl) h
+declared_tied G ns w (line.Clock m time) f h = same_holders ns w (picture_after G w (line.Clock m time)) (λ n. node_kept (λ (x : Seen). x.content) w.node m _ n refl) h
+declared_tied G ns w (line.Enter m k ms) f h = same_holders ns w (picture_after G w (line.Enter m k ms)) (λ n. node_kept (λ (x : Seen). x.content) w.node m _ n refl) h
+declared_tied G ns w (line.Stop m) f h = same_holders ns w (picture_after G w (line.Stop m)) (λ n. node_kept (λ (x : Seen). x.content) w.node m _ n refl) h
+declared_tied G ns w (line.Exchanged m k) f h = same_holders ns w (picture_after G w (line.Exchanged m k)) (λ n. node_kept (λ (x : Seen). x.content) w.node m _ n refl) h
 declared_tied G ns w (line.Done m k t) f h = h
 declared_tied G ns w (line.Settled m k p) f h = h
-declared_tied G ns w l f h = same_holders ns w (after G w l) ((quiet_frame G w l tt).content) h
+declared_tied G ns w l f h = same_holders ns w (picture_after G w l)
+    ((quiet_frame G w l tt).content) h
 
 -- ---- what was applied
 
 abbrev pub Applied_tied : Ground → List Line → Picture → Type 0
 Applied_tied G j w = (d : List ℕ) → applied G.by d j ≡ w.applied d
 
-pub applied_tied : (G : Ground) (j : List Line) (w : Picture) (l : Line) → Applied_tied G j w → Applied_tied G (j ++ l ∷ []) (after G w l)
+pub applied_tied : (G : Ground) (j : List Line) (w : Picture) (l : Line) → Applied_tied G j w → Applied_tied G (j ++ l ∷ []) (picture_after G w l)
 applied_tied G j w (line.Apply m k t e v) h d = applied-more G.by d j (line.Apply m k t e v) ∙ (ap (λ (o : Option Version). joined_if (same_digest e d) G.by o v) (h d) ∙ sym (version_as G.by w.applied e v d))
 applied_tied G j w (line.Clock m time) h d = applied-more G.by d j (line.Clock m time) ∙ h d
 applied_tied G j w (line.Enter m k ms) h d = applied-more G.by d j (line.Enter m k ms) ∙ h d
@@ -108,7 +109,7 @@ entered_key G w n k ok = go (same_key k keys.none) refl
     go false e = refl
     go true e = differ (subst (λ (z : ClusterKey). key_lt (w.node n).last z ≡ true) (key_same k keys.none e) ok.above) (lt_none (w.node n).last)
 
-pub view_tied : (G : Ground) (j : List Line) (w : Picture) (l : Line) → Ok G w l → Views_tied j w → Views_tied (j ++ l ∷ []) (after G w l)
+pub view_tied : (G : Ground) (j : List Line) (w : Picture) (l : Line) → Ok G w l → Views_tied j w → Views_tied (j ++ l ∷ []) (picture_after G w l)
 view_tied G j w (line.Enter m k ms) ok h n = view-more n j (line.Enter m k ms) ∙ (ap₂ (λ (a b : Option ClusterKey). cond (m == n) a b) (entered_key G w m k ok.1.1) (h n) ∙ sym (node_as (λ (x : Seen). x.view) w.node m _ n))
 view_tied G j w (line.Stop m) ok h n = view-more n j (line.Stop m) ∙ (ap (λ (b : Option ClusterKey). cond (m == n) None b) (h n) ∙ sym (node_as (λ (x : Seen). x.view) w.node m _ n))
 view_tied G j w (line.Clock m time) ok h n = view-more n j (line.Clock m time) ∙ (h n ∙ sym (node_kept (λ (x : Seen). x.view) w.node m _ n refl))
@@ -123,7 +124,7 @@ view_tied G j w l ok h n = view-more n j l ∙ (h n ∙ sym ((quiet_frame G w l 
 abbrev pub Clocks_tied : List Line → Picture → Type 0
 Clocks_tied j w = (n : ℕ) → clock_of n j ≡ (w.node n).clock
 
-pub clock_tied : (G : Ground) (j : List Line) (w : Picture) (l : Line) → Clocks_tied j w → Clocks_tied (j ++ l ∷ []) (after G w l)
+pub clock_tied : (G : Ground) (j : List Line) (w : Picture) (l : Line) → Clocks_tied j w → Clocks_tied (j ++ l ∷ []) (picture_after G w l)
 clock_tied G j w (line.Clock m time) h n = clock_of-more n j (line.Clock m time) ∙ (ap (λ (b : ℕ). cond (m == n) time b) (h n) ∙ sym (node_as (λ (x : Seen). x.clock) w.node m _ n))
 clock_tied G j w (line.Enter m k ms) h n = clock_of-more n j (line.Enter m k ms) ∙ (h n ∙ sym (node_kept (λ (x : Seen). x.clock) w.node m _ n refl))
 clock_tied G j w (line.Stop m) h n = clock_of-more n j (line.Stop m) ∙ (h n ∙ sym (node_kept (λ (x : Seen). x.clock) w.node m _ n refl))
@@ -154,7 +155,7 @@ or_cond false false = refl
 pub missed : {A : Type 0} (test : A → Bool) (xs : List A) (x : A) → test x ≡ false → list_any test (xs ++ x ∷ []) ≡ list_any test xs
 missed test xs x e = any-more test xs x ∙ (ap (λ (b : Bool). list_any test xs || b) e ∙ or_none (list_any test xs))
 
-pub entered_tied : (G : Ground) (j : List Line) (w : Picture) (l : Line) → Entered_tied j w → Entered_tied (j ++ l ∷ []) (after G w l)
+pub entered_tied : (G : Ground) (j : List Line) (w : Picture) (l : Line) → Entered_tied j w → Entered_tied (j ++ l ∷ []) (picture_after G w l)
 entered_tied G j w (line.Enter m l ms) h n k = any-more (is_enter k n) j (line.Enter m l ms) ∙ (or_cond (list_any (is_enter k n) j) ((m == n) && same_key l k) ∙ (ap (λ (b : Bool). cond ((m == n) && same_key l k) true b) (h n k) ∙ sym (stay_as (λ (s : Stay). s.entered) w.stay m l _ n k)))
 entered_tied G j w (line.Clock m time) h n k = missed (is_enter k n) j (line.Clock m time) refl ∙ h n k
 entered_tied G j w (line.Stop m) h n k = missed (is_enter k n) j (line.Stop m) refl ∙ h n k
@@ -169,7 +170,7 @@ entered_tied G j w l h n k = missed (is_enter k n) j l refl ∙ (h n k ∙ sym (
 abbrev pub Exchanged_tied : List Line → Picture → Type 0
 Exchanged_tied j w = (n : ℕ) (k : ClusterKey) → list_any (is_exchanged k n) j ≡ (w.stay n k).exchanged
 
-pub exchanged_tied : (G : Ground) (j : List Line) (w : Picture) (l : Line) → Sound G w → Ok G w l → Exchanged_tied j w → Exchanged_tied (j ++ l ∷ []) (after G w l)
+pub exchanged_tied : (G : Ground) (j : List Line) (w : Picture) (l : Line) → Sound G w → Ok G w l → Exchanged_tied j w → Exchanged_tied (j ++ l ∷ []) (picture_after G w l)
 exchanged_tied G j w (line.Exchanged m l) s ok h n k = any-more (is_exchanged k n) j (line.Exchanged m l) ∙ (or_cond (list_any (is_exchanged k n) j) ((m == n) && same_key l k) ∙ (ap (λ (b : Bool). cond ((m == n) && same_key l k) true b) (h n k) ∙ sym (stay_as (λ (z : Stay). z.exchanged) w.stay m l _ n k)))
 exchanged_tied G j w (line.Enter m l ms) s ok h n k = missed (is_exchanged k n) j (line.Enter m l ms) refl ∙ (h n k ∙ sym (stay_kept (λ (z : Stay). z.exchanged) w.stay m l _ n k (sym (ap (λ (z : Stay). z.exchanged) (fresh_stay G w s m l ok.1.1)))))
 exchanged_tied G j w (line.Clock m time) s ok h n k = missed (is_exchanged k n) j (line.Clock m time) refl ∙ h n k

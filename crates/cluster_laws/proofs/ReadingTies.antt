@@ -15,9 +15,9 @@ use Rattle.journal_readings.specs.Entries.{entry, applied_in, fold_of}
 use Rattle.journal_readings.specs.Views.{view, members}
 use Rattle.cluster_laws.specs.Ground.{Ground, IsGround}
 use Rattle.cluster_laws.specs.Picture.{Picture, start}
-use Rattle.cluster_laws.specs.Licences.{Ok, after, after_all, Licensed}
+use Rattle.cluster_laws.specs.Licences.{Ok, picture_after, picture_after_all, Licensed}
 use Rattle.cluster_laws.specs.Laws.{picture}
-use Rattle.cluster_laws.specs.Journals.{journal, Fits, IsJournal}
+use Rattle.cluster_laws.specs.Journals.{journal, FitsGround, IsJournal}
 use Rattle.cluster_laws.proofs.At.{differ, some_same, no_some}
 use Rattle.cluster_laws.proofs.All.{Sound, sound_kept, sound_start}
 use Rattle.cluster_laws.proofs.ReadingLines.{any_wider, enters_key, enter_is_key, joined}
@@ -41,8 +41,8 @@ pub record Tied (G : Ground) (ns : List ℕ) (j : List Line) (w : Picture) : Typ
   pub writes : Writes_tied j w
   pub done : Done_tied j w
 
-pub tied_step : (G : Ground) → IsGround G → (ns : List ℕ) (j : List Line) (w : Picture) (l : Line) → Tied G ns j w → Ok G w l → Fits G ns w l → Tied G ns (j ++ l ∷ []) (after G w l)
-tied_step G ground ns j w l t ok f = let en : Entered_tied (j ++ l ∷ []) (after G w l) = entered_tied G j w l t.entered in record {
+pub tied_step : (G : Ground) → IsGround G → (ns : List ℕ) (j : List Line) (w : Picture) (l : Line) → Tied G ns j w → Ok G w l → FitsGround G ns w l → Tied G ns (j ++ l ∷ []) (picture_after G w l)
+tied_step G ground ns j w l t ok f = let en : Entered_tied (j ++ l ∷ []) (picture_after G w l) = entered_tied G j w l t.entered in record {
   sound = sound_kept G ground w l t.sound ok;
   contents = content_tied G j w l t.contents;
   holders = declared_tied G ns w l f t.holders;
@@ -93,18 +93,18 @@ tied_start G ns = record {
 -- ---- along the lines
 
 abbrev pub AllFit : Ground → List ℕ → Picture → List Line → Type 0
-AllFit G ns w ls = (i : ℕ) (l : Line) → slice_get ls i ≡ Some l → Fits G ns (after_all G w (take i ls)) l
+AllFit G ns w ls = (i : ℕ) (l : Line) → slice_get ls i ≡ Some l → FitsGround G ns (picture_after_all G w (take i ls)) l
 
 -- what each line keeps
 abbrev pub Keeps : Ground → List ℕ → (List Line → Picture → Type 0) → Type 0
-Keeps G ns T = (j : List Line) (w : Picture) (l : Line) → T j w → Ok G w l → Fits G ns w l → T (j ++ l ∷ []) (after G w l)
+Keeps G ns T = (j : List Line) (w : Picture) (l : Line) → T j w → Ok G w l → FitsGround G ns w l → T (j ++ l ∷ []) (picture_after G w l)
 
-kept_along : (G : Ground) (ns : List ℕ) (T : List Line → Picture → Type 0) → Keeps G ns T → (before ls : List Line) (w : Picture) (i : ℕ) → T before w → Licensed G w ls → AllFit G ns w ls → T (before ++ take i ls) (after_all G w (take i ls))
+kept_along : (G : Ground) (ns : List ℕ) (T : List Line → Picture → Type 0) → Keeps G ns T → (before ls : List Line) (w : Picture) (i : ℕ) → T before w → Licensed G w ls → AllFit G ns w ls → T (before ++ take i ls) (picture_after_all G w (take i ls))
 kept_along G ns T step before [] w zero t ok f = subst (λ (x : List Line). T x w) (sym (append-nil before)) t
 kept_along G ns T step before [] w (suc i) t ok f = subst (λ (x : List Line). T x w) (sym (append-nil before)) t
 kept_along G ns T step before (l ∷ ls) w zero t ok f = subst (λ (x : List Line). T x w) (sym (append-nil before)) t
-kept_along G ns T step before (l ∷ ls) w (suc i) t ok f = subst (λ (x : List Line). T x (after_all G (after G w l) (take i ls))) (append_assoc before (l ∷ []) (take i ls))
-    (kept_along G ns T step (before ++ l ∷ []) ls (after G w l) i (step before w l t ok.0 (f zero l refl)) ok.1 (λ o. f (suc o)))
+kept_along G ns T step before (l ∷ ls) w (suc i) t ok f = subst (λ (x : List Line). T x (picture_after_all G (picture_after G w l) (take i ls))) (append_assoc before (l ∷ []) (take i ls))
+    (kept_along G ns T step (before ++ l ∷ []) ls (picture_after G w l) i (step before w l t ok.0 (f zero l refl)) ok.1 (λ o. f (suc o)))
 
 -- the header's lines do nothing to the picture
 licensed_header : (G : Ground) (h : Header) (ls : List Line) → Licensed G start ls → Licensed G start (header_lines h ++ ls)
@@ -116,10 +116,12 @@ licensed_header G (header.Policy by ∷ h) ls ok = ((refl, tt), licensed_header 
 
 fit_header : (G : Ground) (ns : List ℕ) (h : Header) (ls : List Line) → AllFit G ns start ls → AllFit G ns start (header_lines h ++ ls)
 fit_header G ns [] ls f i l e = f i l e
-fit_header G ns (header.Script v ∷ h) ls f zero l e = subst (Fits G ns start) (some_same e) tt
-fit_header G ns (header.Factor n ∷ h) ls f zero l e = subst (Fits G ns start) (some_same e) tt
-fit_header G ns (header.Node n rack ∷ h) ls f zero l e = subst (Fits G ns start) (some_same e) tt
-fit_header G ns (header.Policy by ∷ h) ls f zero l e = subst (Fits G ns start) (some_same e) tt
+fit_header G ns (header.Script v ∷ h) ls f zero l e = subst (FitsGround G ns start) (some_same e) tt
+fit_header G ns (header.Factor n ∷ h) ls f zero l e = subst (FitsGround G ns start) (some_same e) tt
+fit_header G ns (header.Node n rack ∷ h) ls f zero l e = subst (FitsGround G ns start)
+    (some_same e) tt
+fit_header G ns (header.Policy by ∷ h) ls f zero l e = subst (FitsGround G ns start)
+    (some_same e) tt
 fit_header G ns (header.Script v ∷ h) ls f (suc i) l e = fit_header G ns h ls f i l e
 fit_header G ns (header.Factor n ∷ h) ls f (suc i) l e = fit_header G ns h ls f i l e
 fit_header G ns (header.Node n rack ∷ h) ls f (suc i) l e = fit_header G ns h ls f i l e

@@ -12,7 +12,7 @@ use Rattle.journal_lines.specs.declared.line.Line.{Line}
 use Rattle.journal_lines.specs.declared.line.Line.TheVariants as line
 use Rattle.node_rules.specs.Keys.{same_key}
 use Rattle.node_rules.specs.Map.{is_empty}
-use Rattle.journal_readings.specs.Lines.{same_digest, is_enter, is_settled_line, is_done}
+use Rattle.journal_readings.specs.Lines.{same_digest, is_enter, is_settled_line, is_done_line}
 use Rattle.journal_readings.specs.Contents.{content, holds_any, joined_if}
 use Rattle.journal_readings.specs.Entries.{entry, applied_in}
 use Rattle.journal_readings.specs.Views.{members}
@@ -24,7 +24,7 @@ use Rattle.cluster_laws.specs.Ground.{Ground}
 use Rattle.cluster_laws.specs.Stay.{Versions, Applied, Stay}
 use Rattle.cluster_laws.specs.Picture.{Picture}
 use Rattle.cluster_laws.specs.Changes.{with_all}
-use Rattle.cluster_laws.specs.Licences.{Ok, MayEnter, IsState, Holds, after}
+use Rattle.cluster_laws.specs.Licences.{Ok, MayEnter, IsState, HoldsRecordOf, picture_after}
 use Rattle.cluster_laws.proofs.At.{numbers, changed_either, changed_here, and_left, and_right, number_same, number_here, and_both, key_same, differ, some_same, no_some, part_here, part_grows}
 use Rattle.cluster_laws.proofs.All.{Sound}
 use Rattle.cluster_laws.proofs.ReadingFrames.{stay_as, stay_kept, any-more, quiet_frame}
@@ -40,7 +40,7 @@ Entries_tied G j w = (n : ℕ) (k : ClusterKey) (d : List ℕ) → entry G.by k 
 pub first_entry : (G : Ground) (j : List Line) (w : Picture) → Sound G w → Entered_tied j w → (m : ℕ) (l : ClusterKey) → MayEnter G w m l → list_any (is_enter l m) j ≡ false
 first_entry G j w s en m l ok = en m l ∙ ap (λ (z : Stay). z.entered) (fresh_stay G w s m l ok)
 
-pub entry_tied : (G : Ground) (j : List Line) (w : Picture) (l : Line) → Sound G w → Ok G w l → Contents_tied G j w → Entered_tied j w → Entries_tied G j w → Entries_tied G (j ++ l ∷ []) (after G w l)
+pub entry_tied : (G : Ground) (j : List Line) (w : Picture) (l : Line) → Sound G w → Ok G w l → Contents_tied G j w → Entered_tied j w → Entries_tied G j w → Entries_tied G (j ++ l ∷ []) (picture_after G w l)
 entry_tied G j w (line.Enter m l ms) s ok c en h n k d = go ((m == n) && same_key l k) refl ∙ sym (stay_as (λ (z : Stay). z.entry d) w.stay m l _ n k)
   where
     go : (b : Bool) → ((m == n) && same_key l k) ≡ b → entry G.by k n d (j ++ line.Enter m l ms ∷ []) ≡ cond b ((w.node m).content d) ((w.stay n k).entry d)
@@ -70,7 +70,7 @@ enter_ok G w k n (line.Enter m l ms) e ok = subst₂ (λ (x : ℕ) (y : ClusterK
 enter_ok G w k n (line.Tick m) e ok = cc
 enter_ok G w k n l e ok = cc
 
-holds_some : (G : Ground) (j : List Line) (w : Picture) (n p : ℕ) → Contents_tied G j w → Holds (w.node n).content p → not (holds_any n p j) ≡ false
+holds_some : (G : Ground) (j : List Line) (w : Picture) (n p : ℕ) → Contents_tied G j w → HoldsRecordOf (w.node n).content p → not (holds_any n p j) ≡ false
 holds_some G j w n p c o = go (holds_any n p j) refl
   where
     go : (b : Bool) → holds_any n p j ≡ b → not b ≡ false
@@ -82,7 +82,7 @@ state_empty G j w n p c Empty st = ap not ((no_record-empty G.by n p j).1 (λ d 
 state_empty G j w n p c Part st = holds_some G j w n p c st.1
 state_empty G j w n p c (Whole k writes) st = holds_some G j w n p c st.1
 
-pub empty_tied : (G : Ground) (j : List Line) (w : Picture) (l : Line) → Ok G w l → Contents_tied G j w → Entered_tied j w → Entered_tied (j ++ l ∷ []) (after G w l) → Empties_tied G j w → Empties_tied G (j ++ l ∷ []) (after G w l)
+pub empty_tied : (G : Ground) (j : List Line) (w : Picture) (l : Line) → Ok G w l → Contents_tied G j w → Entered_tied j w → Entered_tied (j ++ l ∷ []) (picture_after G w l) → Empties_tied G j w → Empties_tied G (j ++ l ∷ []) (picture_after G w l)
 empty_tied G j w l ok c en later h n k p e = go (list_any (is_enter k n) j) refl
   where
     go : (b : Bool) → list_any (is_enter k n) j ≡ b → is_empty_at_entry k n p (j ++ l ∷ []) ≡ is_empty (G.row k n p)
@@ -137,7 +137,7 @@ other_number m n c apart = go (m == n) refl
     go true i = absurd (apart (sym (number_same m n i)))
     go false i = refl
 
-pub fold_tied : (G : Ground) (j : List Line) (w : Picture) (l : Line) → Sound G w → Ok G w l → Contents_tied G j w → Entered_tied j w → Folds_tied G j w → Folds_tied G (j ++ l ∷ []) (after G w l)
+pub fold_tied : (G : Ground) (j : List Line) (w : Picture) (l : Line) → Sound G w → Ok G w l → Contents_tied G j w → Entered_tied j w → Folds_tied G j w → Folds_tied G (j ++ l ∷ []) (picture_after G w l)
 fold_tied G j w (line.Enter m l ms) s ok c en h k d = go (same_key l k) refl
   where
     x : Line
@@ -159,7 +159,7 @@ fold_tied G j w (line.Enter m l ms) s ok c en h k d = go (same_key l k) refl
         (record {
           here = (entry-none G.by k m d j none, entry-here G.by k m d j x (ap (λ (b : Bool). b && same_key l k) (number_here m) ∙ i) none);
           others = λ n apart. entry-other G.by k n d j x (other_number m n (same_key l k) apart);
-        }) (G.members k) (subst (λ (y : ClusterKey). Rattle.cluster_laws.specs.Ground.is_member G y m ≡ true) q ok.1.1.member) in
+        }) (G.members k) (subst (λ (y : ClusterKey). Rattle.cluster_laws.specs.Ground.is_view_member G y m ≡ true) q ok.1.1.member) in
         ap₂ (join G.by) more (applied_in-more G.by k d j x) ∙ (turned G.by e0 (content G.by m d j) a0 ∙ ap₂ (join G.by) (h k d ∙ ap (λ (y : ClusterKey). w.fold y d) (sym q)) (c m d))
 fold_tied G j w (line.Apply m l t e v) s ok c en h k d =
     ap₂ (join G.by) (no_entries G j (line.Apply m l t e v) k d (λ n. refl)) (applied_in-more G.by k d j (line.Apply m l t e v))
@@ -179,7 +179,7 @@ fold_tied G j w l s ok c en h k d = same_fold G j l k d (λ n. refl) (applied_in
 abbrev pub Settled_tied : List Line → Picture → Type 0
 Settled_tied j w = (n : ℕ) (k : ClusterKey) (p : ℕ) → list_any (is_settled_line k n p) j ≡ true → w.settled k p ≡ true
 
-pub settled_tied : (G : Ground) (j : List Line) (w : Picture) (l : Line) → Settled_tied j w → Settled_tied (j ++ l ∷ []) (after G w l)
+pub settled_tied : (G : Ground) (j : List Line) (w : Picture) (l : Line) → Settled_tied j w → Settled_tied (j ++ l ∷ []) (picture_after G w l)
 settled_tied G j w (line.Settled m l q) h n k p e = ⊎_elim (λ z. part_grows w.settled l q k p (h n k p z))
     (λ z.
     let y : (same_key l k && (q == p)) ≡ true = and_right (m == n) (same_key l k && (q == p)) z in
@@ -236,7 +236,7 @@ still_written j w l h n k t a e = any-more (is_write k n t a.digest) j l ∙ or_
 same_writes : (j : List Line) (w v : Picture) (l : Line) → ((n : ℕ) (k : ClusterKey) (t : ℕ) → (v.stay n k).writes t ≡ (w.stay n k).writes t) → Writes_tied j w → Writes_tied (j ++ l ∷ []) v
 same_writes j w v l eq h n k t a e = still_written j w l h n k t a (sym (eq n k t) ∙ e)
 
-pub writes_tied : (G : Ground) (j : List Line) (w : Picture) (l : Line) → Writes_tied j w → Writes_tied (j ++ l ∷ []) (after G w l)
+pub writes_tied : (G : Ground) (j : List Line) (w : Picture) (l : Line) → Writes_tied j w → Writes_tied (j ++ l ∷ []) (picture_after G w l)
 writes_tied G j w (line.Apply m l u c v) h n k t a = stay_either (λ (z : Stay). z.writes t ≡ Some a → list_any (is_write k n t a.digest) (j ++ x ∷ []) ≡ true) w.stay m l _ n k
     (λ i q. changed_either numbers (λ (o : Option Applied). o ≡ Some a → list_any (is_write k n t a.digest) (j ++ x ∷ []) ≡ true) (w.stay m l).writes u _ t
     (λ y e. any-more (is_write k n t a.digest) j x ∙ or_right_true (list_any (is_write k n t a.digest) j) (is_write k n t a.digest x) (here i q y (ap (λ (z : Applied). z.digest) (some_same e))))
@@ -252,29 +252,30 @@ writes_tied G j w (line.Apply m l u c v) h n k t a = stay_either (λ (z : Stay).
         (and_both (u == t) (same_digest c a.digest) (sym (ap (λ (b : ℕ). u == b) y) ∙ number_here u) (sym (ap (same_digest c) z) ∙ same_digest_itself c)))
 writes_tied G j w (line.Enter m l ms) h n k t a = stay_either (λ (z : Stay). z.writes t ≡ Some a → list_any (is_write k n t a.digest) (j ++ line.Enter m l ms ∷ []) ≡ true) w.stay m l _ n k
     (λ i q e. no_some e) (λ e. still_written j w (line.Enter m l ms) h n k t a e)
-writes_tied G j w (line.Clock m time) h n k t a = same_writes j w (after G w (line.Clock m time)) (line.Clock m time) (λ n k t. refl) h n k t a
-writes_tied G j w (line.Stop m) h n k t a = same_writes j w (after G w (line.Stop m)) (line.Stop m) (λ n k t. refl) h n k t a
-writes_tied G j w (line.Exchanged m l) h n k t a = same_writes j w (after G w (line.Exchanged m l)) (line.Exchanged m l) (λ n k t. stay_kept (λ (z : Stay). z.writes t) w.stay m l _ n k refl) h n k t a
-writes_tied G j w (line.Done m l u) h n k t a = same_writes j w (after G w (line.Done m l u)) (line.Done m l u) (λ n k t. stay_kept (λ (z : Stay). z.writes t) w.stay m l _ n k refl) h n k t a
-writes_tied G j w (line.Merge m l c v) h n k t a = same_writes j w (after G w (line.Merge m l c v)) (line.Merge m l c v) (λ n k t. stay_kept (λ (z : Stay). z.writes t) w.stay m l _ n k refl) h n k t a
-writes_tied G j w (line.Drop m l q) h n k t a = same_writes j w (after G w (line.Drop m l q)) (line.Drop m l q) (λ n k t. refl) h n k t a
-writes_tied G j w (line.Settled m l p) h n k t a = same_writes j w (after G w (line.Settled m l p)) (line.Settled m l p) (λ n k t. stay_kept (λ (z : Stay). z.writes t) w.stay m l _ n k refl) h n k t a
-writes_tied G j w l h n k t a = same_writes j w (after G w l) l (λ n k t. ap (λ (f : ℕ → Option Applied). f t) ((quiet_frame G w l tt).stay n k).writes) h n k t a
+writes_tied G j w (line.Clock m time) h n k t a = same_writes j w (picture_after G w (line.Clock m time)) (line.Clock m time) (λ n k t. refl) h n k t a
+writes_tied G j w (line.Stop m) h n k t a = same_writes j w (picture_after G w (line.Stop m)) (line.Stop m) (λ n k t. refl) h n k t a
+writes_tied G j w (line.Exchanged m l) h n k t a = same_writes j w (picture_after G w (line.Exchanged m l)) (line.Exchanged m l) (λ n k t. stay_kept (λ (z : Stay). z.writes t) w.stay m l _ n k refl) h n k t a
+writes_tied G j w (line.Done m l u) h n k t a = same_writes j w (picture_after G w (line.Done m l u)) (line.Done m l u) (λ n k t. stay_kept (λ (z : Stay). z.writes t) w.stay m l _ n k refl) h n k t a
+writes_tied G j w (line.Merge m l c v) h n k t a = same_writes j w (picture_after G w (line.Merge m l c v)) (line.Merge m l c v) (λ n k t. stay_kept (λ (z : Stay). z.writes t) w.stay m l _ n k refl) h n k t a
+writes_tied G j w (line.Drop m l q) h n k t a = same_writes j w (picture_after G w (line.Drop m l q)) (line.Drop m l q) (λ n k t. refl) h n k t a
+writes_tied G j w (line.Settled m l p) h n k t a = same_writes j w (picture_after G w (line.Settled m l p)) (line.Settled m l p) (λ n k t. stay_kept (λ (z : Stay). z.writes t) w.stay m l _ n k refl) h n k t a
+writes_tied G j w l h n k t a = same_writes j w (picture_after G w l) l (λ n k t. ap (λ (f : ℕ → Option Applied). f t) ((quiet_frame G w l tt).stay n k).writes) h n k t a
 
 abbrev pub Done_tied : List Line → Picture → Type 0
-Done_tied j w = (n : ℕ) (k : ClusterKey) (t : ℕ) → list_any (is_done k n t) j ≡ true → (w.stay n k).done t ≡ true
+Done_tied j w = (n : ℕ) (k : ClusterKey) (t : ℕ) → list_any (is_done_line k n t) j ≡ true → (w.stay n k).done t ≡ true
 
-same_done : (j : List Line) (w v : Picture) (l : Line) → ((n : ℕ) (k : ClusterKey) (t : ℕ) → is_done k n t l ≡ false) → ((n : ℕ) (k : ClusterKey) (t : ℕ) → (v.stay n k).done t ≡ (w.stay n k).done t) → Done_tied j w → Done_tied (j ++ l ∷ []) v
-same_done j w v l not_done eq h n k t e = eq n k t ∙ h n k t (sym (missed (is_done k n t) j l (not_done n k t)) ∙ e)
+same_done : (j : List Line) (w v : Picture) (l : Line) → ((n : ℕ) (k : ClusterKey) (t : ℕ) → is_done_line k n t l ≡ false) → ((n : ℕ) (k : ClusterKey) (t : ℕ) → (v.stay n k).done t ≡ (w.stay n k).done t) → Done_tied j w → Done_tied (j ++ l ∷ []) v
+same_done j w v l not_done eq h n k t e = eq n k t ∙ h n k t (sym (missed (is_done_line k n t) j l (not_done n k t)) ∙ e)
 
-pub done_tied : (G : Ground) (j : List Line) (w : Picture) (l : Line) → Sound G w → Ok G w l → Done_tied j w → Done_tied (j ++ l ∷ []) (after G w l)
+pub done_tied : (G : Ground) (j : List Line) (w : Picture) (l : Line) → Sound G w → Ok G w l → Done_tied j w → Done_tied (j ++ l ∷ []) (picture_after G w l)
 done_tied G j w (line.Done m l u) s ok h n k t e = stay_cases (λ (z : Stay). z.done t ≡ true) w.stay m l _ n k
     (λ i q. changed_either numbers (λ (b : Bool). b ≡ true) (w.stay m l).done u true t (λ y. refl)
     (λ y. subst₂ (λ (a : ℕ) (f : ClusterKey). (w.stay a f).done t ≡ true) (sym i) (sym q) (⊎_elim (λ z. h n k t z) (λ z. absurd (y (last z))) cases)))
     (λ apart. ⊎_elim (λ z. h n k t z) (λ z. absurd (apart (first z) (second z))) cases)
   where
-    cases : (list_any (is_done k n t) j ≡ true) ⊎ (((m == n) && (same_key l k && (u == t))) ≡ true)
-    cases = or_cases (list_any (is_done k n t) j) ((m == n) && (same_key l k && (u == t))) (sym (any-more (is_done k n t) j (line.Done m l u)) ∙ e)
+    cases : (list_any (is_done_line k n t) j ≡ true)
+        ⊎ (((m == n) && (same_key l k && (u == t))) ≡ true)
+    cases = or_cases (list_any (is_done_line k n t) j) ((m == n) && (same_key l k && (u == t))) (sym (any-more (is_done_line k n t) j (line.Done m l u)) ∙ e)
 
     first : ((m == n) && (same_key l k && (u == t))) ≡ true → m ≡ n
     first z = number_same m n (and_left (m == n) (same_key l k && (u == t)) z)
@@ -284,13 +285,13 @@ done_tied G j w (line.Done m l u) s ok h n k t e = stay_cases (λ (z : Stay). z.
 
     last : ((m == n) && (same_key l k && (u == t))) ≡ true → u ≡ t
     last z = number_same u t (and_right (same_key l k) (u == t) (and_right (m == n) (same_key l k && (u == t)) z))
-done_tied G j w (line.Enter m l ms) s ok h n k t e = same_done j w (after G w (line.Enter m l ms)) (line.Enter m l ms) (λ n k t. refl)
+done_tied G j w (line.Enter m l ms) s ok h n k t e = same_done j w (picture_after G w (line.Enter m l ms)) (line.Enter m l ms) (λ n k t. refl)
     (λ n k t. stay_kept (λ (z : Stay). z.done t) w.stay m l _ n k (sym (ap (λ (z : Stay). z.done t) (fresh_stay G w s m l ok.1.1)))) h n k t e
-done_tied G j w (line.Clock m time) s ok h n k t e = same_done j w (after G w (line.Clock m time)) (line.Clock m time) (λ n k t. refl) (λ n k t. refl) h n k t e
-done_tied G j w (line.Stop m) s ok h n k t e = same_done j w (after G w (line.Stop m)) (line.Stop m) (λ n k t. refl) (λ n k t. refl) h n k t e
-done_tied G j w (line.Exchanged m l) s ok h n k t e = same_done j w (after G w (line.Exchanged m l)) (line.Exchanged m l) (λ n k t. refl) (λ n k t. stay_kept (λ (z : Stay). z.done t) w.stay m l _ n k refl) h n k t e
-done_tied G j w (line.Apply m l u c v) s ok h n k t e = same_done j w (after G w (line.Apply m l u c v)) (line.Apply m l u c v) (λ n k t. refl) (λ n k t. stay_kept (λ (z : Stay). z.done t) w.stay m l _ n k refl) h n k t e
-done_tied G j w (line.Merge m l c v) s ok h n k t e = same_done j w (after G w (line.Merge m l c v)) (line.Merge m l c v) (λ n k t. refl) (λ n k t. stay_kept (λ (z : Stay). z.done t) w.stay m l _ n k refl) h n k t e
-done_tied G j w (line.Drop m l q) s ok h n k t e = same_done j w (after G w (line.Drop m l q)) (line.Drop m l q) (λ n k t. refl) (λ n k t. refl) h n k t e
-done_tied G j w (line.Settled m l p) s ok h n k t e = same_done j w (after G w (line.Settled m l p)) (line.Settled m l p) (λ n k t. refl) (λ n k t. stay_kept (λ (z : Stay). z.done t) w.stay m l _ n k refl) h n k t e
-done_tied G j w l s ok h n k t e = same_done j w (after G w l) l (λ n k t. refl) (λ n k t. ap (λ (f : ℕ → Bool). f t) ((quiet_frame G w l tt).stay n k).done) h n k t e
+done_tied G j w (line.Clock m time) s ok h n k t e = same_done j w (picture_after G w (line.Clock m time)) (line.Clock m time) (λ n k t. refl) (λ n k t. refl) h n k t e
+done_tied G j w (line.Stop m) s ok h n k t e = same_done j w (picture_after G w (line.Stop m)) (line.Stop m) (λ n k t. refl) (λ n k t. refl) h n k t e
+done_tied G j w (line.Exchanged m l) s ok h n k t e = same_done j w (picture_after G w (line.Exchanged m l)) (line.Exchanged m l) (λ n k t. refl) (λ n k t. stay_kept (λ (z : Stay). z.done t) w.stay m l _ n k refl) h n k t e
+done_tied G j w (line.Apply m l u c v) s ok h n k t e = same_done j w (picture_after G w (line.Apply m l u c v)) (line.Apply m l u c v) (λ n k t. refl) (λ n k t. stay_kept (λ (z : Stay). z.done t) w.stay m l _ n k refl) h n k t e
+done_tied G j w (line.Merge m l c v) s ok h n k t e = same_done j w (picture_after G w (line.Merge m l c v)) (line.Merge m l c v) (λ n k t. refl) (λ n k t. stay_kept (λ (z : Stay). z.done t) w.stay m l _ n k refl) h n k t e
+done_tied G j w (line.Drop m l q) s ok h n k t e = same_done j w (picture_after G w (line.Drop m l q)) (line.Drop m l q) (λ n k t. refl) (λ n k t. refl) h n k t e
+done_tied G j w (line.Settled m l p) s ok h n k t e = same_done j w (picture_after G w (line.Settled m l p)) (line.Settled m l p) (λ n k t. refl) (λ n k t. stay_kept (λ (z : Stay). z.done t) w.stay m l _ n k refl) h n k t e
+done_tied G j w l s ok h n k t e = same_done j w (picture_after G w l) l (λ n k t. refl) (λ n k t. ap (λ (f : ℕ → Bool). f t) ((quiet_frame G w l tt).stay n k).done) h n k t e

@@ -13,7 +13,7 @@ use Rattle.cluster_laws.specs.Ground.{Ground}
 use Rattle.cluster_laws.specs.Stay.{Versions, Stay}
 use Rattle.cluster_laws.specs.Picture.{Packet, Picture, start}
 use Rattle.cluster_laws.specs.Effect.{Effect, Nothing, Sends}
-use Rattle.cluster_laws.specs.Changes.{act, sends_message, sending}
+use Rattle.cluster_laws.specs.Changes.{act, sends_message, stay_after_batch}
 use Rattle.cluster_laws.specs.Licences.{IsDone, MaySend, MaySendIf}
 use Rattle.cluster_laws.proofs.At.{numbers, keys, changed_either, changed_here, pair_here, some_same, no_some}
 use Rattle.cluster_laws.proofs.Allowed.{Allowed}
@@ -88,7 +88,7 @@ said G w h n r _ ok batch = tt
 -- a batch that is sent is kept by its number
 batch_said : (G : Ground) (w : Picture) (n r : ℕ) (b : Batch) → (sends_message n r (Some (message.Batch b)) w.stay n b.key).batch r b.number ≡ Some b.records
 batch_said G w n r b = ap (λ (s : Stay). s.batch r b.number)
-    (ap (λ (f : ClusterKey → Stay). f b.key) (changed_here numbers w.stay n (at_key (w.stay n) b.key (sending r b (w.stay n b.key)))) ∙ changed_here keys (w.stay n) b.key (sending r b (w.stay n b.key)))
+    (ap (λ (f : ClusterKey → Stay). f b.key) (changed_here numbers w.stay n (at_key (w.stay n) b.key (stay_after_batch r b (w.stay n b.key)))) ∙ changed_here keys (w.stay n) b.key (stay_after_batch r b (w.stay n b.key)))
     ∙ pair_here (w.stay n b.key).batch r b.number (Some b.records)
 
 new_said : (G : Ground) (w : Picture) (i : ℕ) (p : Packet) → Known G w → Grows G.by w (act G (Sends i p) w) → (m : Message) → p.message ≡ Some m → MaySendIf G w p.from p.to p.message → Says G (act G (Sends i p) w) p.from p.to m

@@ -6,10 +6,10 @@ use Rattle.conflict_order.proofs.OrderLaws.{AtMost_trans, AtMost_none, AtMost_an
 use Rattle.cluster_types.specs.declared.cluster_key.ClusterKey.{ClusterKey}
 use Rattle.cluster_types.specs.Partitions.{partition_of}
 use Rattle.wire_messages.specs.declared.message.Message.TheVariants as message
-use Rattle.cluster_laws.specs.Ground.{Ground, is_member, master, is_replica, same_class}
+use Rattle.cluster_laws.specs.Ground.{Ground, is_view_member, view_master, is_view_replica, same_view_class}
 use Rattle.cluster_laws.specs.Stay.{Applied}
 use Rattle.cluster_laws.specs.Picture.{Picture}
-use Rattle.cluster_laws.specs.Laws.{IsBounded, EqualClasses, NoLoss, IsSettled, SettledJoin}
+use Rattle.cluster_laws.specs.Laws.{IsBounded, ClassesEnterEqual, GreatestIsStored, IsSettled, SettledHoldFold}
 use Rattle.cluster_laws.proofs.At.{number_cases}
 use Rattle.cluster_laws.proofs.GroundLaws.{empty_row, empty_acting}
 use Rattle.cluster_laws.proofs.Predicates.{Wrote}
@@ -18,12 +18,12 @@ use Rattle.cluster_laws.proofs.Kept.{Somewhere}
 use Rattle.cluster_laws.proofs.All.{Sound}
 
 -- what a settled partition's replica has held is at least each entry
-settled_entry : (G : Ground) (w : Picture) → Sound G w → (k : ClusterKey) (p r : ℕ) (d : List ℕ) → Rests G w k p → is_replica G k p r ≡ true → partition_of d ≡ p → (m : ℕ) → (w.stay m k).entered ≡ true → AtMost G.by ((w.stay m k).entry d) ((w.stay r k).held d)
+settled_entry : (G : Ground) (w : Picture) → Sound G w → (k : ClusterKey) (p r : ℕ) (d : List ℕ) → Rests G w k p → is_view_replica G k p r ≡ true → partition_of d ≡ p → (m : ℕ) → (w.stay m k).entered ≡ true → AtMost G.by ((w.stay m k).entry d) ((w.stay r k).held d)
 settled_entry G w s k p r d (inl z) rep dp m e = arrive G w s.whole s.snap k p (s.whole.settled k p z).moved m r ((s.whole.known.entered m k).member e) rep d dp
 settled_entry G w s k p r d (inr z) rep dp m e = subst (λ (o : Option Version). AtMost G.by o ((w.stay r k).held d)) (sym ((s.whole.based m k).empty e p (empty_row G k p m z.all ((s.whole.known.entered m k).member e)) d dp)) (AtMost_none ((w.stay r k).held d))
 
 -- and each write of another than the list master
-settled_write : (G : Ground) (w : Picture) → Sound G w → (k : ClusterKey) (p r : ℕ) (d : List ℕ) → Rests G w k p → is_replica G k p r ≡ true → partition_of d ≡ p → (m t : ℕ) (e : Applied) → (w.stay m k).writes t ≡ Some e → e.digest ≡ d → (m ≡ master G k p → ⊥)
+settled_write : (G : Ground) (w : Picture) → Sound G w → (k : ClusterKey) (p r : ℕ) (d : List ℕ) → Rests G w k p → is_view_replica G k p r ≡ true → partition_of d ≡ p → (m t : ℕ) (e : Applied) → (w.stay m k).writes t ≡ Some e → e.digest ≡ d → (m ≡ view_master G k p → ⊥)
     → AtMost G.by (Some e.version) ((w.stay r k).held d)
 settled_write G w s k p r d z rep dp m t e a i other = by_rest z
   where
@@ -32,28 +32,28 @@ settled_write G w s k p r d z rep dp m t e a i other = by_rest z
 
     by_rest : Rests G w k p → AtMost G.by (Some e.version) ((w.stay r k).held d)
     by_rest (inl st) = subst (λ (c : List ℕ). AtMost G.by (Some e.version) ((w.stay r k).held c)) i
-        (done_held G w s.whole m r t k e a (others_done G w s.whole m t k e a (subst (λ (q : ℕ). w.settled k q ≡ true) (sym part) st) (λ q. other (q ∙ ap (master G k) part))) (subst (λ (q : ℕ). is_replica G k q r ≡ true) (sym part) rep))
-    by_rest (inr em) = ⊎_elim (λ q. absurd (other (q ∙ (ap (λ (l : ℕ). Rattle.cluster_laws.specs.Ground.acting G k l) part ∙ empty_acting G k p em.all)))) (λ q. absurd (other (q.0 ∙ ap (master G k) part))) ((s.whole.writers m k).write t e a)
+        (done_held G w s.whole m r t k e a (others_done G w s.whole m t k e a (subst (λ (q : ℕ). w.settled k q ≡ true) (sym part) st) (λ q. other (q ∙ ap (view_master G k) part))) (subst (λ (q : ℕ). is_view_replica G k q r ≡ true) (sym part) rep))
+    by_rest (inr em) = ⊎_elim (λ q. absurd (other (q ∙ (ap (λ (l : ℕ). Rattle.cluster_laws.specs.Ground.view_acting G k l) part ∙ empty_acting G k p em.all)))) (λ q. absurd (other (q.0 ∙ ap (view_master G k) part))) ((s.whole.writers m k).write t e a)
 
 rests_of : (G : Ground) (w : Picture) (k : ClusterKey) (p : ℕ) → IsSettled G w k p → Rests G w k p
 rests_of G w k p (inl z) = inl z
-rests_of G w k p (inr z) = inr (record { all = z.0; node = master G k p; exchanged = z.1 })
+rests_of G w k p (inr z) = inr (record { all = z.0; node = view_master G k p; exchanged = z.1 })
 
 -- a replica holds the fold, where it has held the list master's writes
-pub whole_replica : (G : Ground) (w : Picture) → Sound G w → (k : ClusterKey) (p r : ℕ) (d : List ℕ) → Rests G w k p → is_replica G k p r ≡ true → (w.node r).view ≡ Some k → partition_of d ≡ p
-    → ((t : ℕ) (e : Applied) → (w.stay (master G k p) k).writes t ≡ Some e → e.digest ≡ d → AtMost G.by (Some e.version) ((w.stay r k).held d)) → (w.node r).content d ≡ w.fold k d
+pub whole_replica : (G : Ground) (w : Picture) → Sound G w → (k : ClusterKey) (p r : ℕ) (d : List ℕ) → Rests G w k p → is_view_replica G k p r ≡ true → (w.node r).view ≡ Some k → partition_of d ≡ p
+    → ((t : ℕ) (e : Applied) → (w.stay (view_master G k p) k).writes t ≡ Some e → e.digest ≡ d → AtMost G.by (Some e.version) ((w.stay r k).held d)) → (w.node r).content d ≡ w.fold k d
 whole_replica G w s k p r d z rep view dp own = AtMost_antisymm
     (AtMost_trans ((s.whole.known.inside r k view).held d) ((s.whole.known.below r k).held d))
-    (AtMost_trans (s.whole.folded.fold k d ((w.stay r k).held d) (λ m e. settled_entry G w s k p r d z rep dp m e) (λ m t e a i. write m t e a i (number_cases m (master G k p))))
-    ((s.whole.known.inside r k view).kept d (subst (λ (q : ℕ). is_replica G k q r ≡ true) (sym dp) rep)))
+    (AtMost_trans (s.whole.folded.fold k d ((w.stay r k).held d) (λ m e. settled_entry G w s k p r d z rep dp m e) (λ m t e a i. write m t e a i (number_cases m (view_master G k p))))
+    ((s.whole.known.inside r k view).kept d (subst (λ (q : ℕ). is_view_replica G k q r ≡ true) (sym dp) rep)))
   where
-    write : (m t : ℕ) (e : Applied) → (w.stay m k).writes t ≡ Some e → e.digest ≡ d → (m ≡ master G k p) ⊎ (m ≡ master G k p → ⊥) → AtMost G.by (Some e.version) ((w.stay r k).held d)
+    write : (m t : ℕ) (e : Applied) → (w.stay m k).writes t ≡ Some e → e.digest ≡ d → (m ≡ view_master G k p) ⊎ (m ≡ view_master G k p → ⊥) → AtMost G.by (Some e.version) ((w.stay r k).held d)
     write m t e a i (inl q) = own t e (subst (λ (l : ℕ). (w.stay l k).writes t ≡ Some e) q a) i
     write m t e a i (inr q) = settled_write G w s k p r d z rep dp m t e a i q
 
-pub settled_join : (G : Ground) (w : Picture) → Sound G w → SettledJoin G w
+pub settled_join : (G : Ground) (w : Picture) → Sound G w → SettledHoldFold G w
 settled_join G w s k p r d st none rep view dp = whole_replica G w s k p r d (rests_of G w k p st) rep view dp
-    (λ t e a i. subst (λ (c : List ℕ). AtMost G.by (Some e.version) ((w.stay r k).held c)) i (done_held G w s.whole (master G k p) r t k e a (none t e a (ap partition_of i ∙ dp)) (subst (λ (q : ℕ). is_replica G k q r ≡ true) (sym (ap partition_of i ∙ dp)) rep)))
+    (λ t e a i. subst (λ (c : List ℕ). AtMost G.by (Some e.version) ((w.stay r k).held c)) i (done_held G w s.whole (view_master G k p) r t k e a (none t e a (ap partition_of i ∙ dp)) (subst (λ (q : ℕ). is_view_replica G k q r ≡ true) (sym (ap partition_of i ∙ dp)) rep)))
 
 -- ---- the other laws of a picture
 
@@ -68,8 +68,8 @@ bounded G w s = record {
 }
 
 -- classes are symmetric where the node's copy isn't empty
-pub equal_classes : (G : Ground) (w : Picture) → Sound G w → EqualClasses G w
+pub equal_classes : (G : Ground) (w : Picture) → Sound G w → ClassesEnterEqual G w
 equal_classes G w s k p a b d ea eb same dp = AtMost_antisymm (class_equal G w s.snap k p a b ea eb same d dp) (class_equal G w s.snap k p b a eb ea (Rattle.cluster_laws.proofs.GroundLaws.class_symmetric G k p a b same) d dp)
 
-pub no_loss : (G : Ground) (w : Picture) → Sound G w → NoLoss G w
+pub no_loss : (G : Ground) (w : Picture) → Sound G w → GreatestIsStored G w
 no_loss G w s d v e = let o : Somewhere G w d v = s.lossless d v e in (o.node, AtMost_antisymm (subst (λ (z : Option Version). AtMost G.by ((w.node o.node).content d) z) e (s.applied o.node d)) o.has)

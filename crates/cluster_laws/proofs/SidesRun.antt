@@ -25,23 +25,23 @@ use Rattle.partition_lists.specs.Lists.{list}
 use Rattle.node_rules.specs.Transactions.{Write}
 use Rattle.journal_readings.specs.Examples.{digest, second, key, version, one, two}
 use Rattle.cluster_laws.specs.Changed.{at_number, at_digest}
-use Rattle.cluster_laws.specs.Ground.{Ground, is_member, master, is_replica, other_replicas, acting, all_empty, same_class, is_first, sends_to, asks}
+use Rattle.cluster_laws.specs.Ground.{Ground, is_view_member, view_master, is_view_replica, other_view_replicas, view_acting, is_view_empty, same_view_class, is_view_class_first, view_sends_to, asks}
 use Rattle.cluster_laws.specs.Stay.{Versions, Running}
 use Rattle.cluster_laws.specs.Picture.{Picture, start}
-use Rattle.cluster_laws.specs.Laws.{SettledJoin, ReadJoin}
-use Rattle.cluster_laws.specs.Licences.{IsState, IsDone, WasSent, Licensed, after, after_all}
-use Rattle.cluster_laws.specs.Weaker.{Earlier, Unacknowledged, sides, side, side_row, apart, meeting, together, asking, asked, answering, mistaken, settled_early, Breaks, AtEnd}
+use Rattle.cluster_laws.specs.Laws.{SettledHoldFold, ReadsAnswerFold}
+use Rattle.cluster_laws.specs.Licences.{IsState, IsDone, WasSent, Licensed, picture_after, picture_after_all}
+use Rattle.cluster_laws.specs.Weaker.{Earlier, Unacknowledged, sides, side, side_row, both_sides, meeting, together, question_lines, asked_run, wrong_answer_lines, mistaken, settled_early, Breaks, AtEnd}
 use Rattle.cluster_laws.proofs.At.{numbers, digests, changed_either, number_same, or_cases, some_same, no_some, differ}
 use Rattle.cluster_laws.proofs.LoneRun.{licensed_or}
 
 unfoldable computing : Unit {0}
-unfolding join next version_cmp is_newer fnv1a jenkins_state jenkins_end node_bytes partition_bytes place list master is_replica other_replicas acting all_empty same_class is_first sends_to asks number_field number_at byte_field byte_at flag_field flag_at field items_at key_field key_where key_at bytes_at digest_at option_version_field option_version_at state_field state_at entry_field entry_at state_row_field state_row_at state_message_at ask_at answer_at spelling decoded message_of
+unfolding join next version_cmp is_newer fnv1a jenkins_state jenkins_end node_bytes partition_bytes place list view_master is_view_replica other_view_replicas view_acting is_view_empty same_view_class is_view_class_first view_sends_to asks number_field number_at byte_field byte_at flag_field flag_at field items_at key_field key_where key_at bytes_at digest_at option_version_field option_version_at state_field state_at entry_field entry_at state_row_field state_row_at state_message_at ask_at answer_at spelling decoded message_of
 computing = tt
 
 -- a licensed run goes on from the end of another
-pub licensed_both : (G : Ground) (w : Picture) (ls ms : List Line) → Licensed G w ls → Licensed G (after_all G w ls) ms → Licensed G w (ls ++ ms)
+pub licensed_both : (G : Ground) (w : Picture) (ls ms : List Line) → Licensed G w ls → Licensed G (picture_after_all G w ls) ms → Licensed G w (ls ++ ms)
 licensed_both G w [] ms a b = b
-licensed_both G w (l ∷ ls) ms a b = (a.0, licensed_both G (after G w l) ls ms a.1 b)
+licensed_both G w (l ∷ ls) ms a b = (a.0, licensed_both G (picture_after G w l) ls ms a.1 b)
 
 -- the messages are read back
 read_state : message_of (spelling (message.State (key 4 2) true (side_row 1 1))) ≡ Some (message.State (key 4 2) true (side_row 1 1))
@@ -57,7 +57,7 @@ unfolding computing
 read_answer = refl
 
 -- node 2 acts and asks node 1
-acts_two : (acting (sides 1) (key 4 2) 4095 ≡ 2) × (master (sides 1) (key 4 2) 4095 ≡ 2)
+acts_two : (view_acting (sides 1) (key 4 2) 4095 ≡ 2) × (view_master (sides 1) (key 4 2) 4095 ≡ 2)
 unfolding computing
 acts_two = (refl, refl)
 
@@ -97,7 +97,7 @@ first_side = (
   ),
 )
 
-second_side : Licensed (sides 1) (after_all (sides 1) start (side 1 one digest (version 0 1 97))) (side 2 two second (version 0 1 98))
+second_side : Licensed (sides 1) (picture_after_all (sides 1) start (side 1 one digest (version 0 1 97))) (side 2 two second (version 0 1 98))
 unfolding computing
 second_side = (
   (refl, (refl, record { above = refl; member = refl; row = λ p d e. refl; quiet = refl })),
@@ -137,7 +137,7 @@ abbrev pub no_records : Versions
 no_records = λ _. None
 
 abbrev at_apart : Picture
-at_apart = after_all (sides 1) start apart
+at_apart = picture_after_all (sides 1) start both_sides
 
 second_enters : (p : ℕ) → IsState (at_apart.node 2).content ((at_apart.node 2).stamp p) p ((sides 1).row (key 4 2) 2 p)
 unfolding computing
@@ -148,7 +148,7 @@ unfolding computing
 first_enters = whole_there (at_apart.node 1).content digest (version 0 1 97) (key 1 1) 1 (at_apart.node 1).stamp refl refl refl (away_with no_records digest (version 0 1 97) refl (λ x _. refl))
 
 -- both rows are there
-both_rows : (m : ℕ) → is_member (sides 1) (key 4 2) m ≡ true → (if 1 == m then true else if 2 == m then true else false) ≡ true
+both_rows : (m : ℕ) → is_view_member (sides 1) (key 4 2) m ≡ true → (if 1 == m then true else if 2 == m then true else false) ≡ true
 both_rows m e = ⊎_elim (λ z. other (2 == m) (1 == m) z) (λ z. own (1 == m) _ z) (or_cases (2 == m) ((1 == m) || false) e)
   where
     other : (a b : Bool) → a ≡ true → (if b then true else if a then true else false) ≡ true
@@ -161,7 +161,7 @@ both_rows m e = ⊎_elim (λ z. other (2 == m) (1 == m) z) (λ z. own (1 == m) _
 
 together_licensed : Licensed (sides 1) start together
 unfolding computing
-together_licensed = licensed_both (sides 1) start apart meeting
+together_licensed = licensed_both (sides 1) start both_sides meeting
     (licensed_both (sides 1) start (side 1 one digest (version 0 1 97)) (side 2 two second (version 0 1 98)) first_side second_side) (
       (refl, (refl, record { above = refl; member = refl; row = second_enters; quiet = refl })),
       (
@@ -190,9 +190,9 @@ free : (u : ℕ) (y : Running) → at_number (λ _. None) 1 (Some first_read) u 
 free u y = changed_either numbers (λ (o : Option Running). o ≡ Some y → y.digest ≡ digest → ⊥) (λ _. None) 1 (Some first_read) u
     (λ _ e q. apart_digests (ap (λ (z : Running). z.digest) (some_same e) ∙ q)) (λ _ e _. no_some e)
 
-asked_licensed : Licensed (sides 1) start asked
+asked_licensed : Licensed (sides 1) start asked_run
 unfolding computing
-asked_licensed = licensed_both (sides 1) start together asking together_licensed (
+asked_licensed = licensed_both (sides 1) start together question_lines together_licensed (
   (refl, record { is_in = record { view = refl; stays = refl }; exchanged = refl; number = refl; acts = inl (refl, refl); free = λ u y e. no_some e }),
   (
     (refl, (refl, record { is_in = record { view = refl; stays = refl }; transaction = first_read; running = refl; digest = refl })),
@@ -200,15 +200,16 @@ asked_licensed = licensed_both (sides 1) start together asking together_licensed
   ),
 )
 
-ask_sent : WasSent (after_all (sides 1) start asked) 2 1 (message.Ask (key 4 2) 1 second)
+ask_sent : WasSent (picture_after_all (sides 1) start asked_run) 2 1
+    (message.Ask (key 4 2) 1 second)
 unfolding computing
 ask_sent = record { number = 2; packet = record { from = 2; to = 1; size = _; message = Some (message.Ask (key 4 2) 1 second) }; sent = refl; ends = (refl, refl); message = refl }
 
-pub earlier_breaks : Breaks Earlier ReadJoin (sides 1) mistaken
+pub earlier_breaks : Breaks Earlier ReadsAnswerFold (sides 1) mistaken
 unfolding computing
 earlier_breaks = record {
   ground = record { some = omega arith };
-  allowed = licensed_or Earlier (sides 1) start asked answering asked_licensed (
+  allowed = licensed_or Earlier (sides 1) start asked_run wrong_answer_lines asked_licensed (
     inr (refl, record { is_in = record { view = refl; stays = refl }; earlier = 1; before = omega arith; digest = second; came = ask_sent; held = refl }),
     (
       inl (refl, tt),
@@ -228,18 +229,18 @@ pub sends_nothing : (b x : Bool) → ((b || false) && (not b && x)) ≡ false
 sends_nothing true x = refl
 sends_nothing false x = refl
 
-sends_nobody : (r : ℕ) → sends_to (sides 1) (key 4 2) 4095 2 r ≡ false
+sends_nobody : (r : ℕ) → view_sends_to (sides 1) (key 4 2) 4095 2 r ≡ false
 unfolding computing
 sends_nobody r = sends_nothing (2 == r) _
 
 pub none : (x y : Bool) → x ≡ false → (x && y) ≡ false
 none x y e = grind arith
 
-done : IsDone ((after_all (sides 1) start together).stay 2 (key 4 2)) 4095
+done : IsDone ((picture_after_all (sides 1) start together).stay 2 (key 4 2)) 4095
 unfolding computing
-done = record { exchanged = refl; none = λ r d dp. none (sends_to (sides 1) (key 4 2) (partition_of d) 2 r) _ (ap (λ (q : ℕ). sends_to (sides 1) (key 4 2) q 2 r) dp ∙ sends_nobody r) }
+done = record { exchanged = refl; none = λ r d dp. none (view_sends_to (sides 1) (key 4 2) (partition_of d) 2 r) _ (ap (λ (q : ℕ). view_sends_to (sides 1) (key 4 2) q 2 r) dp ∙ sends_nobody r) }
 
-pub unacknowledged_breaks : Breaks Unacknowledged (AtEnd SettledJoin) (sides 1) settled_early
+pub unacknowledged_breaks : Breaks Unacknowledged (AtEnd SettledHoldFold) (sides 1) settled_early
 unfolding computing
 unacknowledged_breaks = record {
   ground = record { some = omega arith };

@@ -8,11 +8,11 @@ use Rattle.cluster_types.specs.Partitions.{partition_of}
 use Rattle.node_rules.specs.Keys.{same_key}
 use Rattle.node_rules.specs.Stamps.{no_class, count_of, recounted, spoiled}
 use Rattle.node_rules.specs.Tables.{contains}
-use Rattle.cluster_laws.specs.Ground.{Ground, master, is_replica, all_empty}
+use Rattle.cluster_laws.specs.Ground.{Ground, view_master, is_view_replica, is_view_empty}
 use Rattle.cluster_laws.specs.Stay.{Versions, Applied, Stay}
 use Rattle.cluster_laws.specs.Picture.{Seen, Owed, Picture, start}
 use Rattle.cluster_laws.specs.Effect.{Effect}
-use Rattle.cluster_laws.specs.Changes.{act, count, stamp_if, recounted_if, heard, hearing, applying}
+use Rattle.cluster_laws.specs.Changes.{act, copy_count, stamp_if, recounted_if, heard, hearing, stay_after_write}
 use Rattle.cluster_laws.specs.Licences.{IsState}
 use Rattle.cluster_laws.proofs.At.{numbers, keys, changed_either, changed_here, changed_other, number_same, number_here, number_cases, key_same, key_cases, and_left, and_right, differ, some_same, no_some}
 use Rattle.cluster_laws.proofs.Allowed.{Allowed}
@@ -27,13 +27,13 @@ use Rattle.cluster_laws.proofs.Copies.{Emptied, Rests, rests_grow, Whole_picture
 
 -- what a stamp of the view's key tells
 pub record Stamped (G : Ground) (w : Picture) (n : ℕ) (k : ClusterKey) (p c : ℕ) (s : Stay) : Type 0 where
-  pub counts : c ≡ count G k n s p
+  pub counts : c ≡ copy_count G k n s p
   pub rests : Rests G w k p
-  pub replica : is_replica G k p n ≡ true
+  pub replica : is_view_replica G k p n ≡ true
 
 -- what a stamp tells after the node left the view
 pub record Kept_whole (G : Ground) (w : Picture) (n : ℕ) (k : ClusterKey) (p c : ℕ) (content : Versions) (s : Stay) : Type 0 where
-  pub counts : c ≡ count G k n s p
+  pub counts : c ≡ copy_count G k n s p
   pub equal : Equal G w n k p content s
 
 pub record StampOk (G : Ground) (w : Picture) (n : ℕ) (k : ClusterKey) (x : Seen) (s : Stay) : Type 0 where
@@ -69,9 +69,9 @@ record Frame (G : Ground) (w v : Picture) : Type 0 where
   base : (k : ClusterKey) (d : List ℕ) → Rests G w k (partition_of d) → v.base k d ≡ w.base k d
 
 -- an old write of the list master that the node has had
-had_write : (G : Ground) (w v : Picture) → Frame G w v → (n : ℕ) (k : ClusterKey) (p : ℕ) → v.stay n k ≡ w.stay n k → (t : ℕ) (e : Applied) → (v.stay (master G k p) k).writes t ≡ Some e → partition_of e.digest ≡ p → HeardBy G n k (w.stay n k) p e.nth → (w.stay (master G k p) k).writes t ≡ Some e
+had_write : (G : Ground) (w v : Picture) → Frame G w v → (n : ℕ) (k : ClusterKey) (p : ℕ) → v.stay n k ≡ w.stay n k → (t : ℕ) (e : Applied) → (v.stay (view_master G k p) k).writes t ≡ Some e → partition_of e.digest ≡ p → HeardBy G n k (w.stay n k) p e.nth → (w.stay (view_master G k p) k).writes t ≡ Some e
 had_write G w v f n k p still t e z ep (inl i) = subst (λ (m : ℕ). (v.stay m k).writes t ≡ Some e → (w.stay m k).writes t ≡ Some e) i (λ q. ap (λ (s : Stay). s.writes t) (sym still) ∙ q) z
-had_write G w v f n k p still t e z ep (inr c) = old_write G w v f.whole.known n k (master G k p) _ _ (f.step (master G k p) k) t e (ap (master G k) (sym ep)) z
+had_write G w v f n k p still t e z ep (inr c) = old_write G w v f.whole.known n k (view_master G k p) _ _ (f.step (view_master G k p) k) t e (ap (view_master G k) (sym ep)) z
     ((f.whole.hears n k).named (partition_of e.digest) e.nth (subst (λ (q : ℕ). contains ((w.stay n k).numbers q) e.nth ≡ true) (sym ep) c))
 
 frozen : (G : Ground) (w v : Picture) → Frame G w v → (n : ℕ) (k : ClusterKey) (p : ℕ) (old new : Versions) → ((d : List ℕ) → partition_of d ≡ p → new d ≡ old d) → v.stay n k ≡ w.stay n k
@@ -80,7 +80,7 @@ frozen G w v f n k p old new same_content still free h = record {
   rests = rests_grow G w v f.grow k p h.rests;
   replica = h.replica;
   upper = λ d dp b base by. subst (λ (o : Option Version). AtMost G.by o b) (sym (same_content d dp)) (h.upper d dp b (AtMost_trans (f.grow.base k d) base)
-      (record { below = λ t e z i q. by.below t e ((f.grow.stay (master G k (partition_of d)) k).writes t e z) i q }));
+      (record { below = λ t e z i q. by.below t e ((f.grow.stay (view_master G k (partition_of d)) k).writes t e z) i q }));
   base = λ d dp. subst (λ (o : Option Version). AtMost G.by (v.base k d) o) (sym (same_content d dp)) (subst (λ (o : Option Version). AtMost G.by o (old d)) (sym (f.base k d (subst (Rests G w k) (sym dp) h.rests))) (h.base d dp));
   heard = λ t e z ep by. inl (subst (λ (o : Option Version). AtMost G.by (Some e.version) o) (sym (same_content e.digest ep))
       (⊎_elim (λ q. q) (λ q. absurd (free e.digest e.version q)) (h.heard t e (had_write G w v f n k p still t e z ep by) ep by)));
@@ -123,61 +123,61 @@ mapped f None y e = no_some e
 mapped f (Some z) y e = (z, refl, some_same e)
 
 -- the count of another partition stays
-count_other : (G : Ground) (k : ClusterKey) (n : ℕ) (s t : Stay) (p : ℕ) → t.applies p ≡ s.applies p → t.numbers p ≡ s.numbers p → count G k n t p ≡ count G k n s p
-count_other G k n s t p ea en = go (master G k p == n)
+count_other : (G : Ground) (k : ClusterKey) (n : ℕ) (s t : Stay) (p : ℕ) → t.applies p ≡ s.applies p → t.numbers p ≡ s.numbers p → copy_count G k n t p ≡ copy_count G k n s p
+count_other G k n s t p ea en = go (view_master G k p == n)
   where
     go : (b : Bool) → cond b (t.applies p) (count_of (t.numbers p)) ≡ cond b (s.applies p) (count_of (s.numbers p))
     go true = ea
     go false = ap count_of en
 
 now_within : (G : Ground) (w v : Picture) (n : ℕ) (k : ClusterKey) (x : Seen) (s : Stay) → Within G w v n k x s → v.stay n k ≡ s → (w.node n).view ≡ Some k → Frame G w v → (p c : ℕ) → x.stamp p ≡ Some (k, c) → Stamped G v n k p c s
-now_within G w v n k _ _ (exchange ok) is view f p c = go (all_empty G k p && is_replica G k p n) refl
+now_within G w v n k _ _ (exchange ok) is view f p c = go (is_view_empty G k p && is_view_replica G k p n) refl
   where
-    go : (b : Bool) → (all_empty G k p && is_replica G k p n) ≡ b → stamp_if b (k, count G k n (w.stay n k) p) ((w.node n).stamp p) ≡ Some (k, c) → Stamped G v n k p c (Rattle.cluster_laws.specs.Changes.exchanging G n k (w.node n).content (w.stay n k))
+    go : (b : Bool) → (is_view_empty G k p && is_view_replica G k p n) ≡ b → stamp_if b (k, copy_count G k n (w.stay n k) p) ((w.node n).stamp p) ≡ Some (k, c) → Stamped G v n k p c (Rattle.cluster_laws.specs.Changes.stay_after_exchange G n k (w.node n).content (w.stay n k))
     go true i e = record {
       counts = sym (ap (λ (y : ClusterKey × ℕ). y.1) (some_same e));
-      rests = inr (record { all = and_left (all_empty G k p) (is_replica G k p n) i; node = n; exchanged = ap (λ (y : Stay). y.exchanged) is });
-      replica = and_right (all_empty G k p) (is_replica G k p n) i;
+      rests = inr (record { all = and_left (is_view_empty G k p) (is_view_replica G k p n) i; node = n; exchanged = ap (λ (y : Stay). y.exchanged) is });
+      replica = and_right (is_view_empty G k p) (is_view_replica G k p n) i;
     }
     go false i e = let q : Stamped G w n k p c (w.stay n k) = (f.stamps n k).now p c e view in record { counts = q.counts; rests = rests_grow G w v f.grow k p q.rests; replica = q.replica }
 now_within G w v n k _ _ (apply t d u early ok e z) is view f p c = changed_either numbers (λ o. o ≡ Some (k, c) → Stamped G v n k p c s) (w.node n).stamp (partition_of d) _ p
     (λ i q. let m = mapped _ ((w.node n).stamp (partition_of d)) (k, c) q in
-    let r = recounted_is k (count G k n s (partition_of d)) c (spoiled k m.0) m.2 in
+    let r = recounted_is k (copy_count G k n s (partition_of d)) c (spoiled k m.0) m.2 in
     let o : Stamped G w n k (partition_of d) m.0.1 (w.stay n k) = (f.stamps n k).now (partition_of d) m.0.1 (m.1 ∙ ap (λ (j : ClusterKey). Some (j, m.0.1)) (sym (spoiled_key k m.0) ∙ r.1)) view in
-    record { counts = r.0 ∙ ap (count G k n s) i; rests = subst (Rests G v k) i (rests_grow G w v f.grow k (partition_of d) o.rests); replica = subst (λ (j : ℕ). is_replica G k j n ≡ true) i o.replica })
+    record { counts = r.0 ∙ ap (copy_count G k n s) i; rests = subst (Rests G v k) i (rests_grow G w v f.grow k (partition_of d) o.rests); replica = subst (λ (j : ℕ). is_view_replica G k j n ≡ true) i o.replica })
     (λ i q. let o : Stamped G w n k p c (w.stay n k) = (f.stamps n k).now p c q view in
     record { counts = o.counts ∙ sym (count_other G k n (w.stay n k) s p (changed_other numbers (w.stay n k).applies (partition_of d) _ p i) refl); rests = rests_grow G w v f.grow k p o.rests; replica = o.replica })
   where
     s : Stay
-    s = applying G n k t d u early (w.stay n k)
+    s = stay_after_write G n k t d u early (w.stay n k)
 now_within G w v n k _ _ (merge d u ok e) is view f p c = changed_either numbers (λ o. o ≡ Some (k, c) → Stamped G v n k p c (Rattle.cluster_laws.specs.Changes.holding G d u (w.stay n k))) (w.node n).stamp (partition_of d) _ p
     (λ i q. let m = mapped (spoiled k) ((w.node n).stamp (partition_of d)) (k, c) q in
     let o : Stamped G w n k (partition_of d) c (w.stay n k) = (f.stamps n k).now (partition_of d) c (m.1 ∙ ap Some (unspoiled k c m.0 m.2)) view in
-    record { counts = o.counts ∙ ap (count G k n (w.stay n k)) i; rests = subst (Rests G v k) i (rests_grow G w v f.grow k (partition_of d) o.rests); replica = subst (λ (j : ℕ). is_replica G k j n ≡ true) i o.replica })
+    record { counts = o.counts ∙ ap (copy_count G k n (w.stay n k)) i; rests = subst (Rests G v k) i (rests_grow G w v f.grow k (partition_of d) o.rests); replica = subst (λ (j : ℕ). is_view_replica G k j n ≡ true) i o.replica })
     (λ i q. let o : Stamped G w n k p c (w.stay n k) = (f.stamps n k).now p c q view in record { counts = o.counts; rests = rests_grow G w v f.grow k p o.rests; replica = o.replica })
 now_within G w v n k _ _ (write r nth d u ok e) is view f p c = changed_either numbers (λ o. o ≡ Some (k, c) → Stamped G v n k p c s) (w.node n).stamp (partition_of d) _ p
-    (λ i q. let m = mapped (recounted_if (r == master G k (partition_of d)) k (count G k n s (partition_of d))) ((w.node n).stamp (partition_of d)) (k, c) q in here i m.0 m.1 (r == master G k (partition_of d)) refl m.2)
+    (λ i q. let m = mapped (recounted_if (r == view_master G k (partition_of d)) k (copy_count G k n s (partition_of d))) ((w.node n).stamp (partition_of d)) (k, c) q in here i m.0 m.1 (r == view_master G k (partition_of d)) refl m.2)
     (λ i q. let o : Stamped G w n k p c (w.stay n k) = (f.stamps n k).now p c q view in
     record { counts = o.counts ∙ sym (count_other G k n (w.stay n k) s p refl (changed_other numbers (w.stay n k).numbers (partition_of d) _ p i)); rests = rests_grow G w v f.grow k p o.rests; replica = o.replica })
   where
     s : Stay
     s = hearing G k r nth (partition_of d) (w.stay n k)
 
-    unheard : (b : Bool) → (r == master G k (partition_of d)) ≡ b → b ≡ false → count G k n s (partition_of d) ≡ count G k n (w.stay n k) (partition_of d)
+    unheard : (b : Bool) → (r == view_master G k (partition_of d)) ≡ b → b ≡ false → copy_count G k n s (partition_of d) ≡ copy_count G k n (w.stay n k) (partition_of d)
     unheard b i j = count_other G k n (w.stay n k) s (partition_of d) refl (changed_here numbers (w.stay n k).numbers (partition_of d) _ ∙ ap (λ (q : Bool). heard q ((w.stay n k).numbers (partition_of d)) nth) (i ∙ j))
 
-    here : partition_of d ≡ p → (z : ClusterKey × ℕ) → (w.node n).stamp (partition_of d) ≡ Some z → (b : Bool) → (r == master G k (partition_of d)) ≡ b → recounted_if b k (count G k n s (partition_of d)) z ≡ (k, c) → Stamped G v n k p c s
-    here i z y true b q = let j = recounted_is k (count G k n s (partition_of d)) c z q in
+    here : partition_of d ≡ p → (z : ClusterKey × ℕ) → (w.node n).stamp (partition_of d) ≡ Some z → (b : Bool) → (r == view_master G k (partition_of d)) ≡ b → recounted_if b k (copy_count G k n s (partition_of d)) z ≡ (k, c) → Stamped G v n k p c s
+    here i z y true b q = let j = recounted_is k (copy_count G k n s (partition_of d)) c z q in
         let o : Stamped G w n k (partition_of d) z.1 (w.stay n k) = (f.stamps n k).now (partition_of d) z.1 (y ∙ ap (λ (l : ClusterKey). Some (l, z.1)) j.1) view in
-        record { counts = j.0 ∙ ap (count G k n s) i; rests = subst (Rests G v k) i (rests_grow G w v f.grow k (partition_of d) o.rests); replica = subst (λ (l : ℕ). is_replica G k l n ≡ true) i o.replica }
+        record { counts = j.0 ∙ ap (copy_count G k n s) i; rests = subst (Rests G v k) i (rests_grow G w v f.grow k (partition_of d) o.rests); replica = subst (λ (l : ℕ). is_view_replica G k l n ≡ true) i o.replica }
     here i z y false b q =
         let o : Stamped G w n k (partition_of d) c (w.stay n k) = (f.stamps n k).now (partition_of d) c (y ∙ ap Some q) view in
-        record { counts = o.counts ∙ (sym (unheard false b refl) ∙ ap (count G k n s) i); rests = subst (Rests G v k) i (rests_grow G w v f.grow k (partition_of d) o.rests); replica = subst (λ (l : ℕ). is_replica G k l n ≡ true) i o.replica }
+        record { counts = o.counts ∙ (sym (unheard false b refl) ∙ ap (copy_count G k n s) i); rests = subst (Rests G v k) i (rests_grow G w v f.grow k (partition_of d) o.rests); replica = subst (λ (l : ℕ). is_view_replica G k l n ≡ true) i o.replica }
 now_within G w v n k _ _ (learn q ok) is view f p c = changed_either numbers (λ o. o ≡ Some (k, c) → Stamped G v n k p c (w.stay n k)) (w.node n).stamp q _ p
     (λ i e. record {
-      counts = sym (ap (λ (y : ClusterKey × ℕ). y.1) (some_same e)) ∙ ap (count G k n (w.stay n k)) i;
+      counts = sym (ap (λ (y : ClusterKey × ℕ). y.1) (some_same e)) ∙ ap (copy_count G k n (w.stay n k)) i;
       rests = inl (subst (λ (j : ℕ). v.settled k j ≡ true) i (f.grow.settled k q ((f.whole.known.cross n k).settled q ok.settled)));
-      replica = subst (λ (j : ℕ). is_replica G k j n ≡ true) i ok.replica;
+      replica = subst (λ (j : ℕ). is_view_replica G k j n ≡ true) i ok.replica;
     })
     (λ i e. stamped_grows G w v f.grow n k p c (w.stay n k) ((f.stamps n k).now p c e view))
 now_within G w v n k _ _ (drop q ok) is view f p c = changed_either numbers (λ o. o ≡ Some (k, c) → Stamped G v n k p c (w.stay n k)) (w.node n).stamp q None p (λ i e. no_some e)
@@ -245,27 +245,27 @@ stamps_start G n k = record { entered = λ p c e. no_some e; now = λ p c e. no_
 -- ---- snapshots
 
 -- which writes a copy that counts has had
-heard_up_to : (G : Ground) (w : Picture) → Whole_picture G w → (n : ℕ) (k : ClusterKey) (p c : ℕ) → c ≡ count G k n (w.stay n k) p → (c == no_class) ≡ false → (t : ℕ) (e : Applied) → (w.stay (master G k p) k).writes t ≡ Some e → partition_of e.digest ≡ p
+heard_up_to : (G : Ground) (w : Picture) → Whole_picture G w → (n : ℕ) (k : ClusterKey) (p c : ℕ) → c ≡ copy_count G k n (w.stay n k) p → (c == no_class) ≡ false → (t : ℕ) (e : Applied) → (w.stay (view_master G k p) k).writes t ≡ Some e → partition_of e.digest ≡ p
     → (HeardBy G n k (w.stay n k) p e.nth → e.nth ≤ c) × (e.nth ≤ c → HeardBy G n k (w.stay n k) p e.nth)
-heard_up_to G w a n k p c cs some t e z ep = go (master G k p == n) refl cs
+heard_up_to G w a n k p c cs some t e z ep = go (view_master G k p == n) refl cs
   where
-    go : (b : Bool) → (master G k p == n) ≡ b → c ≡ cond b ((w.stay n k).applies p) (count_of ((w.stay n k).numbers p)) → (HeardBy G n k (w.stay n k) p e.nth → e.nth ≤ c) × (e.nth ≤ c → HeardBy G n k (w.stay n k) p e.nth)
-    go true i q = let m : master G k p ≡ n = number_same (master G k p) n i in
-        ((λ _. omega (arith, q, ((a.known.txns (master G k p) k).nth t e z).1, ap (λ (l : ℕ). (w.stay l k).applies p) m, ap (w.stay (master G k p) k).applies ep)), (λ _. inl (sym m)))
+    go : (b : Bool) → (view_master G k p == n) ≡ b → c ≡ cond b ((w.stay n k).applies p) (count_of ((w.stay n k).numbers p)) → (HeardBy G n k (w.stay n k) p e.nth → e.nth ≤ c) × (e.nth ≤ c → HeardBy G n k (w.stay n k) p e.nth)
+    go true i q = let m : view_master G k p ≡ n = number_same (view_master G k p) n i in
+        ((λ _. omega (arith, q, ((a.known.txns (view_master G k p) k).nth t e z).1, ap (λ (l : ℕ). (w.stay l k).applies p) m, ap (w.stay (view_master G k p) k).applies ep)), (λ _. inl (sym m)))
     go false i q = let o : IsCounted ((w.stay n k).numbers p) c = counted ((w.stay n k).numbers p) c q some in
-        ((⊎_elim (λ m. differ (subst (λ (l : ℕ). (master G k p == l) ≡ true) (sym m) (number_here (master G k p))) i) (λ m. o.above e.nth m)), (λ le. inr (o.all e.nth ((a.known.txns (master G k p) k).nth t e z).0 le)))
+        ((⊎_elim (λ m. differ (subst (λ (l : ℕ). (view_master G k p == l) ≡ true) (sym m) (number_here (view_master G k p))) i) (λ m. o.above e.nth m)), (λ le. inr (o.all e.nth ((a.known.txns (view_master G k p) k).nth t e z).0 le)))
 
-count_made : (G : Ground) (w : Picture) → Whole_picture G w → (n : ℕ) (k : ClusterKey) (p c : ℕ) → c ≡ count G k n (w.stay n k) p → (c == no_class) ≡ false → c ≤ (w.stay (master G k p) k).applies p
-count_made G w a n k p c cs some = go (master G k p == n) refl cs
+count_made : (G : Ground) (w : Picture) → Whole_picture G w → (n : ℕ) (k : ClusterKey) (p c : ℕ) → c ≡ copy_count G k n (w.stay n k) p → (c == no_class) ≡ false → c ≤ (w.stay (view_master G k p) k).applies p
+count_made G w a n k p c cs some = go (view_master G k p == n) refl cs
   where
-    go : (b : Bool) → (master G k p == n) ≡ b → c ≡ cond b ((w.stay n k).applies p) (count_of ((w.stay n k).numbers p)) → c ≤ (w.stay (master G k p) k).applies p
-    go true i q = omega (arith, q, ap (λ (l : ℕ). (w.stay l k).applies p) (number_same (master G k p) n i))
+    go : (b : Bool) → (view_master G k p == n) ≡ b → c ≡ cond b ((w.stay n k).applies p) (count_of ((w.stay n k).numbers p)) → c ≤ (w.stay (view_master G k p) k).applies p
+    go true i q = omega (arith, q, ap (λ (l : ℕ). (w.stay l k).applies p) (number_same (view_master G k p) n i))
     go false i q = let o : IsCounted ((w.stay n k).numbers p) c = counted ((w.stay n k).numbers p) c q some in deep o (number_cases c 0)
       where
-        deep : IsCounted ((w.stay n k).numbers p) c → (c ≡ 0) ⊎ (c ≡ 0 → ⊥) → c ≤ (w.stay (master G k p) k).applies p
+        deep : IsCounted ((w.stay n k).numbers p) c → (c ≡ 0) ⊎ (c ≡ 0 → ⊥) → c ≤ (w.stay (view_master G k p) k).applies p
         deep o (inl j) = omega arith
         deep o (inr j) = let h : Named G w n k p c = (a.hears n k).named p c (o.all c (omega arith) (omega arith)) in
-            omega (arith, h.nth, ((a.known.txns (master G k p) k).nth h.number h.write h.made).1, ap (w.stay (master G k p) k).applies h.part)
+            omega (arith, h.nth, ((a.known.txns (view_master G k p) k).nth h.number h.write h.made).1, ap (w.stay (view_master G k p) k).applies h.part)
 
 -- a copy that counts, as its node enters a view
 snapped : (G : Ground) (w : Picture) → Whole_picture G w → w.owed ≡ None → (n : ℕ) (k : ClusterKey) (p c : ℕ) (content : Versions) → (c == no_class) ≡ false → Kept_whole G w n k p c content (w.stay n k) → Copied G w k c p content
@@ -274,7 +274,7 @@ snapped G w a none n k p c content some h = record {
   made = count_made G w a n k p c h.counts some;
   upper = λ d dp b base by. h.equal.upper d dp b base (record {
     below = λ t e z i q.
-        let z2 : (w.stay (master G k p) k).writes t ≡ Some e = subst (λ (l : ℕ). (w.stay (master G k l) k).writes t ≡ Some e) dp z in
+        let z2 : (w.stay (view_master G k p) k).writes t ≡ Some e = subst (λ (l : ℕ). (w.stay (view_master G k l) k).writes t ≡ Some e) dp z in
         by t e z2 i ((heard_up_to G w a n k p c h.counts some t e z2 (ap partition_of i ∙ dp)).0 (subst (λ (l : ℕ). HeardBy G n k (w.stay n k) l e.nth) dp q));
   });
   base = h.equal.base;
@@ -284,10 +284,10 @@ snapped G w a none n k p c content some h = record {
 copied_kept : (G : Ground) (w v : Picture) → Frame G w v → ((m : ℕ) (j : ClusterKey) (q : ℕ) → (w.stay m j).applies q ≤ (v.stay m j).applies q) → (k : ClusterKey) (c p : ℕ) (entry : Versions) → Copied G w k c p entry → Copied G v k c p entry
 copied_kept G w v f more k c p entry h = record {
   rests = rests_grow G w v f.grow k p h.rests;
-  made = omega (arith, h.made, more (master G k p) k p);
-  upper = λ d dp b base by. h.upper d dp b (AtMost_trans (f.grow.base k d) base) (λ t e z. by t e ((f.grow.stay (master G k p) k).writes t e z));
+  made = omega (arith, h.made, more (view_master G k p) k p);
+  upper = λ d dp b base by. h.upper d dp b (AtMost_trans (f.grow.base k d) base) (λ t e z. by t e ((f.grow.stay (view_master G k p) k).writes t e z));
   base = λ d dp. subst (λ (o : Option Version). AtMost G.by o (entry d)) (sym (f.base k d (subst (Rests G w k) (sym dp) h.rests))) (h.base d dp);
-  heard = λ t e z ep le. ⊎_elim (λ q. h.heard t e q ep le) (λ q. absurd (omega (arith, q.nth, h.made, ap (w.stay (master G k p) k).applies ep))) (new_write G w v (master G k p) k _ _ (f.step (master G k p) k) t e z);
+  heard = λ t e z ep le. ⊎_elim (λ q. h.heard t e q ep le) (λ q. absurd (omega (arith, q.nth, h.made, ap (w.stay (view_master G k p) k).applies ep))) (new_write G w v (view_master G k p) k _ _ (f.step (view_master G k p) k) t e z);
 }
 
 more_applies : (G : Ground) (w v : Picture) (n : ℕ) (k : ClusterKey) (x : Seen) (s : Stay) → Step G w v n k x s → Whole_picture G w → (q : ℕ) → (w.stay n k).applies q ≤ s.applies q

@@ -2,7 +2,7 @@
 use Rattle.std.proofs.Common.{◌≡◌, ℕ, true, false, Some, refl, sym, ap, ◌∙◌}
 use Rattle.cluster_types.specs.declared.cluster_key.ClusterKey.{ClusterKey}
 use Rattle.cluster_types.specs.ClusterKeys.{key_lt}
-use Rattle.cluster_laws.specs.Ground.{Ground, is_member}
+use Rattle.cluster_laws.specs.Ground.{Ground, is_view_member}
 use Rattle.cluster_laws.specs.Stay.{Stay, blank}
 use Rattle.cluster_laws.specs.Picture.{Seen, Picture, start}
 use Rattle.cluster_laws.specs.Effect.{Effect}
@@ -17,7 +17,7 @@ pub record Entered (G : Ground) (n : ℕ) (k : ClusterKey) (x : Seen) (s : Stay)
   pub fresh : s.entered ≡ false → s ≡ blank
   pub below : s.entered ≡ true → key_lt x.last k ≡ false
   pub now : x.view ≡ Some k → (s.entered ≡ true) × (x.last ≡ k)
-  pub member : s.entered ≡ true → is_member G k n ≡ true
+  pub member : s.entered ≡ true → is_view_member G k n ≡ true
 
 -- what no change in the view touches
 pub record Framed (x y : Seen) (s t : Stay) : Type 0 where

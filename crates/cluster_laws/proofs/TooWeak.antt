@@ -8,15 +8,15 @@ use Rattle.conflict_order.proofs.OrderLaws.{no_version_AtMost_none}
 use Rattle.partition_lists.specs.Hashes.{fnv1a, jenkins_state, jenkins_end, node_bytes, partition_bytes, place}
 use Rattle.partition_lists.specs.Lists.{list}
 use Rattle.journal_readings.specs.Examples.{digest, key, version}
-use Rattle.cluster_laws.specs.Ground.{master, is_replica, other_replicas, acting, all_empty, same_class, is_first, sends_to, asks}
-use Rattle.cluster_laws.specs.Laws.{IsBounded, ReadJoin}
+use Rattle.cluster_laws.specs.Ground.{view_master, is_view_replica, other_view_replicas, view_acting, is_view_empty, same_view_class, is_view_class_first, view_sends_to, asks}
+use Rattle.cluster_laws.specs.Laws.{IsBounded, ReadsAnswerFold}
 use Rattle.cluster_laws.specs.Stay.{Running}
 use Rattle.cluster_laws.specs.Weaker.{Busy, Unbrought, lone, overtaken, conjured, Breaks, AtEnd}
 use Rattle.cluster_laws.proofs.At.{no_some}
 
 -- lists, masters and versions compute
 unfoldable computing : Unit {0}
-unfolding join next version_cmp is_newer fnv1a jenkins_state jenkins_end node_bytes partition_bytes place list master is_replica other_replicas acting all_empty same_class is_first sends_to asks
+unfolding join next version_cmp is_newer fnv1a jenkins_state jenkins_end node_bytes partition_bytes place list view_master is_view_replica other_view_replicas view_acting is_view_empty same_view_class is_view_class_first view_sends_to asks
 computing = tt
 
 -- a transaction that asks nobody, as it opens
@@ -28,7 +28,7 @@ own_row : (b : Bool) → (b || false) ≡ true → cond b true false ≡ true
 own_row true e = refl
 own_row false e = e
 
-pub busy_breaks : Breaks Busy ReadJoin lone overtaken
+pub busy_breaks : Breaks Busy ReadsAnswerFold lone overtaken
 unfolding computing
 busy_breaks = record {
   ground = record { some = omega arith };

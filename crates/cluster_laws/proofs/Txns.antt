@@ -5,11 +5,11 @@ use Rattle.cluster_types.specs.declared.cluster_key.ClusterKey.{ClusterKey}
 use Rattle.cluster_types.specs.Partitions.{partition_of}
 use Rattle.node_rules.specs.Transactions.{Write}
 use Rattle.cluster_laws.specs.Changed.{at_number}
-use Rattle.cluster_laws.specs.Ground.{Ground, other_replicas}
+use Rattle.cluster_laws.specs.Ground.{Ground, other_view_replicas}
 use Rattle.cluster_laws.specs.Stay.{Versions, Running, Applied, Stay}
 use Rattle.cluster_laws.specs.Picture.{Seen, Picture, start}
 use Rattle.cluster_laws.specs.Effect.{Effect}
-use Rattle.cluster_laws.specs.Changes.{act, with_write, with_version, applying, beginning, opening, closing, finishing, giving_up, running_as, acknowledged, with_answer}
+use Rattle.cluster_laws.specs.Changes.{act, running_with_write, with_version, stay_after_write, beginning, running_at_opening, stay_without_transaction, finishing, giving_up, running_as, running_acknowledged, running_with_answer}
 use Rattle.cluster_laws.proofs.At.{numbers, changed_either, changed_here, changed_other, number_cases, differ, some_same, no_some}
 use Rattle.cluster_laws.proofs.Allowed.{Allowed}
 use Rattle.cluster_laws.proofs.Step.{Within, exchange, begin, answer, apply, finish, give_up, write_acked, answered, Step, enter, within, steps}
@@ -125,8 +125,8 @@ txns_change s t y z is di ai h = record {
     there u e o (inr i) = record { transaction = o.transaction; running = changed_other numbers s.running t (Some z) u i ∙ o.running; digest = o.digest }
 
 -- a write is applied
-txns_apply : (G : Ground) (n : ℕ) (k : ClusterKey) (s : Stay) (t : ℕ) (y : Running) (v : Version) (early : Bool) → s.running t ≡ Some y → y.applied ≡ None → Txns s → Txns (applying G n k t y.digest v early s)
-txns_apply G n k s t y v early is none h = subst (λ (o : Option Running). Txns (record (applying G n k t y.digest v early s) { running = at_number s.running t (option_map (with_write v nth awaiting) o) })) (sym is) (record {
+txns_apply : (G : Ground) (n : ℕ) (k : ClusterKey) (s : Stay) (t : ℕ) (y : Running) (v : Version) (early : Bool) → s.running t ≡ Some y → y.applied ≡ None → Txns s → Txns (stay_after_write G n k t y.digest v early s)
+txns_apply G n k s t y v early is none h = subst (λ (o : Option Running). Txns (record (stay_after_write G n k t y.digest v early s) { running = at_number s.running t (option_map (running_with_write v nth awaiting) o) })) (sym is) (record {
   running = λ u c e. let o = was u c e in ((h.running u o.0 o.1).0, (h.running u o.0 o.1).1, (h.running u o.0 o.1).2 ∙ ap Some o.2);
   begun = h.begun;
   wrote = λ u e. changed_either numbers (λ o. o ≡ Some e → (s.exchanged ≡ true) × (u ≤ s.opened) × (s.begun u ≡ Some e.digest)) s.writes t (Some this) u
@@ -160,16 +160,18 @@ txns_apply G n k s t y v early is none h = subst (λ (o : Option Running). Txns 
     nth = s.applies (partition_of y.digest) + 1
 
     awaiting : List ℕ
-    awaiting = other_replicas G k (partition_of y.digest) n
+    awaiting = other_view_replicas G k (partition_of y.digest) n
 
     z : Running
-    z = with_write v nth awaiting y
+    z = running_with_write v nth awaiting y
 
     this : Applied
     this = record { digest = y.digest; version = v; nth = nth; early = early }
 
     new : Stay
-    new = record (applying G n k t y.digest v early s) { running = at_number s.running t (Some z) }
+    new = record (stay_after_write G n k t y.digest v early s) {
+      running = at_number s.running t (Some z);
+    }
 
     was : (u : ℕ) (c : Running) → at_number s.running t (Some z) u ≡ Some c → (o : Running) × (s.running u ≡ Some o) × (o.digest ≡ c.digest)
     was u c = changed_either numbers (λ o. o ≡ Some c → (o : Running) × (s.running u ≡ Some o) × (o.digest ≡ c.digest)) s.running t (Some z) u
@@ -203,7 +205,7 @@ txns_within G w v n k _ _ (exchange ok) h = txns_exchange (w.stay n k) _ h
 txns_within G w v n k _ _ (begin t d ok opens_it) h = txns_begin (w.stay n k) t d _ refl refl ok.exchanged ok.number ok.free h
 txns_within G w v n k _ _ (answer t d o ok) h = txns_gone (w.stay n k) t (w.stay n k).closing (w.stay n k).done (λ u e. e) h.done (λ e. e)
     (λ e a. no_some (sym (h.unapplied t ok.transaction ok.resolved.running ok.resolved.unapplied) ∙ a)) h
-txns_within G w v n k _ _ (apply t d u early ok e a) h = subst (λ (g : List ℕ). Txns (applying G n k t g u early (w.stay n k))) ok.resolved.digest
+txns_within G w v n k _ _ (apply t d u early ok e a) h = subst (λ (g : List ℕ). Txns (stay_after_write G n k t g u early (w.stay n k))) ok.resolved.digest
     (txns_apply G n k (w.stay n k) t ok.transaction u early ok.resolved.running ok.resolved.unapplied h)
 txns_within G w v n k _ _ (finish t ok) h = let o : WriteOf (w.stay n k).writes t ok.transaction.digest ok.write = h.applied t ok.transaction ok.write ok.running ok.applied in
     txns_gone (w.stay n k) t (w.stay n k).closing (at_number (w.stay n k).done t true)
@@ -215,7 +217,7 @@ txns_within G w v n k _ _ (write_acked r t y ok) h = txns_change (w.stay n k) t 
 txns_within G w v n k _ _ (answered r t o y ok) h = txns_change (w.stay n k) t y _ ok.running refl refl h
 txns_within G w v n k _ _ _ h = assumption h
 
-txns_blank : (n : ℕ) (content : Versions) → Txns (Rattle.cluster_laws.specs.Changes.entering n content)
+txns_blank : (n : ℕ) (content : Versions) → Txns (Rattle.cluster_laws.specs.Changes.stay_at_entry n content)
 txns_blank n content = record {
   running = λ t y e. no_some e;
   begun = λ t d e. no_some e;

@@ -47,9 +47,9 @@ pub data Effect : Type 0 where
 -- ---- messages that came
 
 -- whether that is the key of the view
-abbrev pub is_view : Option ClusterKey → ClusterKey → Bool
-is_view None k = false
-is_view (Some j) k = same_key j k
+abbrev pub is_view_key : Option ClusterKey → ClusterKey → Bool
+is_view_key None k = false
+is_view_key (Some j) k = same_key j k
 
 -- the effect, where the test holds
 abbrev pub effect_if : Effect → Bool → Effect
@@ -67,18 +67,18 @@ write_ack n k from t None = Nothing
 write_ack n k from t (Some y) = effect_if (Write_acked n k from t y) (is_some y.applied && contains y.awaiting from)
 
 -- an answer counts where no write is applied and the sender is awaited
-abbrev pub answer : ℕ → ClusterKey → ℕ → ℕ → Option Version → Option Running → Effect
-answer n k from t v None = Nothing
-answer n k from t v (Some y) = effect_if (Answered n k from t v y) (not (is_some y.applied) && contains y.awaiting from)
+abbrev pub answer_effect : ℕ → ClusterKey → ℕ → ℕ → Option Version → Option Running → Effect
+answer_effect n k from t v None = Nothing
+answer_effect n k from t v (Some y) = effect_if (Answered n k from t v y) (not (is_some y.applied) && contains y.awaiting from)
 
 -- what a message of the view does
 abbrev pub comes : Picture → ℕ → ℕ → Message → Effect
-comes w n from (message.State k wants row) = effect_if (Row_came n k from) (is_view (w.node n).view k)
-comes w n from (message.BatchAck k number) = effect_if (batch_ack n k from number ((w.stay n k).out from)) (is_view (w.node n).view k)
-comes w n from (message.Progress k wants done handed settled) = effect_if (Told n k from done handed settled) (is_view (w.node n).view k)
-comes w n from (message.Repl k t nth d v) = effect_if (Write_came n k from nth d v) (is_view (w.node n).view k)
-comes w n from (message.ReplAck k t) = effect_if (write_ack n k from t ((w.stay n k).running t)) (is_view (w.node n).view k)
-comes w n from (message.Answer k t v) = effect_if (answer n k from t v ((w.stay n k).running t)) (is_view (w.node n).view k)
+comes w n from (message.State k wants row) = effect_if (Row_came n k from) (is_view_key (w.node n).view k)
+comes w n from (message.BatchAck k number) = effect_if (batch_ack n k from number ((w.stay n k).out from)) (is_view_key (w.node n).view k)
+comes w n from (message.Progress k wants done handed settled) = effect_if (Told n k from done handed settled) (is_view_key (w.node n).view k)
+comes w n from (message.Repl k t nth d v) = effect_if (Write_came n k from nth d v) (is_view_key (w.node n).view k)
+comes w n from (message.ReplAck k t) = effect_if (write_ack n k from t ((w.stay n k).running t)) (is_view_key (w.node n).view k)
+comes w n from (message.Answer k t v) = effect_if (answer_effect n k from t v ((w.stay n k).running t)) (is_view_key (w.node n).view k)
 comes w n from _ = Nothing
 
 -- bytes that spell no message do nothing

@@ -37,71 +37,72 @@ pub record IsGround (G : Ground) : Type 0 where
 -- ---- the list
 
 -- whether the node is a member of the view
-abbrev pub is_member : Ground → ClusterKey → ℕ → Bool
-is_member G k n = contains (ids_of (G.members k)) n
+abbrev pub is_view_member : Ground → ClusterKey → ℕ → Bool
+is_view_member G k n = contains (ids_of (G.members k)) n
 
 -- the members in the order in which they are to have the partition's records
-abbrev pub list : Ground → ClusterKey → ℕ → List ℕ
-list G k p = lists.list (G.members k) p
+abbrev pub view_list : Ground → ClusterKey → ℕ → List ℕ
+view_list G k p = lists.list (G.members k) p
 
 -- the list master
-unfoldable pub master : Ground → ClusterKey → ℕ → ℕ
-master G k p = map.master (list G k p)
+unfoldable pub view_master : Ground → ClusterKey → ℕ → ℕ
+view_master G k p = map.list_master (view_list G k p)
 
 -- the replicas, in list order
-abbrev pub replicas : Ground → ClusterKey → ℕ → List ℕ
-replicas G k p = lists.replicas (list G k p) G.factor
+abbrev pub view_replicas : Ground → ClusterKey → ℕ → List ℕ
+view_replicas G k p = lists.replicas (view_list G k p) G.factor
 
 -- whether the node is a replica
-unfoldable pub is_replica : Ground → ClusterKey → ℕ → ℕ → Bool
-is_replica G k p n = contains (replicas G k p) n
+unfoldable pub is_view_replica : Ground → ClusterKey → ℕ → ℕ → Bool
+is_view_replica G k p n = contains (view_replicas G k p) n
 
 -- the replicas but the node
-unfoldable pub other_replicas : Ground → ClusterKey → ℕ → ℕ → List ℕ
-other_replicas G k p n = without (replicas G k p) n
+unfoldable pub other_view_replicas : Ground → ClusterKey → ℕ → ℕ → List ℕ
+other_view_replicas G k p n = without (view_replicas G k p) n
 
 -- ---- the acting master
 
 -- whether the member's copy is whole, and none in the list is whole under a greater key
-abbrev pub is_wholest : Ground → ClusterKey → ℕ → ℕ → Bool
-is_wholest G k p n =
-    is_whole (G.row k n p) && list_all (λ m. not (keys.key_lt (whole_key (G.row k n p)) (whole_key (G.row k m p)))) (list G k p)
+abbrev pub is_view_wholest : Ground → ClusterKey → ℕ → ℕ → Bool
+is_view_wholest G k p n =
+    is_whole (G.row k n p) && list_all (λ m. not (keys.key_lt (whole_key (G.row k n p)) (whole_key (G.row k m p)))) (view_list G k p)
 
 -- the acting master: the first of the list whose copy is whole under the greatest key, and the list
 -- master where no copy is whole
-unfoldable pub acting : Ground → ClusterKey → ℕ → ℕ
-acting G k p = unwrap_or (find (is_wholest G k p) (list G k p)) (master G k p)
+unfoldable pub view_acting : Ground → ClusterKey → ℕ → ℕ
+view_acting G k p = unwrap_or (find (is_view_wholest G k p) (view_list G k p)) (view_master G k p)
 
 -- whether no member had a record of the partition as it entered
-unfoldable pub all_empty : Ground → ClusterKey → ℕ → Bool
-all_empty G k p = list_all (λ n. is_empty (G.row k n p)) (list G k p)
+unfoldable pub is_view_empty : Ground → ClusterKey → ℕ → Bool
+is_view_empty G k p = list_all (λ n. is_empty (G.row k n p)) (view_list G k p)
 
 -- ---- classes of equal copies
 
 -- whether the second node is in the class of the first, which has this state
-abbrev pub is_in_class : Ground → ClusterKey → ℕ → ℕ → ℕ → CopyState → Bool
-is_in_class G k p a b Empty = false
-is_in_class G k p a b Part = a == b
-is_in_class G k p a b (Whole key writes) = if writes == no_class then a == b else is_whole_with key writes (G.row k b p)
+abbrev pub is_in_view_class : Ground → ClusterKey → ℕ → ℕ → ℕ → CopyState → Bool
+is_in_view_class G k p a b Empty = false
+is_in_view_class G k p a b Part = a == b
+is_in_view_class G k p a b (Whole key writes) = if writes == no_class then a == b else is_whole_with key writes (G.row k b p)
 
 -- whether the second node is in the class of the first
-unfoldable pub same_class : Ground → ClusterKey → ℕ → ℕ → ℕ → Bool
-same_class G k p a b = is_in_class G k p a b (G.row k a p)
+unfoldable pub same_view_class : Ground → ClusterKey → ℕ → ℕ → ℕ → Bool
+same_view_class G k p a b = is_in_view_class G k p a b (G.row k a p)
 
 -- the first of the list that is in the node's class; none where the node's copy was empty
-abbrev pub class_first : Ground → ClusterKey → ℕ → ℕ → Option ℕ
-class_first G k p n = find (same_class G k p n) (list G k p)
+abbrev pub view_class_first : Ground → ClusterKey → ℕ → ℕ → Option ℕ
+view_class_first G k p n = find (same_view_class G k p n) (view_list G k p)
 
 -- whether the node is the first of its class
-unfoldable pub is_first : Ground → ClusterKey → ℕ → ℕ → Bool
-is_first G k p n = is_that (class_first G k p n) n
+unfoldable pub is_view_class_first : Ground → ClusterKey → ℕ → ℕ → Bool
+is_view_class_first G k p n = is_that (view_class_first G k p n) n
 
 -- whether a node hands its records on to another: its copy isn't empty, it is the first of its class, and the
 -- other is a replica, another node and not in that class
-unfoldable pub sends_to : Ground → ClusterKey → ℕ → ℕ → ℕ → Bool
-sends_to G k p from to =
-    is_replica G k p to && (not (from == to) && (not (is_empty (G.row k from p)) && (is_first G k p from && not (same_class G k p from to))))
+unfoldable pub view_sends_to : Ground → ClusterKey → ℕ → ℕ → ℕ → Bool
+view_sends_to G k p from to =
+    is_view_replica G k p to && (not (from == to) && (not (is_empty (G.row k from p)) && (is_view_class_first G k p from && not (same_view_class G k p from to))))
 
 -- whom a node asks for their versions of a record: the firsts of all classes but its own, in list order
 unfoldable pub asks : Ground → ClusterKey → ℕ → ℕ → List ℕ
-asks G k p by = filter (λ n. is_first G k p n && not (same_class G k p by n)) (list G k p)
+asks G k p by = filter (λ n. is_view_class_first G k p n && not (same_view_class G k p by n))
+    (view_list G k p)

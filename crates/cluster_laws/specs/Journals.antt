@@ -9,24 +9,16 @@ use Rattle.node_rules.specs.Tables.{contains}
 use Rattle.cluster_rules.specs.Opening.{Header, header_lines}
 use Rattle.journal_readings.specs.Settings.{policy_of, factor_of, nodes}
 use Rattle.journal_readings.specs.Maps.{with_roles}
-use Rattle.cluster_laws.specs.Ground.{Ground, IsGround, list, acting}
+use Rattle.cluster_laws.specs.Ground.{Ground, IsGround, view_list, view_acting}
 use Rattle.cluster_laws.specs.Picture.{Packet, Picture, start}
 use Rattle.cluster_laws.specs.Licences.{Licensed}
 use Rattle.journal_readings.specs.Examples.{one, key}
 use Rattle.cluster_laws.specs.Laws.{picture}
-use Rattle.cluster_laws.specs.Weaker.{kept}
+use Rattle.cluster_laws.specs.Weaker.{lone_run}
 
 -- the journal of a header and the lines of the steps
 abbrev pub journal : Header → List Line → List Line
 journal h lines = header_lines h ++ lines
-
--- whether the line is one of a header
-abbrev pub is_header : Line → Bool
-is_header (line.Script version) = true
-is_header (line.Factor factor) = true
-is_header (line.Node n rack) = true
-is_header (line.Policy by) = true
-is_header _ = false
 
 -- the message that was sent under that number was sent to this endpoint
 abbrev pub IsFor : Picture → ℕ → ℕ → Type 0
@@ -36,19 +28,19 @@ IsFor w i b = (p : Packet) → w.packet i ≡ Some p → p.to ≡ b
 -- acting master by their rows
 pub record ShowsGround (G : Ground) (w : Picture) (n : ℕ) (k : ClusterKey) (p : ℕ) (ms : List Member) (a : ℕ) : Type 0 where
   pub exchanged : (w.stay n k).exchanged ≡ true
-  pub members : ms ≡ with_roles (G.members k) (list G k p)
-  pub acting : a ≡ acting G k p
+  pub members : ms ≡ with_roles (G.members k) (view_list G k p)
+  pub acting : a ≡ view_acting G k p
 
 -- what a line of a journal says besides its licence: a node that stores a version is declared, a message arrives where it
 -- was sent to, and a map is shown by the ground
-abbrev pub Fits : Ground → List ℕ → Picture → Line → Type 0
-Fits G declared w (line.Apply n k t d v) = IsTrue (contains declared n)
-Fits G declared w (line.Merge n k d v) = IsTrue (contains declared n)
-Fits G declared w (line.Deliver i a b) = IsFor w i b
-Fits G declared w (line.Repeat i a b) = IsFor w i b
-Fits G declared w (line.Cut i a b size) = IsFor w i b
-Fits G declared w (line.Map n k p ms a) = ShowsGround G w n k p ms a
-Fits G declared w _ = Unit {0}
+abbrev pub FitsGround : Ground → List ℕ → Picture → Line → Type 0
+FitsGround G declared w (line.Apply n k t d v) = IsTrue (contains declared n)
+FitsGround G declared w (line.Merge n k d v) = IsTrue (contains declared n)
+FitsGround G declared w (line.Deliver i a b) = IsFor w i b
+FitsGround G declared w (line.Repeat i a b) = IsFor w i b
+FitsGround G declared w (line.Cut i a b size) = IsFor w i b
+FitsGround G declared w (line.Map n k p ms a) = ShowsGround G w n k p ms a
+FitsGround G declared w _ = Unit {0}
 
 -- the lines are those of steps under that header, over that ground
 pub record IsJournal (h : Header) (G : Ground) (lines : List Line) : Type 0 where
@@ -58,7 +50,7 @@ pub record IsJournal (h : Header) (G : Ground) (lines : List Line) : Type 0 wher
   pub factor : G.factor ≡ factor_of (journal h lines)
   -- each line has its licence and fits
   pub licensed : Licensed G start lines
-  pub fits : (i : ℕ) (l : Line) → slice_get lines i ≡ Some l → Fits G (nodes (journal h lines)) (picture G lines i) l
+  pub fits : (i : ℕ) (l : Line) → slice_get lines i ≡ Some l → FitsGround G (nodes (journal h lines)) (picture G lines i) l
 
 -- it holds of every journal
 abbrev pub OfJournals : (List Line → Type 0) → Type 0
@@ -69,5 +61,5 @@ abbrev pub lone_header : Header
 lone_header = header.Script 1 ∷ header.Node 1 None ∷ []
 
 -- its run, and the map that it shows at the end
-abbrev pub shown : List Line
-shown = kept ++ line.Map 1 (key 2 1) 4095 one 1 ∷ []
+abbrev pub shown_run : List Line
+shown_run = lone_run ++ line.Map 1 (key 2 1) 4095 one 1 ∷ []

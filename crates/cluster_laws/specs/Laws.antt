@@ -9,22 +9,23 @@ use Rattle.wire_messages.specs.declared.message.Batch.{Batch}
 use Rattle.wire_messages.specs.declared.message.Message.TheVariants as message
 use Rattle.journal_lines.specs.declared.line.Line.{Line}
 use Rattle.journal_lines.specs.declared.line.Line.TheVariants as line
-use Rattle.cluster_laws.specs.Ground.{Ground, IsGround, master, is_replica, all_empty, same_class}
+use Rattle.cluster_laws.specs.Ground.{Ground, IsGround, view_master, is_view_replica, is_view_empty, same_view_class}
 use Rattle.cluster_laws.specs.Stay.{Applied}
 use Rattle.cluster_laws.specs.Picture.{Picture, start}
-use Rattle.cluster_laws.specs.Licences.{WasSent, IsAmong, Licensed, after_all}
+use Rattle.cluster_laws.specs.Licences.{WasSent, IsAmong, Licensed, picture_after_all}
 
 -- the picture after so many lines
 abbrev pub picture : Ground → List Line → ℕ → Picture
-picture G lines i = after_all G start (take i lines)
+picture G lines i = picture_after_all G start (take i lines)
 
 -- it holds of the picture at every line of every licensed run
 abbrev pub Always : (Ground → Picture → Type 0) → Type 0
 Always P = (G : Ground) → IsGround G → (lines : List Line) → Licensed G start lines → (i : ℕ) → P G (picture G lines i)
 
 -- it holds of every licensed run
-abbrev pub OfRuns : (Ground → List Line → Type 0) → Type 0
-OfRuns P = (G : Ground) → IsGround G → (lines : List Line) → Licensed G start lines → P G lines
+abbrev pub OfLicensedRuns : (Ground → List Line → Type 0) → Type 0
+OfLicensedRuns P = (G : Ground) → IsGround G → (lines : List Line) → Licensed G start lines
+    → P G lines
 
 -- ---- bounds
 
@@ -38,34 +39,34 @@ pub record IsBounded (G : Ground) (w : Picture) : Type 0 where
 -- ---- equal copies
 
 -- members of one class entered the view with equal copies
-abbrev pub EqualClasses : Ground → Picture → Type 0
-EqualClasses G w = (k : ClusterKey) (p a b : ℕ) (d : List ℕ) → (w.stay a k).entered ≡ true → (w.stay b k).entered ≡ true → same_class G k p a b ≡ true → partition_of d ≡ p
+abbrev pub ClassesEnterEqual : Ground → Picture → Type 0
+ClassesEnterEqual G w = (k : ClusterKey) (p a b : ℕ) (d : List ℕ) → (w.stay a k).entered ≡ true → (w.stay b k).entered ≡ true → same_view_class G k p a b ≡ true → partition_of d ≡ p
     → (w.stay a k).entry d ≡ (w.stay b k).entry d
 
 -- ---- no loss
 
 -- the greatest version that was ever applied stands in some store
-abbrev pub NoLoss : Ground → Picture → Type 0
-NoLoss G w = (d : List ℕ) (v : Version) → w.applied d ≡ Some v → (n : ℕ) × ((w.node n).content d ≡ Some v)
+abbrev pub GreatestIsStored : Ground → Picture → Type 0
+GreatestIsStored G w = (d : List ℕ) (v : Version) → w.applied d ≡ Some v → (n : ℕ) × ((w.node n).content d ≡ Some v)
 
 -- ---- settled partitions
 
 -- the list master has written that the partition is settled, or it has finished the exchange and all copies were empty
 abbrev pub IsSettled : Ground → Picture → ClusterKey → ℕ → Type 0
-IsSettled G w k p = (w.settled k p ≡ true) ⊎ ((all_empty G k p ≡ true) × ((w.stay (master G k p) k).exchanged ≡ true))
+IsSettled G w k p = (w.settled k p ≡ true) ⊎ ((is_view_empty G k p ≡ true) × ((w.stay (view_master G k p) k).exchanged ≡ true))
 
 -- each write of the list master is done
 abbrev pub HasNoOpenWrite : Ground → Picture → ClusterKey → ℕ → Type 0
-HasNoOpenWrite G w k p = (t : ℕ) (e : Applied) → (w.stay (master G k p) k).writes t ≡ Some e → partition_of e.digest ≡ p → (w.stay (master G k p) k).done t ≡ true
+HasNoOpenWrite G w k p = (t : ℕ) (e : Applied) → (w.stay (view_master G k p) k).writes t ≡ Some e → partition_of e.digest ≡ p → (w.stay (view_master G k p) k).done t ≡ true
 
 -- where a partition is settled and no write of its list master is open, each replica that is in the view holds the fold
-abbrev pub SettledJoin : Ground → Picture → Type 0
-SettledJoin G w = (k : ClusterKey) (p r : ℕ) (d : List ℕ) → IsSettled G w k p → HasNoOpenWrite G w k p → is_replica G k p r ≡ true → (w.node r).view ≡ Some k → partition_of d ≡ p
+abbrev pub SettledHoldFold : Ground → Picture → Type 0
+SettledHoldFold G w = (k : ClusterKey) (p r : ℕ) (d : List ℕ) → IsSettled G w k p → HasNoOpenWrite G w k p → is_view_replica G k p r ≡ true → (w.node r).view ≡ Some k → partition_of d ≡ p
     → (w.node r).content d ≡ w.fold k d
 
 -- ---- reads
 
 -- a read answers the fold, and a write makes the next version of it
-pub record ReadJoin (G : Ground) (lines : List Line) : Type 0 where
+pub record ReadsAnswerFold (G : Ground) (lines : List Line) : Type 0 where
   pub value : (i n t : ℕ) (k : ClusterKey) (d : List ℕ) (v : Option Version) → slice_get lines i ≡ Some (line.Value n k t d v) → v ≡ (picture G lines i).fold k d
   pub apply : (i n t : ℕ) (k : ClusterKey) (d : List ℕ) (v : Version) → slice_get lines i ≡ Some (line.Apply n k t d v) → v ≡ next ((picture G lines i).fold k d) ((picture G lines i).node n).clock v.body

@@ -21,7 +21,7 @@ use Rattle.journal_lines.specs.declared.line.Line.{Line}
 use Rattle.journal_lines.specs.declared.line.Line.TheVariants as line
 use Rattle.node_rules.specs.Tables.{contains}
 use Rattle.node_rules.specs.Transactions.{Write}
-use Rattle.cluster_laws.specs.Ground.{Ground, is_member, master, acting, is_replica, all_empty}
+use Rattle.cluster_laws.specs.Ground.{Ground, is_view_member, view_master, view_acting, is_view_replica, is_view_empty}
 use Rattle.cluster_laws.specs.Stay.{Versions, Running, Stay}
 use Rattle.cluster_laws.specs.Picture.{Packet, Owed, Picture}
 use Rattle.cluster_laws.specs.Effect.{effect}
@@ -48,7 +48,7 @@ pub record IsAmong (records : List (List ℕ × Version)) (d : List ℕ) (v : Ve
   pub here : slice_get records place ≡ Some (d, v)
 
 -- a record of the partition is held
-pub record Holds (content : Versions) (p : ℕ) : Type 0 where
+pub record HoldsRecordOf (content : Versions) (p : ℕ) : Type 0 where
   pub digest : List ℕ
   pub version : Version
   pub is_of : partition_of digest ≡ p
@@ -57,8 +57,8 @@ pub record Holds (content : Versions) (p : ℕ) : Type 0 where
 -- the state of a partition's copy, with that stamp
 abbrev pub IsState : Versions → Option (ClusterKey × ℕ) → ℕ → CopyState → Type 0
 IsState content stamp p Empty = (d : List ℕ) → partition_of d ≡ p → content d ≡ None
-IsState content stamp p Part = (stamp ≡ None) × Holds content p
-IsState content stamp p (Whole k writes) = (stamp ≡ Some (k, writes)) × Holds content p
+IsState content stamp p Part = (stamp ≡ None) × HoldsRecordOf content p
+IsState content stamp p (Whole k writes) = (stamp ≡ Some (k, writes)) × HoldsRecordOf content p
 
 -- nothing of the partition is pending from a node that has finished the exchange
 pub record IsDone (s : Stay) (p : ℕ) : Type 0 where
@@ -68,7 +68,7 @@ pub record IsDone (s : Stay) (p : ℕ) : Type 0 where
 -- the node is done at the partition and knows every other member done
 pub record AllDone (G : Ground) (n : ℕ) (k : ClusterKey) (s : Stay) (p : ℕ) : Type 0 where
   pub own : IsDone s p
-  pub others : (m : ℕ) → is_member G k m ≡ true → (m ≡ n → ⊥) → s.told m p ≡ true
+  pub others : (m : ℕ) → is_view_member G k m ≡ true → (m ≡ n → ⊥) → s.told m p ≡ true
 
 -- no transaction is open on the partition
 pub record IsFree (s : Stay) (p : ℕ) : Type 0 where
@@ -78,13 +78,13 @@ pub record IsFree (s : Stay) (p : ℕ) : Type 0 where
 -- another, from its settling on. Both go by its own lines
 abbrev pub Acts : Ground → ℕ → ClusterKey → Stay → ℕ → Type 0
 Acts G n k s p =
-    ((n ≡ acting G k p) × (s.own_handed p ≡ false)) ⊎ ((n ≡ master G k p) × (n ≡ acting G k p → ⊥) × (s.own_settled p ≡ true))
+    ((n ≡ view_acting G k p) × (s.own_handed p ≡ false)) ⊎ ((n ≡ view_master G k p) × (n ≡ view_acting G k p → ⊥) × (s.own_settled p ≡ true))
 
 -- ---- lines
 
 pub record MayEnter (G : Ground) (w : Picture) (n : ℕ) (k : ClusterKey) : Type 0 where
   pub above : key_lt (w.node n).last k ≡ true
-  pub member : is_member G k n ≡ true
+  pub member : is_view_member G k n ≡ true
   pub row : (p : ℕ) → IsState (w.node n).content ((w.node n).stamp p) p (G.row k n p)
   -- no merge is owed
   pub quiet : w.owed ≡ None
@@ -92,7 +92,7 @@ pub record MayEnter (G : Ground) (w : Picture) (n : ℕ) (k : ClusterKey) : Type
 pub record MayExchange (G : Ground) (w : Picture) (n : ℕ) (k : ClusterKey) : Type 0 where
   pub is_in : IsIn w n k
   pub first : (w.stay n k).exchanged ≡ false
-  pub rows : (m : ℕ) → is_member G k m ≡ true → (w.stay n k).rows m ≡ true
+  pub rows : (m : ℕ) → is_view_member G k m ≡ true → (w.stay n k).rows m ≡ true
 
 pub record MayOpen (G : Ground) (w : Picture) (n : ℕ) (k : ClusterKey) (t : ℕ) (d : List ℕ) : Type 0 where
   pub is_in : IsIn w n k
@@ -136,7 +136,7 @@ pub record CameCounted (G : Ground) (w : Picture) (n : ℕ) (k : ClusterKey) (d 
   pub number : ℕ
   pub nth : ℕ
   pub came : WasSent w from n (message.Repl k number nth d v)
-  pub counted : from ≡ master G k (partition_of d) → contains ((w.stay n k).numbers (partition_of d)) nth ≡ true
+  pub counted : from ≡ view_master G k (partition_of d) → contains ((w.stay n k).numbers (partition_of d)) nth ≡ true
 
 -- a batch or a write of the view brought the version
 abbrev pub Brought : Ground → Picture → ℕ → ClusterKey → List ℕ → Version → ℕ → Type 0
@@ -151,45 +151,46 @@ pub record MayMerge (G : Ground) (w : Picture) (n : ℕ) (k : ClusterKey) (d : L
 
 pub record MayHand (G : Ground) (w : Picture) (n : ℕ) (k : ClusterKey) (p : ℕ) : Type 0 where
   pub is_in : IsIn w n k
-  pub acting : n ≡ acting G k p
-  pub other : n ≡ master G k p → ⊥
+  pub acting : n ≡ view_acting G k p
+  pub other : n ≡ view_master G k p → ⊥
   pub all_done : AllDone G n k (w.stay n k) p
   pub free : IsFree (w.stay n k) p
 
 pub record MaySettle (G : Ground) (w : Picture) (n : ℕ) (k : ClusterKey) (p : ℕ) : Type 0 where
   pub is_in : IsIn w n k
   pub exchanged : (w.stay n k).exchanged ≡ true
-  pub master : n ≡ master G k p
-  pub some : all_empty G k p ≡ false
-  pub moved : ((w.stay n k).handed p ≡ true) ⊎ ((n ≡ acting G k p) × AllDone G n k (w.stay n k) p)
+  pub master : n ≡ view_master G k p
+  pub some : is_view_empty G k p ≡ false
+  pub moved : ((w.stay n k).handed p ≡ true)
+      ⊎ ((n ≡ view_acting G k p) × AllDone G n k (w.stay n k) p)
   pub free : IsFree (w.stay n k) p
 
 pub record MayLearn (G : Ground) (w : Picture) (n : ℕ) (k : ClusterKey) (p : ℕ) : Type 0 where
   pub is_in : IsIn w n k
   pub settled : (w.stay n k).settled p ≡ true
-  pub replica : is_replica G k p n ≡ true
+  pub replica : is_view_replica G k p n ≡ true
 
 pub record MayDrop (G : Ground) (w : Picture) (n : ℕ) (k : ClusterKey) (p : ℕ) : Type 0 where
   pub is_in : IsIn w n k
   pub settled : (w.stay n k).settled p ≡ true
   pub done : IsDone (w.stay n k) p
-  pub outside : is_replica G k p n ≡ false
+  pub outside : is_view_replica G k p n ≡ false
 
 -- ---- messages
 
 -- each record is held so, and is pending to the receiver
-pub record AreHeld (content : Versions) (s : Stay) (r : ℕ) (records : List (List ℕ × Version)) : Type 0 where
+pub record AreHeldAndPending (content : Versions) (s : Stay) (r : ℕ) (records : List (List ℕ × Version)) : Type 0 where
   pub held : (d : List ℕ) (v : Version) → IsAmong records d v → content d ≡ Some v
   pub pending : (d : List ℕ) (v : Version) → IsAmong records d v → s.pending r d ≡ true
 
 -- the batch that is out goes again, or the next one, where none is out
-abbrev pub IsBatch : Versions → Stay → ℕ → Batch → Type 0
-IsBatch content s r b = (s.out r ≡ Some b) ⊎ ((s.out r ≡ None) × (b.number ≡ s.batches r + 1) × AreHeld content s r b.records)
+abbrev pub IsBatchToSend : Versions → Stay → ℕ → Batch → Type 0
+IsBatchToSend content s r b = (s.out r ≡ Some b) ⊎ ((s.out r ≡ None) × (b.number ≡ s.batches r + 1) × AreHeldAndPending content s r b.records)
 
 pub record MayBatch (w : Picture) (n r : ℕ) (b : Batch) : Type 0 where
   pub is_in : IsIn w n b.key
   pub exchanged : (w.stay n b.key).exchanged ≡ true
-  pub batch : IsBatch (w.node n).content (w.stay n b.key) r b
+  pub batch : IsBatchToSend (w.node n).content (w.stay n b.key) r b
 
 -- the batch came, and each of its records is held now
 pub record MayAckBatch (G : Ground) (w : Picture) (n r : ℕ) (k : ClusterKey) (number : ℕ) : Type 0 where
@@ -211,7 +212,7 @@ pub record MayReplicate (G : Ground) (w : Picture) (n r : ℕ) (k : ClusterKey) 
   pub running : (w.stay n k).running t ≡ Some transaction
   pub digest : transaction.digest ≡ d
   pub applied : transaction.applied ≡ Some (record { version = v; nth = nth })
-  pub replica : is_replica G k (partition_of d) r ≡ true
+  pub replica : is_view_replica G k (partition_of d) r ≡ true
   pub other : r ≡ n → ⊥
 
 -- the write came, counts where the list master sent it, and is held now
@@ -221,7 +222,7 @@ pub record MayAckWrite (G : Ground) (w : Picture) (n r : ℕ) (k : ClusterKey) (
   pub digest : List ℕ
   pub version : Version
   pub came : WasSent w r n (message.Repl k t nth digest version)
-  pub counted : r ≡ master G k (partition_of digest) → contains ((w.stay n k).numbers (partition_of digest)) nth ≡ true
+  pub counted : r ≡ view_master G k (partition_of digest) → contains ((w.stay n k).numbers (partition_of digest)) nth ≡ true
   pub held : AtMost G.by (Some version) ((w.node n).content digest)
 
 pub record MayAsk (w : Picture) (n : ℕ) (k : ClusterKey) (t : ℕ) (d : List ℕ) : Type 0 where
@@ -281,14 +282,14 @@ Ok G w l = (w.owed ≡ None) × Guard G w l
 -- ---- runs
 
 -- the picture after a line
-abbrev pub after : Ground → Picture → Line → Picture
-after G w l = act G (effect w l) w
+abbrev pub picture_after : Ground → Picture → Line → Picture
+picture_after G w l = act G (effect w l) w
 
-abbrev pub after_all : Ground → Picture → List Line → Picture
-after_all G w [] = w
-after_all G w (l ∷ ls) = after_all G (after G w l) ls
+abbrev pub picture_after_all : Ground → Picture → List Line → Picture
+picture_after_all G w [] = w
+picture_after_all G w (l ∷ ls) = picture_after_all G (picture_after G w l) ls
 
 -- each line may stand after those before it
 abbrev pub Licensed : Ground → Picture → List Line → Type 0
 Licensed G w [] = Unit {0}
-Licensed G w (l ∷ ls) = Ok G w l × Licensed G (after G w l) ls
+Licensed G w (l ∷ ls) = Ok G w l × Licensed G (picture_after G w l) ls

@@ -48,13 +48,19 @@ pub record Picture : Type 0 where
   pub owed : Option Owed
 
 -- a node to which nothing has happened
-abbrev pub fresh : Seen
-fresh = record { view = None; last = keys.none; content = λ _. None; stamp = λ _. None; clock = 0 }
+abbrev pub fresh_node : Seen
+fresh_node = record {
+  view = None;
+  last = keys.none;
+  content = λ _. None;
+  stamp = λ _. None;
+  clock = 0;
+}
 
 -- before the first line
 abbrev pub start : Picture
 start = record {
-  node = λ _. fresh;
+  node = λ _. fresh_node;
   stay = λ _ _. blank;
   packet = λ _. None;
   handed = λ _ _. false;

@@ -22,15 +22,16 @@ use Rattle.journal_lines.specs.declared.line.Line.{Line}
 use Rattle.journal_lines.specs.declared.line.Line.TheVariants as line
 use Rattle.node_rules.specs.Keys.{same_key}
 use Rattle.journal_readings.specs.Examples.{digest, second, key, version, one, two, both}
-use Rattle.cluster_laws.specs.Ground.{Ground, IsGround, master, acting, is_replica, all_empty}
+use Rattle.cluster_laws.specs.Ground.{Ground, IsGround, view_master, view_acting, is_view_replica, is_view_empty}
 use Rattle.cluster_laws.specs.Stay.{Running}
 use Rattle.cluster_laws.specs.Picture.{Picture, start}
-use Rattle.cluster_laws.specs.Licences.{IsIn, WasSent, IsAmong, IsDone, IsFree, Acts, Ok, after, after_all}
+use Rattle.cluster_laws.specs.Licences.{IsIn, WasSent, IsAmong, IsDone, IsFree, Acts, Ok, picture_after, picture_after_all}
 
 -- each line has its licence, or one of these besides
 abbrev pub LicensedOr : (Ground → Picture → Line → Type 0) → Ground → Picture → List Line → Type 0
 LicensedOr Extra G w [] = Unit {0}
-LicensedOr Extra G w (l ∷ ls) = (Ok G w l ⊎ Extra G w l) × LicensedOr Extra G (after G w l) ls
+LicensedOr Extra G w (l ∷ ls) = (Ok G w l ⊎ Extra G w l)
+    × LicensedOr Extra G (picture_after G w l) ls
 
 -- ---- what is allowed besides
 
@@ -87,12 +88,12 @@ first_view =
     ∷ line.Opened 1 (key 1 1) 1 digest action.Put ∷ line.Apply 1 (key 1 1) 1 digest (version 0 1 97) ∷ line.Done 1 (key 1 1) 1 ∷ []
 
 -- it enters another view, and settles the partition
-abbrev pub kept : List Line
-kept = first_view ++ line.Enter 1 (key 2 1) one ∷ line.Exchanged 1 (key 2 1) ∷ line.Settled 1 (key 2 1) 4095 ∷ []
+abbrev pub lone_run : List Line
+lone_run = first_view ++ line.Enter 1 (key 2 1) one ∷ line.Exchanged 1 (key 2 1) ∷ line.Settled 1 (key 2 1) 4095 ∷ []
 
 -- and drops its copy
 abbrev pub thrown_away : List Line
-thrown_away = kept ++ line.Drop 1 (key 2 1) 4095 ∷ []
+thrown_away = lone_run ++ line.Drop 1 (key 2 1) 4095 ∷ []
 
 -- ---- two nodes
 
@@ -100,7 +101,7 @@ thrown_away = kept ++ line.Drop 1 (key 2 1) 4095 ∷ []
 pub record DropsEarly (G : Ground) (w : Picture) (n : ℕ) (k : ClusterKey) (p : ℕ) : Type 0 where
   pub is_in : IsIn w n k
   pub done : IsDone (w.stay n k) p
-  pub outside : is_replica G k p n ≡ false
+  pub outside : is_view_replica G k p n ≡ false
 
 abbrev pub Unsettled : Ground → Picture → Line → Type 0
 Unsettled G w (line.Drop n k p) = DropsEarly G w n k p
@@ -130,9 +131,9 @@ abbrev pub handed_on : Batch
 handed_on = record { key = key 4 2; number = 1; records = (digest, version 0 1 97) ∷ [] }
 
 -- node 1 hands its record on, and writes another version as long as it acts
-abbrev pub met : List Line
-met =
-    kept ++ line.Enter 2 (key 4 2) both ∷ line.Enter 1 (key 4 2) both
+abbrev pub met_run : List Line
+met_run =
+    lone_run ++ line.Enter 2 (key 4 2) both ∷ line.Enter 1 (key 4 2) both
     ∷ line.Sent 1 2 1 (spelling (message.State (key 4 2) true [])) ∷ line.Deliver 1 2 1 ∷ line.Exchanged 1 (key 4 2)
     ∷ line.Sent 2 1 2 (spelling (message.Batch handed_on)) ∷ line.Merge 2 (key 4 2) digest (version 0 1 97)
     ∷ line.Sent 3 2 1 (spelling (message.BatchAck (key 4 2) 1)) ∷ line.Deliver 3 2 1
@@ -140,7 +141,7 @@ met =
 
 -- and drops its copy
 abbrev pub dropped_early : List Line
-dropped_early = met ++ line.Drop 1 (key 4 2) 4095 ∷ []
+dropped_early = met_run ++ line.Drop 1 (key 4 2) 4095 ∷ []
 
 -- ---- two sides
 
@@ -164,9 +165,9 @@ Earlier G w _ = ⊥
 -- a list master that acts settles when its own records are acknowledged, though those of others may not be
 pub record SettlesEarly (G : Ground) (w : Picture) (n : ℕ) (k : ClusterKey) (p : ℕ) : Type 0 where
   pub is_in : IsIn w n k
-  pub master : n ≡ master G k p
-  pub acting : n ≡ acting G k p
-  pub some : all_empty G k p ≡ false
+  pub master : n ≡ view_master G k p
+  pub acting : n ≡ view_acting G k p
+  pub some : is_view_empty G k p ≡ false
   pub own : IsDone (w.stay n k) p
   pub free : IsFree (w.stay n k) p
 
@@ -194,8 +195,8 @@ side n members d v =
     line.Enter n (key 1 n) members ∷ line.Exchanged n (key 1 n)
     ∷ line.Opened n (key 1 n) 1 d action.Put ∷ line.Apply n (key 1 n) 1 d v ∷ line.Done n (key 1 n) 1 ∷ []
 
-abbrev pub apart : List Line
-apart = side 1 one digest (version 0 1 97) ++ side 2 two second (version 0 1 98)
+abbrev pub both_sides : List Line
+both_sides = side 1 one digest (version 0 1 97) ++ side 2 two second (version 0 1 98)
 
 -- they meet, and node 2 finishes the exchange
 abbrev pub meeting : List Line
@@ -204,25 +205,25 @@ meeting =
     ∷ line.Sent 1 1 2 (spelling (message.State (key 4 2) true (side_row 1 1))) ∷ line.Deliver 1 1 2 ∷ line.Exchanged 2 (key 4 2) ∷ []
 
 abbrev pub together : List Line
-together = apart ++ meeting
+together = both_sides ++ meeting
 
 -- node 2 reads both records, and its question about the one that it has itself comes to node 1
-abbrev pub asking : List Line
-asking =
+abbrev pub question_lines : List Line
+question_lines =
     line.Opened 2 (key 4 2) 1 second action.Get ∷ line.Sent 2 2 1 (spelling (message.Ask (key 4 2) 1 second)) ∷ line.Deliver 2 2 1
     ∷ line.Opened 2 (key 4 2) 2 digest action.Get ∷ []
 
-abbrev pub asked : List Line
-asked = together ++ asking
+abbrev pub asked_run : List Line
+asked_run = together ++ question_lines
 
 -- that node 1 has no such record is taken for the answer about the other one
-abbrev pub answering : List Line
-answering =
+abbrev pub wrong_answer_lines : List Line
+wrong_answer_lines =
     line.Sent 3 1 2 (spelling (message.Answer (key 4 2) 2 None)) ∷ line.Deliver 3 1 2
     ∷ line.Value 2 (key 4 2) 2 digest None ∷ []
 
 abbrev pub mistaken : List Line
-mistaken = asked ++ answering
+mistaken = asked_run ++ wrong_answer_lines
 
 -- node 2 settles the partition without the record of node 1
 abbrev pub settled_early : List Line
@@ -241,12 +242,13 @@ pub record AcksPart (G : Ground) (w : Picture) (n r : ℕ) (k : ClusterKey) (num
   pub among : IsAmong batch.records digest version
   pub held : AtMost G.by (Some version) ((w.node n).content digest)
 
-abbrev pub IsPart : Ground → Picture → ℕ → ℕ → Option Message → Type 0
-IsPart G w n r (Some (message.BatchAck k number)) = AcksPart G w n r k number
-IsPart G w n r _ = ⊥
+abbrev pub IsPartialAck : Ground → Picture → ℕ → ℕ → Option Message → Type 0
+IsPartialAck G w n r (Some (message.BatchAck k number)) = AcksPart G w n r k number
+IsPartialAck G w n r _ = ⊥
 
 abbrev pub Incomplete : Ground → Picture → Line → Type 0
-Incomplete G w (line.Sent i n r bytes) = (w.packet i ≡ None) × IsPart G w n r (message_of bytes)
+Incomplete G w (line.Sent i n r bytes) = (w.packet i ≡ None)
+    × IsPartialAck G w n r (message_of bytes)
 Incomplete G w _ = ⊥
 
 -- another digest of partition 4095
@@ -267,39 +269,39 @@ abbrev pub two_records : Batch
 two_records = record { key = key 4 2; number = 1; records = (digest, version 0 1 97) ∷ (third, version 0 1 99) ∷ [] }
 
 -- they meet, and node 2 merges the first record of node 1's batch
-abbrev pub sending : List Line
-sending =
+abbrev pub batch_lines : List Line
+batch_lines =
     line.Enter 2 (key 4 2) both ∷ line.Enter 1 (key 4 2) both
     ∷ line.Sent 1 1 2 (spelling (message.State (key 4 2) true (side_row 1 2))) ∷ line.Deliver 1 1 2 ∷ line.Exchanged 2 (key 4 2)
     ∷ line.Sent 2 2 1 (spelling (message.State (key 4 2) false (side_row 2 1))) ∷ line.Deliver 2 2 1 ∷ line.Exchanged 1 (key 4 2)
     ∷ line.Sent 3 1 2 (spelling (message.Batch two_records)) ∷ line.Merge 2 (key 4 2) digest (version 0 1 97) ∷ []
 
-abbrev pub sent : List Line
-sent = laden_apart ++ sending
+abbrev pub batch_run : List Line
+batch_run = laden_apart ++ batch_lines
 
 -- rows of bits, as bytes: of all partitions, of none, and of partition 4095
 abbrev pub all_bits : List ℕ
 all_bits = replicate 512 255
 
-abbrev pub no_bits : List ℕ
-no_bits = replicate 512 0
+abbrev pub no_bits_bytes : List ℕ
+no_bits_bytes = replicate 512 0
 
 abbrev pub last_bit : List ℕ
 last_bit = replicate 511 0 ++ 128 ∷ []
 
 -- a Progress with a done and a handed row, as bytes: its kind, the key, that none is wanted back, and the rows; nothing is
 -- settled
-abbrev pub progress : List ℕ → List ℕ → List ℕ
-progress done handed = concat (byte_field 9 ∷ key_field (key 4 2) ∷ flag_field false ∷ done ∷ handed ∷ no_bits ∷ [])
+abbrev pub progress_bytes : List ℕ → List ℕ → List ℕ
+progress_bytes done handed = concat (byte_field 9 ∷ key_field (key 4 2) ∷ flag_field false ∷ done ∷ handed ∷ no_bits_bytes ∷ [])
 
 -- node 2 acknowledges the batch, node 1 says that it is done, and node 2 settles
-abbrev pub settling : List Line
-settling =
+abbrev pub early_settling_lines : List Line
+early_settling_lines =
     line.Sent 4 2 1 (spelling (message.BatchAck (key 4 2) 1)) ∷ line.Deliver 4 2 1
-    ∷ line.Sent 5 1 2 (progress all_bits no_bits) ∷ line.Deliver 5 1 2 ∷ line.Settled 2 (key 4 2) 4095 ∷ []
+    ∷ line.Sent 5 1 2 (progress_bytes all_bits no_bits_bytes) ∷ line.Deliver 5 1 2 ∷ line.Settled 2 (key 4 2) 4095 ∷ []
 
 abbrev pub settled_in_part : List Line
-settled_in_part = sent ++ settling
+settled_in_part = batch_run ++ early_settling_lines
 
 -- ---- a late write
 
@@ -308,7 +310,7 @@ pub record OpensLate (G : Ground) (w : Picture) (n : ℕ) (k : ClusterKey) (t : 
   pub is_in : IsIn w n k
   pub exchanged : (w.stay n k).exchanged ≡ true
   pub number : t ≡ (w.stay n k).opened + 1
-  pub acts : n ≡ acting G k (partition_of d)
+  pub acts : n ≡ view_acting G k (partition_of d)
   pub free : (u : ℕ) (y : Running) → (w.stay n k).running u ≡ Some y → y.digest ≡ d → ⊥
 
 abbrev pub Late : Ground → Picture → Line → Type 0
@@ -319,8 +321,8 @@ Late G w _ = ⊥
 abbrev pub handing_row : ClusterKey → ℕ → ℕ → CopyState
 handing_row k n p = if same_key k (key 4 2) then state_of (if n == 1 then side_row 1 1 else []) p else Empty
 
-abbrev pub handing : Ground
-handing = record { by = Time; factor = 1; members = sides_members; row = handing_row }
+abbrev pub handing_ground : Ground
+handing_ground = record { by = Time; factor = 1; members = sides_members; row = handing_row }
 
 -- node 1 hands its record on, and then the partition over
 abbrev pub moving : List Line
@@ -330,7 +332,7 @@ moving =
     ∷ line.Sent 2 1 2 (spelling (message.State (key 4 2) false (side_row 1 1))) ∷ line.Deliver 2 1 2 ∷ line.Exchanged 2 (key 4 2)
     ∷ line.Sent 3 1 2 (spelling (message.Batch handed_on)) ∷ line.Merge 2 (key 4 2) digest (version 0 1 97)
     ∷ line.Sent 4 2 1 (spelling (message.BatchAck (key 4 2) 1)) ∷ line.Deliver 4 2 1
-    ∷ line.Sent 5 2 1 (progress all_bits no_bits) ∷ line.Deliver 5 2 1 ∷ line.Handed 1 (key 4 2) 4095 ∷ []
+    ∷ line.Sent 5 2 1 (progress_bytes all_bits no_bits_bytes) ∷ line.Deliver 5 2 1 ∷ line.Handed 1 (key 4 2) 4095 ∷ []
 
 abbrev pub handed_over : List Line
 handed_over = side 1 one digest (version 0 1 97) ++ moving
@@ -339,7 +341,7 @@ handed_over = side 1 one digest (version 0 1 97) ++ moving
 abbrev pub writing_late : List Line
 writing_late =
     line.Opened 1 (key 4 2) 1 digest action.Put ∷ line.Apply 1 (key 4 2) 1 digest (version 0 2 98)
-    ∷ line.Sent 6 1 2 (progress no_bits last_bit) ∷ line.Deliver 6 1 2 ∷ line.Settled 2 (key 4 2) 4095 ∷ []
+    ∷ line.Sent 6 1 2 (progress_bytes no_bits_bytes last_bit) ∷ line.Deliver 6 1 2 ∷ line.Settled 2 (key 4 2) 4095 ∷ []
 
 abbrev pub written_late : List Line
 written_late = handed_over ++ writing_late
@@ -354,4 +356,4 @@ pub record Breaks (Extra : Ground → Picture → Line → Type 0) (Law : Ground
 
 -- the law of the picture at the end
 abbrev pub AtEnd : (Ground → Picture → Type 0) → Ground → List Line → Type 0
-AtEnd P G ls = P G (after_all G start ls)
+AtEnd P G ls = P G (picture_after_all G start ls)

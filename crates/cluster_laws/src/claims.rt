@@ -1,7 +1,7 @@
 //! What holds of the journal of a licensed run, read off its lines alone. A call does nothing: what it
 //! ensures is the law. docs/JOURNALS.md says what is asked of a journal.
 ghost use Rattle.journal_readings.specs.Claims.{EqualClasses, NoLoss, OneMap, ReadJoin, SettledJoin};
-ghost use Rattle.cluster_laws.specs.Journals.{IsJournal, OfJournals, lone_header, shown};
+ghost use Rattle.cluster_laws.specs.Journals.{IsJournal, OfJournals, lone_header, shown_run};
 ghost use Rattle.cluster_laws.specs.Weaker.{lone};
 
 /// After every line the newest version of a record in any store is the newest that was ever applied.
@@ -34,5 +34,5 @@ pub fn equal_classes()
 
 /// The run of a node that is alone, with its header and the map that it shows, is such a journal.
 pub fn a_lone_run_is_a_journal()
-    ensures { IsJournal lone_header lone shown }
+    ensures { IsJournal lone_header lone shown_run }
 {}

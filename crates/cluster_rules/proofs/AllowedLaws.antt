@@ -11,15 +11,16 @@ use Rattle.script_lang.specs.declared.script.Command.{Command}
 use Rattle.script_lang.specs.declared.script.Command.TheVariants as command
 use Rattle.journal_lines.specs.declared.line.Line.{Line}
 use Rattle.journal_lines.specs.declared.line.Line.TheVariants as line
+use Rattle.node_rules.specs.Messages.{client}
 use Rattle.cluster_rules.specs.declared.event.Event.{Event}
 use Rattle.cluster_rules.specs.declared.event.Event.TheVariants as event
 use Rattle.cluster_rules.specs.Allowed.{may_come, AreAllowed, is_playable}
 use Rattle.journal_readings.specs.Lines.{has_node}
-use Rattle.cluster_rules.specs.Marks.{Mark, Begins, Writes, begun, after_line, after_all, came, came_to, came_to_client, sent_by}
+use Rattle.cluster_rules.specs.Marks.{Mark, Begins, Writes, event_begun, after_line, after_all, came, came_to, came_to_client, sent_by}
 use Rattle.journal_readings.specs.Messages.{Arrival, arrived, arrived_cut}
-use Rattle.cluster_rules.specs.Network.{client, posting_at, posting}
+use Rattle.cluster_rules.specs.Network.{posting_at, posting}
 use Rattle.cluster_rules.specs.Runs.{ComesToCalm, calming, Plays, PlaysAll}
-use Rattle.cluster_rules.specs.Steps.{Step, marks_of, all_marks, AreDue, Played, and_then, play, play_all, flow, flows, round, rounds}
+use Rattle.cluster_rules.specs.Steps.{Step, marks_of, all_marks, AreDue, Played, then_played, play, play_all, flow, flows, round, rounds}
 use Rattle.cluster_rules.specs.World.{World, is_up, up_nodes}
 use Rattle.cluster_rules.proofs.MarkLaws.{Follows, after_all-append, all, one, flow_follows, round_follows, rounds_follow}
 use Rattle.cluster_rules.proofs.RunLaws.{command_follows}
@@ -51,7 +52,7 @@ line_nodes w l = refl
 
 pub nodes_stay : (ms : List Mark) (w : World) → (after_all w ms).nodes ≡ w.nodes
 nodes_stay [] w = refl
-nodes_stay (Begins e ∷ ms) w = nodes_stay ms (begun w e)
+nodes_stay (Begins e ∷ ms) w = nodes_stay ms (event_begun w e)
 nodes_stay (Writes l ∷ ms) w = nodes_stay ms (after_line w l) ∙ line_nodes w l
 
 pub stay : (n : ℕ) (w : World) (x : Played) → Follows n w x → x.world.nodes ≡ w.nodes
@@ -109,7 +110,7 @@ allowed_append n [] ts w h i = i
 allowed_append n (s ∷ ss) ts w h i =
     (h.0, allowed_append n ss ts (after_all w (marks_of s)) h.1 (subst (λ (v : World). AreAllowed n v ts) (after_all-append w (marks_of s) (all_marks ss)) i))
 
-in_turn : (n : ℕ) (w : World) (x : Played) (next : World → Played) → Follows n w x → AreAllowed n w x.steps → AreAllowed n x.world (next x.world).steps → AreAllowed n w (and_then x next).steps
+in_turn : (n : ℕ) (w : World) (x : Played) (next : World → Played) → Follows n w x → AreAllowed n w x.steps → AreAllowed n x.world (next x.world).steps → AreAllowed n w (then_played x next).steps
 in_turn n w x next f h i = allowed_append n x.steps (next x.world).steps w h (subst (λ (v : World). AreAllowed n v (next x.world).steps) (sym f.leads) i)
 
 event_allowed : (n : ℕ) (w : World) (e : Event) → may_come n w e ≡ true → AreAllowed n w (play n e w).steps
@@ -188,7 +189,7 @@ and_right false b e = cc
 commands_allowed_in : (n : ℕ) (ns : List ℕ) (cs : List Command) (w : World) (x : Played) → w.nodes ≡ ns → list_all (is_playable ns) cs ≡ true → PlaysAll n w cs x → AreAllowed n w x.steps
 commands_allowed_in n ns [] w x same e h = by_same n w x _ h tt
 commands_allowed_in n ns (c ∷ cs) w x same e h =
-    by_same n w x (and_then h.first (λ v. h.others)) h.whole
+    by_same n w x (then_played h.first (λ v. h.others)) h.whole
     (in_turn n w h.first (λ v. h.others) first
     (command_allowed n w c h.first (ap (λ ms. is_playable ms c) same ∙ and_left (is_playable ns c) _ e) h.plays)
     (commands_allowed_in n ns cs h.first.world h.others (stay n w h.first first ∙ same) (and_right (is_playable ns c) _ e) h.follows))

@@ -20,10 +20,11 @@ use Rattle.node_rules.specs.Exchange.{View}
 use Rattle.node_rules.specs.Facts.{Facts, list_at}
 use Rattle.node_rules.specs.Notes as notes
 use Rattle.node_rules.specs.Notes.{note, reached, sent, in_view}
+use Rattle.node_rules.specs.Messages.{client}
 use Rattle.cluster_rules.specs.Marks.{Mark, Begins, Writes, after_line, after_all, by_node, came, came_to, came_to_client, sent_by, lines_among}
 use Rattle.journal_readings.specs.Messages.{Arrival, arrived, arrived_cut}
-use Rattle.cluster_rules.specs.Network.{client, posting_at, posting}
-use Rattle.cluster_rules.specs.World.{World, at, new_if}
+use Rattle.cluster_rules.specs.Network.{posting_at, posting}
+use Rattle.cluster_rules.specs.World.{World, changed_at, new_if}
 
 -- the part of a node's facts that only its own lines change, if any
 pub record Kept : Type 0 where
@@ -130,7 +131,7 @@ progress_same : (f : Facts) (from : ℕ) (done handed settled : List Bool) (b : 
 progress_same f from done handed settled true = refl
 progress_same f from done handed settled false = refl
 
-counted_same : (f : Facts) (key : ClusterKey) (l : List ℕ) (p nth : ℕ) (b : Bool) → kept_of (notes.counted_if f key l p nth b) ≡ kept_of f
+counted_same : (f : Facts) (key : ClusterKey) (l : List ℕ) (p nth : ℕ) (b : Bool) → kept_of (notes.write_counted_if f key l p nth b) ≡ kept_of f
 counted_same f key l p nth true = refl
 counted_same f key l p nth false = refl
 
@@ -167,7 +168,7 @@ pub num_same : (n m : ℕ) → (n == m) ≡ true → n ≡ m
 num_same n m e = grind (arith, nat_tests)
 
 -- a change of one node that leaves this part leaves that of every node
-one_same : (fs : ℕ → Facts) (m : ℕ) (new : Facts) (n : ℕ) → kept_of new ≡ kept_of (fs m) → kept_of (at fs m new n) ≡ kept_of (fs n)
+one_same : (fs : ℕ → Facts) (m : ℕ) (new : Facts) (n : ℕ) → kept_of new ≡ kept_of (fs m) → kept_of (changed_at fs m new n) ≡ kept_of (fs n)
 one_same fs m new n e = go (m == n) refl
   where
     go : (b : Bool) → (m == n) ≡ b → kept_of (new_if new fs n b) ≡ kept_of (fs n)

@@ -13,7 +13,7 @@ use Rattle.cluster_rules.specs.DueEvents.{due_of}
 use Rattle.cluster_rules.specs.Marks.{Mark, Begins, Writes, adds, after, after_line, after_all, line_in, lines_among}
 use Rattle.cluster_rules.specs.Opening.{Header, header_lines}
 use Rattle.cluster_rules.specs.Runs.{calming, run_marks}
-use Rattle.cluster_rules.specs.Steps.{Step, marks_of, all_marks, all_lines, AreDue, Played, no_steps, and_then, play, play_all, flow, flows, round, rounds}
+use Rattle.cluster_rules.specs.Steps.{Step, marks_of, all_marks, all_lines, AreDue, Played, no_steps, then_played, play, play_all, flow, flows, round, rounds}
 use Rattle.cluster_rules.specs.World.{World, up_nodes}
 
 -- ---- the lines among marks
@@ -94,7 +94,7 @@ due_append n [] ts w h i = i
 due_append n (s ∷ ss) ts w h i =
     (h.0, due_append n ss ts (after_all w (marks_of s)) h.1 (subst (λ (v : World). AreDue n v ts) (after_all-append w (marks_of s) (all_marks ss)) i))
 
-pub joined : (n : ℕ) (w : World) (x : Played) (next : World → Played) → Follows n w x → Follows n x.world (next x.world) → Follows n w (and_then x next)
+pub joined : (n : ℕ) (w : World) (x : Played) (next : World → Played) → Follows n w x → Follows n x.world (next x.world) → Follows n w (then_played x next)
 joined n w x next h i = record {
   due = due_append n x.steps (next x.world).steps w h.due (subst (λ (v : World). AreDue n v (next x.world).steps) (sym h.leads) i.due);
   leads =

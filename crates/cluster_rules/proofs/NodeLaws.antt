@@ -17,10 +17,10 @@ use Rattle.node_rules.specs.Steps.{after_tick}
 use Rattle.node_rules.specs.Tick.{due_tick}
 use Rattle.cluster_rules.specs.declared.event.Event.TheVariants as event
 use Rattle.cluster_rules.specs.DueEvents.{full_unless, one_more_if, sent_lines, written}
-use Rattle.cluster_rules.specs.Marks.{Writes, after_line, after_all, begun, by_node, sent_by}
+use Rattle.cluster_rules.specs.Marks.{Writes, after_line, after_all, event_begun, by_node, sent_by}
 use Rattle.journal_readings.specs.Messages.{Posting}
 use Rattle.cluster_rules.specs.Network.{Network, posting, landed, has_place}
-use Rattle.cluster_rules.specs.World.{World, at, new_if}
+use Rattle.cluster_rules.specs.World.{World, changed_at, new_if}
 use Rattle.cluster_rules.specs.NodeSteps.{IsOf, AreOf, AreRead, IsNumbered, Moves, full_in, sent_in, all_sent_in, after_step}
 
 -- the last number is taken out again
@@ -33,10 +33,11 @@ without_new last i (j ∷ ids) l h =
 
 -- ---- other facts of one node
 
-at_itself : (f : ℕ → Facts) (n : ℕ) (new : Facts) → at f n new n ≡ new
+at_itself : (f : ℕ → Facts) (n : ℕ) (new : Facts) → changed_at f n new n ≡ new
 at_itself f n new = let same : (n == n) ≡ true = grind (arith, nat_tests) in ap (new_if new f n) same
 
-at_another : (f : ℕ → Facts) (n : ℕ) (new : Facts) (m : ℕ) → (n ≡ m → ⊥) → at f n new m ≡ f m
+at_another : (f : ℕ → Facts) (n : ℕ) (new : Facts) (m : ℕ) → (n ≡ m → ⊥)
+    → changed_at f n new m ≡ f m
 at_another f n new m differ = let other : (n == m) ≡ false = grind (arith, nat_tests, differ) in ap (new_if new f m) other
 
 -- nothing has happened
@@ -44,7 +45,7 @@ stays : (w : World) (n : ℕ) → Moves n (w.facts n) w.network w w
 stays w n = record { here = refl; elsewhere = λ m d. refl; network = refl; nodes = refl; clocks = refl; tables = refl; want = refl }
 
 -- the facts of that node are these, and the network is this
-moved : (w : World) (n : ℕ) (new : Facts) (net : Network) → Moves n new net w (record w { facts = at w.facts n new; network = net })
+moved : (w : World) (n : ℕ) (new : Facts) (net : Network) → Moves n new net w (record w { facts = changed_at w.facts n new; network = net })
 moved w n new net = record { here = at_itself w.facts n new; elsewhere = λ m d. at_another w.facts n new m d; network = refl; nodes = refl; clocks = refl; tables = refl; want = refl }
 
 -- one after the other
@@ -204,5 +205,6 @@ node_step w n e own read k =
 
 -- a tick
 pub tick_step : (w : World) (n : ℕ) → AreOf n (due_tick (w.facts n)).lines → AreRead (due_tick (w.facts n)).sends → IsNumbered w.network
-    → Moves n (after_tick (w.facts n)) (all_sent_in w.network n (due_tick (w.facts n)).sends) (begun w (event.Tick n)) (after_step w (event.Tick n))
-tick_step w n own read k = node_step (begun w (event.Tick n)) n (due_tick (w.facts n)) own read k
+    → Moves n (after_tick (w.facts n)) (all_sent_in w.network n (due_tick (w.facts n)).sends) (event_begun w (event.Tick n)) (after_step w (event.Tick n))
+tick_step w n own read k = node_step (event_begun w (event.Tick n)) n
+    (due_tick (w.facts n)) own read k

@@ -11,19 +11,19 @@ use Rattle.node_rules.specs.Examples.{ticked_twice, in_its_view, having_hi, zero
 use Rattle.node_rules.specs.Facts.{Facts}
 use Rattle.node_rules.specs.Notes.{noted}
 use Rattle.node_rules.specs.Requests.{due_request}
-use Rattle.node_rules.specs.Steps.{after}
+use Rattle.node_rules.specs.Steps.{facts_after}
 use Rattle.node_rules.proofs.Lone.{first_tick, second_tick, third_tick, puts, gets}
 use Rattle.cluster_rules.specs.declared.event.Event.{Event}
 use Rattle.cluster_rules.specs.declared.event.Event.TheVariants as event
 use Rattle.cluster_rules.specs.DueEvents.{written}
 use Rattle.cluster_rules.specs.Marks.{after_all}
 use Rattle.cluster_rules.specs.Runs.{Plays, PlaysAll, Run}
-use Rattle.cluster_rules.specs.Steps.{Step, marks_of, Played, no_steps, and_then, stepping, play}
+use Rattle.cluster_rules.specs.Steps.{Step, marks_of, Played, no_steps, then_played, stepping, play}
 use Rattle.cluster_rules.specs.World.{World, opened}
 use Rattle.cluster_rules.specs.WorldExamples.{one_node, one_node_journal, entering_lines, put_lines, get_lines}
 
 pub turn : (n : ℕ) (w : World) (c : Command) (cs : List Command) (first others : Played)
-    → Plays n w c first → PlaysAll n first.world cs others → PlaysAll n w (c ∷ cs) (and_then first (λ v. others))
+    → Plays n w c first → PlaysAll n first.world cs others → PlaysAll n w (c ∷ cs) (then_played first (λ v. others))
 turn n w c cs first others h i = record { first = first; plays = h; others = others; follows = i; whole = refl }
 
 abbrev pub step_of : Event → List Line → Step
@@ -74,15 +74,15 @@ abbrev with_hi : Facts
 with_hi = noted (Some (want.Put hi)) entered put_lines
 
 pub is_entered : in_its_view ≡ entered
-is_entered = ap (λ e. after None ticked_twice e) third_tick
+is_entered = ap (λ e. facts_after None ticked_twice e) third_tick
 
 puts_then : due_request entered 0 zeros (want.Put hi) ≡ lines_only put_lines
 puts_then = sym (ap (λ f. due_request f 0 zeros (want.Put hi)) is_entered) ∙ puts
 
 has_hi : having_hi ≡ with_hi
 has_hi =
-    ap (λ f. after (Some (want.Put hi)) f (due_request f 0 zeros (want.Put hi))) is_entered
-    ∙ ap (λ e. after (Some (want.Put hi)) entered e) puts_then
+    ap (λ f. facts_after (Some (want.Put hi)) f (due_request f 0 zeros (want.Put hi))) is_entered
+    ∙ ap (λ e. facts_after (Some (want.Put hi)) entered e) puts_then
 
 gets_then : due_request with_hi 0 zeros want.Get ≡ lines_only get_lines
 gets_then = sym (ap (λ f. due_request f 0 zeros want.Get) has_hi) ∙ gets
@@ -113,16 +113,16 @@ played = record {
 -- ---- the commands, from the last one on
 
 abbrev from_get : Played
-from_get = and_then (stepping w4 (step_of get get_lines)) (λ v. no_steps w5)
+from_get = then_played (stepping w4 (step_of get get_lines)) (λ v. no_steps w5)
 
 abbrev from_put : Played
-from_put = and_then (stepping w3 (step_of put put_lines)) (λ v. from_get)
+from_put = then_played (stepping w3 (step_of put put_lines)) (λ v. from_get)
 
 abbrev from_third : Played
-from_third = and_then (stepping w2 (step_of tick entering_lines)) (λ v. from_put)
+from_third = then_played (stepping w2 (step_of tick entering_lines)) (λ v. from_put)
 
 abbrev from_second : Played
-from_second = and_then (stepping w1 (step_of tick (line.Tick 1 ∷ []))) (λ v. from_third)
+from_second = then_played (stepping w1 (step_of tick (line.Tick 1 ∷ []))) (λ v. from_third)
 
 plays_get : PlaysAll partition_count w4 (command.Get 1 zeros ∷ []) from_get
 plays_get = turn partition_count w4 (command.Get 1 zeros) [] (stepping w4 (step_of get get_lines)) (no_steps w5) (sym step5) refl

@@ -17,12 +17,12 @@ use Rattle.node_rules.specs.Entering.{ending, exchanging, closing, entering}
 use Rattle.node_rules.specs.Facts.{Facts, view_key, list_at}
 use Rattle.node_rules.specs.Messages as due
 use Rattle.node_rules.specs.Messages.{due_message_of}
-use Rattle.node_rules.specs.Notes.{note, noted, neighbours, new_transaction, reached, in_view}
-use Rattle.node_rules.specs.Requests.{due_request, due_stop, due_start, asking, refusal_of, request_if, stop_if, start_if}
+use Rattle.node_rules.specs.Notes.{note, noted, neighbours, opening_transaction, reached, in_view}
+use Rattle.node_rules.specs.Requests.{due_request, due_stop, due_start, asking, request_refusal, request_if, stop_if, start_if}
 use Rattle.node_rules.specs.Resolving.{resolving_want, done_if}
-use Rattle.node_rules.specs.Settling.{line_if, hand, settle, learn, drop, and_then, settling_at, settling_from, settling_if}
+use Rattle.node_rules.specs.Settling.{line_if, hand, settle, learn, drop, lines_then, settling_at, settling_from, settling_if}
 use Rattle.node_rules.specs.Tick as tick
-use Rattle.node_rules.specs.Tick.{Part, in_order, tick_of}
+use Rattle.node_rules.specs.Tick.{Part, parts_in_order, tick_of}
 use Rattle.node_rules.specs.Transactions.{Transaction, Write, answered, is_last_awaited}
 use Rattle.cluster_rules.specs.NodeSteps.{IsOf, AreOf}
 
@@ -86,12 +86,12 @@ entering_own f key ms = are_append f.me (closing f) _ (closing_own f.me (view_ke
 propose_own : (f : Facts) → AreOf f.me (tick.propose f).lines
 propose_own f = go f.agreement.proposal
   where
-    deep : (ns : List ℕ) → AreOf f.me (tick.proposing_to f (agreement.next_key f.me f.agreement) (neighbours f) ns).lines
+    deep : (ns : List ℕ) → AreOf f.me (tick.proposal_effects f (agreement.next_key f.me f.agreement) (neighbours f) ns).lines
     deep [] = (refl, entering_own f (agreement.next_key f.me f.agreement) (neighbours f))
     deep (n ∷ ns) = (refl, tt)
 
     new : (b : Bool) → AreOf f.me (tick.propose_new f b).lines
-    new true = deep (agreement.others f.me (neighbours f))
+    new true = deep (agreement.others_among f.me (neighbours f))
     new false = tt
 
     go : (o : Option Proposal) → AreOf f.me (tick.propose_with f o).lines
@@ -100,8 +100,8 @@ propose_own f = go f.agreement.proposal
 
 settling_at_own : (l : List ℕ) (p : ℕ) (f : Facts) → AreOf f.me (settling_at l p f)
 settling_at_own l p f =
-    then_own f (hand f l p) (and_then (λ f. settle f l p) (and_then (λ f. learn f l p) (λ f. drop f l p))) (one_if f.me _ _ refl)
-    (λ g. then_own g (settle g l p) (and_then (λ f. learn f l p) (λ f. drop f l p)) (one_if g.me _ _ refl)
+    then_own f (hand f l p) (lines_then (λ f. settle f l p) (lines_then (λ f. learn f l p) (λ f. drop f l p))) (one_if f.me _ _ refl)
+    (λ g. then_own g (settle g l p) (lines_then (λ f. learn f l p) (λ f. drop f l p)) (one_if g.me _ _ refl)
     (λ h. then_own h (learn h l p) (λ f. drop f l p) (one_if h.me _ _ refl) (λ k. one_if k.me _ _ refl)))
 
 settling_from_own : (n p : ℕ) (f : Facts) → AreOf f.me (settling_from n p f)
@@ -122,9 +122,9 @@ abbrev AllOwn : List Part → Type 0
 AllOwn [] = Unit {0}
 AllOwn (part ∷ parts) = ((f : Facts) → AreOf f.me (part f).lines) × AllOwn parts
 
-in_order_own : (parts : List Part) → AllOwn parts → (f : Facts) → AreOf f.me (in_order parts f).lines
+in_order_own : (parts : List Part) → AllOwn parts → (f : Facts) → AreOf f.me (parts_in_order parts f).lines
 in_order_own [] h f = tt
-in_order_own (part ∷ parts) h f = then_own f (part f).lines (λ g. (in_order parts g).lines) (h.0 f) (λ g. in_order_own parts h.1 g)
+in_order_own (part ∷ parts) h f = then_own f (part f).lines (λ g. (parts_in_order parts g).lines) (h.0 f) (λ g. in_order_own parts h.1 g)
 
 pub tick_own : (n : ℕ) (f : Facts) → AreOf f.me (tick_of n f).lines
 tick_own n f = go f.up
@@ -138,15 +138,15 @@ tick_own n f = go f.up
 
 -- ---- messages
 
-voting_own : (f : Facts) (from : ℕ) (key : ClusterKey) (b : Bool) → AreOf f.me (due.voting f from key b).lines
+voting_own : (f : Facts) (from : ℕ) (key : ClusterKey) (b : Bool) → AreOf f.me (due.vote_effects f from key b).lines
 voting_own f from key true = tt
 voting_own f from key false = one_if f.me _ _ refl
 
-committing_own : (f : Facts) (p : Proposal) (b : Bool) → AreOf f.me (due.committing f p b).lines
+committing_own : (f : Facts) (p : Proposal) (b : Bool) → AreOf f.me (due.commit_effects f p b).lines
 committing_own f p true = entering_own f p.key p.members
 committing_own f p false = tt
 
-counting_own : (f : Facts) (from : ℕ) (key : ClusterKey) (o : Option Proposal) (b : Bool) → AreOf f.me (due.counting f from key o b).lines
+counting_own : (f : Facts) (from : ℕ) (key : ClusterKey) (o : Option Proposal) (b : Bool) → AreOf f.me (due.accept_effects f from key o b).lines
 counting_own f from key (Some p) true = committing_own f p _
 counting_own f from key (Some p) false = (tt, tt)
 counting_own f from key None b = (tt, tt)
@@ -159,7 +159,7 @@ spent_own : (f : Facts) (b : Bool) → AreOf f.me (due.unless_spent f b).lines
 spent_own f true = tt
 spent_own f false = (tt, tt)
 
-commit_own : (f : Facts) (key : ClusterKey) (ms : List Member) (b : Bool) → AreOf f.me (due.entering_if f key ms b).lines
+commit_own : (f : Facts) (key : ClusterKey) (ms : List Member) (b : Bool) → AreOf f.me (due.entry_effects_if f key ms b).lines
 commit_own f key ms true = entering_own f key ms
 commit_own f key ms false = (tt, tt)
 
@@ -171,7 +171,7 @@ merging_own : (f : Facts) (rs : List (List ℕ × Version)) → AreOf f.me (due.
 merging_own f [] = tt
 merging_own f (r ∷ rs) = then_own f (due.merging f r.0 r.1) (λ g. due.merging_all g rs) (one_if f.me _ _ refl) (λ g. merging_own g rs)
 
-progressed_own : (n : ℕ) (f now : Facts) (from : ℕ) (wants b : Bool) → AreOf f.me (due.progress_came n f now from wants b).lines
+progressed_own : (n : ℕ) (f now : Facts) (from : ℕ) (wants b : Bool) → AreOf f.me (due.progress_effects_if n f now from wants b).lines
 progressed_own n f now from wants true = go _
   where
     go : (c : Bool) → AreOf f.me (due.answer_progress n now from c).lines
@@ -200,7 +200,7 @@ resolving_own f clock l t want.Get = (refl, tt)
 resolving_own f clock l t (want.Put bytes) = (refl, done_own f t.number _)
 resolving_own f clock l t want.Del = (refl, done_own f t.number _)
 
-answered_own : (f : Facts) (clock from number : ℕ) (v : Option Version) (b : Bool) → AreOf f.me (due.answer_came f clock from number v b).lines
+answered_own : (f : Facts) (clock from number : ℕ) (v : Option Version) (b : Bool) → AreOf f.me (due.answer_effects_if f clock from number v b).lines
 answered_own f clock from number v true = go _
   where
     last : (t : Transaction) (c : Bool) → AreOf f.me (due.resolving_if f clock t c).lines
@@ -256,10 +256,10 @@ message_own n f clock from _ = (tt, tt)
 -- ---- requests, stops and starts
 
 pub request_own : (f : Facts) (clock : ℕ) (d : List ℕ) (w : Want) → AreOf f.me (due_request f clock d w).lines
-request_own f clock d w = go (refusal_of f (list_at f (partition_of d)) d)
+request_own f clock d w = go (request_refusal f (list_at f (partition_of d)) d)
   where
     new : Facts → Transaction
-    new g = new_transaction g (list_at g (partition_of d)) (g.transactions.opened + 1) d w
+    new g = opening_transaction g (list_at g (partition_of d)) (g.transactions.opened + 1) d w
 
     asks : (l : List ℕ) (t : Transaction) (ns : List ℕ) → AreOf f.me (asking f clock l t ns).lines
     asks l t [] = resolving_own f clock l t t.want

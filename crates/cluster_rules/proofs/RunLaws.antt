@@ -8,7 +8,7 @@ use Rattle.journal_lines.specs.declared.line.Line.{Line}
 use Rattle.cluster_rules.specs.declared.event.Event.{Event}
 use Rattle.cluster_rules.specs.Opening.{header_lines}
 use Rattle.cluster_rules.specs.Runs.{ComesToCalm, Calms, calming, Plays, PlaysAll, RunOf}
-use Rattle.cluster_rules.specs.Steps.{Played, no_steps, and_then, play, flow, round, all_lines}
+use Rattle.cluster_rules.specs.Steps.{Played, no_steps, then_played, play, flow, round, all_lines}
 use Rattle.cluster_rules.specs.World.{World, opened}
 use Rattle.cluster_rules.proofs.MarkLaws.{Follows, joined, nothing, one, flow_follows, round_follows, calming_follows}
 
@@ -35,8 +35,8 @@ pub one_played : (n : ℕ) (w : World) (c : Command) (x y : Played) → Plays n 
 one_played n w command.Calm x y h i = one_calm n w x y h i
 one_played n w c x y h i = agree _ _ _ h i
 
-same_turns : (a b c d : Played) → a ≡ b → c ≡ d → and_then a (λ v. c) ≡ and_then b (λ v. d)
-same_turns a b c d e f = ap (λ (p : Played). and_then p (λ v. c)) e ∙ ap (λ (p : Played). and_then b (λ v. p)) f
+same_turns : (a b c d : Played) → a ≡ b → c ≡ d → then_played a (λ v. c) ≡ then_played b (λ v. d)
+same_turns a b c d e f = ap (λ (p : Played). then_played p (λ v. c)) e ∙ ap (λ (p : Played). then_played b (λ v. p)) f
 
 pub one_play : (n : ℕ) (cs : List Command) (w : World) (x y : Played) → PlaysAll n w cs x → PlaysAll n w cs y → x ≡ y
 one_play n [] w x y h i = h ∙ sym i
@@ -73,5 +73,5 @@ command_follows n w c x h = by_event n w _ x h
 pub commands_follow : (n : ℕ) (cs : List Command) (w : World) (x : Played) → PlaysAll n w cs x → Follows n w x
 commands_follow n [] w x h = by_same n w x (no_steps w) h (nothing n w)
 commands_follow n (c ∷ cs) w x h =
-    by_same n w x (and_then h.first (λ v. h.others)) h.whole
+    by_same n w x (then_played h.first (λ v. h.others)) h.whole
     (joined n w h.first (λ v. h.others) (command_follows n w c h.first h.plays) (commands_follow n cs h.first.world h.others h.follows))

@@ -25,18 +25,19 @@ use Rattle.wire_messages.specs.declared.message.Message.{Message}
 use Rattle.wire_messages.specs.declared.message.Message.TheVariants as message
 use Rattle.wire_messages.specs.Decoding.{message_of}
 use Rattle.node_rules.specs.Copies.{Content, joined, is_of}
-use Rattle.node_rules.specs.Exchange.{key_of}
+use Rattle.node_rules.specs.Exchange.{exchange_key}
 use Rattle.node_rules.specs.Facts.{view_key}
+use Rattle.node_rules.specs.Messages.{client}
 use Rattle.cluster_rules.specs.declared.event.Event.{Event}
 use Rattle.cluster_rules.specs.declared.event.Event.TheVariants as event
 use Rattle.journal_readings.specs.Contents.{content, content_step, joined_if}
 use Rattle.journal_readings.specs.Lines.{same_digest, has_node}
-use Rattle.cluster_rules.specs.Marks.{Mark, Begins, Writes, begun, after_line, after_all, came, came_to, came_to_client, sent_by, lines_among}
+use Rattle.cluster_rules.specs.Marks.{Mark, Begins, Writes, event_begun, after_line, after_all, came, came_to, came_to_client, sent_by, lines_among}
 use Rattle.journal_readings.specs.Messages.{Arrival, arrived, arrived_cut}
-use Rattle.cluster_rules.specs.Network.{client, posting_at, posting}
+use Rattle.cluster_rules.specs.Network.{posting_at, posting}
 use Rattle.cluster_rules.specs.Opening as opening
-use Rattle.cluster_rules.specs.Opening.{Header, header_line, header_lines, declared_policy, declared_factor, declared_nodes, declared_role, rack_in, rack_if}
-use Rattle.journal_readings.specs.Settings.{policy_of, policy_step, factor_of, factor_step, nodes, declared_in, clock_of, clock_step, is_up, up_step, groups_of, groups_step, present_role, role_step}
+use Rattle.cluster_rules.specs.Opening.{Header, journal_header_line, header_lines, declared_policy, declared_factor, declared_nodes, declared_role, rack_in, rack_if}
+use Rattle.journal_readings.specs.Settings.{policy_of, policy_step, factor_of, factor_step, nodes, declared_in, clock_of, clock_step, is_node_up, up_step, groups_of, groups_step, present_role, role_step}
 use Rattle.journal_readings.specs.Shape.{is_header, AreBehind}
 use Rattle.journal_readings.specs.Views.{promised_key, promise_step, last_key, last_step, view, view_step, some_key}
 use Rattle.cluster_rules.specs.World.{World, opened}
@@ -86,7 +87,7 @@ last_agrees h ms n = read (λ x. x.last) (last_step n) n (last_goes n) h ms
 
 -- the key of the view, where it is one
 abbrev view_of : Kept → Option ClusterKey
-view_of k = some_key (key_of k.view)
+view_of k = some_key (exchange_key k.view)
 
 view_goes : (n : ℕ) (k : Kept) (l : Line) → view_of (kept_step n k l) ≡ view_step n (view_of k) l
 view_goes n k (line.Enter m key members) = changes view_of (m == n) _ k (some_key key) refl
@@ -102,8 +103,8 @@ up_goes n k (line.Stop m) = changes (λ x. x.up) (m == n) _ k false refl
 up_goes n k (line.Start m) = changes (λ x. x.up) (m == n) _ k true refl
 up_goes n k l = leaves (λ x. x.up) (is_own n l) (own_step k l) k refl
 
-pub up_agrees : (h : Header) (ms : List Mark) (n : ℕ) → has_node (declared_nodes h) n ≡ true → is_up n (lines_among ms) ≡ ((after_all (opened h) ms).facts n).up
-unfolding is_up
+pub up_agrees : (h : Header) (ms : List Mark) (n : ℕ) → has_node (declared_nodes h) n ≡ true → is_node_up n (lines_among ms) ≡ ((after_all (opened h) ms).facts n).up
+unfolding is_node_up
 up_agrees h ms n e = ap (λ b. fold (up_step n) b (lines_among ms)) (sym e) ∙ read (λ x. x.up) (up_step n) n (up_goes n) h ms
 
 -- ---- what a node holds
@@ -291,13 +292,13 @@ groups_go w (line.Sent i a b bytes) =
     ap (λ net. net.groups) (sent_network (record w { network = posting w.network i (record { from = a; to = b; bytes = bytes }) }) a b (message_of bytes))
 groups_go w l = refl
 
-taken_groups : (w : World) (e : Event) → (begun w e).network.groups ≡ w.network.groups
+taken_groups : (w : World) (e : Event) → (event_begun w e).network.groups ≡ w.network.groups
 taken_groups w (event.Deliver i) = refl
 taken_groups w e = refl
 
 groups_along : (ms : List Mark) (w : World) → (after_all w ms).network.groups ≡ fold groups_in w.network.groups (lines_among ms)
 groups_along [] w = refl
-groups_along (Begins e ∷ ms) w = groups_along ms (begun w e) ∙ ap (λ gs. fold groups_in gs (lines_among ms)) (taken_groups w e)
+groups_along (Begins e ∷ ms) w = groups_along ms (event_begun w e) ∙ ap (λ gs. fold groups_in gs (lines_among ms)) (taken_groups w e)
 groups_along (Writes l ∷ ms) w = groups_along ms (after_line w l) ∙ ap (λ gs. fold groups_in gs (lines_among ms)) (groups_go w l)
 
 groups_or : (groups : Option (List (List ℕ))) (first : List (List ℕ)) (l : Line) → unwrap_or (groups_step groups l) first ≡ groups_in (unwrap_or groups first) l
@@ -335,7 +336,7 @@ policy_behind : (by : Policy) (l : Line) → not (is_header l) ≡ true → poli
 policy_behind by (line.Policy named) e = cc
 policy_behind by l e = refl
 
-policy_in : (h : Header) (by : Policy) → fold policy_step by (header_lines h) ≡ fold opening.policy_step by h
+policy_in : (h : Header) (by : Policy) → fold policy_step by (header_lines h) ≡ fold opening.header_policy_step by h
 policy_in [] by = refl
 policy_in (header.Policy named ∷ h) by = policy_in h named
 policy_in (header.Script version ∷ h) by = policy_in h by
@@ -350,7 +351,7 @@ factor_behind : (factor : ℕ) (l : Line) → not (is_header l) ≡ true → fac
 factor_behind factor (line.Factor named) e = cc
 factor_behind factor l e = refl
 
-factor_in : (h : Header) (factor : ℕ) → fold factor_step factor (header_lines h) ≡ fold opening.factor_step factor h
+factor_in : (h : Header) (factor : ℕ) → fold factor_step factor (header_lines h) ≡ fold opening.header_factor_step factor h
 factor_in [] factor = refl
 factor_in (header.Policy by ∷ h) factor = factor_in h factor
 factor_in (header.Script version ∷ h) factor = factor_in h factor

@@ -11,7 +11,7 @@ use Rattle.wire_messages.specs.Spelling.{spelling}
 use Rattle.journal_lines.specs.declared.line.Line.{Line}
 use Rattle.journal_lines.specs.declared.line.Line.TheVariants as line
 use Rattle.node_rules.specs.Effects.{Effects, sends_only, to_one}
-use Rattle.node_rules.specs.Messages.{due_message_of}
+use Rattle.node_rules.specs.Messages.{due_message_of, client}
 use Rattle.node_rules.specs.Requests.{due_request, due_stop, due_start}
 use Rattle.node_rules.specs.Shows.{with_roles, due_map, due_show}
 use Rattle.node_rules.specs.Tick.{tick_of}
@@ -19,7 +19,7 @@ use Rattle.cluster_rules.specs.declared.event.Event.{Event}
 use Rattle.cluster_rules.specs.declared.event.Event.TheVariants as event
 use Rattle.node_rules.specs.Client.{node_for}
 use Rattle.journal_readings.specs.Messages.{Posting}
-use Rattle.cluster_rules.specs.Network.{Network, client, flying_at, landed, has_place, are_apart}
+use Rattle.cluster_rules.specs.Network.{Network, flying_at, landed, has_place, are_apart}
 use Rattle.cluster_rules.specs.World.{World, is_up, members_now}
 
 -- ---- effects as lines

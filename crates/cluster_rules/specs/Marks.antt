@@ -8,11 +8,12 @@ use Rattle.wire_messages.specs.Decoding.{message_of}
 use Rattle.journal_lines.specs.declared.line.Line.{Line}
 use Rattle.journal_lines.specs.declared.line.Line.TheVariants as line
 use Rattle.node_rules.specs.Notes.{note, reached, sent}
+use Rattle.node_rules.specs.Messages.{client}
 use Rattle.cluster_rules.specs.declared.event.Event.{Event}
 use Rattle.cluster_rules.specs.declared.event.Event.TheVariants as event
 use Rattle.journal_readings.specs.Messages.{Posting, Arrival, arrived, arrived_cut}
-use Rattle.cluster_rules.specs.Network.{Network, client, posting_at, landed, posting}
-use Rattle.cluster_rules.specs.World.{World, at, with_facts}
+use Rattle.cluster_rules.specs.Network.{Network, posting_at, landed, posting}
+use Rattle.cluster_rules.specs.World.{World, changed_at, with_facts}
 
 pub data Mark : Type 0 where
   -- a step of this event begins
@@ -41,8 +42,8 @@ taken_by net (event.Cut i size) = landed net i
 taken_by net _ = net
 
 -- the event's step is in progress, with its want in hand
-abbrev pub begun : World → Event → World
-begun w e = record w { network = taken_by w.network e; event = Some e; want = want_in e }
+abbrev pub event_begun : World → Event → World
+event_begun w e = record w { network = taken_by w.network e; event = Some e; want = want_in e }
 
 -- ---- a line of a node
 
@@ -86,7 +87,7 @@ posted_by w i p = sent_by (record w { network = posting w.network i p }) p.from 
 
 -- what a line adds. One of another word adds nothing
 abbrev pub after_line : World → Line → World
-after_line w (line.Clock n time) = record w { clocks = at w.clocks n time }
+after_line w (line.Clock n time) = record w { clocks = changed_at w.clocks n time }
 after_line w (line.Groups groups) = record w { network = record w.network { groups = groups } }
 after_line w (line.Deliver i a b) = came w (option_and_then (arrived b) (posting_at w.network i))
 after_line w (line.Repeat i a b) = came w (option_and_then (arrived b) (posting_at w.network i))
@@ -148,7 +149,7 @@ adds _ = false
 
 -- what a mark adds
 abbrev pub after : World → Mark → World
-after w (Begins e) = begun w e
+after w (Begins e) = event_begun w e
 after w (Writes l) = after_line w l
 
 -- what marks add, one after another

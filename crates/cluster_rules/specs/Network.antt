@@ -3,15 +3,12 @@ use Rattle.std.specs.Prelude.{ℕ, ◌-◌, ◌==◌, ◌&&◌, nat_lt, Bool, tr
 use Rattle.cluster_types.specs.Distinct.{without}
 use Rattle.cluster_types.specs.Groups.{apart}
 use Rattle.journal_readings.specs.Lines.{has_node}
+use Rattle.node_rules.specs.Messages.{client}
 use Rattle.journal_readings.specs.Messages.{Posting}
 
 -- so many messages may be in flight
 abbrev pub flight_limit : ℕ
 flight_limit = 262144
-
--- the client, as an endpoint of messages; every other endpoint is a node
-abbrev pub client : ℕ
-client = 0
 
 pub record Network : Type 0 where
   -- all messages that were ever sent: the one of number I stands at place I - 1

@@ -13,21 +13,21 @@ use Rattle.journal_lines.specs.declared.line.Line.TheVariants as line
 abbrev pub Header : Type 0
 Header = List HeaderLine
 
-abbrev pub factor_step : ℕ → HeaderLine → ℕ
-factor_step factor (header.Factor named) = named
-factor_step factor _ = factor
+abbrev pub header_factor_step : ℕ → HeaderLine → ℕ
+header_factor_step factor (header.Factor named) = named
+header_factor_step factor _ = factor
 
 -- how many replicas a partition has: as the last line says that names a factor, or 1
 abbrev pub declared_factor : Header → ℕ
-declared_factor h = fold factor_step 1 h
+declared_factor h = fold header_factor_step 1 h
 
-abbrev pub policy_step : Policy → HeaderLine → Policy
-policy_step by (header.Policy named) = named
-policy_step by _ = by
+abbrev pub header_policy_step : Policy → HeaderLine → Policy
+header_policy_step by (header.Policy named) = named
+header_policy_step by _ = by
 
 -- how versions compare: as the last line says that names a policy, or by time
 abbrev pub declared_policy : Header → Policy
-declared_policy h = fold policy_step Time h
+declared_policy h = fold header_policy_step Time h
 
 abbrev pub node_in : HeaderLine → Option ℕ
 node_in (header.Node n rack) = Some n
@@ -54,12 +54,12 @@ abbrev pub declared_peers : Header → ℕ → List ℕ
 declared_peers h n = without (declared_nodes h) n
 
 -- a line of the header in the journal
-abbrev pub header_line : HeaderLine → Line
-header_line (header.Script version) = line.Script version
-header_line (header.Factor factor) = line.Factor factor
-header_line (header.Node n rack) = line.Node n rack
-header_line (header.Policy by) = line.Policy by
+abbrev pub journal_header_line : HeaderLine → Line
+journal_header_line (header.Script version) = line.Script version
+journal_header_line (header.Factor factor) = line.Factor factor
+journal_header_line (header.Node n rack) = line.Node n rack
+journal_header_line (header.Policy by) = line.Policy by
 
 -- the lines with which a journal begins
 abbrev pub header_lines : Header → List Line
-header_lines h = map header_line h
+header_lines h = map journal_header_line h

@@ -9,7 +9,7 @@ use Rattle.cluster_rules.specs.declared.event.Event.TheVariants as event
 use Rattle.cluster_rules.specs.Calm.{is_calm_of}
 use Rattle.cluster_rules.specs.Marks.{Mark, Writes}
 use Rattle.cluster_rules.specs.Opening.{Header, header_lines}
-use Rattle.cluster_rules.specs.Steps.{Played, no_steps, and_then, play, flow, round, rounds, all_marks, all_lines}
+use Rattle.cluster_rules.specs.Steps.{Played, no_steps, then_played, play, flow, round, rounds, all_marks, all_lines}
 use Rattle.cluster_rules.specs.World.{World, opened}
 
 -- ---- calm
@@ -21,7 +21,7 @@ pub record ComesToCalm (n : ℕ) (w : World) (k : ℕ) : Type 0 where
 
 -- so many rounds, and then the event that tells their number
 abbrev pub calming : ℕ → ℕ → World → Played
-calming n k w = and_then (rounds n k w) (play n (event.Calmed k))
+calming n k w = then_played (rounds n k w) (play n (event.Calmed k))
 
 -- rounds, each begun only where the world isn't calm, and then the event that tells their number
 pub record Calms (n : ℕ) (w : World) (x : Played) : Type 0 where
@@ -75,7 +75,7 @@ pub record InTurn (First : Played → Type 0) (Others : World → Played → Typ
   pub plays : First first
   pub others : Played
   pub follows : Others first.world others
-  pub whole : x ≡ and_then first (λ v. others)
+  pub whole : x ≡ then_played first (λ v. others)
 
 -- commands, each in the world after those before it
 abbrev pub PlaysAll : ℕ → World → List Command → Played → Type 0

@@ -39,8 +39,11 @@ abbrev pub no_steps : World → Played
 no_steps w = record { steps = []; world = w }
 
 -- these steps, and then those that the world after them takes
-abbrev pub and_then : Played → (World → Played) → Played
-and_then x next = record { steps = x.steps ++ (next x.world).steps; world = (next x.world).world }
+abbrev pub then_played : Played → (World → Played) → Played
+then_played x next = record {
+  steps = x.steps ++ (next x.world).steps;
+  world = (next x.world).world;
+}
 
 -- ---- an event
 
@@ -54,7 +57,7 @@ play n e w = stepping w (record { event = e; lines = due_of n w e })
 -- events, each of the world after those before it
 abbrev pub play_all : ℕ → List Event → World → Played
 play_all n [] w = no_steps w
-play_all n (e ∷ es) w = and_then (play n e w) (play_all n es)
+play_all n (e ∷ es) w = then_played (play n e w) (play_all n es)
 
 -- ---- flow and rounds
 
@@ -65,13 +68,13 @@ flow n w = play_all n (map event.Deliver w.network.flying) w
 -- so many flows, one after another
 abbrev pub flows : ℕ → ℕ → World → Played
 flows n zero w = no_steps w
-flows n (suc k) w = and_then (flow n w) (flows n k)
+flows n (suc k) w = then_played (flow n w) (flows n k)
 
 -- each up node ticks, in rising order, and then come four flows
 abbrev pub round : ℕ → World → Played
-round n w = and_then (play_all n (map event.Tick (up_nodes w)) w) (flows n 4)
+round n w = then_played (play_all n (map event.Tick (up_nodes w)) w) (flows n 4)
 
 -- so many rounds, one after another
 unfoldable pub rounds : ℕ → ℕ → World → Played
 rounds n zero w = no_steps w
-rounds n (suc k) w = and_then (round n w) (rounds n k)
+rounds n (suc k) w = then_played (round n w) (rounds n k)

@@ -16,7 +16,7 @@ use Rattle.node_rules.specs.Effects.{Effects, to_one}
 use Rattle.node_rules.specs.Examples.{key, zeros, two, eight, row_of, migrating}
 use Rattle.node_rules.specs.Facts.{Facts}
 use Rattle.node_rules.specs.Notes.{reached}
-use Rattle.node_rules.specs.Steps.{after}
+use Rattle.node_rules.specs.Steps.{facts_after}
 use Rattle.node_rules.specs.Tick.{progress_message}
 use Rattle.journal_readings.specs.Examples.{version}
 
@@ -81,20 +81,20 @@ acking other ls = record { lines = ls; sends = to_one other ack }
 
 -- both have sent their batches
 abbrev pub one_sent : Facts
-one_sent = after None (side 1 2 older) (handing_on 1 2 older)
+one_sent = facts_after None (side 1 2 older) (handing_on 1 2 older)
 
 abbrev pub two_sent : Facts
-two_sent = after None (side 2 1 newer) (handing_on 2 1 newer)
+two_sent = facts_after None (side 2 1 newer) (handing_on 2 1 newer)
 
 -- both have the other's batch: node 1 has merged the newer version
 abbrev pub merge : List Line
 merge = line.Merge 1 (key 2 2) zeros newer ∷ []
 
 abbrev pub one_has : Facts
-one_has = after None (reached one_sent 2 (batch_of newer)) (acking 2 merge)
+one_has = facts_after None (reached one_sent 2 (batch_of newer)) (acking 2 merge)
 
 abbrev pub two_has : Facts
-two_has = after None (reached two_sent 1 (batch_of older)) (acking 1 [])
+two_has = facts_after None (reached two_sent 1 (batch_of older)) (acking 1 [])
 
 -- both have the other's acknowledgement
 abbrev pub one_done : Facts
@@ -111,7 +111,7 @@ abbrev pub settle : List Line
 settle = line.Tick 2 ∷ line.Settled 2 (key 2 2) 0 ∷ line.Learn 2 (key 2 2) 0 ∷ []
 
 abbrev pub two_rests : Facts
-two_rests = after None two_knows (resting 1 settle)
+two_rests = facts_after None two_knows (resting 1 settle)
 
 -- node 1 hears of it, and learns it too
 abbrev pub one_knows : Facts
@@ -121,21 +121,21 @@ abbrev pub learn : List Line
 learn = line.Tick 1 ∷ line.Learn 1 (key 2 2) 0 ∷ []
 
 abbrev pub one_rests : Facts
-one_rests = after None one_knows (resting 2 learn)
+one_rests = facts_after None one_knows (resting 2 learn)
 
 -- ---- with losses
 
 -- node 1's batch was lost, and it sent it again; that one arrived, but its acknowledgement was lost, and it sent
 -- it a third time
 abbrev pub one_again : Facts
-one_again = after None one_sent (handing_on 1 2 older)
+one_again = facts_after None one_sent (handing_on 1 2 older)
 
 abbrev pub one_third : Facts
-one_third = after None one_again (handing_on 1 2 older)
+one_third = facts_after None one_again (handing_on 1 2 older)
 
 -- it has arrived twice
 abbrev pub two_twice : Facts
-two_twice = after None (reached two_has 1 (batch_of older)) (acking 1 [])
+two_twice = facts_after None (reached two_has 1 (batch_of older)) (acking 1 [])
 
 -- and was acknowledged
 abbrev pub one_acked : Facts

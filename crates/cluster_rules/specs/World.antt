@@ -17,8 +17,8 @@ new_if new f m true = new
 new_if new f m false = f m
 
 -- the function with another value at one number
-abbrev pub at : {A : Type 0} → (ℕ → A) → ℕ → A → ℕ → A
-at f n new m = new_if new f m (n == m)
+abbrev pub changed_at : {A : Type 0} → (ℕ → A) → ℕ → A → ℕ → A
+changed_at f n new m = new_if new f m (n == m)
 
 -- ---- the world
 
@@ -56,7 +56,7 @@ opened h = record {
 
 -- the world with these facts of one node
 abbrev pub with_facts : World → ℕ → Facts → World
-with_facts w n f = record w { facts = at w.facts n f }
+with_facts w n f = record w { facts = changed_at w.facts n f }
 
 -- whether the node is up
 abbrev pub is_up : World → ℕ → Bool

@@ -11,7 +11,7 @@ ghost use Rattle.node_rules.specs.Steps.{after_tick};
 ghost use Rattle.node_rules.specs.Tick.{due_tick, tick_of};
 ghost use Rattle.cluster_rules.specs.declared.event.Event.TheVariants as event;
 ghost use Rattle.cluster_rules.specs.DueEvents.{written};
-ghost use Rattle.cluster_rules.specs.Marks.{after_all, begun, Writes};
+ghost use Rattle.cluster_rules.specs.Marks.{after_all, event_begun, Writes};
 ghost use Rattle.cluster_rules.specs.NodeSteps.{AreOf, AreRead, IsNumbered, Moves, all_sent_in, after_step};
 ghost use Rattle.cluster_rules.specs.World.{World};
 
@@ -19,7 +19,7 @@ ghost use Rattle.cluster_rules.specs.World.{World};
 /// those of all others.
 pub fn marks_of_a_node_are_its_own_step()
     ensures step { (w : World) → (n : ℕ) → (e : Effects) → AreOf n e.lines → AreRead e.sends → IsNumbered w.network → Moves n (all_sent (noted w.want (w.facts n) e.lines) e.sends) (all_sent_in w.network n e.sends) w (after_all w (map Writes (written w.network n e))) }
-    ensures tick { (w : World) → (n : ℕ) → AreOf n (due_tick (w.facts n)).lines → AreRead (due_tick (w.facts n)).sends → IsNumbered w.network → Moves n (after_tick (w.facts n)) (all_sent_in w.network n (due_tick (w.facts n)).sends) (begun w (event.Tick n)) (after_step w (event.Tick n)) }
+    ensures tick { (w : World) → (n : ℕ) → AreOf n (due_tick (w.facts n)).lines → AreRead (due_tick (w.facts n)).sends → IsNumbered w.network → Moves n (after_tick (w.facts n)) (all_sent_in w.network n (due_tick (w.facts n)).sends) (event_begun w (event.Tick n)) (after_step w (event.Tick n)) }
 {}
 
 /// Each line of what a node does is one of that node, or adds nothing.

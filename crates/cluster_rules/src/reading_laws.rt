@@ -8,7 +8,7 @@ ghost use Rattle.journal_readings.specs.Contents.{content};
 ghost use Rattle.journal_readings.specs.Lines.{has_node};
 ghost use Rattle.cluster_rules.specs.Marks.{Mark, after_all, lines_among};
 ghost use Rattle.cluster_rules.specs.Opening.{Header, header_lines, declared_factor, declared_policy, declared_nodes};
-ghost use Rattle.journal_readings.specs.Settings.{policy_of, factor_of, nodes, clock_of, is_up, groups_of, present_role};
+ghost use Rattle.journal_readings.specs.Settings.{policy_of, factor_of, nodes, clock_of, is_node_up, groups_of, present_role};
 ghost use Rattle.journal_readings.specs.Shape.{AreBehind};
 ghost use Rattle.journal_readings.specs.Views.{promised_key, last_key, view, some_key};
 ghost use Rattle.cluster_rules.specs.World.{opened};
@@ -19,7 +19,7 @@ pub fn a_node_is_as_it_is_read()
     ensures promised { (h : Header) → (ms : List Mark) → (n : ℕ) → promised_key n (lines_among ms) ≡ ((after_all (opened h) ms).facts n).agreement.promised }
     ensures last { (h : Header) → (ms : List Mark) → (n : ℕ) → last_key n (lines_among ms) ≡ ((after_all (opened h) ms).facts n).agreement.last }
     ensures view { (h : Header) → (ms : List Mark) → (n : ℕ) → view n (lines_among ms) ≡ some_key (view_key ((after_all (opened h) ms).facts n)) }
-    ensures up { (h : Header) → (ms : List Mark) → (n : ℕ) → has_node (declared_nodes h) n ≡ true → is_up n (lines_among ms) ≡ ((after_all (opened h) ms).facts n).up }
+    ensures up { (h : Header) → (ms : List Mark) → (n : ℕ) → has_node (declared_nodes h) n ≡ true → is_node_up n (lines_among ms) ≡ ((after_all (opened h) ms).facts n).up }
     ensures clock { (h : Header) → (ms : List Mark) → (n : ℕ) → clock_of n (lines_among ms) ≡ (after_all (opened h) ms).clocks n }
     ensures content { (h : Header) → (ms : List Mark) → (n : ℕ) → (d : List ℕ) → content (declared_policy h) n d (lines_among ms) ≡ finite.get ((after_all (opened h) ms).facts n).store.content d }
 {}

@@ -19,13 +19,13 @@ use Rattle.cluster_rules.specs.Marks.{after_all}
 use Rattle.cluster_rules.specs.Opening.{declared_nodes, header_lines}
 use Rattle.cluster_rules.specs.Runs.{Plays, PlaysAll}
 use Rattle.cluster_rules.specs.Runs as runs
-use Rattle.cluster_rules.specs.Steps.{Played, Step, all_marks, and_then, marks_of}
+use Rattle.cluster_rules.specs.Steps.{Played, Step, all_marks, then_played, marks_of}
 use Rattle.cluster_rules.specs.World.{World, opened}
 use Rattle.cluster_rules.proofs.MarkLaws.{after_all-append}
 use Rattle.cluster_rules.proofs.RunLaws.{commands_follow}
 use Rattle.calm_laws.proofs.ScriptRuns.{scripts_calm_in_time}
 use Rattle.world.specs.Claims.{HasClaims}
-use Rattle.world.specs.Steps.{Run, begun, standing, written}
+use Rattle.world.specs.Steps.{RunSoFar, run_begun, standing, run_lines}
 use Rattle.calm_run.specs.Playing.{PlaysOn, StandsIn, StopsIn, followed}
 use Rattle.cluster_top.specs.Outcome.{CalmsAreInTime, IsCut}
 use Rattle.cluster_top.specs.Playing.{ArePlayable, PlaysAllOn, StandsAmong, StopsAmong}
@@ -34,20 +34,20 @@ use Rattle.run_laws.proofs.Named.{all_playable, same_nodes}
 
 -- ---- one command more
 
-plays_more : (n : ℕ) (cs : List Command) (w : World) (x : Played) (c : Command) (y : Played) → PlaysAll n w cs x → Plays n x.world c y → PlaysAll n w (cs ++ c ∷ []) (and_then x (λ v. y))
+plays_more : (n : ℕ) (cs : List Command) (w : World) (x : Played) (c : Command) (y : Played) → PlaysAll n w cs x → Plays n x.world c y → PlaysAll n w (cs ++ c ∷ []) (then_played x (λ v. y))
 plays_more n [] w x c y h p = record {
   first = y;
   plays = subst (λ (z : Played). Plays n z.world c y) h p;
   others = record { steps = []; world = y.world };
   follows = refl;
-  whole = ap (λ (z : Played). and_then z (λ v. y)) h ∙ ap (λ (ss : List Step). record { steps = ss; world = y.world }) (sym (append-nil y.steps));
+  whole = ap (λ (z : Played). then_played z (λ v. y)) h ∙ ap (λ (ss : List Step). record { steps = ss; world = y.world }) (sym (append-nil y.steps));
 }
 plays_more n (d ∷ cs) w x c y h p = record {
   first = h.first;
   plays = h.plays;
-  others = and_then h.others (λ v. y);
+  others = then_played h.others (λ v. y);
   follows = plays_more n cs h.first.world h.others c y h.follows (subst (λ (z : Played). Plays n z.world c y) h.whole p);
-  whole = ap (λ (z : Played). and_then z (λ v. y)) h.whole ∙ ap (λ (ss : List Step). record { steps = ss; world = y.world }) (append_assoc h.first.steps h.others.steps y.steps);
+  whole = ap (λ (z : Played). then_played z (λ v. y)) h.whole ∙ ap (λ (ss : List Step). record { steps = ss; world = y.world }) (append_assoc h.first.steps h.others.steps y.steps);
 }
 
 begun_after : (n : ℕ) (cs : List Command) (w : World) (x : Played) (c : Command) (rest : List Command) (taken : List Step) (next : Step) → PlaysAll n w cs x → IsBegun n x.world c taken next
@@ -77,7 +77,7 @@ front_after n (d ∷ cs) w x c rest taken h b = inr (record {
 -- ---- in a world
 
 -- the world after the steps that were taken is the one that is played
-stands_after : (old mid : Run) (cs : List Command) (p : PlaysAllOn old mid cs) → standing mid ≡ p.played.world
+stands_after : (old mid : RunSoFar) (cs : List Command) (p : PlaysAllOn old mid cs) → standing mid ≡ p.played.world
 unfolding standing
 stands_after old mid cs p =
     ap standing p.steps
@@ -85,26 +85,26 @@ stands_after old mid cs p =
     ∙ after_all-append (opened old.header) (all_marks old.steps) (all_marks p.played.steps)
     ∙ (commands_follow partition_count cs (standing old) p.played p.plays).leads
 
-followed_again : (old mid new : Run) (first second : List Step) → mid ≡ followed old first → new ≡ followed mid second → new ≡ followed old (first ++ second)
+followed_again : (old mid new : RunSoFar) (first second : List Step) → mid ≡ followed old first → new ≡ followed mid second → new ≡ followed old (first ++ second)
 followed_again old mid new first second a b =
-    b ∙ ap (λ (r : Run). followed r second) a ∙ ap (λ ss. record { header = old.header; steps = ss }) (append_assoc old.steps first second)
+    b ∙ ap (λ (r : RunSoFar). followed r second) a ∙ ap (λ ss. record { header = old.header; steps = ss }) (append_assoc old.steps first second)
 
 taken_more : (cs : List Command) (i : ℕ) (c : Command) → i < length cs → c ≡ get_or cs i c → take (i + 1) cs ≡ take i cs ++ c ∷ []
 taken_more cs i c below is = take_more cs i c below ∙ ap (λ x. take i cs ++ x ∷ []) (sym is)
 
-pub played_none : (world : Run) → PlaysAllOn world world []
+pub played_none : (world : RunSoFar) → PlaysAllOn world world []
 played_none world = record {
   played = record { steps = []; world = standing world };
   plays = refl;
   steps = ap (λ ss. record { header = world.header; steps = ss }) (sym (append-nil world.steps));
 }
 
-pub played_more : (old mid new : Run) (cs : List Command) (i : ℕ) (c : Command) → i < length cs → c ≡ get_or cs i c → PlaysAllOn old mid (take i cs) → PlaysOn mid new c
+pub played_more : (old mid new : RunSoFar) (cs : List Command) (i : ℕ) (c : Command) → i < length cs → c ≡ get_or cs i c → PlaysAllOn old mid (take i cs) → PlaysOn mid new c
     → PlaysAllOn old new (take (i + 1) cs)
 played_more old mid new cs i c below is p q =
     let here : Plays partition_count p.played.world c q.played = subst (λ (w : World). Plays partition_count w c q.played) (stands_after old mid (take i cs) p) q.plays in
     subst (PlaysAllOn old new) (sym (taken_more cs i c below is)) (record {
-      played = and_then p.played (λ v. q.played);
+      played = then_played p.played (λ v. q.played);
       plays = plays_more partition_count (take i cs) (standing old) p.played c q.played p.plays here;
       steps = followed_again old mid new p.played.steps q.played.steps p.steps q.steps;
     })
@@ -113,7 +113,7 @@ in_parts : (cs : List Command) (i : ℕ) (c : Command) → i < length cs → c �
 in_parts cs i c below is =
     sym (append_assoc (take i cs) (c ∷ []) (drop (i + 1) cs)) ∙ ap (λ xs. xs ++ drop (i + 1) cs) (sym (taken_more cs i c below is)) ∙ take-append-drop (i + 1) cs
 
-pub stops_among : (old mid new : Run) (cs : List Command) (i : ℕ) (c : Command) → i < length cs → c ≡ get_or cs i c → PlaysAllOn old mid (take i cs) → StopsIn mid new c → StopsAmong old new cs
+pub stops_among : (old mid new : RunSoFar) (cs : List Command) (i : ℕ) (c : Command) → i < length cs → c ≡ get_or cs i c → PlaysAllOn old mid (take i cs) → StopsIn mid new c → StopsAmong old new cs
 stops_among old mid new cs i c below is p q =
     let here : IsBegun partition_count p.played.world c q.taken q.next = subst (λ (w : World). IsBegun partition_count w c q.taken q.next) (stands_after old mid (take i cs) p) q.begun in
     record {
@@ -125,7 +125,7 @@ stops_among old mid new cs i c below is p q =
       passes = q.passes;
     }
 
-pub stands_among : (old mid new : Run) (cs : List Command) (i : ℕ) (c : Command) → i < length cs → c ≡ get_or cs i c → PlaysAllOn old mid (take i cs) → StandsIn mid new c → StandsAmong old new cs
+pub stands_among : (old mid new : RunSoFar) (cs : List Command) (i : ℕ) (c : Command) → i < length cs → c ≡ get_or cs i c → PlaysAllOn old mid (take i cs) → StandsIn mid new c → StandsAmong old new cs
 stands_among old mid new cs i c below is p q =
     let here : IsFrontOf partition_count p.played.world c q.taken = subst (λ (w : World). IsFrontOf partition_count w c q.taken) (stands_after old mid (take i cs) p) q.front in
     record {
@@ -135,14 +135,14 @@ stands_among old mid new cs i c below is p q =
       steps = followed_again old mid new p.played.steps q.taken p.steps q.steps;
     }
 
-pub all_played : (old new : Run) (cs : List Command) (i : ℕ) → length cs ≤ i → PlaysAllOn old new (take i cs) → PlaysAllOn old new cs
+pub all_played : (old new : RunSoFar) (cs : List Command) (i : ℕ) → length cs ≤ i → PlaysAllOn old new (take i cs) → PlaysAllOn old new cs
 all_played old new cs i past p = subst (PlaysAllOn old new) (take_all i cs past) p
 
 -- each command may be played where it comes
-pub may_play : (old mid : Run) (cs : List Command) (i : ℕ) (c : Command) → i < length cs → c ≡ get_or cs i c → ArePlayable old.header cs → PlaysAllOn old mid (take i cs)
+pub may_play : (old mid : RunSoFar) (cs : List Command) (i : ℕ) (c : Command) → i < length cs → c ≡ get_or cs i c → ArePlayable old.header cs → PlaysAllOn old mid (take i cs)
     → IsTrue (is_playable (declared_nodes mid.header) c)
 may_play old mid cs i c below is all p =
-    subst (λ (r : Run). IsTrue (is_playable (declared_nodes r.header) c)) (sym p.steps)
+    subst (λ (r : RunSoFar). IsTrue (is_playable (declared_nodes r.header) c)) (sym p.steps)
     (subst (λ (d : Command). IsTrue (is_playable (declared_nodes old.header) d)) (sym is) (all i c below))
 
 -- ---- from the beginning
@@ -153,33 +153,33 @@ playable nodes (c ∷ cs) e =
     let parts = and_parts (is_playable nodes c) (list_all (is_playable nodes) cs) e in
     All-cons (λ (d : Command). IsTrue (is_playable nodes d)) c cs parts.0 (playable nodes cs parts.1)
 
-pub playable_at_first : (world : Run) (s : Script) (commands : List Command) → world ≡ begun s.header → commands ≡ s.commands → IsProper s → ArePlayable world.header commands
+pub playable_at_first : (world : RunSoFar) (s : Script) (commands : List Command) → world ≡ run_begun s.header → commands ≡ s.commands → IsProper s → ArePlayable world.header commands
 playable_at_first world s commands is same p =
     subst (λ (cs : List Command). ArePlayable world.header cs) (sym same)
-    (subst (λ (r : Run). ArePlayable r.header s.commands) (sym is) (playable (declared_nodes s.header) s.commands (all_playable s p)))
+    (subst (λ (r : RunSoFar). ArePlayable r.header s.commands) (sym is) (playable (declared_nodes s.header) s.commands (all_playable s p)))
 
 pub declares_nodes : (s : Script) → IsProper s → IsNodeList (declared_nodes s.header)
 declares_nodes s p = subst IsNodeList (same_nodes s.header) p.nodes
 
-run_of_first : (s : Script) (last : Run) (lines : List Line) → PlaysAllOn (begun s.header) last s.commands → lines ≡ written last → runs.Run s lines
-unfolding standing written
-run_of_first s last lines p w = record { played = p.played; plays = p.plays; written = w ∙ ap written p.steps }
+run_of_first : (s : Script) (last : RunSoFar) (lines : List Line) → PlaysAllOn (run_begun s.header) last s.commands → lines ≡ run_lines last → runs.Run s lines
+unfolding standing run_lines
+run_of_first s last lines p w = record { played = p.played; plays = p.plays; written = w ∙ ap run_lines p.steps }
 
-pub run_of : (s : Script) (first last : Run) (commands : List Command) (lines : List Line) → first ≡ begun s.header → commands ≡ s.commands → PlaysAllOn first last commands → lines ≡ written last → runs.Run s lines
+pub run_of : (s : Script) (first last : RunSoFar) (commands : List Command) (lines : List Line) → first ≡ run_begun s.header → commands ≡ s.commands → PlaysAllOn first last commands → lines ≡ run_lines last → runs.Run s lines
 run_of s first last commands lines is same p w =
-    run_of_first s last lines (subst (λ (cs : List Command). PlaysAllOn (begun s.header) last cs) same (subst (λ (r : Run). PlaysAllOn r last commands) is p)) w
+    run_of_first s last lines (subst (λ (cs : List Command). PlaysAllOn (run_begun s.header) last cs) same (subst (λ (r : RunSoFar). PlaysAllOn r last commands) is p)) w
 
-cut_of_first : (s : Script) (last : Run) (lines : List Line) → StopsAmong (begun s.header) last s.commands → lines ≡ written last → IsCut s lines
-unfolding standing written
+cut_of_first : (s : Script) (last : RunSoFar) (lines : List Line) → StopsAmong (run_begun s.header) last s.commands → lines ≡ run_lines last → IsCut s lines
+unfolding standing run_lines
 cut_of_first s last lines p w = inr (record {
   next = p.next.lines;
-  begun = record { taken = p.taken; step = p.next; begun = p.begun; written = w ∙ ap written p.steps; following = refl };
+  begun = record { taken = p.taken; step = p.next; begun = p.begun; written = w ∙ ap run_lines p.steps; following = refl };
   passes = λ h. p.passes (subst (λ ls. IsWithin (ls ++ p.next.lines)) w h);
 })
 
-pub cut_of : (s : Script) (first last : Run) (commands : List Command) (lines : List Line) → first ≡ begun s.header → commands ≡ s.commands → StopsAmong first last commands → lines ≡ written last → IsCut s lines
+pub cut_of : (s : Script) (first last : RunSoFar) (commands : List Command) (lines : List Line) → first ≡ run_begun s.header → commands ≡ s.commands → StopsAmong first last commands → lines ≡ run_lines last → IsCut s lines
 cut_of s first last commands lines is same p w =
-    cut_of_first s last lines (subst (λ (cs : List Command). StopsAmong (begun s.header) last cs) same (subst (λ (r : Run). StopsAmong r last commands) is p)) w
+    cut_of_first s last lines (subst (λ (cs : List Command). StopsAmong (run_begun s.header) last cs) same (subst (λ (r : RunSoFar). StopsAmong r last commands) is p)) w
 
 -- ---- no line at all
 

@@ -9,7 +9,7 @@ use Rattle.cluster_types.specs.Distinct.{without}
 use Rattle.cluster_types.specs.Members.{ids_of}
 use Rattle.partition_lists.proofs.ListLaws.{any_is_contained}
 use Rattle.node_rules.specs.Agreement as rules
-use Rattle.node_rules.specs.Agreement.{Agreement, entering, has_round, next_key, others, proposing_to, ticking}
+use Rattle.node_rules.specs.Agreement.{Agreement, agreement_entered, has_round, next_key, others_among, proposing_to, ticking}
 use Rattle.node_rules.specs.Copies.{is_nil}
 use Rattle.node_rules.specs.Exchange.{is_member}
 use Rattle.clustering.specs.declared.stage.Keys.{Keys}
@@ -34,7 +34,7 @@ proposing_accepted s from h = record {
   promised = h.promised;
   led = h.led;
   member = h.member;
-  waits = All-filter (λ n. not (n == from)) (λ n. Contains (others s.keys.me s.members) n) s.missing h.waits;
+  waits = All-filter (λ n. not (n == from)) (λ n. Contains (others_among s.keys.me s.members) n) s.missing h.waits;
 }
 
 -- what a new proposal makes of the agreement, whoever is left to accept it
@@ -45,8 +45,8 @@ alone_or_not k key set (n ∷ ns) = refl
 
 -- a candidate without a proposal proposes anew, where there is a round
 pub ticking_anew : (k : Keys) (set : List Member) → has_round (agreement_with k None) ≡ true
-    → agreeing_with k (ticking k.me (agreement_with k None) set true) ≡ agreeing_if_alone (record k { promised = next_key k.me (agreement_with k None) }) set (others k.me set)
-ticking_anew k set h = rw h (alone_or_not k (next_key k.me (agreement_with k None)) set (others k.me set))
+    → agreeing_with k (ticking k.me (agreement_with k None) set true) ≡ agreeing_if_alone (record k { promised = next_key k.me (agreement_with k None) }) set (others_among k.me set)
+ticking_anew k set h = rw h (alone_or_not k (next_key k.me (agreement_with k None)) set (others_among k.me set))
 
 answer_alone_or_not : (k : Keys) (key : ClusterKey) (set : List Member) (to : List ℕ)
     → entered_or_sent (is_nil to) key set (proposing_to k.me (agreement_with k None) key set to).proposal ≡ entered_or_sent (is_nil to) key set (Some (rules.proposal_of k.me key set))
@@ -54,8 +54,8 @@ answer_alone_or_not k key set [] = refl
 answer_alone_or_not k key set (n ∷ ns) = refl
 
 pub answer_anew : (k : Keys) (set : List Member) → has_round (agreement_with k None) ≡ true
-    → tick_answer k.me (agreement_with k None) set true ≡ answer_if_alone (record k { promised = next_key k.me (agreement_with k None) }) set (others k.me set)
-answer_anew k set h = rw h (answer_alone_or_not k (next_key k.me (agreement_with k None)) set (others k.me set))
+    → tick_answer k.me (agreement_with k None) set true ≡ answer_if_alone (record k { promised = next_key k.me (agreement_with k None) }) set (others_among k.me set)
+answer_anew k set h = rw h (answer_alone_or_not k (next_key k.me (agreement_with k None)) set (others_among k.me set))
 
 -- whether a node is a member goes by the ids
 member_by_id : (ms : List Member) (n : ℕ) → list_any (λ m. m == n) (ids_of ms) ≡ is_member ms n

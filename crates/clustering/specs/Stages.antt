@@ -6,7 +6,7 @@ use Rattle.cluster_types.specs.ClusterKeys.{none, key_lt}
 use Rattle.cluster_types.specs.Members.{ids_of}
 use Rattle.wire_messages.specs.Keys.{IsKeyOrNone}
 use Rattle.node_rules.specs.Agreement as rules
-use Rattle.node_rules.specs.Agreement.{Agreement, others}
+use Rattle.node_rules.specs.Agreement.{Agreement, others_among}
 use Rattle.clustering.specs.Agreeing.{Agreeing}
 use Rattle.clustering.specs.declared.stage.Keys.{Keys}
 use Rattle.clustering.specs.declared.stage.Proposing.{Proposing}
@@ -25,13 +25,13 @@ abbrev pub agreement_with : Keys → Option rules.Proposal → Agreement
 agreement_with k proposal = record { promised = k.promised; last = k.last; proposal = proposal; seen = k.seen }
 
 -- a proposal is of the key that was promised last
-abbrev pub proposal_of : Proposing → rules.Proposal
-proposal_of s = record { key = s.keys.promised; members = s.members; missing = s.missing }
+abbrev pub stage_proposal : Proposing → rules.Proposal
+stage_proposal s = record { key = s.keys.promised; members = s.members; missing = s.missing }
 
 -- the proposal, at the one stage that has one
 abbrev pub proposal_at : Stage → Option rules.Proposal
 proposal_at (stage.Idle s) = None
-proposal_at (stage.Proposing s) = Some (proposal_of s)
+proposal_at (stage.Proposing s) = Some (stage_proposal s)
 proposal_at (stage.Promised s) = None
 proposal_at (stage.Entered s) = None
 
@@ -59,7 +59,7 @@ pub record IsProposing (s : Proposing) : Type 0 where
   pub promised : IsPromised s.keys
   pub led : s.keys.promised.principal ≡ s.keys.me
   pub member : Contains (ids_of s.members) s.keys.me
-  pub waits : All (λ n. Contains (others s.keys.me s.members) n) s.missing
+  pub waits : All (λ n. Contains (others_among s.keys.me s.members) n) s.missing
 
 -- nothing was promised, and so nothing was entered
 pub record IsIdle (k : Keys) : Type 0 where
@@ -67,7 +67,7 @@ pub record IsIdle (k : Keys) : Type 0 where
   pub none_promised : k.promised ≡ none
 
 -- the view of the promised key was entered
-pub record IsEntered (k : Keys) : Type 0 where
+pub record IsPromiseEntered (k : Keys) : Type 0 where
   pub keys : AreKeys k.promised k.last
   pub entered : k.last ≡ k.promised
 
@@ -76,4 +76,4 @@ abbrev pub IsStage : Stage → Type 0
 IsStage (stage.Idle s) = IsIdle s.keys
 IsStage (stage.Proposing s) = IsProposing s
 IsStage (stage.Promised s) = IsPromised s.keys
-IsStage (stage.Entered s) = IsEntered s.keys
+IsStage (stage.Entered s) = IsPromiseEntered s.keys

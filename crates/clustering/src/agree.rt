@@ -3,13 +3,13 @@ ghost use Rattle.std.specs.Prelude.{◌≡◌, true, false, None, Some, Contains
 ghost use Rattle.cluster_types.specs.ClusterKeys.{key_lt};
 ghost use Rattle.cluster_types.specs.Members.{ids_of};
 ghost use Rattle.wire_messages.specs.Keys.{IsKeyField, IsKeyOrNone};
-ghost use Rattle.node_rules.specs.Agreement.{agreement_of, others, seeing, ticking, voting, counting, refusing, committing, may_enter};
+ghost use Rattle.node_rules.specs.Agreement.{agreement_of, others_among, seeing, ticking, voting, counting, refusing, committing, may_enter};
 ghost use Rattle.node_rules.specs.Copies.{is_nil};
 ghost use Rattle.node_rules.specs.Exchange.{is_member};
 ghost use Rattle.clustering.specs.Agreeing.{with_agreement};
 ghost use Rattle.clustering.specs.Answers.{IsEnteredBy, accept_if, accept_of, commit_of, refuse_of, sent_of, tick_answer, vote_of};
 ghost use Rattle.clustering.specs.Parts.{agreeing_with, agreeing_if_accepted, agreeing_if_alone, answer_if_alone, entered_from};
-ghost use Rattle.clustering.specs.Stages.{AreKeys, IsPromised, IsProposing, IsStage, agreement_at, agreement_with, keys_of, proposal_of};
+ghost use Rattle.clustering.specs.Stages.{AreKeys, IsPromised, IsProposing, IsStage, agreement_at, agreement_with, keys_of, stage_proposal};
 
 use crate::stage::{Entered, Keys, Proposing, Stage};
 use crate::steps::{AcceptStep, CommitStep, Proposal, RefuseStep, Vote};
@@ -183,7 +183,7 @@ fn tick(stage: &Stage, set: &Members, candidate: bool) -> (Agree, Proposal)
 
 /// What is to be sent of a proposal.
 fn send(proposing: &Proposing) -> Proposal
-    ensures { result ≡ sent_of (Some (proposal_of proposing.now)) }
+    ensures { result ≡ sent_of (Some (stage_proposal proposing.now)) }
 {
     Proposal::Send {
         key: proposing.keys.promised,
@@ -238,8 +238,10 @@ fn propose(keys: &Keys, set: &Members) -> (Agree, Proposal)
     requires promised { IsPromised keys.now }
     requires led { keys.now.promised.principal ≡ keys.now.me }
     requires member { Contains (ids_of set.now) keys.now.me }
-    ensures agree { result.0 ≡ agreeing_if_alone keys.now set.now (others keys.now.me set.now) }
-    ensures answer { result.1 ≡ answer_if_alone keys.now set.now (others keys.now.me set.now) }
+    ensures agree { result.0 ≡ agreeing_if_alone keys.now set.now
+        (others_among keys.now.me set.now) }
+    ensures answer { result.1 ≡ answer_if_alone keys.now set.now
+        (others_among keys.now.me set.now) }
 {
     let key = keys.promised;
     let members = *set;

@@ -4,8 +4,8 @@ ghost use Rattle.cluster_types.specs.Distinct.{without};
 ghost use Rattle.cluster_types.specs.ClusterKeys.{key_lt};
 ghost use Rattle.cluster_types.specs.Members.{ids_of};
 ghost use Rattle.wire_messages.specs.Keys.{IsKeyField};
-ghost use Rattle.node_rules.specs.Agreement.{others, seeing, has_round, next_key, without_missing};
-ghost use Rattle.clustering.specs.Stages.{AreKeys, IsStage, IsPromised, IsProposing, agreement_at, agreement_with, keys_of, proposal_of, seen_at};
+ghost use Rattle.node_rules.specs.Agreement.{others_among, seeing, has_round, next_key, without_missing};
+ghost use Rattle.clustering.specs.Stages.{AreKeys, IsStage, IsPromised, IsProposing, agreement_at, agreement_with, keys_of, stage_proposal, seen_at};
 
 use cluster_types::{ClusterKey, Members, NodeId, NodeList};
 
@@ -131,7 +131,7 @@ impl Proposing {
         requires member { Contains (ids_of members.now) keys.now.me }
         ensures keys { result.keys ≡ keys.now }
         ensures members { result.members ≡ members.now }
-        ensures missing { result.missing ≡ others keys.now.me members.now }
+        ensures missing { result.missing ≡ others_among keys.now.me members.now }
         ensures stage { IsProposing result }
     {
         Proposing {
@@ -145,7 +145,7 @@ impl Proposing {
     pub fn accepted_by(&self, from: NodeId) -> Proposing
         requires { IsProposing self.now }
         ensures keys { result.keys ≡ self.now.keys }
-        ensures proposal { proposal_of result ≡ without_missing (proposal_of self.now) from }
+        ensures proposal { stage_proposal result ≡ without_missing (stage_proposal self.now) from }
         ensures stage { IsProposing result }
     {
         Proposing {

@@ -3,7 +3,7 @@ use Rattle.std.proofs.Common.{◌≡◌, ℕ, ◌+◌, ◌-◌, ◌*◌, ◌%◌
 use Rattle.std.proofs.lemmas.List.{append_assoc, take-replicate}
 use Rattle.byteorder.specs.Endian.{little_bytes}
 use Rattle.digest_ripemd.specs.Blocks.{Chained, chained}
-use Rattle.digest_ripemd.specs.Digests.{Hashing, fed, initial, padded, bytes_of, ripemd160}
+use Rattle.digest_ripemd.specs.Digests.{Hashing, fed, initial, padded_message, digest_bytes, ripemd160}
 use Rattle.digest_ripemd.proofs.Chaining.{chained-append, chained-words}
 
 -- the first bytes of the longest padding
@@ -40,7 +40,7 @@ pub finished : (hashing : Hashing) (padded_chain whole : Chained) (message zeros
     → bits ≡ little_bytes 8 (8 * hashing.count)
     → padded_chain ≡ chained hashing.chain.words (hashing.chain.rest ++ zeros)
     → whole ≡ chained padded_chain.words (padded_chain.rest ++ bits)
-    → bytes_of whole.words ≡ ripemd160 message
+    → digest_bytes whole.words ≡ ripemd160 message
 unfolding ripemd160
 finished hashing padded_chain whole message zeros bits is zeros_are bits_are first_is second_is =
     let count : hashing.count ≡ length message = count-fed hashing message is in
@@ -48,5 +48,5 @@ finished hashing padded_chain whole message zeros bits is zeros_are bits_are fir
     grown hashing.chain padded_chain message zeros (chain-fed hashing message is) first_is in
     let second : whole ≡ chained initial ((message ++ zeros) ++ bits) =
     grown padded_chain whole (message ++ zeros) bits first second_is in
-    let joined : (message ++ zeros) ++ bits ≡ padded message = rw (append_assoc, zeros_are, bits_are, count) refl in
-    rw (second, joined, chained-words initial (padded message)) refl
+    let joined : (message ++ zeros) ++ bits ≡ padded_message message = rw (append_assoc, zeros_are, bits_are, count) refl in
+    rw (second, joined, chained-words initial (padded_message message)) refl

@@ -4,7 +4,7 @@ use Rattle.std.proofs.lemmas.List.{drop_all}
 use Rattle.std.proofs.Math.Seq.{drop-cons}
 use Rattle.digest_ripemd.specs.declared.rounds.Function.{Function}
 use Rattle.digest_ripemd.specs.declared.rounds.Words.{Words}
-use Rattle.digest_ripemd.specs.Lines.{after_step, after_steps}
+use Rattle.digest_ripemd.specs.Lines.{round_step, after_steps}
 
 -- a sum of four words is the same in another order
 pub sum_reordered : (a f x k : ℕ) → (((a + x) % 2 ^ 32 + k) % 2 ^ 32 + f) % 2 ^ 32 ≡ (a + f + x + k) % 2 ^ 32
@@ -15,7 +15,7 @@ pub after_steps-drop : (f : Function) (k : ℕ) (words order rotations : List �
     → i < length order → i < length rotations
     → after_steps f k words (drop i order) (drop i rotations) v
     ≡ after_steps f k words (drop (i + 1) order) (drop (i + 1) rotations)
-    (after_step f k (slice_index words (slice_index order i)) (slice_index rotations i) v)
+    (round_step f k (slice_index words (slice_index order i)) (slice_index rotations i) v)
 unfolding after_steps
 after_steps-drop f k words order rotations v i more more' =
     rw (drop-cons order i 0 more, drop-cons rotations i 0 more', add-one) refl

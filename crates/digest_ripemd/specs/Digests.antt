@@ -14,16 +14,17 @@ initial = record { a = 0x67452301; b = 0xEFCDAB89; c = 0x98BADCFE; d = 0x1032547
 abbrev pub padding : ℕ → List ℕ
 padding n = 0x80 ∷ replicate ((119 - n % 64) % 64) 0 ++ little_bytes 8 (8 * n)
 
-abbrev pub padded : List ℕ → List ℕ
-padded message = message ++ padding (length message)
+abbrev pub padded_message : List ℕ → List ℕ
+padded_message message = message ++ padding (length message)
 
 -- the five words, each with its lowest byte first
-abbrev pub bytes_of : Words → List ℕ
-bytes_of h = flat_map (little_bytes 4) (h.a ∷ h.b ∷ h.c ∷ h.d ∷ h.e ∷ [])
+abbrev pub digest_bytes : Words → List ℕ
+digest_bytes h = flat_map (little_bytes 4) (h.a ∷ h.b ∷ h.c ∷ h.d ∷ h.e ∷ [])
 
 -- the digest: the chaining words after all blocks of the padded message
 unfoldable pub ripemd160 : List ℕ → List ℕ
-ripemd160 message = bytes_of (after_blocks initial (padded message) (length (padded message) / 64))
+ripemd160 message = digest_bytes
+    (after_blocks initial (padded_message message) (length (padded_message message) / 64))
 
 -- a digest that is being made, as a caller sees it: how many bytes were fed, and what they left
 pub record Hashing : Type 0 where

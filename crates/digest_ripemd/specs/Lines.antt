@@ -17,8 +17,8 @@ value_of F4 b c d = bit_or (bit_and b d) (bit_and c (bit_not w32 d))
 value_of F5 b c d = bit_xor b (bit_or c (bit_not w32 d))
 
 -- a step of a round with this function and constant, which reads the word x and rotates by s
-unfoldable pub after_step : Function → ℕ → ℕ → ℕ → Words → Words
-after_step f k x s v = record {
+unfoldable pub round_step : Function → ℕ → ℕ → ℕ → Words → Words
+round_step f k x s v = record {
   a = v.e;
   b = (rotate_left w32 ((v.a + value_of f v.b v.c v.d + x + k) % 2 ^ 32) s + v.e) % 2 ^ 32;
   c = v.b;
@@ -29,7 +29,7 @@ after_step f k x s v = record {
 -- a step for each place in the order and each rotation
 unfoldable pub after_steps : Function → ℕ → List ℕ → List ℕ → List ℕ → Words → Words
 after_steps f k words (place ∷ order) (s ∷ rotations) v =
-    after_steps f k words order rotations (after_step f k (slice_index words place) s v)
+    after_steps f k words order rotations (round_step f k (slice_index words place) s v)
 after_steps f k words order rotations v = v
 
 -- the steps of a round over the words of a block
@@ -37,9 +37,9 @@ abbrev pub after_round : List ℕ → Round → Words → Words
 after_round words round v = after_steps round.function round.constant words round.order round.rotations v
 
 -- the rounds of a line, one after the other
-abbrev pub after_line : List ℕ → List Round → Words → Words
-after_line words [] v = v
-after_line words (round ∷ rounds) v = after_line words rounds (after_round words round v)
+abbrev pub line_rounds : List ℕ → List Round → Words → Words
+line_rounds words [] v = v
+line_rounds words (round ∷ rounds) v = line_rounds words rounds (after_round words round v)
 
 -- the chaining words, joined with what the left and the right line made of them
 abbrev pub combined : Words → Words → Words → Words
@@ -53,4 +53,4 @@ combined h left right = record {
 
 -- the chaining words after a block of these words
 unfoldable pub after_words : List ℕ → Words → Words
-after_words words h = combined h (after_line words left_line h) (after_line words right_line h)
+after_words words h = combined h (line_rounds words left_line h) (line_rounds words right_line h)

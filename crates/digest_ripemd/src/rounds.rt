@@ -1,7 +1,7 @@
 //! The two lines of five rounds that run over a block.
 ghost use Rattle.std.specs.Prelude.{◌≡◌, ◌<◌, ℕ, List, nat_lt, IsTrue};
 ghost use Rattle.std.specs.List.{list_all};
-ghost use Rattle.digest_ripemd.specs.Lines.{value_of, after_step, after_round, after_line, combined, after_words};
+ghost use Rattle.digest_ripemd.specs.Lines.{value_of, round_step, after_round, line_rounds, combined, after_words};
 ghost use Rattle.digest_ripemd.specs.Tables.{left_line, right_line};
 
 /// Five words: the chaining words, or the variables of a line.
@@ -121,7 +121,7 @@ impl Function {
 impl Words {
     #[inline(always)]
     fn step(self, function: Function, constant: u32, word: u32, rotation: u32) -> Words
-        ensures { result ≡ after_step function constant word rotation self }
+        ensures { result ≡ round_step function constant word rotation self }
     {
         let value = function.value(self.b, self.c, self.d);
         // The value depends on the step before, so adding it last shortens the chain.
@@ -157,7 +157,7 @@ impl Words {
     }
 
     fn left_line(self, words: &[u32; 16]) -> Words
-        ensures { result ≡ after_line words.now left_line self }
+        ensures { result ≡ line_rounds words.now left_line self }
     {
         self.round(words, &LEFT[0])
             .round(words, &LEFT[1])
@@ -167,7 +167,7 @@ impl Words {
     }
 
     fn right_line(self, words: &[u32; 16]) -> Words
-        ensures { result ≡ after_line words.now right_line self }
+        ensures { result ≡ line_rounds words.now right_line self }
     {
         self.round(words, &RIGHT[0])
             .round(words, &RIGHT[1])

@@ -9,7 +9,7 @@ use Rattle.std.proofs.lemmas.Slice.Eq.{bytes_eq-Decides}
 use Rattle.cluster_types.specs.Partitions.{partition_count, partition_of}
 use Rattle.node_rules.specs.Copies.{is_of}
 use Rattle.dup_resolve.specs.declared.txn.Txn.{Txn}
-use Rattle.dup_resolve.specs.Places.{AreCounts, entries}
+use Rattle.dup_resolve.specs.Places.{AreOpenCounts, txn_entries}
 
 pub partition_within : (d : List ℕ) → partition_of d < partition_count
 partition_within d = omega arith
@@ -39,8 +39,8 @@ count_apart p es d id is =
     sym (count_last (is_of p) es d id ∙ ap (λ b. count_by (is_of p) (keys_of es) + cond b 1 0) is ∙ (omega arith))
 
 -- a transaction that is opened is one more on its partition
-pub counts_push : (es : List (List ℕ × ℕ)) (numbers : List ℕ) (d : List ℕ) (id : ℕ) → partition_count ≤ length numbers → AreCounts es numbers
-    → AreCounts (es ++ (d, id) ∷ []) (slice_set numbers (partition_of d) (slice_index numbers (partition_of d) + 1))
+pub counts_push : (es : List (List ℕ × ℕ)) (numbers : List ℕ) (d : List ℕ) (id : ℕ) → partition_count ≤ length numbers → AreOpenCounts es numbers
+    → AreOpenCounts (es ++ (d, id) ∷ []) (slice_set numbers (partition_of d) (slice_index numbers (partition_of d) + 1))
 counts_push es numbers d id room h = record {
   at = λ p within. elim (eqb_tells (partition_of d) p) [
     | inl same ↦
@@ -56,11 +56,11 @@ counts_push es numbers d id room h = record {
 }
 
 -- no more are open on a partition than are open
-pub count_bound : (ts : List Txn) (numbers : List ℕ) (p : ℕ) → p < partition_count → AreCounts (entries ts) numbers → slice_index numbers p ≤ length ts
+pub count_bound : (ts : List Txn) (numbers : List ℕ) (p : ℕ) → p < partition_count → AreOpenCounts (txn_entries ts) numbers → slice_index numbers p ≤ length ts
 count_bound ts numbers p within h =
-    let keys : length (keys_of (entries ts)) ≡ length (entries ts) = length-map (entries ts) (λ (e : List ℕ × ℕ). e.0) in
-    let all : length (entries ts) ≡ length ts = length-map {B = List ℕ × ℕ} ts (λ (t : Txn). (t.digest, t.id)) in
-    omega (arith, h.at p within, count_by-le-length (is_of p) (keys_of (entries ts)))
+    let keys : length (keys_of (txn_entries ts)) ≡ length (txn_entries ts) = length-map (txn_entries ts) (λ (e : List ℕ × ℕ). e.0) in
+    let all : length (txn_entries ts) ≡ length ts = length-map {B = List ℕ × ℕ} ts (λ (t : Txn). (t.digest, t.id)) in
+    omega (arith, h.at p within, count_by-le-length (is_of p) (keys_of (txn_entries ts)))
 
 -- ---- one less
 
@@ -107,15 +107,15 @@ less_one : (n m : ℕ) → n ≡ 1 + m → n - 1 ≡ m
 less_one n m e = omega (arith, e)
 
 -- the partition of a transaction that is open has one at least
-pub counts_some : (es : List (List ℕ × ℕ)) (numbers : List ℕ) (d : List ℕ) → AreCounts es numbers → list_any (bytes_eq d) (keys_of es) ≡ true → 0 < slice_index numbers (partition_of d)
+pub counts_some : (es : List (List ℕ × ℕ)) (numbers : List ℕ) (d : List ℕ) → AreOpenCounts es numbers → list_any (bytes_eq d) (keys_of es) ≡ true → 0 < slice_index numbers (partition_of d)
 counts_some es numbers d h there = elim (eqb_tells (partition_of d) (partition_of d)) [
   | inl same ↦ positive _ _ (h.at (partition_of d) (partition_within d) ∙ less_here (partition_of d) d es there same.0)
   | inr other ↦ absurd (other.1 refl)
 ]
 
 -- a transaction that is closed is one less on its partition
-pub counts_remove : (es : List (List ℕ × ℕ)) (numbers : List ℕ) (d : List ℕ) → AreCounts es numbers → list_any (bytes_eq d) (keys_of es) ≡ true
-    → AreCounts (remove_entry (bytes_eq d) es) (slice_set numbers (partition_of d) (slice_index numbers (partition_of d) - 1))
+pub counts_remove : (es : List (List ℕ × ℕ)) (numbers : List ℕ) (d : List ℕ) → AreOpenCounts es numbers → list_any (bytes_eq d) (keys_of es) ≡ true
+    → AreOpenCounts (remove_entry (bytes_eq d) es) (slice_set numbers (partition_of d) (slice_index numbers (partition_of d) - 1))
 counts_remove es numbers d h there = record {
   at = λ p within. elim (eqb_tells (partition_of d) p) [
     | inl same ↦

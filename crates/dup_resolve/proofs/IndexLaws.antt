@@ -14,28 +14,28 @@ use Rattle.std.proofs.Math.Seq.{take-length}
 use Rattle.node_rules.specs.Copies.{is_of}
 use Rattle.node_rules.specs.Tables.{changed_if}
 use Rattle.dup_resolve.specs.declared.txn.Txn.{Txn}
-use Rattle.dup_resolve.specs.Open.{number_on, is_busy, changing, awaits_ack, awaits_answer, acknowledged, acknowledged_if, answered, answered_if}
+use Rattle.dup_resolve.specs.Open.{number_on, has_txn_on, change_txn, txn_awaits_ack, txn_awaits_answer, txn_acknowledged, acknowledged_if, txn_answered, answered_if}
 use Rattle.conflict_order.specs.declared.policy.Policy.{Policy}
 use Rattle.conflict_order.specs.declared.version.Version.{Version}
-use Rattle.dup_resolve.specs.Places.{entries, IsIndex}
+use Rattle.dup_resolve.specs.Places.{txn_entries, IsIndex}
 
 -- the index has the number of the digest's transaction
-pub number_is : (ts : List Txn) (d : List ℕ) → lookup (bytes_eq d) (entries ts) ≡ number_on ts d
+pub number_is : (ts : List Txn) (d : List ℕ) → lookup (bytes_eq d) (txn_entries ts) ≡ number_on ts d
 number_is [] d = refl
 number_is (t ∷ ts) d =
     let rest = number_is ts d in
-    elim (bytes_eq d t.digest) as (λ b. cond b (Some t.id) (lookup (bytes_eq d) (entries ts)) ≡ option_map (λ (u : Txn). u.id) (cond b (Some t) (find (λ (u : Txn). bytes_eq d u.digest) ts))) [ true ↦ refl | false ↦ rest ]
+    elim (bytes_eq d t.digest) as (λ b. cond b (Some t.id) (lookup (bytes_eq d) (txn_entries ts)) ≡ option_map (λ (u : Txn). u.id) (cond b (Some t) (find (λ (u : Txn). bytes_eq d u.digest) ts))) [ true ↦ refl | false ↦ rest ]
 
 entry_changed : (f : Txn → Txn) → ((t : Txn) → ((f t).digest ≡ t.digest) × ((f t).id ≡ t.id)) → (t : Txn) (b : Bool) (es : List (List ℕ × ℕ)) → ((changed_if f t b).digest, (changed_if f t b).id) ∷ es ≡ (t.digest, t.id) ∷ es
 entry_changed f same t true es = λ i. ((same t).0 i, (same t).1 i) ∷ es
 entry_changed f same t false es = refl
 
 -- a change that keeps digests and numbers keeps the entries
-pub entries_changed : (f : Txn → Txn) → ((t : Txn) → ((f t).digest ≡ t.digest) × ((f t).id ≡ t.id)) → (ts : List Txn) (id : ℕ) → entries (changing ts id f) ≡ entries ts
+pub entries_changed : (f : Txn → Txn) → ((t : Txn) → ((f t).digest ≡ t.digest) × ((f t).id ≡ t.id)) → (ts : List Txn) (id : ℕ) → txn_entries (change_txn ts id f) ≡ txn_entries ts
 entries_changed f same [] id = refl
 entries_changed f same (t ∷ ts) id =
     let rest = entries_changed f same ts id in
-    entry_changed f same t (t.id == id) (entries (changing ts id f)) ∙ ap (λ es. (t.digest, t.id) ∷ es) rest
+    entry_changed f same t (t.id == id) (txn_entries (change_txn ts id f)) ∙ ap (λ es. (t.digest, t.id) ∷ es) rest
 
 past_all : {A : Type 0} (xs : List A) → drop (length xs) xs ≡ []
 past_all [] = refl
@@ -83,22 +83,23 @@ index_remove es m n d h step = record {
   distinct = distinct_removed (bytes_eq d) es h.distinct;
 }
 
-busy_step : (p : ℕ) (ts : List Txn) (n : ℕ) (b : Bool) → n ≡ (0 + cond b 1 0) + count_by (is_of p) (keys_of (entries ts))
-    → ((m : ℕ) → m ≡ count_by (is_of p) (keys_of (entries ts)) → not (m == 0) ≡ is_busy ts p) → not (n == 0) ≡ (b || is_busy ts p)
+busy_step : (p : ℕ) (ts : List Txn) (n : ℕ) (b : Bool) → n ≡ (0 + cond b 1 0) + count_by (is_of p) (keys_of (txn_entries ts))
+    → ((m : ℕ) → m ≡ count_by (is_of p) (keys_of (txn_entries ts)) → not (m == 0) ≡ has_txn_on ts p) → not (n == 0) ≡ (b || has_txn_on ts p)
 busy_step p ts n true e rest = grind (arith, nat_tests)
 busy_step p ts n false e rest = rest n (omega (arith, e))
 
 -- a partition is busy where its count isn't 0
-pub busy_is : (p : ℕ) (ts : List Txn) (n : ℕ) → n ≡ count_by (is_of p) (keys_of (entries ts)) → not (n == 0) ≡ is_busy ts p
+pub busy_is : (p : ℕ) (ts : List Txn) (n : ℕ) → n ≡ count_by (is_of p) (keys_of (txn_entries ts)) → not (n == 0) ≡ has_txn_on ts p
 busy_is p [] n e = grind (arith, nat_tests)
-busy_is p (t ∷ ts) n e = busy_step p ts n (is_of p t.digest) (e ∙ sum_by-append (λ (d : List ℕ). cond (is_of p d) 1 0) (t.digest ∷ []) (keys_of (entries ts))) (busy_is p ts)
+busy_is p (t ∷ ts) n e = busy_step p ts n (is_of p t.digest) (e ∙ sum_by-append (λ (d : List ℕ). cond (is_of p d) 1 0) (t.digest ∷ []) (keys_of (txn_entries ts))) (busy_is p ts)
 
 entry_kept : (f : Txn → Txn) → ((t : Txn) → ((f t).digest ≡ t.digest) × ((f t).id ≡ t.id)) → (t : Txn) (b : Bool) → ((changed_if f t b).digest ≡ t.digest) × ((changed_if f t b).id ≡ t.id)
 entry_kept f same t true = same t
 entry_kept f same t false = (refl, refl)
 
 pub acknowledged_entry : (from : ℕ) (t : Txn) → ((acknowledged_if from t).digest ≡ t.digest) × ((acknowledged_if from t).id ≡ t.id)
-acknowledged_entry from t = entry_kept (acknowledged from) (λ u. (refl, refl)) t (awaits_ack t from)
+acknowledged_entry from t = entry_kept (txn_acknowledged from) (λ u. (refl, refl)) t
+    (txn_awaits_ack t from)
 
 pub answered_entry : (by : Policy) (from : ℕ) (v : Option Version) (t : Txn) → ((answered_if by from v t).digest ≡ t.digest) × ((answered_if by from v t).id ≡ t.id)
-answered_entry by from v t = entry_kept (answered by from v) (λ u. (refl, refl)) t (awaits_answer t from)
+answered_entry by from v t = entry_kept (txn_answered by from v) (λ u. (refl, refl)) t (txn_awaits_answer t from)

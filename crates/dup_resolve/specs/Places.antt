@@ -22,23 +22,23 @@ running_of (None ∷ slots) = running_of slots
 running_of (Some t ∷ slots) = t ∷ running_of slots
 
 -- the first slot, if there is one, has a transaction
-abbrev pub starts_full : List (Option Txn) → Bool
-starts_full [] = true
-starts_full (None ∷ slots) = false
-starts_full (Some t ∷ slots) = true
+abbrev pub starts_with_txn : List (Option Txn) → Bool
+starts_with_txn [] = true
+starts_with_txn (None ∷ slots) = false
+starts_with_txn (Some t ∷ slots) = true
 
 -- each transaction has its slot's number; so many were opened before the first slot's
 pub record AreNumbered (before : ℕ) (slots : List (Option Txn)) : Type 0 where
   pub at : (i : ℕ) (t : Txn) → slice_get slots i ≡ Some (Some t) → t.id ≡ before + 1 + i
 
 -- the numbers rise strictly, up to the last one at most
-pub record AreRising (last : ℕ) (ts : List Txn) : Type 0 where
+pub record AreRisingUpTo (last : ℕ) (ts : List Txn) : Type 0 where
   pub rising : AllPairs (λ t u. t.id < u.id) ts
   pub to_last : All (λ t. t.id ≤ last) ts
 
 -- the digest of each with its number
-abbrev pub entries : List Txn → List (List ℕ × ℕ)
-entries ts = map (λ t. (t.digest, t.id)) ts
+abbrev pub txn_entries : List Txn → List (List ℕ × ℕ)
+txn_entries ts = map (λ t. (t.digest, t.id)) ts
 
 -- the map has the number of each digest's transaction, and no digest stands twice
 pub record IsIndex (es : List (List ℕ × ℕ)) (numbers : List ℕ → Option ℕ) : Type 0 where
@@ -46,7 +46,7 @@ pub record IsIndex (es : List (List ℕ × ℕ)) (numbers : List ℕ → Option 
   pub distinct : IsDistinct bytes_eq (keys_of es)
 
 -- the numbers say of each partition how many are open on it
-pub record AreCounts (es : List (List ℕ × ℕ)) (numbers : List ℕ) : Type 0 where
+pub record AreOpenCounts (es : List (List ℕ × ℕ)) (numbers : List ℕ) : Type 0 where
   pub at : (p : ℕ) → p < partition_count → slice_index numbers p ≡ count_by (is_of p) (keys_of es)
 
 -- how many transactions can begin without memory, by the room in the slots and in the index, and by

@@ -2,9 +2,9 @@
 ghost use Rattle.std.specs.Prelude.{◌≡◌, ◌↔◌, ◌<◌, ◌≤◌, ◌+◌, ◌-◌, ◌^◌, ◌∷◌, ◌++◌, [], ◌⊎◌, ℕ, Some, None, IsTrue, IsOk, IfOk, OnOk, MatchOption, length, slice_index_or, slice_set};
 ghost use Rattle.std.specs.Option.{option_copied, option_map};
 ghost use Rattle.std.specs.VecDeque.{deque_len, deque_capacity};
-ghost use Rattle.dup_resolve.specs.Open.{acked_step, acknowledged, acknowledged_if, answer_step, answered, answered_if, changing, closing, digest_at, digest_in, transaction, with_write};
+ghost use Rattle.dup_resolve.specs.Open.{acked_step, txn_acknowledged, acknowledged_if, answer_step, txn_answered, answered_if, change_txn, without_txn, txn_digest_at, txn_digest, txn_at, txn_with_write};
 ghost use Rattle.dup_resolve.specs.Open as table;
-ghost use Rattle.dup_resolve.specs.Places.{AreNumbered, AreRising, running_of, starts_full};
+ghost use Rattle.dup_resolve.specs.Places.{AreNumbered, AreRisingUpTo, running_of, starts_with_txn};
 
 use crate::closed::Closed;
 use crate::txn::Txn;
@@ -28,13 +28,13 @@ pub(crate) struct Slots {
 impl Model for Slots {
     ghost use Rattle.std.specs.Prelude.{◌≤◌, ◌-◌, IsTrue};
     ghost use Rattle.std.specs.VecDeque.{deque_len, deque_capacity};
-    ghost use Rattle.dup_resolve.specs.Places.{AreNumbered, Slotted, running_of, starts_full};
+    ghost use Rattle.dup_resolve.specs.Places.{AreNumbered, Slotted, running_of, starts_with_txn};
 
     ghost Value = { Slotted };
 
     ghost view = { λ s. record { opened = s.opened; running = running_of s.slots.items; spare = deque_capacity s.slots - deque_len s.slots } };
 
-    ghost invariant = { λ s. (deque_len s.slots ≤ s.opened) × AreNumbered (s.opened - deque_len s.slots) s.slots.items × IsTrue (starts_full s.slots.items) };
+    ghost invariant = { λ s. (deque_len s.slots ≤ s.opened) × AreNumbered (s.opened - deque_len s.slots) s.slots.items × IsTrue (starts_with_txn s.slots.items) };
 }
 
 impl Slots {
@@ -53,7 +53,7 @@ impl Slots {
     pub(crate) fn opened(&self) -> u32
         ensures value { result ≡ self.now.opened }
         ensures limit { length self.now.running ≤ self.now.opened }
-        ensures numbers { AreRising self.now.opened self.now.running }
+        ensures numbers { AreRisingUpTo self.now.opened self.now.running }
     {
         self.opened
     }
@@ -87,7 +87,7 @@ impl Slots {
 
     /// The open transaction of that number.
     pub(crate) fn get(&self, t: u32) -> Option<&Txn>
-        ensures { option_copied result ≡ transaction self.now.running t }
+        ensures { option_copied result ≡ txn_at self.now.running t }
     {
         let place = place_of(t, self.opened, self.slots.len())?;
         self.slots[place].as_ref()
@@ -95,10 +95,10 @@ impl Slots {
 
     /// Takes the transaction of that number out, and answers its digest.
     pub(crate) fn take(&mut self, t: u32) -> Option<Digest>
-        ensures digest { result ≡ digest_at self.old.running t }
+        ensures digest { result ≡ txn_digest_at self.old.running t }
         ensures opened { self.new.opened ≡ self.old.opened }
-        ensures running { self.new.running ≡ closing self.old.running t }
-        ensures numbers { AreRising self.old.opened self.old.running }
+        ensures running { self.new.running ≡ without_txn self.old.running t }
+        ensures numbers { AreRisingUpTo self.old.opened self.old.running }
         ensures spare { self.old.spare ≤ self.new.spare }
     {
         let place = place_of(t, self.opened, self.slots.len())?;
@@ -115,9 +115,9 @@ impl Slots {
         v: Option<Version>,
         by: Policy,
     ) -> AnswerStep
-        ensures step { result ≡ answer_step (transaction self.old.running t) from }
+        ensures step { result ≡ answer_step (txn_at self.old.running t) from }
         ensures opened { self.new.opened ≡ self.old.opened }
-        ensures running { self.new.running ≡ changing self.old.running t (answered_if by from v) }
+        ensures running { self.new.running ≡ change_txn self.old.running t (answered_if by from v) }
         ensures spare { self.new.spare ≡ self.old.spare }
     {
         match place_of(t, self.opened, self.slots.len()) {
@@ -128,9 +128,9 @@ impl Slots {
 
     /// Takes an acknowledgement of a node for the transaction of that number.
     pub(crate) fn acknowledge(&mut self, from: NodeId, t: u32) -> AckedStep
-        ensures step { result ≡ acked_step (transaction self.old.running t) from }
+        ensures step { result ≡ acked_step (txn_at self.old.running t) from }
         ensures opened { self.new.opened ≡ self.old.opened }
-        ensures running { self.new.running ≡ changing self.old.running t (acknowledged_if from) }
+        ensures running { self.new.running ≡ change_txn self.old.running t (acknowledged_if from) }
         ensures spare { self.new.spare ≡ self.old.spare }
     {
         match place_of(t, self.opened, self.slots.len()) {
@@ -142,7 +142,7 @@ impl Slots {
     /// The write of the transaction of that number is applied, and these are to acknowledge it.
     pub(crate) fn write_applied(&mut self, t: u32, to: NodeList)
         ensures opened { self.new.opened ≡ self.old.opened }
-        ensures running { self.new.running ≡ changing self.old.running t (with_write to) }
+        ensures running { self.new.running ≡ change_txn self.old.running t (txn_with_write to) }
         ensures spare { self.new.spare ≡ self.old.spare }
     {
         if let Some(place) = place_of(t, self.opened, self.slots.len()) {
@@ -168,7 +168,7 @@ impl Slots {
 
     /// The number of each transaction, and whether its write was applied.
     pub(crate) fn ends(&self, alloc: Global) -> Result<Closed, NoMemory>
-        ensures { IfOk result (λ closed. closed ≡ table.ends self.now.running) }
+        ensures { IfOk result (λ closed. closed ≡ table.txn_ends self.now.running) }
     {
         let mut closed = Closed::new(alloc);
         for slot in &self.slots {
@@ -217,7 +217,7 @@ fn take_at(slots: &mut VecDeque<Option<Txn>>, place: usize) -> Option<Txn>
 
 /// The digest of a transaction, which is let go.
 fn digest_of(txn: Option<Txn>) -> Option<Digest>
-    ensures { result ≡ digest_in txn }
+    ensures { result ≡ txn_digest txn }
 {
     let txn = txn?;
     Some(txn.digest)
@@ -227,7 +227,7 @@ fn digest_of(txn: Option<Txn>) -> Option<Digest>
 fn drop_taken(slots: &mut VecDeque<Option<Txn>>)
     ensures running { running_of slots.new.items ≡ running_of slots.old.items }
     ensures numbers { (opened : ℕ) → deque_len slots.old ≤ opened → AreNumbered (opened - deque_len slots.old) slots.old.items → AreNumbered (opened - deque_len slots.new) slots.new.items }
-    ensures first { IsTrue (starts_full slots.new.items) }
+    ensures first { IsTrue (starts_with_txn slots.new.items) }
     ensures len { deque_len slots.new ≤ deque_len slots.old }
     ensures capacity { deque_capacity slots.new ≡ deque_capacity slots.old }
 {
@@ -260,7 +260,7 @@ fn acknowledge_in(slot: &mut Option<Txn>, from: NodeId) -> AckedStep
 
 /// The write of the transaction in the slot is applied.
 fn apply_in(slot: &mut Option<Txn>, to: NodeList)
-    ensures { slot.new ≡ option_map (with_write to) slot.old }
+    ensures { slot.new ≡ option_map (txn_with_write to) slot.old }
 {
     if let Some(txn) = slot {
         txn.applied = true;
@@ -270,9 +270,9 @@ fn apply_in(slot: &mut Option<Txn>, to: NodeList)
 
 /// The answer of a node that is awaited is taken.
 fn take_answer(txn: &mut Txn, from: NodeId, v: Option<Version>, by: Policy) -> AnswerStep
-    requires { IsTrue (table.awaits_answer txn.old from) }
+    requires { IsTrue (table.txn_awaits_answer txn.old from) }
     ensures step { result ≡ answer_step (Some txn.old) from }
-    ensures txn { txn.new ≡ answered by from v txn.old }
+    ensures txn { txn.new ≡ txn_answered by from v txn.old }
 {
     txn.best = join(txn.best.take(), v, by);
     txn.awaiting = txn.awaiting.without(from);
@@ -285,9 +285,9 @@ fn take_answer(txn: &mut Txn, from: NodeId, v: Option<Version>, by: Policy) -> A
 
 /// The acknowledgement of a node that is awaited is taken.
 fn take_acknowledgement(txn: &mut Txn, from: NodeId) -> AckedStep
-    requires { IsTrue (table.awaits_ack txn.old from) }
+    requires { IsTrue (table.txn_awaits_ack txn.old from) }
     ensures step { result ≡ acked_step (Some txn.old) from }
-    ensures txn { txn.new ≡ acknowledged from txn.old }
+    ensures txn { txn.new ≡ txn_acknowledged from txn.old }
 {
     txn.awaiting = txn.awaiting.without(from);
     if txn.awaiting.is_empty() {

@@ -24,21 +24,21 @@ pub struct Txn {
 impl Txn {
     /// Whether an answer of that node is awaited.
     pub fn awaits_answer(&self, from: NodeId) -> bool
-        ensures { result ≡ table.awaits_answer self.now from }
+        ensures { result ≡ table.txn_awaits_answer self.now from }
     {
         !self.applied && self.awaiting.contains(from)
     }
 
     /// Whether an acknowledgement of that node is awaited.
     pub fn awaits_ack(&self, from: NodeId) -> bool
-        ensures { result ≡ table.awaits_ack self.now from }
+        ensures { result ≡ table.txn_awaits_ack self.now from }
     {
         self.applied && self.awaiting.contains(from)
     }
 
     /// Whether no other than that node is awaited.
     pub fn is_last_awaited(&self, from: NodeId) -> bool
-        ensures { result ≡ table.is_last_awaited self.now from }
+        ensures { result ≡ table.txn_awaits_only self.now from }
     {
         self.awaiting.without(from).is_empty()
     }

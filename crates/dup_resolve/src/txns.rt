@@ -2,9 +2,9 @@
 ghost use Rattle.std.specs.Prelude.{◌≡◌, ◌≢◌, ◌↔◌, ◌<◌, ◌≤◌, ◌+◌, ◌-◌, ◌^◌, ◌∷◌, ◌++◌, [], ℕ, Err, IsTrue, IsSome, IsOk, IfOk, OnOk, OnErr, None, Some};
 ghost use Rattle.std.specs.Option.{option_copied};
 ghost use Rattle.conflict_order.specs.declared.policy.Policy.TheVariants.{Time};
-ghost use Rattle.dup_resolve.specs.Open.{HasOpen, IsNew, IsSame, acked_step, acknowledged_if, answer_step, answered_if, changing, closing, is_busy, new_txn, number_on, transaction, with_write};
+ghost use Rattle.dup_resolve.specs.Open.{HasOpen, IsNew, IsSameButRoom, acked_step, acknowledged_if, answer_step, answered_if, change_txn, without_txn, has_txn_on, new_txn, number_on, txn_at, txn_with_write};
 ghost use Rattle.dup_resolve.specs.Open as table;
-ghost use Rattle.dup_resolve.specs.Places.{AreRising};
+ghost use Rattle.dup_resolve.specs.Places.{AreRisingUpTo};
 
 use crate::closed::Closed;
 use crate::counts::Counts;
@@ -72,13 +72,13 @@ impl Model for Txns {
     ghost use Rattle.std.specs.Prelude.{length, bytes_eq};
     ghost use Rattle.std.specs.HashMap.{get, spare};
     ghost use Rattle.dup_resolve.specs.Open.{Open};
-    ghost use Rattle.dup_resolve.specs.Places.{AreCounts, IsIndex, entries, room_of};
+    ghost use Rattle.dup_resolve.specs.Places.{AreOpenCounts, IsIndex, txn_entries, room_of};
 
     ghost Value = { Open };
 
     ghost view = { λ t. record { opened = t.slots.opened; running = t.slots.running; by = t.by; spare = room_of t.slots.spare (spare t.by_digest) (length t.by_partition) } };
 
-    ghost invariant = { λ t. IsIndex (entries t.slots.running) (λ q. get bytes_eq t.by_digest q) × AreCounts (entries t.slots.running) t.by_partition };
+    ghost invariant = { λ t. IsIndex (txn_entries t.slots.running) (λ q. get bytes_eq t.by_digest q) × AreOpenCounts (txn_entries t.slots.running) t.by_partition };
 }
 
 impl Txns {
@@ -112,14 +112,14 @@ impl Txns {
     /// How many were opened. The numbers of those that are open rise up to that.
     pub fn opened(&self) -> u32
         ensures value { result ≡ self.now.opened }
-        ensures numbers { AreRising self.now.opened self.now.running }
+        ensures numbers { AreRisingUpTo self.now.opened self.now.running }
     {
         self.slots.opened()
     }
 
     /// Makes room: the next `begin` then doesn't want memory.
     pub fn reserve(&mut self) -> Result<(), NoMemory>
-        ensures same { IsSame self.old self.new }
+        ensures same { IsSameButRoom self.old self.new }
         ensures enough { OnOk result (0 < self.new.spare) }
         ensures kept { self.old.spare ≤ self.new.spare }
         ensures reserved { 0 < self.old.spare → IsOk result }
@@ -144,7 +144,7 @@ impl Txns {
         ensures running { OnOk result (self.new.running ≡ self.old.running ++ new_txn (self.old.opened + 1) d want best awaiting ∷ []) }
         ensures policy { self.new.by ≡ self.old.by }
         ensures busy { (t : ℕ) → (result ≡ Err (BeginFault.Busy t)) ↔ (number_on self.old.running d ≡ Some t) }
-        ensures err { OnErr result (IsSame self.old self.new) }
+        ensures err { OnErr result (IsSameButRoom self.old self.new) }
         ensures spare { self.old.spare ≤ self.new.spare + 1 }
 
         // With room to spare it doesn't want memory.
@@ -194,14 +194,14 @@ impl Txns {
 
     /// The open transaction of that number.
     pub fn get(&self, t: u32) -> Option<&Txn>
-        ensures { option_copied result ≡ transaction self.now.running t }
+        ensures { option_copied result ≡ txn_at self.now.running t }
     {
         self.slots.get(t)
     }
 
     /// Whether a transaction is open on the partition.
     pub fn busy_on(&self, p: PartitionId) -> bool
-        ensures { result ≡ is_busy self.now.running p }
+        ensures { result ≡ has_txn_on self.now.running p }
     {
         self.by_partition.at(p) != 0
     }
@@ -223,8 +223,8 @@ impl Txns {
     /// Takes an answer: the version that the node holds, or none. `Spent` exactly where no answer
     /// of the node to that transaction is awaited, and `Resolved` where it was the last.
     pub fn on_answer(&mut self, from: NodeId, t: u32, v: Option<Version>) -> AnswerStep
-        ensures step { result ≡ answer_step (transaction self.old.running t) from }
-        ensures after { HasOpen (changing self.old.running t (answered_if self.old.by from v)) self.old self.new }
+        ensures step { result ≡ answer_step (txn_at self.old.running t) from }
+        ensures after { HasOpen (change_txn self.old.running t (answered_if self.old.by from v)) self.old self.new }
     {
         self.slots.answer(from, t, v, self.by)
     }
@@ -232,24 +232,24 @@ impl Txns {
     /// Takes an acknowledgement. `Spent` exactly where none of the node for that transaction is
     /// awaited, and `Done` where it was the last.
     pub fn acked(&mut self, from: NodeId, t: u32) -> AckedStep
-        ensures step { result ≡ acked_step (transaction self.old.running t) from }
-        ensures after { HasOpen (changing self.old.running t (acknowledged_if from)) self.old self.new }
+        ensures step { result ≡ acked_step (txn_at self.old.running t) from }
+        ensures after { HasOpen (change_txn self.old.running t (acknowledged_if from)) self.old self.new }
     {
         self.slots.acknowledge(from, t)
     }
 
     /// The write of the transaction, which is open, is applied, and these are to acknowledge it.
     pub fn write_applied(&mut self, t: u32, to: NodeList)
-        ensures { HasOpen (changing self.old.running t (with_write to)) self.old self.new }
+        ensures { HasOpen (change_txn self.old.running t (txn_with_write to)) self.old self.new }
     {
         self.slots.write_applied(t, to);
     }
 
     /// Closes the transaction, which is open.
     pub fn finish(&mut self, t: u32)
-        requires { IsSome (transaction self.old.running t) }
+        requires { IsSome (txn_at self.old.running t) }
         ensures opened { self.new.opened ≡ self.old.opened }
-        ensures running { self.new.running ≡ closing self.old.running t }
+        ensures running { self.new.running ≡ without_txn self.old.running t }
         ensures policy { self.new.by ≡ self.old.by }
         ensures spare { self.old.spare ≤ self.new.spare }
     {
@@ -262,7 +262,7 @@ impl Txns {
     /// The open transactions as pairs of the number and whether the write was applied, in rising
     /// number.
     pub fn closing(&self, alloc: Global) -> Result<Closed, NoMemory>
-        ensures { IfOk result (λ closed. closed ≡ table.ends self.now.running) }
+        ensures { IfOk result (λ closed. closed ≡ table.txn_ends self.now.running) }
     {
         self.slots.ends(alloc)
     }
@@ -279,7 +279,7 @@ impl Txns {
 
     /// Closes all transactions and answers them as `closing` does. The next number is 1.
     pub fn close_all(&mut self, alloc: Global) -> Result<Closed, NoMemory>
-        ensures closed { IfOk result (λ closed. closed ≡ table.ends self.old.running) }
+        ensures closed { IfOk result (λ closed. closed ≡ table.txn_ends self.old.running) }
         ensures new { OnOk result (IsNew self.old.by self.new) }
         ensures err { OnErr result (self.new ≡ self.old) }
         ensures spare { self.old.spare ≤ self.new.spare }

@@ -25,7 +25,7 @@ use Rattle.node_rules.specs.Copies.{Content, digests, digests_of, is_of}
 use Rattle.node_rules.specs.Batches.{Target, target, target_of, targets_of}
 use Rattle.emigrate.specs.Going.{AreHeld, digests_below}
 use Rattle.std.proofs.lemmas.List.Kept.{AllPairs-cons, AllPairs-filter}
-use Rattle.record_store.specs.Store.{above}
+use Rattle.record_store.specs.Store.{digests_above}
 use Rattle.record_store.proofs.CopyLaws.{same_digest}
 use Rattle.record_store.proofs.WalkLaws.{Rising, digests_are_held, digests_rise}
 use Rattle.emigrate.proofs.FirstLaws.{all_in, none_in, take_taken}
@@ -99,48 +99,48 @@ above_higher c d (e ∷ ds) lower =
     lower_stays c d e (filter (λ x. is_lt (digest_cmp d x)) ds) (filter (λ x. is_lt (digest_cmp c x)) ds) (is_lt (digest_cmp d e)) (is_lt (digest_cmp c e)) lower refl refl (above_higher c d ds lower)
 
 -- what is left after a page, whose last digest is the one at that place
-pub after_page : (last : Option (List ℕ)) (ds : List (List ℕ)) (k : ℕ) (z : List ℕ) → k < length (above last ds) → Rising ds → above (Some (get_or (above last ds) k z)) ds ≡ drop (suc k) (above last ds)
+pub after_page : (last : Option (List ℕ)) (ds : List (List ℕ)) (k : ℕ) (z : List ℕ) → k < length (digests_above last ds) → Rising ds → digests_above (Some (get_or (digests_above last ds) k z)) ds ≡ drop (suc k) (digests_above last ds)
 after_page None ds k z within h = after_one ds k z within h
 after_page (Some c) ds k z within h =
     let xs = filter (λ e. is_lt (digest_cmp c e)) ds in
     let lower : digest_cmp c (get_or xs k z) ≡ Less = is_less (digest_cmp c (get_or xs k z)) (filter_passes (λ e. is_lt (digest_cmp c e)) ds k z within) in
     sym (above_higher c (get_or xs k z) ds lower) ∙ after_one xs k z within (AllPairs-filter (λ a b. digest_cmp a b ≡ Less) (λ e. is_lt (digest_cmp c e)) ds h)
 
-page_at : (last : Option (List ℕ)) (ds page : List (List ℕ)) (n k : ℕ) (d : List ℕ) → page ≡ take n (above last ds) → slice_get page k ≡ Some d → get_or (above last ds) k d ≡ d
+page_at : (last : Option (List ℕ)) (ds page : List (List ℕ)) (n k : ℕ) (d : List ℕ) → page ≡ take n (digests_above last ds) → slice_get page k ≡ Some d → get_or (digests_above last ds) k d ≡ d
 page_at last ds page n k d is read =
     let inside : k < length page = slice_get_within page k d read in
-    let few : length page ≡ length (take n (above last ds)) = ap length is in
-    let low : k < n = omega (arith, inside, few, length-take n (above last ds)) in
-    sym (get_or-take n (above last ds) k d low) ∙ ap (λ (xs : List (List ℕ)). get_or xs k d) (sym is) ∙ get_or_from_slice_get page k d d read
+    let few : length page ≡ length (take n (digests_above last ds)) = ap length is in
+    let low : k < n = omega (arith, inside, few, length-take n (digests_above last ds)) in
+    sym (get_or-take n (digests_above last ds) k d low) ∙ ap (λ (xs : List (List ℕ)). get_or xs k d) (sym is) ∙ get_or_from_slice_get page k d d read
 
-page_within : (last : Option (List ℕ)) (ds page : List (List ℕ)) (n k : ℕ) (d : List ℕ) → page ≡ take n (above last ds) → slice_get page k ≡ Some d → k < length (above last ds)
+page_within : (last : Option (List ℕ)) (ds page : List (List ℕ)) (n k : ℕ) (d : List ℕ) → page ≡ take n (digests_above last ds) → slice_get page k ≡ Some d → k < length (digests_above last ds)
 page_within last ds page n k d is read =
     let inside : k < length page = slice_get_within page k d read in
-    let few : length page ≡ length (take n (above last ds)) = ap length is in
-    omega (arith, inside, few, length-take n (above last ds))
+    let few : length page ≡ length (take n (digests_above last ds)) = ap length is in
+    omega (arith, inside, few, length-take n (digests_above last ds))
 
 -- what is above the last digest of a page
-page_left : (last : Option (List ℕ)) (ds page : List (List ℕ)) (n k : ℕ) (d : List ℕ) → Rising ds → page ≡ take n (above last ds) → slice_get page k ≡ Some d → above (Some d) ds ≡ drop (suc k) (above last ds)
+page_left : (last : Option (List ℕ)) (ds page : List (List ℕ)) (n k : ℕ) (d : List ℕ) → Rising ds → page ≡ take n (digests_above last ds) → slice_get page k ≡ Some d → digests_above (Some d) ds ≡ drop (suc k) (digests_above last ds)
 page_left last ds page n k d rising is read =
-    ap (λ (e : List ℕ). above (Some e) ds) (sym (page_at last ds page n k d is read)) ∙ after_page last ds k d (page_within last ds page n k d is read) rising
+    ap (λ (e : List ℕ). digests_above (Some e) ds) (sym (page_at last ds page n k d is read)) ∙ after_page last ds k d (page_within last ds page n k d is read) rising
 
 -- a page and what is left after it
-pub page_and_left : (last : Option (List ℕ)) (ds page : List (List ℕ)) (n : ℕ) (d : List ℕ) → Rising ds → page ≡ take n (above last ds) → slice_get page (length page - 1) ≡ Some d → page ++ above (Some d) ds ≡ above last ds
+pub page_and_left : (last : Option (List ℕ)) (ds page : List (List ℕ)) (n : ℕ) (d : List ℕ) → Rising ds → page ≡ take n (digests_above last ds) → slice_get page (length page - 1) ≡ Some d → page ++ digests_above (Some d) ds ≡ digests_above last ds
 page_and_left last ds page n d rising is read =
     let some : length page - 1 < length page = slice_get_within page (length page - 1) d read in
     let next : suc (length page - 1) ≡ length page = omega (arith, some) in
-    ap (λ (xs : List (List ℕ)). page ++ xs) (page_left last ds page n (length page - 1) d rising is read ∙ ap (λ (k : ℕ). drop k (above last ds)) next)
-    ∙ ap (λ (xs : List (List ℕ)). xs ++ drop (length page) (above last ds)) (is ∙ sym (take_taken n (above last ds)) ∙ ap (λ (xs : List (List ℕ)). take (length xs) (above last ds)) (sym is))
-    ∙ take-append-drop (length page) (above last ds)
+    ap (λ (xs : List (List ℕ)). page ++ xs) (page_left last ds page n (length page - 1) d rising is read ∙ ap (λ (k : ℕ). drop k (digests_above last ds)) next)
+    ∙ ap (λ (xs : List (List ℕ)). xs ++ drop (length page) (digests_above last ds)) (is ∙ sym (take_taken n (digests_above last ds)) ∙ ap (λ (xs : List (List ℕ)). take (length xs) (digests_above last ds)) (sym is))
+    ∙ take-append-drop (length page) (digests_above last ds)
 
-pub fewer_left : (last : Option (List ℕ)) (ds page : List (List ℕ)) (n : ℕ) (d : List ℕ) → Rising ds → page ≡ take n (above last ds) → slice_get page (length page - 1) ≡ Some d → length (above (Some d) ds) < length (above last ds)
+pub fewer_left : (last : Option (List ℕ)) (ds page : List (List ℕ)) (n : ℕ) (d : List ℕ) → Rising ds → page ≡ take n (digests_above last ds) → slice_get page (length page - 1) ≡ Some d → length (digests_above (Some d) ds) < length (digests_above last ds)
 fewer_left last ds page n d rising is read =
-    let left : length (above (Some d) ds) ≡ length (drop (suc (length page - 1)) (above last ds)) = ap length (page_left last ds page n (length page - 1) d rising is read) in
-    omega (arith, left, length-drop (suc (length page - 1)) (above last ds), page_within last ds page n (length page - 1) d is read)
+    let left : length (digests_above (Some d) ds) ≡ length (drop (suc (length page - 1)) (digests_above last ds)) = ap length (page_left last ds page n (length page - 1) d rising is read) in
+    omega (arith, left, length-drop (suc (length page - 1)) (digests_above last ds), page_within last ds page n (length page - 1) d is read)
 
 -- a page without a last digest is the last one
-pub none_left : (last : Option (List ℕ)) (ds page : List (List ℕ)) (n : ℕ) → 0 < n → page ≡ take n (above last ds) → slice_get page (length page - 1) ≡ None → above last ds ≡ []
-none_left last ds page n some is none = go (above last ds) page is none
+pub none_left : (last : Option (List ℕ)) (ds page : List (List ℕ)) (n : ℕ) → 0 < n → page ≡ take n (digests_above last ds) → slice_get page (length page - 1) ≡ None → digests_above last ds ≡ []
+none_left last ds page n some is none = go (digests_above last ds) page is none
   where
     empty_page : (xs : List (List ℕ)) → slice_get xs (length xs - 1) ≡ None → length xs ≡ 0
     empty_page [] e = refl

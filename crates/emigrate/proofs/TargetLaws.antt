@@ -17,8 +17,8 @@ use Rattle.cluster_types.specs.declared.member.Member.{Member}
 use Rattle.cluster_types.specs.Distinct.{IsDescending, without}
 use Rattle.cluster_types.specs.Members.{AreMembers, ids_of}
 use Rattle.cluster_types.specs.Partitions.{partition_count}
-use Rattle.node_rules.specs.Agreement.{others}
-use Rattle.node_rules.specs.Batches.{Target, Targets, changing, is_pending, acked_out, has_number, out_of, out_to, target, target_of, targets_of, without_batch}
+use Rattle.node_rules.specs.Agreement.{others_among}
+use Rattle.node_rules.specs.Batches.{Target, Targets, change_target, is_pending, acked_out, has_number, out_of, out_to, target, target_of, targets_of, without_batch}
 use Rattle.node_rules.specs.Copies.{Content, is_of}
 use Rattle.node_rules.specs.Tables.{changed_if}
 use Rattle.emigrate.specs.Going.{AreApart, AreCounts, pending_count}
@@ -32,10 +32,10 @@ other_node : (a b : ℕ) → (a ≡ b → ⊥) → (a == b) ≡ false
 other_node a b e = grind (arith, nat_tests)
 
 -- where no target is the member's, none changes
-pub changing_none : (ts : Targets) (n : ℕ) (change : Target → Target) → All (λ t. t.node ≡ n → ⊥) ts → changing ts n change ≡ ts
+pub changing_none : (ts : Targets) (n : ℕ) (change : Target → Target) → All (λ t. t.node ≡ n → ⊥) ts → change_target ts n change ≡ ts
 changing_none [] n change h = refl
 changing_none (t ∷ ts) n change h =
-    ap (λ b. changed_if change t b ∷ changing ts n change) (other_node t.node n (h 0 t (omega arith)))
+    ap (λ b. changed_if change t b ∷ change_target ts n change) (other_node t.node n (h 0 t (omega arith)))
     ∙ ap (λ (us : Targets). t ∷ us) (changing_none ts n change (All-tail (λ (u : Target). u.node ≡ n → ⊥) t ts h))
 
 pub target_none : (ts : Targets) (n : ℕ) → All (λ t. t.node ≡ n → ⊥) ts → target ts n ≡ None
@@ -46,14 +46,14 @@ target_none (t ∷ ts) n h =
 
 -- the target at the place where the member's stands is the only one that changes
 pub changing_at : (ts : Targets) (i n : ℕ) (d : Target) (change : Target → Target) → i < length ts → (get_or ts i d).node ≡ n → AllPairs (λ (t u : Target). t.node ≢ u.node) ts
-    → set ts i (change (get_or ts i d)) ≡ changing ts n change
+    → set ts i (change (get_or ts i d)) ≡ change_target ts n change
 changing_at [] i n d change within is apart = absurd (omega (arith, within))
 changing_at (t ∷ ts) zero n d change within is apart =
     ap (λ (us : Targets). change t ∷ us) (sym (changing_none ts n change (λ k z inside e. apart 0 (suc k) z (omega arith) (omega (arith, inside)) (is ∙ sym e))))
-    ∙ ap (λ b. changed_if change t b ∷ changing ts n change) (sym (same_node t.node n is))
+    ∙ ap (λ b. changed_if change t b ∷ change_target ts n change) (sym (same_node t.node n is))
 changing_at (t ∷ ts) (suc i) n d change within is apart =
     ap (λ (us : Targets). t ∷ us) (changing_at ts i n d change (omega (arith, within)) is (λ j k z lower inside. apart (suc j) (suc k) z (omega (arith, lower)) (omega (arith, inside))))
-    ∙ ap (λ b. changed_if change t b ∷ changing ts n change) (sym (other_node t.node n (λ e. apart 0 (suc i) d (omega arith) within (e ∙ sym is))))
+    ∙ ap (λ b. changed_if change t b ∷ change_target ts n change) (sym (other_node t.node n (λ e. apart 0 (suc i) d (omega arith) within (e ∙ sym is))))
 
 pub target_at : (ts : Targets) (i n : ℕ) (d : Target) → i < length ts → (get_or ts i d).node ≡ n → AllPairs (λ (t u : Target). t.node ≢ u.node) ts → target ts n ≡ Some (get_or ts i d)
 target_at [] i n d within is apart = absurd (omega (arith, within))
@@ -109,10 +109,10 @@ counts_snoc ts t now next h more = record {
 }
 
 -- members have a target each
-pub targets_apart : (is_for : ℕ → List ℕ → Bool) (content : Content) (ms : List Member) (me : ℕ) → AreMembers ms → AreApart (targets_of is_for content (others me ms))
+pub targets_apart : (is_for : ℕ → List ℕ → Bool) (content : Content) (ms : List Member) (me : ℕ) → AreMembers ms → AreApart (targets_of is_for content (others_among me ms))
 targets_apart is_for content ms me h = record {
   apart = λ i j d lower within same.
-      let ns = others me ms in
+      let ns = others_among me ms in
       let falls = AllPairs-filter (λ a b. b < a) (λ n. not (n == me)) (ids_of ms) h.descending.falls in
       let size : length (map (target_of is_for content) ns) ≡ length ns = length-map ns (target_of is_for content) in
       let inside : j < length ns = omega (arith, within, size) in
@@ -122,22 +122,22 @@ targets_apart is_for content ms me h = record {
       absurd (omega (arith, nodes, falls i j 0 lower inside));
 }
 
-take_others : (ms : List Member) (i : ℕ) (m : Member) (me : ℕ) → i < length ms → m ≡ get_or ms i m → others me (take (i + 1) ms) ≡ others me (take i ms) ++ without (m.id ∷ []) me
+take_others : (ms : List Member) (i : ℕ) (m : Member) (me : ℕ) → i < length ms → m ≡ get_or ms i m → others_among me (take (i + 1) ms) ≡ others_among me (take i ms) ++ without (m.id ∷ []) me
 take_others ms i m me within read =
-    ap (λ (xs : List Member). others me xs) (take_more ms i m within ∙ ap (λ (x : Member). take i ms ++ x ∷ []) (sym read))
+    ap (λ (xs : List Member). others_among me xs) (take_more ms i m within ∙ ap (λ (x : Member). take i ms ++ x ∷ []) (sym read))
     ∙ ap (λ ids. without ids me) (map-append (λ (x : Member). x.id) (take i ms) (m ∷ []))
     ∙ filter-append (λ n. not (n == me)) (ids_of (take i ms)) (m.id ∷ [])
 
 -- the node itself is left out
 pub targets_skip : (is_for : ℕ → List ℕ → Bool) (content : Content) (ms : List Member) (i : ℕ) (m : Member) (me : ℕ) → i < length ms → m ≡ get_or ms i m → (m.id == me) ≡ true
-    → targets_of is_for content (others me (take (i + 1) ms)) ≡ targets_of is_for content (others me (take i ms))
-targets_skip is_for content ms i m me within read is = ap (targets_of is_for content) (take_others ms i m me within read ∙ rw is (append-nil (others me (take i ms))))
+    → targets_of is_for content (others_among me (take (i + 1) ms)) ≡ targets_of is_for content (others_among me (take i ms))
+targets_skip is_for content ms i m me within read is = ap (targets_of is_for content) (take_others ms i m me within read ∙ rw is (append-nil (others_among me (take i ms))))
 
 -- another member's target stands behind those before it
 pub targets_push : (is_for : ℕ → List ℕ → Bool) (content : Content) (ms : List Member) (i : ℕ) (m : Member) (me : ℕ) → i < length ms → m ≡ get_or ms i m → (m.id == me) ≡ false
-    → targets_of is_for content (others me (take (i + 1) ms)) ≡ targets_of is_for content (others me (take i ms)) ++ target_of is_for content m.id ∷ []
+    → targets_of is_for content (others_among me (take (i + 1) ms)) ≡ targets_of is_for content (others_among me (take i ms)) ++ target_of is_for content m.id ∷ []
 targets_push is_for content ms i m me within read is =
-    ap (targets_of is_for content) (take_others ms i m me within read ∙ rw is refl) ∙ map-append (target_of is_for content) (others me (take i ms)) (m.id ∷ [])
+    ap (targets_of is_for content) (take_others ms i m me within read ∙ rw is refl) ∙ map-append (target_of is_for content) (others_among me (take i ms)) (m.id ∷ [])
 
 take_nil : (i : ℕ) → take {A = Member} i [] ≡ []
 take_nil zero = refl

@@ -3,7 +3,7 @@ ghost use Rattle.std.specs.Prelude.{◌≡◌, ◌↔◌, ◌==◌, ◌&&◌, �
 ghost use Rattle.std.specs.Option.{option_copied};
 ghost use Rattle.cluster_types.specs.Partitions.{partition_count, partition_of};
 ghost use Rattle.cluster_types.specs.Rows.{bit};
-ghost use Rattle.node_rules.specs.Agreement.{others};
+ghost use Rattle.node_rules.specs.Agreement.{others_among};
 ghost use Rattle.node_rules.specs.Batches.{acking, has_number, is_pending, next_batch_to, out_to, sending, target, targets_of};
 ghost use Rattle.emigrate.specs.Going.{AreHeld, IsNext};
 ghost use Rattle.emigrate.specs.Stages.{out_in, pending_in};
@@ -60,7 +60,7 @@ impl Emigration {
         me: NodeId,
     ) -> Result<Emigration, NoMemory>
         ensures key { IfOk result (λ e. e.key ≡ key) }
-        ensures targets { IfOk result (λ e. e.targets ≡ targets_of (λ to d. X.sends_to x.now (partition_of d) me to) store.now.versions (others me members.now)) }
+        ensures targets { IfOk result (λ e. e.targets ≡ targets_of (λ to d. X.sends_to x.now (partition_of d) me to) store.now.versions (others_among me members.now)) }
 
         // So a next batch can be taken.
         ensures held { IfOk result (λ e. AreHeld store.now.versions e.targets) }

@@ -9,7 +9,7 @@ use Rattle.cluster_types.specs.declared.copy_state.CopyState.{CopyState}
 use Rattle.cluster_types.specs.declared.copy_state.CopyState.TheVariants.{Empty}
 use Rattle.cluster_types.specs.StateRows.{IsStateRow, state_of}
 use Rattle.node_rules.specs.declared.member_row.MemberRow.{MemberRow}
-use Rattle.exchange.specs.Rows.{ArePlaces, IsNext, IsNextIn, place_in}
+use Rattle.exchange.specs.Rows.{ArePlaces, AreNextPlaces, IsNextIn, place_in}
 
 abbrev pub Entry : Type 0
 Entry = ℕ × CopyState
@@ -201,13 +201,13 @@ read_next_past row p place h at past = at ∙ sym (miss_next row p h (no_entry r
 none_below : (row : List Entry) (p next : ℕ) → p < next → IsNextIn next row (place_in p row) → (e : Entry) → slice_get row (place_in p row) ≡ Some e → e.0 ≢ p
 none_below row p next below above e found same = let high = above e found in let no_way : ⊥ = omega (arith, below, high, same) in no_way
 
-none_there : (rows : List MemberRow) (places : List ℕ) (p next k : ℕ) (d : MemberRow) → p < next → ArePlaces p rows places → IsNext next rows places → k < length rows
+none_there : (rows : List MemberRow) (places : List ℕ) (p next k : ℕ) (d : MemberRow) → p < next → ArePlaces p rows places → AreNextPlaces next rows places → k < length rows
     → (e : Entry) → slice_get (slice_index_or rows k d).row (place_in p (slice_index_or rows k d).row) ≡ Some e → e.0 ≢ p
 none_there rows places p next k d below read told within =
     none_below (slice_index_or rows k d).row p next below (subst (λ (place : ℕ). IsNextIn next (slice_index_or rows k d).row place) (read.at k d within) (told.next_in k d within))
 
 -- the next partition stands at the same places
-pub places_stay : (rows : List MemberRow) (places : List ℕ) (p next : ℕ) → p < next → ArePlaces p rows places → IsNext next rows places → ArePlaces (p + 1) rows places
+pub places_stay : (rows : List MemberRow) (places : List ℕ) (p next : ℕ) → p < next → ArePlaces p rows places → AreNextPlaces next rows places → ArePlaces (p + 1) rows places
 places_stay rows places p next below read told = record {
   size = read.size;
   at = λ k d within.
@@ -216,7 +216,7 @@ places_stay rows places p next below read told = record {
 }
 
 -- and the copy of each row is empty
-pub untold_state : (rows : List MemberRow) (places : List ℕ) (p next k : ℕ) (d : MemberRow) → p < next → ArePlaces p rows places → IsNext next rows places → k < length rows
+pub untold_state : (rows : List MemberRow) (places : List ℕ) (p next k : ℕ) (d : MemberRow) → p < next → ArePlaces p rows places → AreNextPlaces next rows places → k < length rows
     → state_of (slice_index_or rows k d).row p ≡ Empty
 untold_state rows places p next k d below read told within =
     miss_state (slice_index_or rows k d).row p (told.rising k d within) (none_there rows places p next k d below read told within)

@@ -13,7 +13,7 @@ use Rattle.node_rules.specs.Copies.{Row}
 use Rattle.node_rules.specs.declared.member_row.MemberRow.{MemberRow}
 use Rattle.node_rules.specs.Exchange.{first_missing}
 use Rattle.node_rules.specs.Map.{lacks}
-use Rattle.exchange.specs.Rows.{AreRowsOf, nodes_of}
+use Rattle.exchange.specs.Rows.{AreRowsOf, row_nodes}
 
 -- ---- whose row is there
 
@@ -33,29 +33,29 @@ contains_of_has : (ns : List ℕ) (n : ℕ) → Has ns n → Contains ns n
 contains_of_has ns n found = let at = index_of ns n found in (at.0, at.1, at.2 n)
 
 -- a node whose row is there isn't lacking
-there_not_lacking : (rows : List MemberRow) (n : ℕ) → Has (nodes_of rows) n → lacks rows n ≡ false
+there_not_lacking : (rows : List MemberRow) (n : ℕ) → Has (row_nodes rows) n → lacks rows n ≡ false
 there_not_lacking [] n found = absurd found
 there_not_lacking (r ∷ rows) n found = go (r.node == n) refl (there_not_lacking rows n)
   where
-    later : (r.node == n) ≡ false → Has (nodes_of (r ∷ rows)) n → Has (nodes_of rows) n
+    later : (r.node == n) ≡ false → Has (row_nodes (r ∷ rows)) n → Has (row_nodes rows) n
     later is (inl same) = absurd (clash (sym (equal r.node n same) ∙ is))
       where
         clash : true ≡ false → ⊥
         clash wrong = cc
     later is (inr rest) = rest
 
-    go : (b : Bool) → (r.node == n) ≡ b → (Has (nodes_of rows) n → lacks rows n ≡ false) → lacks (r ∷ rows) n ≡ false
+    go : (b : Bool) → (r.node == n) ≡ b → (Has (row_nodes rows) n → lacks rows n ≡ false) → lacks (r ∷ rows) n ≡ false
     go true is ih = rw is refl
     go false is ih = rw is (ih (later is found))
 
 -- and one whose row isn't there is
-lacking_not_there : (rows : List MemberRow) (n : ℕ) → (Has (nodes_of rows) n → ⊥) → lacks rows n ≡ true
+lacking_not_there : (rows : List MemberRow) (n : ℕ) → (Has (row_nodes rows) n → ⊥) → lacks rows n ≡ true
 lacking_not_there [] n fresh = refl
 lacking_not_there (r ∷ rows) n fresh =
     rw (unequal r.node n (λ same. fresh (inl same))) (lacking_not_there rows n (λ found. fresh (inr found)))
 
-pub lacks_fresh : (rows : List MemberRow) (n : ℕ) → lacks rows n ≡ true → ¬ (Contains (nodes_of rows) n)
-lacks_fresh rows n lacking found = clash (sym lacking ∙ there_not_lacking rows n (has_of_contains (nodes_of rows) n found))
+pub lacks_fresh : (rows : List MemberRow) (n : ℕ) → lacks rows n ≡ true → ¬ (Contains (row_nodes rows) n)
+lacks_fresh rows n lacking found = clash (sym lacking ∙ there_not_lacking rows n (has_of_contains (row_nodes rows) n found))
   where
     clash : true ≡ false → ⊥
     clash wrong = cc
@@ -92,7 +92,7 @@ no_more [] ys h into = omega arith
 no_more (x ∷ xs) ys h into =
     omega (arith, shorter ys x (into x (inl refl)), no_more xs (without ys x) h.1 (λ z found. has_without ys x z (into z (inr found)) (each_has (λ y. y ≢ x) xs z h.0 found)))
 
-listed_has : (rows : List MemberRow) (ids : List ℕ) → All (λ r. Contains ids r.node) rows → (z : ℕ) → Has (nodes_of rows) z → Has ids z
+listed_has : (rows : List MemberRow) (ids : List ℕ) → All (λ r. Contains ids r.node) rows → (z : ℕ) → Has (row_nodes rows) z → Has ids z
 listed_has [] ids h z found = absurd found
 listed_has (r ∷ rows) ids h z (inl same) = subst (Has ids) same (has_of_contains ids r.node (All-head (λ x. Contains ids x.node) r rows h))
 listed_has (r ∷ rows) ids h z (inr later) = listed_has rows ids (All-tail (λ x. Contains ids x.node) r rows h) z later
@@ -102,17 +102,17 @@ map_itself [] = refl
 map_itself (n ∷ ns) = ap (λ rest. n ∷ rest) (map_itself ns)
 
 -- there are no more rows than members
-pub rows_fit : (ms : List Member) (rows : List MemberRow) → AreDistinct (nodes_of rows) → All (λ r. Contains (ids_of ms) r.node) rows → length rows ≤ length ms
+pub rows_fit : (ms : List Member) (rows : List MemberRow) → AreDistinct (row_nodes rows) → All (λ r. Contains (ids_of ms) r.node) rows → length rows ≤ length ms
 rows_fit ms rows distinct listed =
-    let differ = distinct_differ (λ (n : ℕ). n) (nodes_of rows) (subst AreDistinct (sym (map_itself (nodes_of rows))) distinct) in
-    omega (arith, no_more (nodes_of rows) (ids_of ms) differ (listed_has rows (ids_of ms) listed), length-map rows (λ (r : MemberRow). r.node), length-map ms (λ (m : Member). m.id))
+    let differ = distinct_differ (λ (n : ℕ). n) (row_nodes rows) (subst AreDistinct (sym (map_itself (row_nodes rows))) distinct) in
+    omega (arith, no_more (row_nodes rows) (ids_of ms) differ (listed_has rows (ids_of ms) listed), length-map rows (λ (r : MemberRow). r.node), length-map ms (λ (m : Member). m.id))
 
 pub rows_limit : (me : ℕ) (ms : List Member) (rows : List MemberRow) (room : ℕ) → AreRowsOf me ms rows room → length rows ≤ 16
 rows_limit me ms rows room h = omega (arith, rows_fit ms rows h.distinct h.listed, h.view.limit)
 
 -- ---- one row more
 
-pub nodes_more : (rows : List MemberRow) (n : ℕ) (row : Row) → nodes_of (rows ++ record { node = n; row = row } ∷ []) ≡ nodes_of rows ++ n ∷ []
+pub nodes_more : (rows : List MemberRow) (n : ℕ) (row : Row) → row_nodes (rows ++ record { node = n; row = row } ∷ []) ≡ row_nodes rows ++ n ∷ []
 nodes_more rows n row = map-append (λ (r : MemberRow). r.node) rows (record { node = n; row = row } ∷ [])
 
 get_first : (ns : List ℕ) (n : ℕ) (more : List ℕ) → slice_get ns 0 ≡ Some n → slice_get (ns ++ more) 0 ≡ Some n
@@ -127,8 +127,8 @@ pub rows_more : (me : ℕ) (ms : List Member) (rows next : List MemberRow) (room
 rows_more me ms rows next room after n row h wider member lacking is =
     subst (λ (rs : List MemberRow). AreRowsOf me ms rs after) (sym is) (record {
       view = h.view;
-      own = subst (λ ns. slice_get ns 0 ≡ Some me) (sym (nodes_more rows n row)) (get_first (nodes_of rows) me (n ∷ []) h.own);
-      distinct = subst AreDistinct (sym (nodes_more rows n row)) (distinct_push (nodes_of rows) n h.distinct (lacks_fresh rows n lacking));
+      own = subst (λ ns. slice_get ns 0 ≡ Some me) (sym (nodes_more rows n row)) (get_first (row_nodes rows) me (n ∷ []) h.own);
+      distinct = subst AreDistinct (sym (nodes_more rows n row)) (distinct_push (row_nodes rows) n h.distinct (lacks_fresh rows n lacking));
       listed =
           All-append (λ r. Contains (ids_of ms) r.node) rows (record { node = n; row = row } ∷ []) h.listed
           (All-cons (λ r. Contains (ids_of ms) r.node) (record { node = n; row = row }) [] member (λ k d within. absurd (omega (arith, within))));
@@ -143,11 +143,11 @@ room_for me ms rows room n h member lacking =
 
 -- ---- one row less
 
-nodes_without : (rows : List MemberRow) (n : ℕ) → nodes_of (filter (λ r. not (r.node == n)) rows) ≡ without (nodes_of rows) n
+nodes_without : (rows : List MemberRow) (n : ℕ) → row_nodes (filter (λ r. not (r.node == n)) rows) ≡ without (row_nodes rows) n
 nodes_without [] n = refl
 nodes_without (r ∷ rows) n = go (r.node == n) refl (nodes_without rows n)
   where
-    go : (b : Bool) → (r.node == n) ≡ b → nodes_of (filter (λ x. not (x.node == n)) rows) ≡ without (nodes_of rows) n → nodes_of (filter (λ x. not (x.node == n)) (r ∷ rows)) ≡ without (nodes_of (r ∷ rows)) n
+    go : (b : Bool) → (r.node == n) ≡ b → row_nodes (filter (λ x. not (x.node == n)) rows) ≡ without (row_nodes rows) n → row_nodes (filter (λ x. not (x.node == n)) (r ∷ rows)) ≡ without (row_nodes (r ∷ rows)) n
     go true is ih = rw is ih
     go false is ih = rw is (ap (λ rest. r.node ∷ rest) ih)
 
@@ -164,8 +164,8 @@ pub rows_less : (me : ℕ) (ms : List Member) (rows next : List MemberRow) (room
 rows_less me ms rows next room after n h wider apart is =
     subst (λ (rs : List MemberRow). AreRowsOf me ms rs after) (sym is) (record {
       view = h.view;
-      own = subst (λ ns. slice_get ns 0 ≡ Some me) (sym (nodes_without rows n)) (own_kept (nodes_of rows) me n apart h.own);
-      distinct = subst AreDistinct (sym (nodes_without rows n)) (distinct_without (nodes_of rows) n h.distinct);
+      own = subst (λ ns. slice_get ns 0 ≡ Some me) (sym (nodes_without rows n)) (own_kept (row_nodes rows) me n apart h.own);
+      distinct = subst AreDistinct (sym (nodes_without rows n)) (distinct_without (row_nodes rows) n h.distinct);
       listed = All-filter (λ r. not (r.node == n)) (λ r. Contains (ids_of ms) r.node) rows h.listed;
       room = omega (arith, h.room, wider);
     })
@@ -208,24 +208,24 @@ pub less_is_missing : (ms : List Member) (rows next : List MemberRow) (n : ℕ) 
 less_is_missing ms rows next n member is =
     subst (λ (rs : List MemberRow). IsSome (first_missing rs ms)) (sym is)
     (some_found (lacks (filter (λ r. not (r.node == n)) rows)) (ids_of ms) n (has_of_contains (ids_of ms) n member)
-    (lacking_not_there (filter (λ r. not (r.node == n)) rows) n (λ found. none_has (nodes_of rows) n (subst (λ ns. Has ns n) (nodes_without rows n) found))))
+    (lacking_not_there (filter (λ r. not (r.node == n)) rows) n (λ found. none_has (row_nodes rows) n (subst (λ ns. Has ns n) (nodes_without rows n) found))))
 
 -- where no row is missing a member's is there
-pub full_is_there : (ms : List Member) (rows : List MemberRow) (n : ℕ) → first_missing rows ms ≡ None → Contains (ids_of ms) n → Contains (nodes_of rows) n
+pub full_is_there : (ms : List Member) (rows : List MemberRow) (n : ℕ) → first_missing rows ms ≡ None → Contains (ids_of ms) n → Contains (row_nodes rows) n
 full_is_there ms rows n full member = go (lacks rows n) refl
   where
     wrong : (o : Option ℕ) → o ≡ None → IsSome o → ⊥
     wrong None is h = absurd (let bad : false ≡ true = h in cc)
     wrong (Some m) is h = absurd (let bad : Some m ≡ None = is in cc)
 
-    there : (rs : List MemberRow) → lacks rs n ≡ false → Has (nodes_of rs) n
+    there : (rs : List MemberRow) → lacks rs n ≡ false → Has (row_nodes rs) n
     there [] h = absurd (let bad : true ≡ false = h in cc)
     there (r ∷ rs) h = first (r.node == n) refl (there rs)
       where
-        first : (b : Bool) → (r.node == n) ≡ b → (lacks rs n ≡ false → Has (nodes_of rs) n) → Has (nodes_of (r ∷ rs)) n
+        first : (b : Bool) → (r.node == n) ≡ b → (lacks rs n ≡ false → Has (row_nodes rs) n) → Has (row_nodes (r ∷ rs)) n
         first true is ih = inl (from_equal r.node n is)
         first false is ih = inr (ih (sym (ap (λ b. is_none (option_map (λ (x : MemberRow). x.row) (cond b (Some r) (find (λ x. x.node == n) rs)))) is) ∙ h))
 
-    go : (b : Bool) → lacks rows n ≡ b → Contains (nodes_of rows) n
+    go : (b : Bool) → lacks rows n ≡ b → Contains (row_nodes rows) n
     go true is = absurd (wrong (first_missing rows ms) full (some_found (lacks rows) (ids_of ms) n (has_of_contains (ids_of ms) n member) is))
-    go false is = contains_of_has (nodes_of rows) n (there rows is)
+    go false is = contains_of_has (row_nodes rows) n (there rows is)

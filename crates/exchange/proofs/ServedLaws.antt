@@ -12,20 +12,20 @@ use Rattle.cluster_types.specs.Distinct.{AreDistinct}
 use Rattle.cluster_types.specs.Members.{ids_of}
 use Rattle.cluster_types.specs.Partitions.{partition_count}
 use Rattle.cluster_types.specs.StateRows.{state_of}
-use Rattle.partition_lists.specs.Acting.{acting_by, is_empty, is_wholest_by, master}
+use Rattle.partition_lists.specs.Acting.{acting_by, is_empty, is_wholest_by, list_master}
 use Rattle.partition_lists.specs.Classes.{asked_among, is_first_by, is_that, same_class_by, sends_by}
-use Rattle.partition_lists.specs.Lists.{list, is_replica, replicas}
+use Rattle.partition_lists.specs.Lists.{list, is_replica_of, replicas}
 use Rattle.partition_lists.proofs.InOrderLaws.{Has, DifferBy, has_at, index_of, unequal, from_equal, equal, each_has, distinct_differ}
 use Rattle.partition_lists.proofs.ListLaws.{list_contains}
 use Rattle.node_rules.specs.declared.member_row.MemberRow.{MemberRow}
-use Rattle.node_rules.specs.Map.{acting, all_empty, state_at}
+use Rattle.node_rules.specs.Map.{acting_by_rows, all_empty, row_state_at}
 use Rattle.node_rules.specs.Tables.{contains}
 use Rattle.partition_state.specs.Copies.{copies_at}
 use Rattle.partition_state.proofs.CopyLaws.{states_are}
 use Rattle.exchange.specs.declared.served.Served.{Served}
 use Rattle.exchange.specs.Met as view
 use Rattle.exchange.specs.Met.{Met, met}
-use Rattle.exchange.specs.Rows.{ArePlaces, AreRowsOf, IsNext, nodes_of}
+use Rattle.exchange.specs.Rows.{ArePlaces, AreRowsOf, AreNextPlaces, row_nodes}
 use Rattle.exchange.specs.Served.{AreServed, served_at, served_by}
 use Rattle.exchange.proofs.PlaceLaws.{untold_state}
 
@@ -84,13 +84,13 @@ not_wholest : (l : List ℕ) (state : ℕ → CopyState) (n : ℕ) → state n �
 not_wholest l state n h = rw h refl
 
 -- the list master acts where all copies are empty
-pub acting_of_empty : (l : List ℕ) (copies : List Copy) → list_all (λ c. is_empty c.1) copies ≡ true → acting_by l (state_of copies) ≡ master l
-acting_of_empty l copies h = ap (λ o. unwrap_or o (master l)) (none_found (is_wholest_by l (state_of copies)) l (λ n. not_wholest l (state_of copies) n (empty_each copies h n)))
+pub acting_of_empty : (l : List ℕ) (copies : List Copy) → list_all (λ c. is_empty c.1) copies ≡ true → acting_by l (state_of copies) ≡ list_master l
+acting_of_empty l copies h = ap (λ o. unwrap_or o (list_master l)) (none_found (is_wholest_by l (state_of copies)) l (λ n. not_wholest l (state_of copies) n (empty_each copies h n)))
 
 -- ---- the copies of the rows, and those of the list
 
 -- the copy of each row is that of its node, where no node has two rows
-own_state : (rows : List MemberRow) (p : ℕ) → AreDistinct (nodes_of rows) → (r : MemberRow) → Has rows r → state_of (copies_at rows p) r.node ≡ state_of r.row p
+own_state : (rows : List MemberRow) (p : ℕ) → AreDistinct (row_nodes rows) → (r : MemberRow) → Has rows r → state_of (copies_at rows p) r.node ≡ state_of r.row p
 own_state rows p distinct r found = go rows (distinct_differ (λ (x : MemberRow). x.node) rows distinct) found
   where
     go : (rs : List MemberRow) → DifferBy (λ (x : MemberRow). x.node) rs → Has rs r → state_of (copies_at rs p) r.node ≡ state_of r.row p
@@ -110,7 +110,7 @@ pub empty_rows : (me : ℕ) (ms : List Member) (rows : List MemberRow) (room p :
 empty_rows me ms rows room p h = same_test (list_all (λ c. is_empty c.1) (copies_at rows p)) (all_empty (list ms p) rows p) there back
   where
     there : list_all (λ c. is_empty c.1) (copies_at rows p) ≡ true → all_empty (list ms p) rows p ≡ true
-    there all = all_by (λ n. is_empty (state_at rows p n)) (list ms p) (λ n. ap (λ (f : ℕ → CopyState). is_empty (f n)) (sym (states_are rows p)) ∙ ap is_empty (empty_each (copies_at rows p) all n))
+    there all = all_by (λ n. is_empty (row_state_at rows p n)) (list ms p) (λ n. ap (λ (f : ℕ → CopyState). is_empty (f n)) (sym (states_are rows p)) ∙ ap is_empty (empty_each (copies_at rows p) all n))
 
     in_list : (r : MemberRow) → Has rows r → Has (list ms p) r.node
     in_list r found =
@@ -125,17 +125,17 @@ empty_rows me ms rows room p h = same_test (list_all (λ c. is_empty c.1) (copie
         (λ r found.
         ap is_empty (sym (own_state rows p h.distinct r found))
         ∙ ap (λ (f : ℕ → CopyState). is_empty (f r.node)) (states_are rows p)
-        ∙ of_all (λ n. is_empty (state_at rows p n)) (list ms p) r.node all (in_list r found))
+        ∙ of_all (λ n. is_empty (row_state_at rows p n)) (list ms p) r.node all (in_list r found))
 
 -- what the copies tell is what the rows tell
 pub served_is : (me : ℕ) (ms : List Member) (rows : List MemberRow) (room p : ℕ) → AreRowsOf me ms rows room → served_by (list ms p) (copies_at rows p) ≡ served_at ms rows p
 served_is me ms rows room p h =
     ap (λ (f : ℕ → CopyState). record { acting = acting_by (list ms p) f; all_empty = list_all (λ c. is_empty c.1) (copies_at rows p) }) (states_are rows p)
-    ∙ ap (λ (b : Bool). record { acting = acting (list ms p) rows p; all_empty = b }) (empty_rows me ms rows room p h)
+    ∙ ap (λ (b : Bool). record { acting = acting_by_rows (list ms p) rows p; all_empty = b }) (empty_rows me ms rows room p h)
 
 -- ---- nothing is sent or asked where all copies are empty
 
-none_at : (me : ℕ) (ms : List Member) (rows : List MemberRow) (room p : ℕ) → AreRowsOf me ms rows room → all_empty (list ms p) rows p ≡ true → (n : ℕ) → state_at rows p n ≡ Empty
+none_at : (me : ℕ) (ms : List Member) (rows : List MemberRow) (room p : ℕ) → AreRowsOf me ms rows room → all_empty (list ms p) rows p ≡ true → (n : ℕ) → row_state_at rows p n ≡ Empty
 none_at me ms rows room p h all n =
     ap (λ (f : ℕ → CopyState). f n) (sym (states_are rows p))
     ∙ empty_each (copies_at rows p) (empty_rows me ms rows room p h ∙ all) n
@@ -143,8 +143,8 @@ none_at me ms rows room p h all n =
 unsent : (l : List ℕ) (state : ℕ → CopyState) (from to : ℕ) → state from ≡ Empty → sends_by l state from to ≡ false
 unsent l state from to h = rw h refl
 
-pub nothing_sent : (me : ℕ) (ms : List Member) (rows : List MemberRow) (room p from to : ℕ) → AreRowsOf me ms rows room → all_empty (list ms p) rows p ≡ true → sends_by (list ms p) (state_at rows p) from to ≡ false
-nothing_sent me ms rows room p from to h all = unsent (list ms p) (state_at rows p) from to (none_at me ms rows room p h all from)
+pub nothing_sent : (me : ℕ) (ms : List Member) (rows : List MemberRow) (room p from to : ℕ) → AreRowsOf me ms rows room → all_empty (list ms p) rows p ≡ true → sends_by (list ms p) (row_state_at rows p) from to ≡ false
+nothing_sent me ms rows room p from to h all = unsent (list ms p) (row_state_at rows p) from to (none_at me ms rows room p h all from)
 
 not_first : (l : List ℕ) (state : ℕ → CopyState) (n : ℕ) → state n ≡ Empty → is_first_by l state n ≡ false
 not_first l state n h = ap (λ o. is_that o n) (none_found (same_class_by state n) l (λ m. rw h refl))
@@ -153,10 +153,10 @@ none_kept : (test : ℕ → Bool) (l : List ℕ) → ((n : ℕ) → test n ≡ f
 none_kept test [] h = refl
 none_kept test (n ∷ l) h = rw (h n) (none_kept test l h)
 
-pub nobody_asked : (me : ℕ) (ms : List Member) (rows : List MemberRow) (room p by : ℕ) → AreRowsOf me ms rows room → all_empty (list ms p) rows p ≡ true → [] ≡ asked_among (list ms p) (state_at rows p) by
+pub nobody_asked : (me : ℕ) (ms : List Member) (rows : List MemberRow) (room p by : ℕ) → AreRowsOf me ms rows room → all_empty (list ms p) rows p ≡ true → [] ≡ asked_among (list ms p) (row_state_at rows p) by
 nobody_asked me ms rows room p by h all =
-    sym (none_kept (λ n. is_first_by (list ms p) (state_at rows p) n && not (same_class_by (state_at rows p) by n)) (list ms p)
-    (λ n. ap (λ b. b && not (same_class_by (state_at rows p) by n)) (not_first (list ms p) (state_at rows p) n (none_at me ms rows room p h all n))))
+    sym (none_kept (λ n. is_first_by (list ms p) (row_state_at rows p) n && not (same_class_by (row_state_at rows p) by n)) (list ms p)
+    (λ n. ap (λ b. b && not (same_class_by (row_state_at rows p) by n)) (not_first (list ms p) (row_state_at rows p) n (none_at me ms rows room p h all n))))
 
 and_false : (a b c : Bool) → c ≡ false → false ≡ (a && (b && c))
 and_false a b c h = rw h (go a b)
@@ -171,26 +171,27 @@ all_three a b c answer h i said = rw (h, i) said
 
 -- nobody sends where all copies are empty
 pub quiet_sends : (me factor : ℕ) (key : ClusterKey) (ms : List Member) (rows : List MemberRow) (room p from to : ℕ) (x : Met) → met me factor key ms rows true ≡ x → AreRowsOf me ms rows room
-    → true ≡ all_empty (view.list_at x p) x.exchange.rows p → false ≡ view.sends_to x p from to
+    → true ≡ all_empty (view.served_list x p) x.exchange.rows p
+    → false ≡ view.met_sends_to x p from to
 quiet_sends me factor key ms rows room p from to x is h =
-    subst (λ (y : Met). true ≡ all_empty (view.list_at y p) y.exchange.rows p → false ≡ view.sends_to y p from to) is
-    (λ empty. and_false (contains (replicas (list ms p) factor) to) (not (from == to)) (sends_by (list ms p) (state_at rows p) from to) (nothing_sent me ms rows room p from to h (sym empty)))
+    subst (λ (y : Met). true ≡ all_empty (view.served_list y p) y.exchange.rows p → false ≡ view.met_sends_to y p from to) is
+    (λ empty. and_false (contains (replicas (list ms p) factor) to) (not (from == to)) (sends_by (list ms p) (row_state_at rows p) from to) (nothing_sent me ms rows room p from to h (sym empty)))
 
 -- and otherwise a replica is sent to by another node as their copies tell
 pub told_sends : (me factor : ℕ) (key : ClusterKey) (ms : List Member) (rows : List MemberRow) (p from to : ℕ) (l : List ℕ) (copies : List Copy) (answer : Bool) (x : Met) → met me factor key ms rows true ≡ x
-    → l ≡ list ms p → copies ≡ copies_at x.exchange.rows p → is_replica to ms p factor ≡ true → not (from == to) ≡ true → answer ≡ sends_by l (state_of copies) from to → answer ≡ view.sends_to x p from to
+    → l ≡ list ms p → copies ≡ copies_at x.exchange.rows p → is_replica_of to ms p factor ≡ true → not (from == to) ≡ true → answer ≡ sends_by l (state_of copies) from to → answer ≡ view.met_sends_to x p from to
 told_sends me factor key ms rows p from to l copies answer x is l_is copies_are replica other said =
-    subst (λ (y : Met). copies ≡ copies_at y.exchange.rows p → answer ≡ view.sends_to y p from to) is
+    subst (λ (y : Met). copies ≡ copies_at y.exchange.rows p → answer ≡ view.met_sends_to y p from to) is
     (λ here.
-    all_three (contains (replicas (list ms p) factor) to) (not (from == to)) (sends_by (list ms p) (state_at rows p) from to) answer replica other
+    all_three (contains (replicas (list ms p) factor) to) (not (from == to)) (sends_by (list ms p) (row_state_at rows p) from to) answer replica other
     (said ∙ ap (λ (k : List ℕ). sends_by k (state_of copies) from to) l_is ∙ ap (λ (f : ℕ → CopyState). sends_by (list ms p) f from to) (ap state_of here ∙ states_are rows p)))
     copies_are
 
 -- nobody is asked where all copies are empty
 pub quiet_asks : (me factor : ℕ) (key : ClusterKey) (ms : List Member) (rows : List MemberRow) (room p by : ℕ) (x : Met) → met me factor key ms rows true ≡ x → AreRowsOf me ms rows room
-    → true ≡ all_empty (view.list_at x p) x.exchange.rows p → [] ≡ view.asked_by x p by
+    → true ≡ all_empty (view.served_list x p) x.exchange.rows p → [] ≡ view.asked_by x p by
 quiet_asks me factor key ms rows room p by x is h =
-    subst (λ (y : Met). true ≡ all_empty (view.list_at y p) y.exchange.rows p → [] ≡ view.asked_by y p by) is
+    subst (λ (y : Met). true ≡ all_empty (view.served_list y p) y.exchange.rows p → [] ≡ view.asked_by y p by) is
     (λ empty. nobody_asked me ms rows room p by h (sym empty))
 
 pub told_asks : (me factor : ℕ) (key : ClusterKey) (ms : List Member) (rows : List MemberRow) (p by : ℕ) (l : List ℕ) (copies : List Copy) (answer : List ℕ) (x : Met) → met me factor key ms rows true ≡ x
@@ -205,13 +206,13 @@ told_asks me factor key ms rows p by l copies answer x is l_is copies_are said =
 same_served : (a b : ℕ) (x y : Bool) → a ≡ b → x ≡ y → ◌≡◌ {A = Served} (record { acting = a; all_empty = x }) (record { acting = b; all_empty = y })
 same_served a b x y h i = rw (h, i) refl
 
-pub empty_served : (l : List ℕ) (copies told : List Copy) (m : ℕ) (b : Bool) → told ≡ copies → m ≡ master l → b ≡ true → b ≡ list_all (λ c. is_empty c.1) told → ◌≡◌ {A = Served} (record { acting = m; all_empty = b }) (served_by l copies)
+pub empty_served : (l : List ℕ) (copies told : List Copy) (m : ℕ) (b : Bool) → told ≡ copies → m ≡ list_master l → b ≡ true → b ≡ list_all (λ c. is_empty c.1) told → ◌≡◌ {A = Served} (record { acting = m; all_empty = b }) (served_by l copies)
 empty_served l copies told m b is m_is empty b_is =
     let all : b ≡ list_all (λ (c : Copy). is_empty c.1) copies = b_is ∙ ap (λ (cs : List Copy). list_all (λ (c : Copy). is_empty c.1) cs) is in
     same_served m (acting_by l (state_of copies)) b (list_all (λ (c : Copy). is_empty c.1) copies) (m_is ∙ sym (acting_of_empty l copies (sym all ∙ empty))) all
 
 -- no row has an entry of the partition
-pub untold_served : (ms : List Member) (rows : List MemberRow) (places : List ℕ) (p next m : ℕ) → p < next → ArePlaces p rows places → IsNext next rows places → m ≡ master (list ms p)
+pub untold_served : (ms : List Member) (rows : List MemberRow) (places : List ℕ) (p next m : ℕ) → p < next → ArePlaces p rows places → AreNextPlaces next rows places → m ≡ list_master (list ms p)
     → ◌≡◌ {A = Served} (record { acting = m; all_empty = true }) (served_by (list ms p) (copies_at rows p))
 untold_served ms rows places p next m below read told m_is =
     empty_served (list ms p) (copies_at rows p) (copies_at rows p) m true refl m_is refl (sym (all_rows rows p empty))

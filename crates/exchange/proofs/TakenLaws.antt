@@ -6,35 +6,35 @@ use Rattle.std.proofs.lemmas.List.Quantifiers.{position-Some}
 use Rattle.cluster_types.specs.Distinct.{AreDistinct}
 use Rattle.partition_lists.proofs.InOrderLaws.{Has, Each, DifferBy, has_at, unequal, from_equal, equal, each_has, distinct_differ}
 use Rattle.node_rules.specs.declared.member_row.MemberRow.{MemberRow}
-use Rattle.node_rules.specs.Map.{row_of}
-use Rattle.exchange.specs.Rows.{nodes_of}
+use Rattle.node_rules.specs.Map.{row_of_member}
+use Rattle.exchange.specs.Rows.{row_nodes}
 use Rattle.exchange.proofs.RowsLaws.{has_of_contains}
 
 -- whether the row is that of the node
 abbrev pub is_of : ℕ → MemberRow → Bool
 is_of n r = r.node == n
 
-before_its_row : (rows : List MemberRow) (n : ℕ) → Has (nodes_of rows) n → prefix_len (λ r. not (is_of n r)) rows < length rows
+before_its_row : (rows : List MemberRow) (n : ℕ) → Has (row_nodes rows) n → prefix_len (λ r. not (is_of n r)) rows < length rows
 before_its_row [] n found = absurd found
 before_its_row (r ∷ rows) n found = go (r.node == n) refl (before_its_row rows n)
   where
-    later : (r.node == n) ≡ false → Has (nodes_of (r ∷ rows)) n → Has (nodes_of rows) n
+    later : (r.node == n) ≡ false → Has (row_nodes (r ∷ rows)) n → Has (row_nodes rows) n
     later is (inl same) = absurd (clash (sym (equal r.node n same) ∙ is))
       where
         clash : true ≡ false → ⊥
         clash wrong = cc
     later is (inr rest) = rest
 
-    go : (b : Bool) → (r.node == n) ≡ b → (Has (nodes_of rows) n → prefix_len (λ x. not (is_of n x)) rows < length rows) → prefix_len (λ x. not (is_of n x)) (r ∷ rows) < length (r ∷ rows)
+    go : (b : Bool) → (r.node == n) ≡ b → (Has (row_nodes rows) n → prefix_len (λ x. not (is_of n x)) rows < length rows) → prefix_len (λ x. not (is_of n x)) (r ∷ rows) < length (r ∷ rows)
     go true is ih = rw is (omega arith)
     go false is ih = rw is (omega (arith, ih (later is found)))
 
 -- a row that is there has a place
-pub position_there : (rows items : List MemberRow) (n : ℕ) → rows ≡ items → Contains (nodes_of items) n → None ≡ position (is_of n) rows → ⊥
+pub position_there : (rows items : List MemberRow) (n : ℕ) → rows ≡ items → Contains (row_nodes items) n → None ≡ position (is_of n) rows → ⊥
 position_there rows items n is found none = wrong (subst (λ (rs : List MemberRow). None ≡ position (is_of n) rs) is none ∙ ap (λ b. cond b (Some (prefix_len (λ r. not (is_of n r)) items)) None) within)
   where
     within : nat_lt (prefix_len (λ r. not (is_of n r)) items) (length items) ≡ true
-    within = let below : prefix_len (λ r. not (is_of n r)) items < length items = before_its_row items n (has_of_contains (nodes_of items) n found) in grind (arith, nat_tests)
+    within = let below : prefix_len (λ r. not (is_of n r)) items < length items = before_its_row items n (has_of_contains (row_nodes items) n found) in grind (arith, nat_tests)
 
     wrong : None ≡ Some (prefix_len (λ r. not (is_of n r)) items) → ⊥
     wrong no_way = cc
@@ -54,7 +54,7 @@ removed (r ∷ rows) (suc i) n d h within is =
     rw (unequal r.node n (other_first r rows i n d h (omega (arith, within)) is))
     (ap (λ rest. r ∷ rest) (removed rows i n d h.1 (omega (arith, within)) is))
 
-row_at : (rows : List MemberRow) (i n : ℕ) (d : MemberRow) → DifferBy (λ (x : MemberRow). x.node) rows → i < length rows → (get_or rows i d).node ≡ n → row_of rows n ≡ Some (get_or rows i d).row
+row_at : (rows : List MemberRow) (i n : ℕ) (d : MemberRow) → DifferBy (λ (x : MemberRow). x.node) rows → i < length rows → (get_or rows i d).node ≡ n → row_of_member rows n ≡ Some (get_or rows i d).row
 row_at [] i n d h within is = absurd (omega (arith, within))
 row_at (r ∷ rows) zero n d h within is = rw (equal r.node n is) refl
 row_at (r ∷ rows) (suc i) n d h within is =
@@ -65,13 +65,13 @@ at_position : (rows : List MemberRow) (n i : ℕ) (d : MemberRow) → Some i ≡
 at_position rows n i d is = let at = position-Some (is_of n) rows i d (sym is) in (at.0, from_equal (get_or rows i d).node n at.1)
 
 -- without the row at the node's place there are the rows of the other nodes
-pub position_removed : (rows items next : List MemberRow) (n i : ℕ) (d : MemberRow) → rows ≡ items → AreDistinct (nodes_of items) → Some i ≡ position (is_of n) rows → next ≡ remove items i → next ≡ filter (λ r. not (r.node == n)) items
+pub position_removed : (rows items next : List MemberRow) (n i : ℕ) (d : MemberRow) → rows ≡ items → AreDistinct (row_nodes items) → Some i ≡ position (is_of n) rows → next ≡ remove items i → next ≡ filter (λ r. not (r.node == n)) items
 position_removed rows items next n i d is distinct place taken =
     let at = at_position items n i d (place ∙ ap (λ (rs : List MemberRow). position (is_of n) rs) is) in
     taken ∙ removed items i n d (distinct_differ (λ (x : MemberRow). x.node) items distinct) at.0 at.1
 
 -- the row at the node's place is the node's
-pub position_row : (rows items : List MemberRow) (n i : ℕ) (d : MemberRow) → rows ≡ items → AreDistinct (nodes_of items) → Some i ≡ position (is_of n) rows → d ≡ get_or items i d → row_of items n ≡ Some d.row
+pub position_row : (rows items : List MemberRow) (n i : ℕ) (d : MemberRow) → rows ≡ items → AreDistinct (row_nodes items) → Some i ≡ position (is_of n) rows → d ≡ get_or items i d → row_of_member items n ≡ Some d.row
 position_row rows items n i d is distinct place d_is =
     let at = at_position items n i d (place ∙ ap (λ (rs : List MemberRow). position (is_of n) rs) is) in
     row_at items i n d (distinct_differ (λ (x : MemberRow). x.node) items distinct) at.0 at.1 ∙ ap (λ (r : MemberRow). Some r.row) (sym d_is)

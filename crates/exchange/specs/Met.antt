@@ -25,24 +25,24 @@ met me factor key members rows exchanged = record {
 }
 
 -- the members of the view
-abbrev pub members : Met → List Member
-members x = members_of x.exchange.view
+abbrev pub met_members : Met → List Member
+met_members x = members_of x.exchange.view
 
 -- the list of a partition over them
-abbrev pub list_at : Met → ℕ → List ℕ
-list_at x p = list (members x) p
+abbrev pub served_list : Met → ℕ → List ℕ
+served_list x p = list (met_members x) p
 
 -- who serves the partition
-abbrev pub entry_at : Met → ℕ → MapEntry
-entry_at x p = map.entry_of (list_at x p) x.exchange.rows p
+abbrev pub served_entry : Met → ℕ → MapEntry
+served_entry x p = map.entry_of (served_list x p) x.exchange.rows p
 
 -- whether a node sends its copy of the partition to another
-abbrev pub sends_to : Met → ℕ → ℕ → ℕ → Bool
-sends_to x p from to = classes.sends_to (list_at x p) x.factor x.exchange.rows p from to
+abbrev pub met_sends_to : Met → ℕ → ℕ → ℕ → Bool
+met_sends_to x p from to = classes.sends_to (served_list x p) x.factor x.exchange.rows p from to
 
 -- whom a node asks for their versions of a record of the partition
 abbrev pub asked_by : Met → ℕ → ℕ → List ℕ
-asked_by x p by = classes.asked_by (list_at x p) x.exchange.rows p by
+asked_by x p by = classes.asked_by_rows (served_list x p) x.exchange.rows p by
 
 -- the exchange once that row of a member came
 abbrev pub with_row_of : Met → ℕ → Row → Met

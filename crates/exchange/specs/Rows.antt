@@ -8,14 +8,14 @@ use Rattle.cluster_types.specs.StateRows.{IsStateRow}
 use Rattle.node_rules.specs.declared.member_row.MemberRow.{MemberRow}
 
 -- whose rows they are
-abbrev pub nodes_of : List MemberRow → List ℕ
-nodes_of rows = map (λ r. r.node) rows
+abbrev pub row_nodes : List MemberRow → List ℕ
+row_nodes rows = map (λ r. r.node) rows
 
 -- rows of members of the view, the node's own one first and none twice, and room for those of all
 pub record AreRowsOf (me : ℕ) (members : List Member) (rows : List MemberRow) (capacity : ℕ) : Type 0 where
   pub view : AreMembers members
-  pub own : slice_get (nodes_of rows) 0 ≡ Some me
-  pub distinct : AreDistinct (nodes_of rows)
+  pub own : slice_get (row_nodes rows) 0 ≡ Some me
+  pub distinct : AreDistinct (row_nodes rows)
   pub listed : All (λ r. Contains (ids_of members) r.node) rows
   pub room : length members ≤ capacity
 
@@ -34,6 +34,6 @@ abbrev pub IsNextIn : ℕ → List (ℕ × CopyState) → ℕ → Type 0
 IsNextIn next row place = (e : ℕ × CopyState) → slice_get row place ≡ Some e → next ≤ e.0
 
 -- no row has an entry below the partition from the place on up to which it was read
-pub record IsNext (next : ℕ) (rows : List MemberRow) (places : List ℕ) : Type 0 where
+pub record AreNextPlaces (next : ℕ) (rows : List MemberRow) (places : List ℕ) : Type 0 where
   pub rising : (k : ℕ) (d : MemberRow) → k < length rows → IsStateRow (slice_index_or rows k d).row
   pub next_in : (k : ℕ) (d : MemberRow) → k < length rows → IsNextIn next (slice_index_or rows k d).row (slice_index places k)

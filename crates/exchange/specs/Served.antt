@@ -8,7 +8,7 @@ use Rattle.cluster_types.specs.StateRows.{state_of}
 use Rattle.partition_lists.specs.Acting.{acting_by, is_empty}
 use Rattle.partition_lists.specs.Lists.{list}
 use Rattle.node_rules.specs.declared.member_row.MemberRow.{MemberRow}
-use Rattle.node_rules.specs.Map.{acting, all_empty}
+use Rattle.node_rules.specs.Map.{acting_by_rows, all_empty}
 use Rattle.exchange.specs.declared.served.Served.{Served}
 
 -- what the copies of a partition with that list tell
@@ -17,7 +17,7 @@ served_by l copies = record { acting = acting_by l (state_of copies); all_empty 
 
 -- what the rows tell of a partition
 abbrev pub served_at : List Member → List MemberRow → ℕ → Served
-served_at members rows p = record { acting = acting (list members p) rows p; all_empty = all_empty (list members p) rows p }
+served_at members rows p = record { acting = acting_by_rows (list members p) rows p; all_empty = all_empty (list members p) rows p }
 
 -- of each partition stands there what the rows tell
 pub record AreServed (members : List Member) (rows : List MemberRow) (served : List Served) : Type 0 where

@@ -3,7 +3,7 @@ use Rattle.std.specs.Prelude.{Bool, true, false, is_none}
 use Rattle.node_rules.specs.Exchange.{first_missing, finished}
 use Rattle.exchange.specs.declared.exchanging.ExchangeStep.{ExchangeStep}
 use Rattle.exchange.specs.declared.exchanging.ExchangeStep.TheVariants.{Waiting, Complete}
-use Rattle.exchange.specs.Met.{Met, members}
+use Rattle.exchange.specs.Met.{Met, met_members}
 
 -- finished where all rows are there, and otherwise waiting
 abbrev pub step_if : Bool → Met → ExchangeStep
@@ -12,4 +12,4 @@ step_if false x = Waiting x
 
 -- finished exactly where no row is missing
 abbrev pub step_of : Met → ExchangeStep
-step_of x = step_if (is_none (first_missing x.exchange.rows (members x))) x
+step_of x = step_if (is_none (first_missing x.exchange.rows (met_members x))) x

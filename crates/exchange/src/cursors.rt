@@ -2,7 +2,7 @@
 ghost use Rattle.std.specs.Prelude.{◌≡◌, ◌≤◌, ◌+◌, length};
 ghost use Rattle.cluster_types.specs.StateRows.{IsStateRow, state_of};
 ghost use Rattle.partition_state.specs.Copies.{copies_at};
-ghost use Rattle.exchange.specs.Rows.{ArePlaces, IsNext, IsNextIn, place_in};
+ghost use Rattle.exchange.specs.Rows.{ArePlaces, AreNextPlaces, IsNextIn, place_in};
 
 use cluster_types::partition::PARTITIONS;
 use cluster_types::{CopyState, PartitionId};
@@ -49,7 +49,7 @@ fn read_state(
 /// partitions where no row has one.
 pub(crate) fn next_told(rows: &[MemberRow], places: &[usize]) -> u16
     requires { length places.now ≡ length rows.now }
-    ensures { IsNext result rows.now places.now }
+    ensures { AreNextPlaces result rows.now places.now }
 {
     let mut next = PARTITIONS;
     for i in 0..rows.len() {

@@ -1,10 +1,10 @@
 //! A finished exchange, and the map that it gives.
 ghost use Rattle.std.specs.Prelude.{◌≡◌, ◌≢◌, true, None, Some, Contains, IfOk, vec_capacity};
 ghost use Rattle.cluster_types.specs.Members.{ids_of};
-ghost use Rattle.node_rules.specs.Exchange.{first_missing, key_of};
+ghost use Rattle.node_rules.specs.Exchange.{first_missing, exchange_key};
 ghost use Rattle.node_rules.specs.Map as rules;
 ghost use Rattle.partition_state.specs.Copies.{copies_at};
-ghost use Rattle.exchange.specs.Met.{asked_by, entry_at, list_at, members, met, sends_to, without_row_of};
+ghost use Rattle.exchange.specs.Met.{asked_by, served_entry, served_list, met_members, met, met_sends_to, without_row_of};
 ghost use Rattle.exchange.specs.Rows.{AreRowsOf};
 ghost use Rattle.exchange.specs.Served.{AreServed, served_at};
 
@@ -56,7 +56,7 @@ impl Exchanged {
 
     /// Who serves the partition.
     pub fn map(&self, p: PartitionId) -> MapEntry
-        ensures { result ≡ entry_at self.now p }
+        ensures { result ≡ served_entry self.now p }
     {
         let served = self.at(p);
         MapEntry {
@@ -68,31 +68,31 @@ impl Exchanged {
 
     /// The acting master of the partition, as the rows tell.
     pub fn acting(&self, p: PartitionId) -> NodeId
-        ensures { result ≡ rules.acting (list_at self.now p) self.now.exchange.rows p }
+        ensures { result ≡ rules.acting_by_rows (served_list self.now p) self.now.exchange.rows p }
     {
         self.at(p).acting
     }
 
     /// Whether no member's copy of the partition had a record.
     pub fn is_all_empty(&self, p: PartitionId) -> bool
-        ensures { result ≡ rules.all_empty (list_at self.now p) self.now.exchange.rows p }
+        ensures { result ≡ rules.all_empty (served_list self.now p) self.now.exchange.rows p }
     {
         self.at(p).all_empty
     }
 
     /// A copy of who serves each partition, with which the exchange can be finished later.
     pub fn served(&self, alloc: Global) -> Result<ServedTable, NoMemory>
-        ensures { IfOk result (λ t. AreServed (members self.now) self.now.exchange.rows t) }
+        ensures { IfOk result (λ t. AreServed (met_members self.now) self.now.exchange.rows t) }
     {
         ServedTable::of(alloc, &self.served)
     }
 
     /// The state before the row of `from`, another member, came, and that row.
     pub fn without_last(self, from: NodeId) -> (Exchanging, StateRow)
-        requires member { Contains (ids_of (members self)) from }
+        requires member { Contains (ids_of (met_members self)) from }
         requires other { from ≢ self.me }
         ensures exchanging { result.0 ≡ without_row_of self from }
-        ensures row { rules.row_of self.exchange.rows from ≡ Some result.1 }
+        ensures row { rules.row_of_member self.exchange.rows from ≡ Some result.1 }
     {
         let Exchanged { mut view, served } = self;
         let row = take_row(&mut view.rows, from);
@@ -101,28 +101,28 @@ impl Exchanged {
 
     /// The key of the view.
     pub fn key(&self) -> ClusterKey
-        ensures { result ≡ key_of self.now.exchange.view }
+        ensures { result ≡ exchange_key self.now.exchange.view }
     {
         self.view.key
     }
 
     /// The members of the view.
     pub fn members(&self) -> &Members
-        ensures { result.now ≡ members self.now }
+        ensures { result.now ≡ met_members self.now }
     {
         self.view.members()
     }
 
     /// The lists over the members.
     pub fn lists(&self) -> &Lists
-        ensures { result.now ≡ members self.now }
+        ensures { result.now ≡ met_members self.now }
     {
         &self.view.lists
     }
 
     /// The node's own row.
     pub fn own_row(&self) -> &StateRow
-        ensures { rules.row_of self.now.exchange.rows self.now.me ≡ Some result.now }
+        ensures { rules.row_of_member self.now.exchange.rows self.now.me ≡ Some result.now }
     {
         self.view.own_row()
     }
@@ -135,7 +135,7 @@ impl Exchanged {
     }
 
     fn at(&self, p: PartitionId) -> Served
-        ensures { result ≡ served_at (members self.now) self.now.exchange.rows p }
+        ensures { result ≡ served_at (met_members self.now) self.now.exchange.rows p }
     {
         self.served[usize::from(p.number())]
     }
@@ -148,11 +148,11 @@ impl Exchanged {
 }
 
 impl MapView for Exchanged {
-    ghost use Rattle.exchange.specs.Met.{entry_at, sends_to, asked_by};
+    ghost use Rattle.exchange.specs.Met.{served_entry, met_sends_to, asked_by};
 
-    ghost entry = { entry_at };
+    ghost entry = { served_entry };
 
-    ghost sends_to = { sends_to };
+    ghost sends_to = { met_sends_to };
 
     ghost asked_by = { asked_by };
 

@@ -2,9 +2,9 @@
 ghost use Rattle.std.specs.Prelude.{◌≡◌, true, false, None, Some, Contains, IfOk, IsSome, length, vec_capacity};
 ghost use Rattle.cluster_types.specs.Members.{ids_of};
 ghost use Rattle.cluster_types.specs.Partitions.{partition_count};
-ghost use Rattle.node_rules.specs.Exchange.{begun, first_missing, key_of, with_row};
+ghost use Rattle.node_rules.specs.Exchange.{begun, first_missing, exchange_key, with_row};
 ghost use Rattle.node_rules.specs.Map as rules;
-ghost use Rattle.exchange.specs.Met.{Met, finished_with, members, met, with_row_of};
+ghost use Rattle.exchange.specs.Met.{Met, finished_with, met_members, met, with_row_of};
 ghost use Rattle.exchange.specs.Rows.{AreRowsOf};
 ghost use Rattle.exchange.specs.Served.{AreServed};
 ghost use Rattle.exchange.specs.Steps.{step_of};
@@ -104,7 +104,7 @@ impl Exchanging {
 
     /// A State of the view came from a member. Its row is kept if that member's isn't there.
     pub fn on_state(self, from: NodeId, row: StateRow) -> ExchangeStep
-        requires { Contains (ids_of (members self)) from }
+        requires { Contains (ids_of (met_members self)) from }
         ensures { result ≡ step_of (with_row_of self from row) }
     {
         if !self.lacks(from) {
@@ -117,10 +117,11 @@ impl Exchanging {
 
     /// The row of the last member came, and with it the partitions are served as the table says.
     pub fn finish(self, last: NodeId, row: StateRow, table: ServedTable) -> Exchanged
-        requires member { Contains (ids_of (members self)) last }
+        requires member { Contains (ids_of (met_members self)) last }
         requires lacking { rules.lacks self.exchange.rows last ≡ true }
-        requires whole { first_missing (with_row self.exchange.rows last row) (members self) ≡ None }
-        requires served { AreServed (members self) (with_row self.exchange.rows last row) table }
+        requires whole { first_missing (with_row self.exchange.rows last row) (met_members self) ≡ None }
+        requires served { AreServed (met_members self)
+            (with_row self.exchange.rows last row) table }
         ensures { result ≡ finished_with self last row }
     {
         let Exchanging { mut view, room: _ } = self;
@@ -130,7 +131,7 @@ impl Exchanging {
 
     /// The first member, in member order, whose row isn't there.
     pub fn missing(&self) -> NodeId
-        ensures { first_missing self.now.exchange.rows (members self.now) ≡ Some result }
+        ensures { first_missing self.now.exchange.rows (met_members self.now) ≡ Some result }
     {
         match self.view.first_missing() {
             Some(n) => n,
@@ -147,28 +148,28 @@ impl Exchanging {
 
     /// The key of the view.
     pub fn key(&self) -> ClusterKey
-        ensures { result ≡ key_of self.now.exchange.view }
+        ensures { result ≡ exchange_key self.now.exchange.view }
     {
         self.view.key
     }
 
     /// The members of the view.
     pub fn members(&self) -> &Members
-        ensures { result.now ≡ members self.now }
+        ensures { result.now ≡ met_members self.now }
     {
         self.view.members()
     }
 
     /// The lists over the members.
     pub fn lists(&self) -> &Lists
-        ensures { result.now ≡ members self.now }
+        ensures { result.now ≡ met_members self.now }
     {
         &self.view.lists
     }
 
     /// The node's own row.
     pub fn own_row(&self) -> &StateRow
-        ensures { rules.row_of self.now.exchange.rows self.now.me ≡ Some result.now }
+        ensures { rules.row_of_member self.now.exchange.rows self.now.me ≡ Some result.now }
     {
         self.view.own_row()
     }

@@ -5,7 +5,7 @@ ghost use Rattle.cluster_types.specs.Members.{AreMembers};
 ghost use Rattle.cluster_types.specs.Partitions.{partition_count};
 ghost use Rattle.partition_lists.specs.Acting.{is_empty};
 ghost use Rattle.partition_lists.specs.Lists.{list};
-ghost use Rattle.exchange.specs.Rows.{AreRowsOf, ArePlaces, IsNext};
+ghost use Rattle.exchange.specs.Rows.{AreRowsOf, ArePlaces, AreNextPlaces};
 ghost use Rattle.partition_state.specs.Copies.{copies_at};
 ghost use Rattle.exchange.specs.declared.served.Served.{Served};
 ghost use Rattle.exchange.specs.Served.{AreServed, served_by};
@@ -122,10 +122,10 @@ fn serve(
     requires members { AreMembers lists.now }
     requires limit { length rows.now ≤ 16 }
     requires places { ArePlaces p rows.now places.old }
-    requires next { IsNext next.old rows.now places.old }
+    requires next { AreNextPlaces next.old rows.now places.old }
     ensures served { result ≡ served_by (list lists.now p) (copies_at rows.now p) }
     ensures places { ArePlaces (p + 1) rows.now places.new }
-    ensures next { IsNext next.new rows.now places.new }
+    ensures next { AreNextPlaces next.new rows.now places.new }
 {
     if p.number() < *next {
         return Served {

@@ -2,11 +2,11 @@
 ghost use Rattle.std.specs.Prelude.{◌≡◌, ◌<◌, ◌≤◌, ◌==◌, ◌++◌, ◌∷◌, [], not, Some, Contains, filter, length, slice_get, vec_capacity, vec_len};
 ghost use Rattle.std.specs.List.{list_all, position};
 ghost use Rattle.cluster_types.specs.Distinct.{AreDistinct};
-ghost use Rattle.partition_lists.specs.Lists.{is_replica};
+ghost use Rattle.partition_lists.specs.Lists.{is_replica_of};
 ghost use Rattle.node_rules.specs.Exchange.{first_missing};
-ghost use Rattle.node_rules.specs.Map.{row_of};
+ghost use Rattle.node_rules.specs.Map.{row_of_member};
 ghost use Rattle.node_rules.specs.Map as rules;
-ghost use Rattle.exchange.specs.Rows.{nodes_of};
+ghost use Rattle.exchange.specs.Rows.{row_nodes};
 
 use cluster_types::{ClusterKey, Members, NodeId, PartitionId, StateRow};
 use node_rules::MemberRow;
@@ -38,8 +38,8 @@ impl ViewRows {
     }
 
     pub fn own_row(&self) -> &StateRow
-        requires { slice_get (nodes_of self.now.rows.items) 0 ≡ Some self.now.me }
-        ensures { row_of self.now.rows.items self.now.me ≡ Some result.now }
+        requires { slice_get (row_nodes self.now.rows.items) 0 ≡ Some self.now.me }
+        ensures { row_of_member self.now.rows.items self.now.me ≡ Some result.now }
     {
         match self.rows.as_slice() {
             [own, ..] => &own.row,
@@ -49,7 +49,7 @@ impl ViewRows {
 
     /// Whether the node is among the first nodes, as many as the factor says, of the list.
     pub fn is_replica(&self, n: NodeId, p: PartitionId) -> bool
-        ensures { result ≡ is_replica n self.now.lists p self.now.factor }
+        ensures { result ≡ is_replica_of n self.now.lists p self.now.factor }
     {
         self.lists.is_replica(n, p, self.factor)
     }
@@ -91,10 +91,10 @@ pub(crate) fn add_row(rows: &mut Vec<MemberRow>, node: NodeId, row: StateRow)
 
 /// Takes the row of the member, which is there, out of the rows.
 pub(crate) fn take_row(rows: &mut Vec<MemberRow>, from: NodeId) -> StateRow
-    requires listed { Contains (nodes_of rows.old.items) from }
-    requires distinct { AreDistinct (nodes_of rows.old.items) }
+    requires listed { Contains (row_nodes rows.old.items) from }
+    requires distinct { AreDistinct (row_nodes rows.old.items) }
     ensures rows { rows.new.items ≡ filter (λ r. not (r.node == from)) rows.old.items }
-    ensures row { row_of rows.old.items from ≡ Some result }
+    ensures row { row_of_member rows.old.items from ≡ Some result }
     ensures room { vec_capacity rows.old ≤ vec_capacity rows.new }
 {
     match place_of(rows, from) {

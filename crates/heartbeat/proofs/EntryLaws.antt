@@ -23,9 +23,9 @@ use Rattle.node_rules.specs.Hearing as hearing
 use Rattle.node_rules.specs.Hearing.{Heard, older, heard_ids, neighbours_of, member_of, timeout, beat_heard, ticked, quieter, is_unchanged}
 use Rattle.heartbeat.specs.Adjacent.{adjacent}
 use Rattle.node_rules.specs.Keys.{same_key}
-use Rattle.node_rules.specs.Tables.{with_entry}
+use Rattle.node_rules.specs.Tables.{table_with}
 use Rattle.heartbeat.specs.declared.entries.Entry.{Entry}
-use Rattle.heartbeat.specs.Entries.{table_by, heard_entry, table_of, is_above, is_below, with_one, still_heard, one_older, aged, names, names_from_above, names_from_below, member_in, Falls, AreHeardBy, of_itself}
+use Rattle.heartbeat.specs.Entries.{table_by, heard_entry, table_of, is_entry_above, is_entry_below, with_one, still_heard, one_older, aged_entries, entry_names, names_from_above, names_from_below, member_in, Falls, AreHeardBy, of_itself}
 use Rattle.heartbeat.proofs.TableLaws.{all_below, filtered, lower, lt_false, lt_true, none_above, reversed, table_by-append, table_by-put}
 
 -- ---- loops
@@ -68,65 +68,65 @@ falls_append (x ∷ xs) ys k h i above below =
       falls_append xs ys k h.1 i (All-tail (λ x. k ≤ x.node) x xs above) below,
     )
 
-above_passes : (k : ℕ) (es : List Entry) → All (λ x. k < x.node) (filter (is_above k) es)
-above_passes k es = All-weaker (λ x. is_above k x ≡ true) (λ x. k < x.node) (λ x h. grind (arith, nat_tests, h)) (filter (is_above k) es) (filter_passes (is_above k) es)
+above_passes : (k : ℕ) (es : List Entry) → All (λ x. k < x.node) (filter (is_entry_above k) es)
+above_passes k es = All-weaker (λ x. is_entry_above k x ≡ true) (λ x. k < x.node) (λ x h. grind (arith, nat_tests, h)) (filter (is_entry_above k) es) (filter_passes (is_entry_above k) es)
 
-below_passes : (k : ℕ) (es : List Entry) → All (λ x. x.node < k) (filter (is_below k) es)
-below_passes k es = All-weaker (λ x. is_below k x ≡ true) (λ x. x.node < k) (λ x h. grind (arith, nat_tests, h)) (filter (is_below k) es) (filter_passes (is_below k) es)
+below_passes : (k : ℕ) (es : List Entry) → All (λ x. x.node < k) (filter (is_entry_below k) es)
+below_passes k es = All-weaker (λ x. is_entry_below k x ≡ true) (λ x. x.node < k) (λ x h. grind (arith, nat_tests, h)) (filter (is_entry_below k) es) (filter_passes (is_entry_below k) es)
 
 falls_with : (es : List Entry) (new : Entry) → Falls es → Falls (with_one es new)
 falls_with es new h =
-    falls_append (filter (is_above new.node) es) (new ∷ filter (is_below new.node) es) (new.node + 1)
-    (falls_filter (is_above new.node) es h)
-    (below_passes new.node es, falls_filter (is_below new.node) es h)
+    falls_append (filter (is_entry_above new.node) es) (new ∷ filter (is_entry_below new.node) es) (new.node + 1)
+    (falls_filter (is_entry_above new.node) es h)
+    (below_passes new.node es, falls_filter (is_entry_below new.node) es h)
     (All-weaker (λ x. new.node < x.node) (λ x. new.node + 1 ≤ x.node) (λ x lt. omega (arith, lt)) _ (above_passes new.node es))
     (All-cons (λ y. y.node < new.node + 1) new _ (omega arith) (All-weaker (λ y. y.node < new.node) (λ y. y.node < new.node + 1) (λ y lt. omega (arith, lt)) _ (below_passes new.node es)))
 
 -- ---- the entries stay such
 
 -- above and below a node there are no more entries than there are
-pub around : (k : ℕ) (es : List Entry) → length (filter (is_above k) es) + length (filter (is_below k) es) ≤ length es
+pub around : (k : ℕ) (es : List Entry) → length (filter (is_entry_above k) es) + length (filter (is_entry_below k) es) ≤ length es
 around k [] = omega arith
-around k (e ∷ es) = go (is_above k e) (is_below k e) refl refl (around k es)
+around k (e ∷ es) = go (is_entry_above k e) (is_entry_below k e) refl refl (around k es)
   where
-    go : (a b : Bool) → is_above k e ≡ a → is_below k e ≡ b → length (filter (is_above k) es) + length (filter (is_below k) es) ≤ length es → length (filter (is_above k) (e ∷ es)) + length (filter (is_below k) (e ∷ es)) ≤ length (e ∷ es)
+    go : (a b : Bool) → is_entry_above k e ≡ a → is_entry_below k e ≡ b → length (filter (is_entry_above k) es) + length (filter (is_entry_below k) es) ≤ length es → length (filter (is_entry_above k) (e ∷ es)) + length (filter (is_entry_below k) (e ∷ es)) ≤ length (e ∷ es)
     go true true p q ih = absurd (let no_way : ⊥ = grind (arith, nat_tests, p, q) in no_way)
     go true false p q ih = rw (p, q) (omega (arith, ih))
     go false true p q ih = rw (p, q) (omega (arith, ih))
     go false false p q ih = rw (p, q) (omega (arith, ih))
 
 -- and fewer where the node itself is there
-pub around_present : (k : ℕ) (es : List Entry) → Contains (map (λ e. e.node) es) k → length (filter (is_above k) es) + length (filter (is_below k) es) < length es
+pub around_present : (k : ℕ) (es : List Entry) → Contains (map (λ e. e.node) es) k → length (filter (is_entry_above k) es) + length (filter (is_entry_below k) es) < length es
 around_present k [] (i, within, same) = absurd (omega (arith, within))
-around_present k (e ∷ es) found = go (is_above k e) (is_below k e) refl refl (around k es) (around_present k es)
+around_present k (e ∷ es) found = go (is_entry_above k e) (is_entry_below k e) refl refl (around k es) (around_present k es)
   where
     tail_found : e.node ≢ k → Contains (e.node ∷ map (λ x. x.node) es) k → Contains (map (λ x. x.node) es) k
     tail_found other (zero, within, same) = absurd (other same)
     tail_found other (suc i, within, same) = (i, omega (arith, within), same)
 
-    go : (a b : Bool) → is_above k e ≡ a → is_below k e ≡ b
-        → length (filter (is_above k) es) + length (filter (is_below k) es) ≤ length es
-        → (Contains (map (λ x. x.node) es) k → length (filter (is_above k) es) + length (filter (is_below k) es) < length es)
-        → length (filter (is_above k) (e ∷ es)) + length (filter (is_below k) (e ∷ es)) < length (e ∷ es)
+    go : (a b : Bool) → is_entry_above k e ≡ a → is_entry_below k e ≡ b
+        → length (filter (is_entry_above k) es) + length (filter (is_entry_below k) es) ≤ length es
+        → (Contains (map (λ x. x.node) es) k → length (filter (is_entry_above k) es) + length (filter (is_entry_below k) es) < length es)
+        → length (filter (is_entry_above k) (e ∷ es)) + length (filter (is_entry_below k) (e ∷ es)) < length (e ∷ es)
     go true true p q ih more = absurd (let no_way : ⊥ = grind (arith, nat_tests, p, q) in no_way)
     go true false p q ih more = rw (p, q) (omega (arith, more (tail_found (λ same. let no_way : ⊥ = grind (arith, nat_tests, p, same) in no_way) found)))
     go false true p q ih more = rw (p, q) (omega (arith, more (tail_found (λ same. let no_way : ⊥ = grind (arith, nat_tests, q, same) in no_way) found)))
     go false false p q ih more = rw (p, q) (omega (arith, ih))
 
-pub length_with : (es : List Entry) (new : Entry) → length (with_one es new) ≡ length (filter (is_above new.node) es) + length (filter (is_below new.node) es) + 1
-length_with es new = omega (arith, length-append (filter (is_above new.node) es) (new ∷ filter (is_below new.node) es))
+pub length_with : (es : List Entry) (new : Entry) → length (with_one es new) ≡ length (filter (is_entry_above new.node) es) + length (filter (is_entry_below new.node) es) + 1
+length_with es new = omega (arith, length-append (filter (is_entry_above new.node) es) (new ∷ filter (is_entry_below new.node) es))
 
-pub heard_with : (me : ℕ) (es : List Entry) (new : Entry) → AreHeardBy me es → new.node ≢ me → length (filter (is_above new.node) es) + length (filter (is_below new.node) es) < 15 → AreHeardBy me (with_one es new)
+pub heard_with : (me : ℕ) (es : List Entry) (new : Entry) → AreHeardBy me es → new.node ≢ me → length (filter (is_entry_above new.node) es) + length (filter (is_entry_below new.node) es) < 15 → AreHeardBy me (with_one es new)
 heard_with me es new h other room = record {
   falls = falls_with es new h.falls;
   limit = omega (arith, length_with es new, room);
   others =
-      All-append (λ x. x.node ≢ me) (filter (is_above new.node) es) (new ∷ filter (is_below new.node) es)
-      (All-filter (is_above new.node) (λ x. x.node ≢ me) es h.others)
-      (All-cons (λ x. x.node ≢ me) new _ other (All-filter (is_below new.node) (λ x. x.node ≢ me) es h.others));
+      All-append (λ x. x.node ≢ me) (filter (is_entry_above new.node) es) (new ∷ filter (is_entry_below new.node) es)
+      (All-filter (is_entry_above new.node) (λ x. x.node ≢ me) es h.others)
+      (All-cons (λ x. x.node ≢ me) new _ other (All-filter (is_entry_below new.node) (λ x. x.node ≢ me) es h.others));
 }
 
-pub heard_aged : (me : ℕ) (es : List Entry) → AreHeardBy me es → AreHeardBy me (aged es)
+pub heard_aged : (me : ℕ) (es : List Entry) → AreHeardBy me es → AreHeardBy me (aged_entries es)
 heard_aged me es h = record {
   falls = falls_grown (filter still_heard es) (falls_filter still_heard es h.falls);
   limit = omega (arith, length-map (filter still_heard es) one_older, filter_short still_heard es, h.limit);
@@ -148,7 +148,8 @@ overwritten (e ∷ es) (suc i) new d h within same =
     (ap (λ rest. e ∷ rest) (overwritten es i new d h.1 (omega (arith, within)) same))
 
 -- where none is forgotten, each is one older
-pub aged_each : (es : List Entry) → list_all still_heard es ≡ true → map one_older es ≡ aged es
+pub aged_each : (es : List Entry) → list_all still_heard es ≡ true
+    → map one_older es ≡ aged_entries es
 aged_each [] h = refl
 aged_each (e ∷ es) h =
     let both = and_parts (still_heard e) (list_all still_heard es) h in
@@ -178,13 +179,13 @@ young es i d within all =
 -- ---- what is heard_entry of them
 
 -- the entry of a node is put into the table
-pub shown_with : (es : List Entry) (new : Entry) → Falls es → table_of (with_one es new) ≡ with_entry (table_of es) new.node (record { age = new.age; beat = new.beat })
+pub shown_with : (es : List Entry) (new : Entry) → Falls es → table_of (with_one es new) ≡ table_with (table_of es) new.node (record { age = new.age; beat = new.beat })
 shown_with es new h =
-    table_by-append heard_entry (filter (is_above new.node) es) (new ∷ filter (is_below new.node) es)
-    ∙ append_assoc (table_by heard_entry (filter (is_below new.node) es)) (heard_entry new ∷ []) (table_by heard_entry (filter (is_above new.node) es))
+    table_by-append heard_entry (filter (is_entry_above new.node) es) (new ∷ filter (is_entry_below new.node) es)
+    ∙ append_assoc (table_by heard_entry (filter (is_entry_below new.node) es)) (heard_entry new ∷ []) (table_by heard_entry (filter (is_entry_above new.node) es))
     ∙ sym (table_by-put heard_entry (λ e. refl) new.node (record { age = new.age; beat = new.beat }) es h)
 
-pub shown_aged : (es : List Entry) → table_of (aged es) ≡ hearing.aged (table_of es)
+pub shown_aged : (es : List Entry) → table_of (aged_entries es) ≡ hearing.aged (table_of es)
 shown_aged [] = refl
 shown_aged (e ∷ es) =
     go (still_heard e) refl
@@ -192,7 +193,7 @@ shown_aged (e ∷ es) =
     ∙ sym (filter-append (λ x. nat_lt x.1.age timeout) (map older (table_of es)) (older (heard_entry e) ∷ []))
     ∙ ap (filter (λ x. nat_lt x.1.age timeout)) (sym (map-append older (table_of es) (heard_entry e ∷ [])))
   where
-    go : (b : Bool) → still_heard e ≡ b → table_of (aged (e ∷ es)) ≡ table_of (aged es) ++ filter (λ x. nat_lt x.1.age timeout) (older (heard_entry e) ∷ [])
+    go : (b : Bool) → still_heard e ≡ b → table_of (aged_entries (e ∷ es)) ≡ table_of (aged_entries es) ++ filter (λ x. nat_lt x.1.age timeout) (older (heard_entry e) ∷ [])
     go true h = rw h refl
     go false h = rw h (sym (append-nil _))
 
@@ -226,44 +227,46 @@ pub room_named : (me : ℕ) (es : List Entry) → length (filter (names_from_abo
 room_named me es =
     omega (
       arith,
-      ap length (filter_twice (is_above me) (names me) es),
-      ap length (filter_twice (is_below me) (names me) es),
-      around me (filter (names me) es),
-      filter_short (names me) es,
+      ap length (filter_twice (is_entry_above me) (entry_names me) es),
+      ap length (filter_twice (is_entry_below me) (entry_names me) es),
+      around me (filter (entry_names me) es),
+      filter_short (entry_names me) es,
     )
 
 abbrev roled : Entry → ℕ × Role
 roled e = (e.node, e.beat.role)
 
 -- a node names itself, and so it stands among those that are named
-named_with : (me : ℕ) (es : List Entry) (new : Entry) → names me new ≡ true
-    → filter (names me) (with_one es new) ≡ filter (is_above new.node) (filter (names me) es) ++ new ∷ filter (is_below new.node) (filter (names me) es)
+named_with : (me : ℕ) (es : List Entry) (new : Entry) → entry_names me new ≡ true
+    → filter (entry_names me) (with_one es new) ≡ filter (is_entry_above new.node) (filter (entry_names me) es) ++ new ∷ filter (is_entry_below new.node) (filter (entry_names me) es)
 named_with me es new h =
-    filter-append (names me) (filter (is_above new.node) es) (new ∷ filter (is_below new.node) es)
-    ∙ ap (λ t. filter (names me) (filter (is_above new.node) es) ++ t) front
-    ∙ ap (λ t. t ++ new ∷ filter (is_below new.node) (filter (names me) es)) (filter_both (names me) (is_above new.node) es)
+    filter-append (entry_names me) (filter (is_entry_above new.node) es)
+    (new ∷ filter (is_entry_below new.node) es)
+    ∙ ap (λ t. filter (entry_names me) (filter (is_entry_above new.node) es) ++ t) front
+    ∙ ap (λ t. t ++ new ∷ filter (is_entry_below new.node) (filter (entry_names me) es)) (filter_both (entry_names me) (is_entry_above new.node) es)
   where
-    front : filter (names me) (new ∷ filter (is_below new.node) es) ≡ new ∷ filter (is_below new.node) (filter (names me) es)
-    front = rw h (ap (λ t. new ∷ t) (filter_both (names me) (is_below new.node) es))
+    front : filter (entry_names me) (new ∷ filter (is_entry_below new.node) es) ≡ new ∷ filter (is_entry_below new.node) (filter (entry_names me) es)
+    front = rw h (ap (λ t. new ∷ t) (filter_both (entry_names me) (is_entry_below new.node) es))
 
 -- those above the node, the node itself, and those below it
-pub named_apart : (me : ℕ) (role : Role) (es : List Entry) → names me (of_itself me role) ≡ true
-    → (map member_in (filter (names_from_above me) es) ++ member_in (of_itself me role) ∷ []) ++ map member_in (filter (names_from_below me) es) ≡ map member_in (filter (names me) (with_one es (of_itself me role)))
+pub named_apart : (me : ℕ) (role : Role) (es : List Entry)
+    → entry_names me (of_itself me role) ≡ true
+    → (map member_in (filter (names_from_above me) es) ++ member_in (of_itself me role) ∷ []) ++ map member_in (filter (names_from_below me) es) ≡ map member_in (filter (entry_names me) (with_one es (of_itself me role)))
 named_apart me role es itself =
     append_assoc (map member_in (filter (names_from_above me) es)) (member_in (of_itself me role) ∷ []) (map member_in (filter (names_from_below me) es))
-    ∙ ap₂ (λ (xs ys : List Entry). map member_in xs ++ member_in (of_itself me role) ∷ map member_in ys) (filter_twice (is_above me) (names me) es) (filter_twice (is_below me) (names me) es)
-    ∙ sym (map-append member_in (filter (is_above me) (filter (names me) es)) (of_itself me role ∷ filter (is_below me) (filter (names me) es)))
+    ∙ ap₂ (λ (xs ys : List Entry). map member_in xs ++ member_in (of_itself me role) ∷ map member_in ys) (filter_twice (is_entry_above me) (entry_names me) es) (filter_twice (is_entry_below me) (entry_names me) es)
+    ∙ sym (map-append member_in (filter (is_entry_above me) (filter (entry_names me) es)) (of_itself me role ∷ filter (is_entry_below me) (filter (entry_names me) es)))
     ∙ ap (map member_in) (sym (named_with me es (of_itself me role) itself))
 
-pub shown_neighbours : (me : ℕ) (role : Role) (es : List Entry) → Falls es → names me (of_itself me role) ≡ true
-    → map member_in (filter (names me) (with_one es (of_itself me role))) ≡ neighbours_of me role (table_of es)
+pub shown_neighbours : (me : ℕ) (role : Role) (es : List Entry) → Falls es → entry_names me (of_itself me role) ≡ true
+    → map member_in (filter (entry_names me) (with_one es (of_itself me role))) ≡ neighbours_of me role (table_of es)
 shown_neighbours me role es h itself =
     ap (map member_in) (named_with me es (of_itself me role) itself)
-    ∙ sym (reversed roled member_of (filter (is_above me) (filter (names me) es) ++ of_itself me role ∷ filter (is_below me) (filter (names me) es)))
+    ∙ sym (reversed roled member_of (filter (is_entry_above me) (filter (entry_names me) es) ++ of_itself me role ∷ filter (is_entry_below me) (filter (entry_names me) es)))
     ∙ ap (λ t. reverse (map member_of t)) (
-    table_by-append roled (filter (is_above me) (filter (names me) es)) (of_itself me role ∷ filter (is_below me) (filter (names me) es))
-    ∙ append_assoc (table_by roled (filter (is_below me) (filter (names me) es))) ((me, role) ∷ []) (table_by roled (filter (is_above me) (filter (names me) es)))
-    ∙ sym (table_by-put roled (λ e. refl) me role (filter (names me) es) (falls_filter (names me) es h))
+    table_by-append roled (filter (is_entry_above me) (filter (entry_names me) es)) (of_itself me role ∷ filter (is_entry_below me) (filter (entry_names me) es))
+    ∙ append_assoc (table_by roled (filter (is_entry_below me) (filter (entry_names me) es))) ((me, role) ∷ []) (table_by roled (filter (is_entry_above me) (filter (entry_names me) es)))
+    ∙ sym (table_by-put roled (λ e. refl) me role (filter (entry_names me) es) (falls_filter (entry_names me) es h))
     ∙ ap (put nat_cmp me role) (sym (filtered heard_entry (λ e. (e.0, e.1.beat.role)) (hearing.names me) es)))
 
 ids_falling : (es : List Entry) → Falls es → IsDescending (ids_of (map member_in es))
@@ -281,18 +284,18 @@ nodes_falling (e ∷ es) h = record {
   falls = AllPairs-cons (λ x y. y < x) e.node (map (λ x. x.node) es) (All-map (λ y. y < e.node) (λ x. x.node) es h.0) (nodes_falling es h.1).falls;
 }
 
-pub named_members : (me : ℕ) (es : List Entry) (new : Entry) → Falls es → length (filter (is_above new.node) es) + length (filter (is_below new.node) es) < 16 → names me new ≡ true
-    → AreMembers (map member_in (filter (names me) (with_one es new)))
+pub named_members : (me : ℕ) (es : List Entry) (new : Entry) → Falls es → length (filter (is_entry_above new.node) es) + length (filter (is_entry_below new.node) es) < 16 → entry_names me new ≡ true
+    → AreMembers (map member_in (filter (entry_names me) (with_one es new)))
 named_members me es new h room itself = record {
   some =
       omega (
         arith,
-        length-map (filter (names me) (with_one es new)) member_in,
+        length-map (filter (entry_names me) (with_one es new)) member_in,
         ap length (named_with me es new itself),
-        length-append (filter (is_above new.node) (filter (names me) es)) (new ∷ filter (is_below new.node) (filter (names me) es)),
+        length-append (filter (is_entry_above new.node) (filter (entry_names me) es)) (new ∷ filter (is_entry_below new.node) (filter (entry_names me) es)),
       );
-  limit = omega (arith, length-map (filter (names me) (with_one es new)) member_in, filter_short (names me) (with_one es new), length_with es new, room);
-  descending = ids_falling (filter (names me) (with_one es new)) (falls_filter (names me) (with_one es new) (falls_with es new h));
+  limit = omega (arith, length-map (filter (entry_names me) (with_one es new)) member_in, filter_short (entry_names me) (with_one es new), length_with es new, room);
+  descending = ids_falling (filter (entry_names me) (with_one es new)) (falls_filter (entry_names me) (with_one es new) (falls_with es new h));
 }
 
 -- ---- what they show
@@ -307,19 +310,19 @@ and_swap true false = refl
 and_swap false true = refl
 and_swap false false = refl
 
-pub shown_all : (me : ℕ) (es : List Entry) (key : ClusterKey) → list_all (λ e. not (names me e) || same_key e.beat.view key) es ≡ hearing.all_show me (table_of es) key
+pub shown_all : (me : ℕ) (es : List Entry) (key : ClusterKey) → list_all (λ e. not (entry_names me e) || same_key e.beat.view key) es ≡ hearing.all_show me (table_of es) key
 shown_all me [] key = refl
 shown_all me (e ∷ es) key =
-    and_swap (not (names me e) || same_key e.beat.view key) (list_all (λ x. not (names me x) || same_key x.beat.view key) es)
-    ∙ ap (λ b. b && (not (names me e) || same_key e.beat.view key)) (shown_all me es key)
-    ∙ ap (λ b. list_all shows (filter (hearing.names me) (table_of es)) && b) (last (names me e) refl)
+    and_swap (not (entry_names me e) || same_key e.beat.view key) (list_all (λ x. not (entry_names me x) || same_key x.beat.view key) es)
+    ∙ ap (λ b. b && (not (entry_names me e) || same_key e.beat.view key)) (shown_all me es key)
+    ∙ ap (λ b. list_all shows (filter (hearing.names me) (table_of es)) && b) (last (entry_names me e) refl)
     ∙ sym (list_all-append shows (filter (hearing.names me) (table_of es)) (filter (hearing.names me) (heard_entry e ∷ [])))
     ∙ ap (list_all shows) (sym (filter-append (hearing.names me) (table_of es) (heard_entry e ∷ [])))
   where
     shows : ℕ × Heard → Bool
     shows x = same_key x.1.beat.view key
 
-    last : (b : Bool) → names me e ≡ b → (not (names me e) || same_key e.beat.view key) ≡ list_all shows (filter (hearing.names me) (heard_entry e ∷ []))
+    last : (b : Bool) → entry_names me e ≡ b → (not (entry_names me e) || same_key e.beat.view key) ≡ list_all shows (filter (hearing.names me) (heard_entry e ∷ []))
     last true h = rw h (and_true (same_key e.beat.view key))
     last false h = rw h refl
 
@@ -331,14 +334,15 @@ pub heard_view : (me : ℕ) (role : Role) (set : Option (List Member)) (quiet : 
 heard_view me role set quiet es from beat h = ap (λ t. adjacent me role t set quiet) (shown_with es (record { node = from; age = 0; beat = beat }) h)
 
 pub ticked_view : (me : ℕ) (role : Role) (set : Option (List Member)) (quiet : ℕ) (es : List Entry) (now : List Member)
-    → now ≡ neighbours_of me role (table_of (aged es))
-    → adjacent me role (table_of (aged es)) (Some now) (quieter quiet (is_unchanged set now))
+    → now ≡ neighbours_of me role (table_of (aged_entries es))
+    → adjacent me role (table_of (aged_entries es)) (Some now)
+    (quieter quiet (is_unchanged set now))
     ≡ record (adjacent me role (table_of es) set quiet) { hearing = ticked me role (adjacent me role (table_of es) set quiet).hearing }
 ticked_view me role set quiet es now same =
     rw same (ap (λ t. adjacent me role t (Some (neighbours_of me role t)) (quieter quiet (is_unchanged set (neighbours_of me role t)))) (shown_aged es))
 
 pub room_of : (me : ℕ) (es : List Entry) (from : ℕ) → AreHeardBy me es → Contains (heard_ids (table_of es)) from ⊎ (length (heard_ids (table_of es)) < 15)
-    → length (filter (is_above from) es) + length (filter (is_below from) es) < 15
+    → length (filter (is_entry_above from) es) + length (filter (is_entry_below from) es) < 15
 room_of me es from h (inl found) = omega (arith, around_present from es (subst (λ ids. Contains ids from) (shown_ids es) found), h.limit)
 room_of me es from h (inr few) = omega (arith, around from es, few, ap length (shown_ids es), length-map es (λ e. e.node))
 
@@ -354,5 +358,5 @@ fresh_node es i e within read h found =
     (subst (λ ids. Contains ids e.node) (sym (take-map (λ (x : Entry). x.node) i es)) found)
 
 -- a node that hears itself names itself
-pub itself_named : (me : ℕ) (role : Role) → names me (of_itself me role) ≡ true
+pub itself_named : (me : ℕ) (role : Role) → entry_names me (of_itself me role) ≡ true
 itself_named me role = rw (let same : (me == me) ≡ true = grind (arith, nat_tests) in same) refl

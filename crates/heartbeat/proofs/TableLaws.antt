@@ -10,7 +10,7 @@ use Rattle.std.proofs.lemmas.Bool.Decides.{nat_tests}
 use Rattle.std.proofs.lemmas.List.{reverse-append, append-nil, map-append}
 use Rattle.std.proofs.lemmas.List.Elements.{All-head, All-tail, filter-append}
 use Rattle.heartbeat.specs.declared.entries.Entry.{Entry}
-use Rattle.heartbeat.specs.Entries.{table_by, is_above, is_below, Falls}
+use Rattle.heartbeat.specs.Entries.{table_by, is_entry_above, is_entry_below, Falls}
 
 pub lt_true : (a b : ℕ) → a < b → nat_lt a b ≡ true
 lt_true a b h = grind (arith, nat_tests)
@@ -93,13 +93,15 @@ module _ {X : Type 0} (g : Entry → ℕ × X) where
   under_tabled same k [] h = tt
   under_tabled same k (e ∷ es) h = under_snoc k (table_by g es) (g e) (under_tabled same k es (All-tail (λ x. x.node < k) e es h)) (rw (same e) (All-head (λ x. x.node < k) e es h))
 
-pub none_above : (k : ℕ) (es : List Entry) → All (λ x. x.node < k) es → filter (is_above k) es ≡ []
+pub none_above : (k : ℕ) (es : List Entry) → All (λ x. x.node < k) es
+    → filter (is_entry_above k) es ≡ []
 none_above k [] h = refl
 none_above k (e ∷ es) h =
     let low : e.node < k = All-head (λ x. x.node < k) e es h in
     rw (lt_false k e.node (omega (arith, low))) (none_above k es (All-tail (λ x. x.node < k) e es h))
 
-pub all_below : (k : ℕ) (es : List Entry) → All (λ x. x.node < k) es → filter (is_below k) es ≡ es
+pub all_below : (k : ℕ) (es : List Entry) → All (λ x. x.node < k) es
+    → filter (is_entry_below k) es ≡ es
 all_below k [] h = refl
 all_below k (e ∷ es) h =
     let low : e.node < k = All-head (λ x. x.node < k) e es h in
@@ -110,16 +112,16 @@ lower k e es h le i d within = omega (arith, h i d within, le)
 
 -- what is put into a table stands between what is below and what is above
 pub table_by-put : {X : Type 0} (g : Entry → ℕ × X) → ((e : Entry) → (g e).0 ≡ e.node) → (k : ℕ) (v : X) (es : List Entry) → Falls es
-    → put nat_cmp k v (table_by g es) ≡ table_by g (filter (is_below k) es) ++ (k, v) ∷ table_by g (filter (is_above k) es)
+    → put nat_cmp k v (table_by g es) ≡ table_by g (filter (is_entry_below k) es) ++ (k, v) ∷ table_by g (filter (is_entry_above k) es)
 table_by-put g same k v [] h = refl
 table_by-put {X} g same k v (e ∷ es) h = go (stand k e.node) (table_by-put g same k v es h.1)
   where
-    go : Stand k e.node → put nat_cmp k v (table_by g es) ≡ table_by g (filter (is_below k) es) ++ (k, v) ∷ table_by g (filter (is_above k) es) → put nat_cmp k v (table_by g es ++ g e ∷ []) ≡ table_by g (filter (is_below k) (e ∷ es)) ++ (k, v) ∷ table_by g (filter (is_above k) (e ∷ es))
+    go : Stand k e.node → put nat_cmp k v (table_by g es) ≡ table_by g (filter (is_entry_below k) es) ++ (k, v) ∷ table_by g (filter (is_entry_above k) es) → put nat_cmp k v (table_by g es ++ g e ∷ []) ≡ table_by g (filter (is_entry_below k) (e ∷ es)) ++ (k, v) ∷ table_by g (filter (is_entry_above k) (e ∷ es))
     go (Below lt) ih =
         rw (lt_true k e.node lt, lt_false e.node k (omega (arith, lt)))
         (put_before k v (table_by g es) (g e) (rw (same e) lt)
         ∙ ap (λ t. t ++ g e ∷ []) ih
-        ∙ append_assoc (table_by g (filter (is_below k) es)) ((k, v) ∷ table_by g (filter (is_above k) es)) (g e ∷ []))
+        ∙ append_assoc (table_by g (filter (is_entry_below k) es)) ((k, v) ∷ table_by g (filter (is_entry_above k) es)) (g e ∷ []))
     go (Same eq) ih =
         let under : All (λ x. x.node < k) es = lower k e es h.0 (omega (arith, eq)) in
         rw (lt_false k e.node (omega (arith, eq)), lt_false e.node k (omega (arith, eq)), none_above k es under, all_below k es under)

@@ -18,15 +18,15 @@ heard_entry e = (e.node, record { age = e.age; beat = e.beat })
 abbrev pub table_of : List Entry → Table Heard
 table_of es = table_by heard_entry es
 
-abbrev pub is_above : ℕ → Entry → Bool
-is_above n e = nat_lt n e.node
+abbrev pub is_entry_above : ℕ → Entry → Bool
+is_entry_above n e = nat_lt n e.node
 
-abbrev pub is_below : ℕ → Entry → Bool
-is_below n e = nat_lt e.node n
+abbrev pub is_entry_below : ℕ → Entry → Bool
+is_entry_below n e = nat_lt e.node n
 
 -- the entries with that one in place of its node's
 abbrev pub with_one : List Entry → Entry → List Entry
-with_one es new = filter (is_above new.node) es ++ new ∷ filter (is_below new.node) es
+with_one es new = filter (is_entry_above new.node) es ++ new ∷ filter (is_entry_below new.node) es
 
 abbrev pub still_heard : Entry → Bool
 still_heard e = nat_lt (e.age + 1) timeout
@@ -34,19 +34,19 @@ still_heard e = nat_lt (e.age + 1) timeout
 abbrev pub one_older : Entry → Entry
 one_older e = record e { age = e.age + 1 }
 
-abbrev pub aged : List Entry → List Entry
-aged es = map one_older (filter still_heard es)
+abbrev pub aged_entries : List Entry → List Entry
+aged_entries es = map one_older (filter still_heard es)
 
 -- whether the entry's heartbeat says that its sender hears the node
-abbrev pub names : ℕ → Entry → Bool
-names me e = contains e.beat.hears me
+abbrev pub entry_names : ℕ → Entry → Bool
+entry_names me e = contains e.beat.hears me
 
 -- whether one above the node hears it, or one below it
 abbrev pub names_from_above : ℕ → Entry → Bool
-names_from_above me e = is_above me e && names me e
+names_from_above me e = is_entry_above me e && entry_names me e
 
 abbrev pub names_from_below : ℕ → Entry → Bool
-names_from_below me e = is_below me e && names me e
+names_from_below me e = is_entry_below me e && entry_names me e
 
 abbrev pub member_in : Entry → Member
 member_in e = record { id = e.node; role = e.beat.role }

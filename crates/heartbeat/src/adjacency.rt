@@ -6,7 +6,7 @@ ghost use Rattle.node_rules.specs.Hearing as hearing;
 ghost use Rattle.node_rules.specs.Hearing.{deaf, beat_heard, ticked, without_quiet, heard_ids, neighbours_of, is_unchanged, quieter};
 ghost use Rattle.node_rules.specs.Keys.{same_key};
 ghost use Rattle.heartbeat.specs.Adjacent.{HasRoomFor, heard_limit};
-ghost use Rattle.heartbeat.specs.Entries.{names, Falls};
+ghost use Rattle.heartbeat.specs.Entries.{entry_names, Falls};
 
 use crate::entries::{Entries, Entry};
 use crate::room::members_naming;
@@ -192,13 +192,14 @@ fn ids_of(entries: &[Entry]) -> NodeList
 }
 
 fn all_show(me: NodeId, entries: &[Entry], key: ClusterKey) -> bool
-    ensures { result ≡ list_all (λ e. not (names me e) || same_key e.beat.view key) entries.now }
+    ensures { result ≡ list_all
+        (λ e. not (entry_names me e) || same_key e.beat.view key) entries.now }
 {
     entries.iter().all(|entry| shows(me, entry, key))
 }
 
 fn shows(me: NodeId, entry: &Entry, key: ClusterKey) -> bool
-    ensures { result ≡ (not (names me entry.now) || same_key entry.now.beat.view key) }
+    ensures { result ≡ (not (entry_names me entry.now) || same_key entry.now.beat.view key) }
 {
     !entry.beat.hears.contains(me) || entry.beat.view == key
 }

@@ -1,6 +1,6 @@
 //! Room for members.
 ghost use Rattle.std.specs.Prelude.{◌≡◌, ◌+◌, ◌<◌, ◌≤◌, ◌++◌, ◌∷◌, [], length, filter, map};
-ghost use Rattle.heartbeat.specs.Entries.{member_in, names, names_from_above, names_from_below, of_itself, with_one};
+ghost use Rattle.heartbeat.specs.Entries.{member_in, entry_names, names_from_above, names_from_below, of_itself, with_one};
 
 use crate::entries::Entry;
 use cluster_types::{Member, NodeId, Role};
@@ -76,7 +76,7 @@ impl Room {
 /// The node itself and those that hear it, by their order.
 pub(crate) fn members_naming(me: NodeId, role: Role, entries: &[Entry]) -> Room
     requires { length entries.now ≤ 15 }
-    ensures { result ≡ map member_in (filter (names me) (with_one entries.now (of_itself me role))) }
+    ensures { result ≡ map member_in (filter (entry_names me) (with_one entries.now (of_itself me role))) }
 {
     let mut room = Room::new();
     room.add_above(me, entries);

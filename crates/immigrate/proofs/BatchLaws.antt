@@ -14,8 +14,8 @@ use Rattle.conflict_order.specs.Join.{kept}
 use Rattle.conflict_order.specs.Order.{is_newer}
 use Rattle.record_store.proofs.CopyLaws.{joined_kept}
 use Rattle.node_rules.specs.Copies.{Content, joined}
-use Rattle.node_rules.specs.Merging.{Record, is_newer_than_held, record_if, joined_if, newer_records, joined_all}
-use Rattle.immigrate.specs.Digests.{IsRising, digests_of}
+use Rattle.node_rules.specs.Merging.{Record, is_newer_than_held, record_if, content_joined_if, newer_records, joined_all}
+use Rattle.immigrate.specs.Digests.{IsRising, record_digests}
 
 abbrev digest_cmp : List ℕ → List ℕ → Ordering
 digest_cmp = slice_cmp nat_cmp
@@ -24,13 +24,13 @@ apart : (d q : List ℕ) → digest_cmp d q ≡ Less → eq_by_cmp digest_cmp q 
 apart d q h = ap is_eq (nat_list_cmp_total.antisymm q d ∙ ap ordering_reverse h)
 
 -- a record leaves what is held of the digests above its own
-others_stay : (by : Policy) (c : Content) (r : Record) (b : Bool) (q : List ℕ) → digest_cmp r.0 q ≡ Less → get (joined_if by c r b) q ≡ get c q
+others_stay : (by : Policy) (c : Content) (r : Record) (b : Bool) (q : List ℕ) → digest_cmp r.0 q ≡ Less → get (content_joined_if by c r b) q ≡ get c q
 others_stay by c r true q above =
     get-insert nat_list_cmp_total c r.0 (kept by (get c r.0) r.1) q
     ∙ ap (λ b. cond b (Some (kept by (get c r.0) r.1)) (get c q)) (apart r.0 q above)
 others_stay by c r false q above = refl
 
-first_step : (by : Policy) (e : Content) (r : Record) (rs fs : List Record) → ((b : Bool) → newer_records by (joined_if by e r b) rs ≡ fs) → (b : Bool) → record_if r b ++ newer_records by (joined_if by e r b) rs ≡ cond b (r ∷ fs) fs
+first_step : (by : Policy) (e : Content) (r : Record) (rs fs : List Record) → ((b : Bool) → newer_records by (content_joined_if by e r b) rs ≡ fs) → (b : Bool) → record_if r b ++ newer_records by (content_joined_if by e r b) rs ≡ cond b (r ∷ fs) fs
 first_step by e r rs fs rest true = ap (λ xs. r ∷ xs) (rest true)
 first_step by e r rs fs rest false = rest false
 
@@ -39,8 +39,8 @@ filtered : (by : Policy) (c e : Content) (rs : List Record) → IsRising rs → 
 filtered by c e [] rising same = refl
 filtered by c e (r ∷ rs) rising same =
     let fs = filter (is_newer_than_held by c) rs in
-    let rest : (b : Bool) → newer_records by (joined_if by e r b) rs ≡ fs
-    = λ b. filtered by c (joined_if by e r b) rs (λ i j d lower within. rising (suc i) (suc j) d (omega (arith, lower)) (omega (arith, within)))
+    let rest : (b : Bool) → newer_records by (content_joined_if by e r b) rs ≡ fs
+    = λ b. filtered by c (content_joined_if by e r b) rs (λ i j d lower within. rising (suc i) (suc j) d (omega (arith, lower)) (omega (arith, within)))
     (λ k d within. others_stay by e r b _ (rising 0 (suc k) d (omega arith) (omega (arith, within))) ∙ same (suc k) d (omega (arith, within))) in
     first_step by e r rs fs rest (is_newer_than_held by e r)
     ∙ ap (λ o. cond (is_newer by r.1 o) (r ∷ fs) fs) (same 0 r (omega arith))
@@ -50,7 +50,7 @@ pub newer_is_filter : (by : Policy) (c : Content) (rs : List Record) → IsRisin
 newer_is_filter by c rs rising = filtered by c c rs rising (λ k d within. refl)
 
 joined_step : (by : Policy) (c : Content) (r : Record) (rs : List Record) → ((m : Content) → joined_all by m (newer_records by m rs) ≡ joined_all by m rs)
-    → (b : Bool) → is_newer_than_held by c r ≡ b → joined_all by c (record_if r b ++ newer_records by (joined_if by c r b) rs) ≡ joined_all by (joined by c r.0 r.1) rs
+    → (b : Bool) → is_newer_than_held by c r ≡ b → joined_all by c (record_if r b ++ newer_records by (content_joined_if by c r b) rs) ≡ joined_all by (joined by c r.0 r.1) rs
 joined_step by c r rs rest true is = rest (joined by c r.0 r.1)
 joined_step by c r rs rest false is = rest c ∙ ap (λ m. joined_all by m rs) (joined_kept by c r.0 r.1 is)
 
@@ -71,11 +71,11 @@ pub within_is_some : (rs : List Record) (i : ℕ) → None ≡ slice_get rs i �
 within_is_some rs i none within = outside rs i (sym none) within
 
 -- one more digest
-pub digest_more : (rs : List Record) (i : ℕ) (r : Record) → Some r ≡ slice_get rs i → digests_of (take i rs) ++ r.0 ∷ [] ≡ digests_of (take (i + 1) rs)
+pub digest_more : (rs : List Record) (i : ℕ) (r : Record) → Some r ≡ slice_get rs i → record_digests (take i rs) ++ r.0 ∷ [] ≡ record_digests (take (i + 1) rs)
 digest_more rs i r at =
     let within = slice_get_within rs i r (sym at) in
     let here = get_or_from_slice_get rs i r r (sym at) in
-    sym (ap digests_of (take_more rs i r within ∙ ap (λ x. take i rs ++ x ∷ []) here) ∙ map-append (λ (x : Record). x.0) (take i rs) (r ∷ []))
+    sym (ap record_digests (take_more rs i r within ∙ ap (λ x. take i rs ++ x ∷ []) here) ∙ map-append (λ (x : Record). x.0) (take i rs) (r ∷ []))
 
 -- one more record, where it passes
 pub passing_more : (p : Record → Bool) (rs : List Record) (i : ℕ) (r : Record) → Some r ≡ slice_get rs i → filter p (take i rs) ++ cond (p r) (r ∷ []) [] ≡ filter p (take (i + 1) rs)

@@ -5,8 +5,8 @@ use Rattle.std.specs.Ordering.{nat_cmp}
 use Rattle.std.specs.Cmp.Lexicographic.{slice_cmp}
 use Rattle.node_rules.specs.Merging.{Record}
 
-abbrev pub digests_of : List Record → List (List ℕ)
-digests_of rs = map (λ r. r.0) rs
+abbrev pub record_digests : List Record → List (List ℕ)
+record_digests rs = map (λ r. r.0) rs
 
 -- the digests rise strictly
 abbrev pub IsRising : List Record → Type 0

@@ -2,7 +2,7 @@
 ghost use Rattle.std.specs.Prelude.{◌≡◌, ◌++◌, ◌∷◌, [], if◌then◌else◌, IfOk, OnOk, OnErr};
 ghost use Rattle.record_store.specs.Store.{HasRoom, HoldsTheSame, KeepsRoom};
 ghost use Rattle.node_rules.specs.Merging.{Record, is_newer_than_held, joined_all, newer_records};
-ghost use Rattle.immigrate.specs.Digests.{IsRising, digests_of};
+ghost use Rattle.immigrate.specs.Digests.{IsRising, record_digests};
 
 use cluster_types::{Digest, DigestList, NoMemory};
 use conflict_order::Version;
@@ -46,7 +46,7 @@ pub fn plan_batch(alloc: Global, store: &mut RecordStore, batch: &Batch) -> Resu
     ensures newer { IfOk result (λ m. m.newer ≡ newer_records store.old.by store.old.versions batch.now.records) }
     ensures number { IfOk result (λ m. m.number ≡ batch.now.number) }
     ensures joined { IfOk result (λ m. joined_all store.old.by store.old.versions m.newer ≡ joined_all store.old.by store.old.versions batch.now.records) }
-    ensures room { IfOk result (λ m. HasRoom (digests_of m.newer) store.new.spare) }
+    ensures room { IfOk result (λ m. HasRoom (record_digests m.newer) store.new.spare) }
     ensures same { HoldsTheSame store.old store.new }
     ensures kept { KeepsRoom store.old.spare store.new.spare }
 {
@@ -60,7 +60,7 @@ pub fn plan_batch(alloc: Global, store: &mut RecordStore, batch: &Batch) -> Resu
 
 /// Joins the records that `plan_batch` found newer into the store, which has room for them.
 pub fn merge_planned(store: &mut RecordStore, m: Merged)
-    requires { HasRoom (digests_of m.newer) store.old.spare }
+    requires { HasRoom (record_digests m.newer) store.old.spare }
     ensures versions { store.new.versions ≡ joined_all store.old.by store.old.versions m.newer }
     ensures stamps { store.new.stamps ≡ store.old.stamps }
     ensures policy { store.new.by ≡ store.old.by }
@@ -104,7 +104,7 @@ fn add_newer(
 
 /// The digests of the records.
 fn digest_list(alloc: Global, records: &Records) -> Result<DigestList, NoMemory>
-    ensures { IfOk result (λ ds. ds ≡ digests_of records.now) }
+    ensures { IfOk result (λ ds. ds ≡ record_digests records.now) }
 {
     let mut digests = DigestList::new(alloc);
     for i in 0..records.len() {

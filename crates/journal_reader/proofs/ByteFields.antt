@@ -19,7 +19,7 @@ use Rattle.conflict_order.specs.declared.want.Action.{Action}
 use Rattle.conflict_order.specs.declared.want.Action.TheVariants as action
 use Rattle.cluster_types.specs.Texts.{digest_text}
 use Rattle.wire_messages.specs.Versions.{AreBytes, IsDigest, IsValue}
-use Rattle.journal_reader.specs.Fields.{is_capital, bytes_of, digest_of, value_of, policy_of, action_of, if_so}
+use Rattle.journal_reader.specs.Fields.{is_capital, parsed_bytes, parsed_digest, parsed_value, parsed_policy, parsed_action, if_so}
 use Rattle.journal_text.specs.Values.{policy_word, action_word}
 use Rattle.journal_reader.proofs.Readers.{Reads, reads_wider}
 use Rattle.journal_reader.proofs.KeyFields.{IsVisible}
@@ -77,8 +77,8 @@ no_capitals bytes h =
 hex_clean : (bytes : List ℕ) → AreBytes bytes → All IsHexDigit (encode_lower bytes)
 hex_clean bytes h = All-weaker IsLower IsHexDigit (λ b l. l.digit) (encode_lower bytes) (hex_is_lower bytes (bytes_are bytes h))
 
-bytes_back : (bytes : List ℕ) → AreBytes bytes → bytes_of (encode_lower bytes) ≡ Some bytes
-unfolding bytes_of
+bytes_back : (bytes : List ℕ) → AreBytes bytes → parsed_bytes (encode_lower bytes) ≡ Some bytes
+unfolding parsed_bytes
 bytes_back bytes h = ap (λ t. cond t None (result_ok (decode_of (encode_lower bytes)))) (no_capitals bytes h) ∙ ap result_ok (decode_of-encode_lower bytes (bytes_are bytes h))
 
 -- what is read from digits that aren't capitals is written by them
@@ -154,28 +154,28 @@ decoded text bytes small e =
     let ok = decode_of-ok text bytes e in
     (pairs_written 0 text bytes small (sym (decode_of-even text ok.0) ∙ e), are_bytes bytes ok.3)
 
-bytes_written : (text bytes : List ℕ) → bytes_of text ≡ Some bytes → (encode_lower bytes ≡ text) × AreBytes bytes
-unfolding bytes_of
+bytes_written : (text bytes : List ℕ) → parsed_bytes text ≡ Some bytes → (encode_lower bytes ≡ text) × AreBytes bytes
+unfolding parsed_bytes
 bytes_written text bytes e =
     let c = cond_none (list_any is_capital text) (result_ok (decode_of text)) bytes e in
     decoded text bytes c.0 (ok_some (decode_of text) bytes c.1)
 
-pub bytes_digits : Reads IsHexDigit AreBytes encode_lower bytes_of
+pub bytes_digits : Reads IsHexDigit AreBytes encode_lower parsed_bytes
 bytes_digits = record { again = bytes_back; written = bytes_written; clean = hex_clean }
 
-pub bytes_field : Reads IsVisible AreBytes encode_lower bytes_of
+pub bytes_field : Reads IsVisible AreBytes encode_lower parsed_bytes
 bytes_field = reads_wider hex_is_visible bytes_digits
 
 -- ---- digests
 
-digest_back : (digest : List ℕ) → IsDigest digest → digest_of (digest_text digest) ≡ Some digest
-unfolding digest_of
+digest_back : (digest : List ℕ) → IsDigest digest → parsed_digest (digest_text digest) ≡ Some digest
+unfolding parsed_digest
 digest_back digest d =
     ap (λ t. cond t None (result_ok (decode_sized (encode_lower digest) 20))) (no_capitals digest d.each)
     ∙ ap result_ok (decode_sized-encode_lower digest 20 d.size (bytes_are digest d.each))
 
-digest_written : (text digest : List ℕ) → digest_of text ≡ Some digest → (digest_text digest ≡ text) × IsDigest digest
-unfolding digest_of
+digest_written : (text digest : List ℕ) → parsed_digest text ≡ Some digest → (digest_text digest ≡ text) × IsDigest digest
+unfolding parsed_digest
 digest_written text digest e =
     let c = cond_none (list_any is_capital text) (result_ok (decode_sized text 20)) digest e in
     let ok = ok_some (decode_sized text 20) digest c.1 in
@@ -185,26 +185,26 @@ digest_written text digest e =
     let size = (decode_of-ok text digest plain).2 in
     (both.0, record { size = omega (arith, len, size); each = both.1 })
 
-pub digest_field : Reads IsVisible IsDigest digest_text digest_of
+pub digest_field : Reads IsVisible IsDigest digest_text parsed_digest
 digest_field = record { again = digest_back; written = digest_written; clean = λ d g. All-weaker IsHexDigit IsVisible hex_is_visible (digest_text d) (hex_clean d g.each) }
 
 -- ---- values
 
-value_back : (value : List ℕ) → IsValue value → value_of (encode_lower value) ≡ Some value
-unfolding value_of
+value_back : (value : List ℕ) → IsValue value → parsed_value (encode_lower value) ≡ Some value
+unfolding parsed_value
 value_back value v =
     ap (option_and_then (if_so (λ bytes. nat_le (length bytes) 128))) (bytes_back value v.each)
     ∙ ap (λ t. cond t (Some value) None) (le-leb _ _ v.limit)
 
-value_written : (text value : List ℕ) → value_of text ≡ Some value → (encode_lower value ≡ text) × IsValue value
-unfolding value_of
+value_written : (text value : List ℕ) → parsed_value text ≡ Some value → (encode_lower value ≡ text) × IsValue value
+unfolding parsed_value
 value_written text value e =
-    option_and_then_some (if_so (λ bytes. nat_le (length bytes) 128)) (bytes_of text) value e (λ bytes is allowed.
+    option_and_then_some (if_so (λ bytes. nat_le (length bytes) 128)) (parsed_bytes text) value e (λ bytes is allowed.
     let c = cond_some (nat_le (length bytes) 128) bytes value allowed in
     let w = bytes_written text bytes is in
     subst (λ x. (encode_lower x ≡ text) × IsValue x) c.1 (w.0, record { limit = leb-true _ _ c.0; each = w.1 }))
 
-pub value_digits : Reads IsHexDigit IsValue encode_lower value_of
+pub value_digits : Reads IsHexDigit IsValue encode_lower parsed_value
 value_digits = record { again = value_back; written = value_written; clean = λ v g. hex_clean v g.each }
 
 -- ---- words
@@ -228,13 +228,13 @@ word_case W text word first other y this rest e = word_by W text word first othe
 abbrev Any : {A : Type 0} → A → Type 0
 Any x = Unit {0}
 
-policy_again : (p : Policy) → Any p → policy_of (policy_word p) ≡ Some p
-unfolding policy_of
+policy_again : (p : Policy) → Any p → parsed_policy (policy_word p) ≡ Some p
+unfolding parsed_policy
 policy_again policy.Time g = refl
 policy_again policy.Generation g = refl
 
-policy_written : (text : List ℕ) (p : Policy) → policy_of text ≡ Some p → (policy_word p ≡ text) × Any p
-unfolding policy_of
+policy_written : (text : List ℕ) (p : Policy) → parsed_policy text ≡ Some p → (policy_word p ≡ text) × Any p
+unfolding parsed_policy
 policy_written text p e =
     let W : Type 0 = (policy_word p ≡ text) × Any p in
     word_case W text (codes "time") (Some policy.Time) _ p (λ s i. (ap policy_word (sym (same_Some _ p i)) ∙ s, tt))
@@ -244,17 +244,17 @@ policy_clean : (p : Policy) → Any p → All IsVisible (policy_word p)
 policy_clean policy.Time g = word_clean (codes "time") refl
 policy_clean policy.Generation g = word_clean (codes "generation") refl
 
-pub policy_field : Reads IsVisible (λ p. Unit {0}) policy_word policy_of
+pub policy_field : Reads IsVisible (λ p. Unit {0}) policy_word parsed_policy
 policy_field = record { again = policy_again; written = policy_written; clean = policy_clean }
 
-action_again : (a : Action) → Any a → action_of (action_word a) ≡ Some a
-unfolding action_of
+action_again : (a : Action) → Any a → parsed_action (action_word a) ≡ Some a
+unfolding parsed_action
 action_again action.Get g = refl
 action_again action.Put g = refl
 action_again action.Del g = refl
 
-action_written : (text : List ℕ) (a : Action) → action_of text ≡ Some a → (action_word a ≡ text) × Any a
-unfolding action_of
+action_written : (text : List ℕ) (a : Action) → parsed_action text ≡ Some a → (action_word a ≡ text) × Any a
+unfolding parsed_action
 action_written text a e =
     let W : Type 0 = (action_word a ≡ text) × Any a in
     word_case W text (codes "get") (Some action.Get) _ a (λ s i. (ap action_word (sym (same_Some _ a i)) ∙ s, tt))
@@ -266,5 +266,5 @@ action_clean action.Get g = word_clean (codes "get") refl
 action_clean action.Put g = word_clean (codes "put") refl
 action_clean action.Del g = word_clean (codes "del") refl
 
-pub action_field : Reads IsVisible (λ a. Unit {0}) action_word action_of
+pub action_field : Reads IsVisible (λ a. Unit {0}) action_word parsed_action
 action_field = record { again = action_again; written = action_written; clean = action_clean }

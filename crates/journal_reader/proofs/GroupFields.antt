@@ -16,7 +16,7 @@ use Rattle.cluster_types.specs.NodeLists.{IsNodeList}
 use Rattle.cluster_types.specs.Texts.{node_text}
 use Rattle.wire_messages.specs.Nodes.{IsId}
 use Rattle.journal_lines.specs.Proper.{AreIdGroups}
-use Rattle.journal_reader.specs.Fields.{all_of, node_of, is_bar, group_of, each_group_of, are_distinct, are_groups, groups_of, if_so}
+use Rattle.journal_reader.specs.Fields.{all_of, parsed_node, is_bar, parsed_group, each_group_of, are_distinct_ids, are_groups, parsed_groups, if_so}
 use Rattle.journal_text.specs.LineFields.{between_bars, ids_fields, groups_fields}
 use Rattle.journal_text.specs.Values.{ids_text, more_groups_text, groups_text}
 use Rattle.journal_reader.proofs.Readers.{ReadsAll, AreClean, map_some}
@@ -79,18 +79,19 @@ bars_back (field ∷ fields) = bars_by field fields (is_bar field) refl (bars_ba
 
 record IsGroup (ids : List ℕ) : Type 0 where
   fit : All IsId ids
-  distinct : are_distinct ids ≡ true
+  distinct : are_distinct_ids ids ≡ true
 
-group_again : (ids : List ℕ) → IsGroup ids → group_of (ids_fields ids) ≡ Some ids
-unfolding group_of
+group_again : (ids : List ℕ) → IsGroup ids → parsed_group (ids_fields ids) ≡ Some ids
+unfolding parsed_group
 group_again ids g =
-    ap (option_and_then (if_so are_distinct)) (each_again node_field ids g.fit).0 ∙ ap (λ t. cond t (Some ids) None) g.distinct
+    ap (option_and_then (if_so are_distinct_ids)) (each_again node_field ids g.fit).0 ∙ ap (λ t. cond t (Some ids) None) g.distinct
 
-group_written : (fields : List (List ℕ)) (ids : List ℕ) → group_of fields ≡ Some ids → (ids_fields ids ≡ fields) × IsGroup ids
-unfolding group_of
+group_written : (fields : List (List ℕ)) (ids : List ℕ) → parsed_group fields ≡ Some ids → (ids_fields ids ≡ fields) × IsGroup ids
+unfolding parsed_group
 group_written fields ids e =
-    option_and_then_some (if_so are_distinct) (all_of node_of fields) ids e (λ xs is allowed.
-    let c = cond_some (are_distinct xs) xs ids allowed in
+    option_and_then_some (if_so are_distinct_ids) (all_of parsed_node fields) ids e
+    (λ xs is allowed.
+    let c = cond_some (are_distinct_ids xs) xs ids allowed in
     let w = each_written node_field fields xs is in
     subst (λ ys. (ids_fields ys ≡ fields) × IsGroup ys) c.1 (w.0, record { fit = w.1; distinct = c.0 }))
 
@@ -105,7 +106,7 @@ groups_written_each : (parts : List (List (List ℕ))) (groups : List (List ℕ)
 unfolding each_group_of
 groups_written_each [] groups e = subst (λ (gs : List (List ℕ)). (map ids_fields gs ≡ []) × All IsGroup gs) (same_Some [] groups e) (refl, All-nil IsGroup)
 groups_written_each (part ∷ parts) groups e =
-    option_and_then_some (λ xs. option_map (λ gs. xs ∷ gs) (each_group_of parts)) (group_of part) groups e (λ ids is rest.
+    option_and_then_some (λ xs. option_map (λ gs. xs ∷ gs) (each_group_of parts)) (parsed_group part) groups e (λ ids is rest.
     let m = map_some (λ gs. ids ∷ gs) (each_group_of parts) groups rest in
     let first = group_written part ids is in
     let more = groups_written_each parts m.0 m.1 in
@@ -114,7 +115,7 @@ groups_written_each (part ∷ parts) groups e =
 
 -- ---- all groups
 
-each_is_group : (groups : List (List ℕ)) → All (All IsId) groups → are_distinct (concat groups) ≡ true → All IsGroup groups
+each_is_group : (groups : List (List ℕ)) → All (All IsId) groups → are_distinct_ids (concat groups) ≡ true → All IsGroup groups
 each_is_group [] g e = All-nil IsGroup
 each_is_group (ids ∷ groups) g e =
     let parts = first_distinct ids (concat groups) e in
@@ -146,16 +147,16 @@ split_groups : (groups : List (List ℕ)) → 0 < length groups → All (All IsI
 split_groups [] some g = absurd (omega (arith, some))
 split_groups (ids ∷ groups) some g = split_bars ids groups g
 
-groups_again : (groups : List (List ℕ)) → AreIdGroups groups → groups_of (groups_fields groups) ≡ Some groups
-unfolding groups_of
+groups_again : (groups : List (List ℕ)) → AreIdGroups groups → parsed_groups (groups_fields groups) ≡ Some groups
+unfolding parsed_groups
 groups_again groups g =
     let list : IsNodeList (concat groups) = record { limit = g.divide.ids_limit; distinct = g.divide.distinct } in
     ap (λ parts. option_and_then (if_so are_groups) (each_group_of parts)) (split_groups groups g.divide.some g.fit)
     ∙ ap (option_and_then (if_so are_groups)) (groups_again_each groups (each_is_group groups g.fit (test_of_distinct (concat groups) list)))
     ∙ ap (λ t. cond t (Some groups) None) (test_of_groups groups g.divide)
 
-groups_written : (fields : List (List ℕ)) (groups : List (List ℕ)) → groups_of fields ≡ Some groups → (groups_fields groups ≡ fields) × AreIdGroups groups
-unfolding groups_of
+groups_written : (fields : List (List ℕ)) (groups : List (List ℕ)) → parsed_groups fields ≡ Some groups → (groups_fields groups ≡ fields) × AreIdGroups groups
+unfolding parsed_groups
 groups_written fields groups e =
     option_and_then_some (if_so are_groups) (each_group_of (slice_split is_bar fields)) groups e (λ gs is allowed.
     let c = cond_some (are_groups gs) gs groups allowed in
@@ -174,7 +175,7 @@ groups_clean (ids ∷ next ∷ groups) g =
     ids_clean ids (codes "|" ∷ groups_fields (next ∷ groups)) (All-head (All IsId) ids (next ∷ groups) g)
     (word_clean (codes "|") refl, groups_clean (next ∷ groups) (All-tail (All IsId) ids (next ∷ groups) g))
 
-pub groups_rest : ReadsAll IsVisible AreIdGroups groups_fields groups_of
+pub groups_rest : ReadsAll IsVisible AreIdGroups groups_fields parsed_groups
 groups_rest = record { again = groups_again; written = groups_written; clean = λ gs g. groups_clean gs g.fit }
 
 -- ---- their text
@@ -209,10 +210,10 @@ groups_join (ids ∷ groups) = ap (λ t. codes "groups" ++ t) (groups_spaced ids
 
 -- the test, as the code makes it
 pub tested : (groups : List (List ℕ)) (ids : List ℕ) (b : Bool) → (length groups == 0) ≡ false → length groups ≤ 16 → list_all (λ g. nat_lt 0 (length g)) groups ≡ true
-    → ids ≡ concat groups → b ≡ are_distinct ids → b ≡ are_groups groups
+    → ids ≡ concat groups → b ≡ are_distinct_ids ids → b ≡ are_groups groups
 unfolding are_groups
 tested groups ids b some limit each same e =
     let other = eqb-false _ _ some in
     let first : (nat_lt 0 (length groups) && nat_le (length groups) 16 && list_all (λ g. nat_lt 0 (length g)) groups) ≡ true =
     and_from _ _ (and_from _ _ (lt-ltb _ _ (omega arith)) (le-leb _ _ limit)) each in
-    e ∙ ap are_distinct same ∙ sym (ap (λ t. t && are_distinct (concat groups)) first)
+    e ∙ ap are_distinct_ids same ∙ sym (ap (λ t. t && are_distinct_ids (concat groups)) first)

@@ -10,7 +10,7 @@ use Rattle.wire_messages.specs.Keys.{IsKeyField}
 use Rattle.wire_messages.specs.Nodes.{IsId}
 use Rattle.wire_messages.specs.Numbers.{IsNumber}
 use Rattle.journal_lines.specs.Proper.{IsByte, IsLong, IsEndpoint, IsPartition}
-use Rattle.journal_reader.specs.Fields.{Reader, parts_of, with_field, ended, number_in, script_version_of, factor_of, node_of, endpoint_of, partition_of, rack_of, long_of, number_of, count_of, key_of}
+use Rattle.journal_reader.specs.Fields.{Reader, parts_of, with_field, at_end, number_in, script_version_of, parsed_factor, parsed_node, endpoint_of, parsed_partition, rack_of, long_of, number_of, parsed_count, parsed_key}
 use Rattle.journal_reader.proofs.Readers.{Reads, Back, Only, ended_back, field_back, ended_only, field_only, reads_all, reads_as, reads_wider, reads_parts, reads_same}
 use Rattle.journal_reader.proofs.NumberFields.{IsDigit, InRange, reads_number, other_than_digit}
 
@@ -24,12 +24,12 @@ digit_is_visible b d = let low = d.low in record { above = omega arith }
 visible_number : (least most : ℕ) → most < 2 ^ 64 → Reads IsVisible (InRange least most) decimal (number_in least most)
 visible_number least most wide = reads_wider digit_is_visible (reads_number least most wide)
 
-pub node_digits : Reads IsDigit IsId node_text node_of
+pub node_digits : Reads IsDigit IsId node_text parsed_node
 node_digits = reads_as (reads_number 1 65535 (omega arith))
     (λ n g. let low = g.low in let high = g.high in record { positive = omega arith; fits = omega arith })
     (λ n i. let some = i.positive in let fits = i.fits in record { low = omega arith; high = omega arith })
 
-pub node_field : Reads IsVisible IsId node_text node_of
+pub node_field : Reads IsVisible IsId node_text parsed_node
 node_field = reads_wider digit_is_visible node_digits
 
 pub number_digits : Reads IsDigit IsNumber decimal number_of
@@ -53,7 +53,7 @@ endpoint_field = reads_as (visible_number 0 65535 (omega arith))
     (λ n g. let high = g.high in omega arith)
     (λ n i. record { low = omega arith; high = omega arith })
 
-pub partition_field : Reads IsVisible IsPartition partition_text partition_of
+pub partition_field : Reads IsVisible IsPartition partition_text parsed_partition
 partition_field = reads_as (visible_number 0 4095 (omega arith))
     (λ n g. let high = g.high in omega arith)
     (λ n i. record { low = omega arith; high = omega arith })
@@ -69,7 +69,7 @@ rack_field = reads_wider digit_is_visible rack_digits
 abbrev pub IsCount : ℕ → Type 0
 IsCount n = n < 2 ^ 32
 
-pub count_field : Reads IsVisible IsCount decimal count_of
+pub count_field : Reads IsVisible IsCount decimal parsed_count
 count_field = reads_as (visible_number 0 4294967295 (omega arith))
     (λ n g. let high = g.high in omega arith)
     (λ n i. record { low = omega arith; high = omega arith })
@@ -77,7 +77,7 @@ count_field = reads_as (visible_number 0 4294967295 (omega arith))
 abbrev pub IsFactor : ℕ → Type 0
 IsFactor n = (1 ≤ n) × (n ≤ 4)
 
-pub factor_field : Reads IsVisible IsFactor decimal factor_of
+pub factor_field : Reads IsVisible IsFactor decimal parsed_factor
 factor_field = reads_as (visible_number 1 4 (omega arith))
     (λ n g. (g.low, g.high))
     (λ n i. record { low = i.0; high = i.1 })
@@ -113,7 +113,7 @@ made : ℕ → ℕ → ClusterKey
 made r p = record { round = r; principal = p }
 
 abbrev key_in : Reader ClusterKey
-key_in = with_field (number_in 1 281474976710655) (λ round. with_field (number_in 1 65535) (λ principal. ended (record { round = round; principal = principal })))
+key_in = with_field (number_in 1 281474976710655) (λ round. with_field (number_in 1 65535) (λ principal. at_end (record { round = round; principal = principal })))
 
 key_back : (k : ClusterKey) → IsKeyField k → Back IsDigit key_in (key_parts k) k
 key_back k g =
@@ -139,10 +139,10 @@ key_only = field_only round_digits (λ r g. field_only principal_digits (λ p h.
 key_join : (k : ClusterKey) → join_with_byte 46 (key_parts k) ≡ key_text k
 key_join k = sym (append_assoc (decimal k.round) (codes ".") (decimal k.principal))
 
-key_read : (text : List ℕ) → key_of text ≡ key_in (parts_of 46 text)
-unfolding key_of
+key_read : (text : List ℕ) → parsed_key text ≡ key_in (parts_of 46 text)
+unfolding parsed_key
 key_read text = refl
 
-pub key_field : Reads IsVisible IsKeyField key_text key_of
-key_field = reads_same key_text key_of key_join key_read
+pub key_field : Reads IsVisible IsKeyField key_text parsed_key
+key_field = reads_same key_text parsed_key key_join key_read
     (reads_parts 46 (other_than_digit 46 (omega arith)) digit_is_visible (record { above = omega arith }) (λ k g. tt) (reads_all key_back key_only))

@@ -12,7 +12,7 @@ use Rattle.journal_lines.specs.declared.line.Line.TheVariants as line
 use Rattle.journal_reader.specs.Fields.{parts_of}
 use Rattle.journal_text.specs.LineFields.{fields}
 use Rattle.journal_lines.specs.Proper.{IsProper}
-use Rattle.journal_reader.specs.Reading.{line_of, only_line, read_line}
+use Rattle.journal_reader.specs.Reading.{parsed_line, only_line, read_line}
 use Rattle.journal_text.specs.Text.{words, line_text, text}
 use Rattle.journal_reader.proofs.Readers.{Reads, IsFull, reads_parts}
 use Rattle.journal_reader.proofs.KeyFields.{IsVisible}
@@ -90,7 +90,7 @@ full (line.Scanned s n k p count) h = tt
 full (line.Record s d v) h = tt
 full (line.Unscanned s c) h = tt
 
-line_words : Reads IsNoFeed IsProper words (λ t. line_of (parts_of 32 t))
+line_words : Reads IsNoFeed IsProper words (λ t. parsed_line (parts_of 32 t))
 line_words = reads_parts 32 (λ b v. let above = v.above in ne_eqb b 32 (λ e. omega arith)) visible_no_feed (record { other = λ e. omega arith }) full line_fields
 
 no_feed : (l : Line) → IsProper l → All (λ b. (b == 10) ≡ false) (words l)
@@ -107,7 +107,7 @@ read_back l p = ap only_line (line_then l [] p) ∙ line_words.again l p
 record IsOnly (parts : List (List ℕ)) (l : Line) : Type 0 where
   first : List ℕ
   is : parts ≡ first ∷ [] ∷ []
-  read : line_of (parts_of 32 first) ≡ Some l
+  read : parsed_line (parts_of 32 first) ≡ Some l
 
 only_is : (parts : List (List ℕ)) (l : Line) → only_line parts ≡ Some l → IsOnly parts l
 only_is [] l e = absurd (none-some l e)

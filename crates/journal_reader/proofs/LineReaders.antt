@@ -11,8 +11,8 @@ use Rattle.journal_reader.specs.declared.reading.word.Word.{Word}
 use Rattle.journal_reader.specs.declared.reading.word.Word.TheVariants as word
 use Rattle.journal_text.specs.LineFields.{fields, rack_fields, groups_fields, cause_fields, reply_fields, scan_refusal_fields}
 use Rattle.journal_lines.specs.Proper.{IsProper}
-use Rattle.journal_reader.specs.Reading.{of_word, line_of}
-use Rattle.journal_reader.specs.Words.{word_of}
+use Rattle.journal_reader.specs.Reading.{of_word, parsed_line}
+use Rattle.journal_reader.specs.Words.{parsed_word}
 use Rattle.journal_text.specs.Values.{version_text, optional_text, policy_word, action_word, members_text}
 use Rattle.journal_reader.proofs.Readers.{ReadsAll, Back, Only, ended_back, field_back, rest_back, ended_only, field_only, rest_only, reads_all}
 use Rattle.journal_reader.proofs.KeyFields.{IsVisible, script_version_field, factor_field, node_field, endpoint_field, partition_field, long_field, number_field, count_field, key_field}
@@ -23,14 +23,14 @@ use Rattle.journal_reader.proofs.GroupFields.{groups_rest}
 use Rattle.journal_reader.proofs.CauseFields.{rack_rest, cause_rest, mapless_rest, scan_refusal_rest, reply_rest}
 use Rattle.journal_reader.proofs.WordLaws.{word_text, word_back, word_is_clean, word_only}
 
-word_then : (w : Word) (rest : List (List ℕ)) (l : Line) → Back IsVisible (of_word w) rest l → Back IsVisible line_of (word_text w ∷ rest) l
-unfolding line_of
+word_then : (w : Word) (rest : List (List ℕ)) (l : Line) → Back IsVisible (of_word w) rest l → Back IsVisible parsed_line (word_text w ∷ rest) l
+unfolding parsed_line
 word_then w rest l b = record {
   again = ap (option_and_then (λ v. of_word v rest)) (word_back w) ∙ b.again;
   clean = (word_is_clean w, b.clean);
 }
 
-line_back : (l : Line) → IsProper l → Back IsVisible line_of (fields l) l
+line_back : (l : Line) → IsProper l → Back IsVisible parsed_line (fields l) l
 unfolding of_word
 line_back (line.Script v) h = word_then word.Script (decimal v ∷ []) (line.Script v) (field_back _ script_version_field v h (ended_back IsVisible (line.Script v)))
 line_back (line.Factor f) h = word_then word.Factor (decimal f ∷ []) (line.Factor f) (field_back _ factor_field f h (ended_back IsVisible (line.Factor f)))
@@ -162,13 +162,13 @@ word_line_only word.Scanned = field_only number_field (λ s g0. field_only node_
 word_line_only word.Record = field_only number_field (λ s g0. field_only digest_field (λ d g1. field_only version_field (λ v g2. ended_only (line.Record s d v) (refl, (g0, g1, g2)))))
 word_line_only word.Unscanned = field_only number_field (λ s g0. rest_only _ scan_refusal_rest (λ c g1. (refl, (g0, g1))))
 
-line_only : (rest : List (List ℕ)) (l : Line) → line_of rest ≡ Some l → (fields l ≡ rest) × IsProper l
-unfolding line_of
+line_only : (rest : List (List ℕ)) (l : Line) → parsed_line rest ≡ Some l → (fields l ≡ rest) × IsProper l
+unfolding parsed_line
 line_only [] l e = absurd (none-some l e)
 line_only (name ∷ rest) l e =
-    option_and_then_some (λ w. of_word w rest) (word_of name) l e (λ w is read.
+    option_and_then_some (λ w. of_word w rest) (parsed_word name) l e (λ w is read.
     let o = (word_line_only w).only rest l read in
     (o.0 ∙ ap (λ t. t ∷ rest) (word_only name w is), o.1))
 
-pub line_fields : ReadsAll IsVisible IsProper fields line_of
+pub line_fields : ReadsAll IsVisible IsProper fields parsed_line
 line_fields = reads_all line_back (record { only = line_only })

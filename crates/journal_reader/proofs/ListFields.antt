@@ -15,7 +15,7 @@ use Rattle.cluster_types.specs.Members.{ids_of}
 use Rattle.cluster_types.specs.Texts.{node_text}
 use Rattle.wire_messages.specs.Nodes.{FitsMember, AreMembersField}
 use Rattle.journal_lines.specs.Proper.{AreListed}
-use Rattle.journal_reader.specs.Fields.{parts_of, all_of, member_of, some_members_of, are_members, are_distinct_members, if_so, members_of, list_of}
+use Rattle.journal_reader.specs.Fields.{parts_of, all_of, parsed_member, some_members_of, are_members, are_distinct_members, if_so, parsed_members, list_of}
 use Rattle.journal_text.specs.Values.{role_text, member_text, more_members_text, members_text}
 use Rattle.journal_reader.proofs.Readers.{Reads, ReadsAll, IsFull, split_join, join_clean, reads_same}
 use Rattle.journal_reader.proofs.KeyFields.{IsVisible}
@@ -43,23 +43,23 @@ some_full : (members : List Member) → AreSome members → IsFull (map member_t
 some_full [] g = let some = g.some in absurd (omega (arith, some))
 some_full (m ∷ ms) g = tt
 
-each_member : ReadsAll IsNoComma (All FitsMember) (map member_text) (all_of member_of)
+each_member : ReadsAll IsNoComma (All FitsMember) (map member_text) (all_of parsed_member)
 each_member = record {
   again = λ ms g. (each_again member_field ms g).0;
   written = λ fields ms e. each_written member_field fields ms e;
   clean = λ ms g. (each_again member_field ms g).1;
 }
 
-between_commas : (members : List Member) → AreSome members → all_of member_of (parts_of 44 (members_text members)) ≡ Some members
+between_commas : (members : List Member) → AreSome members → all_of parsed_member (parts_of 44 (members_text members)) ≡ Some members
 between_commas members g =
-    ap (λ t. all_of member_of (parts_of 44 t)) (sym (joined members g.some))
-    ∙ ap (all_of member_of) (split_join IsNoComma 44 (λ b d. ne_eqb b 44 d.other) (map member_text members) (some_full members g) (each_member.clean members g.fit))
+    ap (λ t. all_of parsed_member (parts_of 44 t)) (sym (joined members g.some))
+    ∙ ap (all_of parsed_member) (split_join IsNoComma 44 (λ b d. ne_eqb b 44 d.other) (map member_text members) (some_full members g) (each_member.clean members g.fit))
     ∙ each_member.again members g.fit
 
 split_some : (text : List ℕ) → 0 < length (parts_of 44 text)
 split_some text = let count = length-slice_split (λ b. b == 44) text in omega (arith, count)
 
-between_commas_written : (text : List ℕ) (members : List Member) → all_of member_of (parts_of 44 text) ≡ Some members → (members_text members ≡ text) × All FitsMember members
+between_commas_written : (text : List ℕ) (members : List Member) → all_of parsed_member (parts_of 44 text) ≡ Some members → (members_text members ≡ text) × All FitsMember members
 between_commas_written text members e =
     let w = each_member.written (parts_of 44 text) members e in
     let count : length (parts_of 44 text) ≡ length members = ap length (sym w.0) ∙ length-map members member_text in
@@ -76,13 +76,13 @@ some_members_again : (members : List Member) → All FitsMember members → some
 unfolding some_members_of
 some_members_again [] g = refl
 some_members_again (m ∷ ms) g =
-    ap (λ t. cond t (Some []) (all_of member_of (parts_of 44 (members_text (m ∷ ms))))) (no_none m ms (All-head FitsMember m ms g))
+    ap (λ t. cond t (Some []) (all_of parsed_member (parts_of 44 (members_text (m ∷ ms))))) (no_none m ms (All-head FitsMember m ms g))
     ∙ between_commas (m ∷ ms) (record { fit = g; some = omega arith })
 
 some_members_written : (text : List ℕ) (members : List Member) → some_members_of text ≡ Some members → (members_text members ≡ text) × All FitsMember members
 unfolding some_members_of
 some_members_written text members e =
-    word_case ((members_text members ≡ text) × All FitsMember members) text (codes "none") (Some []) (all_of member_of (parts_of 44 text)) members
+    word_case ((members_text members ≡ text) × All FitsMember members) text (codes "none") (Some []) (all_of parsed_member (parts_of 44 text)) members
     (λ s i. subst (λ (ms : List Member). (members_text ms ≡ text) × All FitsMember ms) (same_Some [] members i) (s, All-nil FitsMember))
     (λ other. between_commas_written text members other) e
 
@@ -108,12 +108,12 @@ reads_tested {H = H} {write = write} {read = read} test r weaker passes good = r
   clean = λ x h. r.clean x (weaker x h);
 }
 
-members_read : (text : List ℕ) → members_of text ≡ option_and_then (if_so are_members) (some_members_of text)
-unfolding members_of
+members_read : (text : List ℕ) → parsed_members text ≡ option_and_then (if_so are_members) (some_members_of text)
+unfolding parsed_members
 members_read text = refl
 
-pub members_field : Reads IsVisible AreMembersField members_text members_of
-members_field = reads_same members_text members_of (λ ms. refl) members_read
+pub members_field : Reads IsVisible AreMembersField members_text parsed_members
+members_field = reads_same members_text parsed_members (λ ms. refl) members_read
     (reads_tested are_members some_members (λ ms h. h.fit) (λ ms h. test_of_members ms h.view) (λ ms g t. record { view = members_from_test ms t; fit = g }))
 
 list_read : (text : List ℕ) → list_of text ≡ option_and_then (if_so are_distinct_members) (some_members_of text)

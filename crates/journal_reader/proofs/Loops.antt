@@ -5,7 +5,7 @@ use Rattle.std.specs.Option.{option_map, option_and_then}
 use Rattle.std.proofs.lemmas.Bool.{false≢true}
 use Rattle.std.proofs.lemmas.List.{append-nil, take_more}
 use Rattle.std.proofs.lemmas.List.Folds.{concat-append}
-use Rattle.journal_reader.specs.Fields.{ended, all_of, node_of, is_bar, group_of, each_group_of, are_distinct, if_so}
+use Rattle.journal_reader.specs.Fields.{at_end, all_of, parsed_node, is_bar, parsed_group, each_group_of, are_distinct_ids, if_so}
 use Rattle.journal_reader.proofs.GroupFields.{AreParts, split_parts}
 
 -- what was read before, in front of what is read
@@ -47,16 +47,16 @@ shorter old new field e = let same = ap length e in omega (arith, same)
 
 -- the group that begins with these ids and goes on with the fields of the part
 abbrev open_group : List ℕ → List (List ℕ) → Option (List ℕ)
-open_group ids part = option_and_then (if_so are_distinct) (onto ids (all_of node_of part))
+open_group ids part = option_and_then (if_so are_distinct_ids) (onto ids (all_of parsed_node part))
 
 -- whole groups, and a group of which these ids are read, before the parts that are left
 abbrev pub groups_left : List (List ℕ) → List ℕ → List (List (List ℕ)) → Option (List (List ℕ))
 groups_left done ids [] = None
 groups_left done ids (part ∷ parts) = onto done (option_and_then (λ g. option_map (λ gs. g ∷ gs) (each_group_of parts)) (open_group ids part))
 
-none_open : (part : List (List ℕ)) → open_group [] part ≡ group_of part
-unfolding group_of
-none_open part = ap (option_and_then (if_so are_distinct)) (onto_none (all_of node_of part))
+none_open : (part : List (List ℕ)) → open_group [] part ≡ parsed_group part
+unfolding parsed_group
+none_open part = ap (option_and_then (if_so are_distinct_ids)) (onto_none (all_of parsed_node part))
 
 groups_at : (done : List (List ℕ)) (parts : List (List (List ℕ))) → AreParts parts → groups_left done [] parts ≡ onto done (each_group_of parts)
 unfolding each_group_of
@@ -66,9 +66,9 @@ groups_at done (part ∷ parts) full = ap (λ o. onto done (option_and_then (λ 
 pub groups_init : (fields : List (List ℕ)) → groups_left [] [] (slice_split is_bar fields) ≡ each_group_of (slice_split is_bar fields)
 groups_init fields = groups_at [] (slice_split is_bar fields) (split_parts fields) ∙ onto_none (each_group_of (slice_split is_bar fields))
 
-closed : (ids : List ℕ) → open_group ids [] ≡ if_so are_distinct ids
+closed : (ids : List ℕ) → open_group ids [] ≡ if_so are_distinct_ids ids
 unfolding all_of
-closed ids = ap (if_so are_distinct) (append-nil ids)
+closed ids = ap (if_so are_distinct_ids) (append-nil ids)
 
 split_bar : (field : List ℕ) (fields : List (List ℕ)) → is_bar field ≡ true → slice_split is_bar (field ∷ fields) ≡ [] ∷ slice_split is_bar fields
 split_bar field fields is = ap (λ t. cond t ([] ∷ slice_split is_bar fields) (onto_first field (slice_split is_bar fields))) is
@@ -77,7 +77,7 @@ split_id : (field : List ℕ) (fields : List (List ℕ)) → is_bar field ≡ fa
 split_id field fields is = ap (λ t. cond t ([] ∷ slice_split is_bar fields) (onto_first field (slice_split is_bar fields))) is
 
 -- a group that ends
-close_with : (done : List (List ℕ)) (ids : List ℕ) (parts : List (List (List ℕ))) (t : Bool) → are_distinct ids ≡ t
+close_with : (done : List (List ℕ)) (ids : List ℕ) (parts : List (List (List ℕ))) (t : Bool) → are_distinct_ids ids ≡ t
     → groups_left done ids ([] ∷ parts) ≡ cond t (onto (done ++ ids ∷ []) (each_group_of parts)) None
 close_with done ids parts true is =
     ap (λ o. onto done (option_and_then (λ g. option_map (λ gs. g ∷ gs) (each_group_of parts)) o)) (closed ids ∙ ap (λ t. cond t (Some ids) None) is)
@@ -86,7 +86,7 @@ close_with done ids parts false is =
     ap (λ o. onto done (option_and_then (λ g. option_map (λ gs. g ∷ gs) (each_group_of parts)) o)) (closed ids ∙ ap (λ t. cond t (Some ids) None) is)
 
 pub group_ends : (done : List (List ℕ)) (ids : List ℕ) (field : List ℕ) (old new : List (List ℕ)) (all : Option (List (List ℕ)))
-    → old ≡ field ∷ new → is_bar field ≡ true → are_distinct ids ≡ true → groups_left done ids (slice_split is_bar old) ≡ all
+    → old ≡ field ∷ new → is_bar field ≡ true → are_distinct_ids ids ≡ true → groups_left done ids (slice_split is_bar old) ≡ all
     → groups_left (done ++ ids ∷ []) [] (slice_split is_bar new) ≡ all
 group_ends done ids field old new all e bar distinct so_far =
     groups_at (done ++ ids ∷ []) (slice_split is_bar new) (split_parts new)
@@ -94,47 +94,47 @@ group_ends done ids field old new all e bar distinct so_far =
     ∙ ap (groups_left done ids) (sym (ap (slice_split is_bar) e ∙ split_bar field new bar)) ∙ so_far
 
 pub group_ends_badly : (done : List (List ℕ)) (ids : List ℕ) (field : List ℕ) (old new : List (List ℕ)) (all : Option (List (List ℕ)))
-    → old ≡ field ∷ new → is_bar field ≡ true → are_distinct ids ≡ false → groups_left done ids (slice_split is_bar old) ≡ all → None ≡ all
+    → old ≡ field ∷ new → is_bar field ≡ true → are_distinct_ids ids ≡ false → groups_left done ids (slice_split is_bar old) ≡ all → None ≡ all
 group_ends_badly done ids field old new all e bar distinct so_far =
     sym (close_with done ids (slice_split is_bar new) false distinct)
     ∙ ap (groups_left done ids) (sym (ap (slice_split is_bar) e ∙ split_bar field new bar)) ∙ so_far
 
-open_more : (done : List (List ℕ)) (ids : List ℕ) (n : ℕ) (field : List ℕ) (parts : List (List (List ℕ))) → AreParts parts → Some n ≡ node_of field
+open_more : (done : List (List ℕ)) (ids : List ℕ) (n : ℕ) (field : List ℕ) (parts : List (List (List ℕ))) → AreParts parts → Some n ≡ parsed_node field
     → groups_left (done) (ids ++ n ∷ []) parts ≡ groups_left done ids (onto_first field parts)
 unfolding all_of
 open_more done ids n field [] full is = absurd full
 open_more done ids n field (part ∷ parts) full is =
-    ap (λ o. onto done (option_and_then (λ g. option_map (λ gs. g ∷ gs) (each_group_of parts)) (option_and_then (if_so are_distinct) o)))
-    (sym (onto_more ids n (all_of node_of part)) ∙ ap (λ o. onto ids (option_and_then (λ y. option_map (λ ys. y ∷ ys) (all_of node_of part)) o)) is)
+    ap (λ o. onto done (option_and_then (λ g. option_map (λ gs. g ∷ gs) (each_group_of parts)) (option_and_then (if_so are_distinct_ids) o)))
+    (sym (onto_more ids n (all_of parsed_node part)) ∙ ap (λ o. onto ids (option_and_then (λ y. option_map (λ ys. y ∷ ys) (all_of parsed_node part)) o)) is)
 
-open_none : (done : List (List ℕ)) (ids : List ℕ) (field : List ℕ) (parts : List (List (List ℕ))) → AreParts parts → None ≡ node_of field
+open_none : (done : List (List ℕ)) (ids : List ℕ) (field : List ℕ) (parts : List (List (List ℕ))) → AreParts parts → None ≡ parsed_node field
     → None ≡ groups_left done ids (onto_first field parts)
 unfolding all_of
 open_none done ids field [] full is = absurd full
 open_none done ids field (part ∷ parts) full is =
-    ap (λ o. onto done (option_and_then (λ g. option_map (λ gs. g ∷ gs) (each_group_of parts)) (option_and_then (if_so are_distinct) (onto ids (option_and_then (λ y. option_map (λ ys. y ∷ ys) (all_of node_of part)) o))))) is
+    ap (λ o. onto done (option_and_then (λ g. option_map (λ gs. g ∷ gs) (each_group_of parts)) (option_and_then (if_so are_distinct_ids) (onto ids (option_and_then (λ y. option_map (λ ys. y ∷ ys) (all_of parsed_node part)) o))))) is
 
 pub id_good : (done : List (List ℕ)) (ids : List ℕ) (n : ℕ) (field : List ℕ) (old new : List (List ℕ)) (all : Option (List (List ℕ)))
-    → old ≡ field ∷ new → is_bar field ≡ false → Some n ≡ node_of field → groups_left done ids (slice_split is_bar old) ≡ all
+    → old ≡ field ∷ new → is_bar field ≡ false → Some n ≡ parsed_node field → groups_left done ids (slice_split is_bar old) ≡ all
     → groups_left done (ids ++ n ∷ []) (slice_split is_bar new) ≡ all
 id_good done ids n field old new all e bar is so_far =
     open_more done ids n field (slice_split is_bar new) (split_parts new) is
     ∙ ap (groups_left done ids) (sym (ap (slice_split is_bar) e ∙ split_id field new bar)) ∙ so_far
 
 pub id_bad : (done : List (List ℕ)) (ids : List ℕ) (field : List ℕ) (old new : List (List ℕ)) (all : Option (List (List ℕ)))
-    → old ≡ field ∷ new → is_bar field ≡ false → None ≡ node_of field → groups_left done ids (slice_split is_bar old) ≡ all → None ≡ all
+    → old ≡ field ∷ new → is_bar field ≡ false → None ≡ parsed_node field → groups_left done ids (slice_split is_bar old) ≡ all → None ≡ all
 id_bad done ids field old new all e bar is so_far =
     open_none done ids field (slice_split is_bar new) (split_parts new) is
     ∙ ap (groups_left done ids) (sym (ap (slice_split is_bar) e ∙ split_id field new bar)) ∙ so_far
 
 pub last_good : (done : List (List ℕ)) (ids : List ℕ) (old : List (List ℕ)) (all : Option (List (List ℕ)))
-    → old ≡ [] → are_distinct ids ≡ true → groups_left done ids (slice_split is_bar old) ≡ all → Some (done ++ ids ∷ []) ≡ all
+    → old ≡ [] → are_distinct_ids ids ≡ true → groups_left done ids (slice_split is_bar old) ≡ all → Some (done ++ ids ∷ []) ≡ all
 unfolding each_group_of
 last_good done ids old all e distinct so_far =
     ap Some (sym (append-nil (done ++ ids ∷ []))) ∙ sym (close_with done ids [] true distinct) ∙ ap (λ fs. groups_left done ids (slice_split is_bar fs)) (sym e) ∙ so_far
 
 pub last_bad : (done : List (List ℕ)) (ids : List ℕ) (old : List (List ℕ)) (all : Option (List (List ℕ)))
-    → old ≡ [] → are_distinct ids ≡ false → groups_left done ids (slice_split is_bar old) ≡ all → None ≡ all
+    → old ≡ [] → are_distinct_ids ids ≡ false → groups_left done ids (slice_split is_bar old) ≡ all → None ≡ all
 last_bad done ids old all e distinct so_far =
     sym (close_with done ids [] false distinct) ∙ ap (λ fs. groups_left done ids (slice_split is_bar fs)) (sym e) ∙ so_far
 
@@ -147,7 +147,7 @@ concat_more groups i group within is =
     ∙ concat-append (take i groups) (get_or groups i group ∷ [])
     ∙ ap (λ t. concat (take i groups) ++ t) (append-nil (get_or groups i group) ∙ sym is)
 
-pub not_ended : {A : Type 0} (x : A) (fields : List (List ℕ)) → false ≡ (length fields == 0) → None ≡ ended x fields
-unfolding ended
+pub not_ended : {A : Type 0} (x : A) (fields : List (List ℕ)) → false ≡ (length fields == 0) → None ≡ at_end x fields
+unfolding at_end
 not_ended x [] e = absurd (false≢true e)
 not_ended x (field ∷ fields) e = refl

@@ -14,7 +14,7 @@ use Rattle.cluster_types.specs.Members.{plain_member}
 use Rattle.cluster_types.specs.Texts.{node_text}
 use Rattle.wire_messages.specs.Nodes.{IsId, FitsMember}
 use Rattle.journal_lines.specs.Proper.{IsByte}
-use Rattle.journal_reader.specs.Fields.{Reader, parts_of, with_field, ended, all_of, number_in, node_of, rack_of, nothing_of, role_in, role_of, member_in, member_of}
+use Rattle.journal_reader.specs.Fields.{Reader, parts_of, with_field, at_end, all_of, number_in, parsed_node, rack_of, nothing_of, role_in, parsed_role, parsed_member_parts, parsed_member}
 use Rattle.journal_text.specs.Values.{rack_text, member_text}
 use Rattle.journal_reader.proofs.Readers.{Reads, Back, Only, AreClean, IsFull, ended_back, field_back, ended_only, field_only, reads_all, reads_wider, reads_parts, reads_same, map_some}
 use Rattle.journal_reader.proofs.NumberFields.{IsDigit, InRange, reads_number}
@@ -54,7 +54,7 @@ positive_rack : Reads IsDigit (InRange 1 255) decimal (number_in 1 255)
 positive_rack = reads_number 1 255 (omega arith)
 
 abbrev quiesced_in : Reader Role
-quiesced_in = with_field rack_of (λ n. with_field nothing_of (λ rest. ended (record { rack = n; quiesced = true })))
+quiesced_in = with_field rack_of (λ n. with_field nothing_of (λ rest. at_end (record { rack = n; quiesced = true })))
 
 quiesced_only : Only quiesced_in (λ fields r. (role_parts r.rack r.quiesced ≡ fields) × IsMarkedRole r)
 quiesced_only = field_only rack_digits (λ n g. field_only (nothing_field IsDigit) (λ xs e. ended_only _ (ap (λ ys. decimal n ∷ ys ∷ []) (sym e), g)))
@@ -91,12 +91,12 @@ role_full rack false = tt
 abbrev marked_text : Role → List ℕ
 marked_text r = join_with_byte 113 (role_parts r.rack r.quiesced)
 
-role_read : (text : List ℕ) → role_of text ≡ role_in (parts_of 113 text)
-unfolding role_of
+role_read : (text : List ℕ) → parsed_role text ≡ role_in (parts_of 113 text)
+unfolding parsed_role
 role_read text = refl
 
-role_field : Reads IsMemberByte IsMarkedRole marked_text role_of
-role_field = reads_same marked_text role_of (λ r. refl) role_read
+role_field : Reads IsMemberByte IsMarkedRole marked_text parsed_role
+role_field = reads_same marked_text parsed_role (λ r. refl) role_read
     (reads_parts 113 (λ b d. let high = d.high in ne_eqb b 113 (λ e. omega arith)) of_digit (record { low = omega arith }) (λ r g. role_full r.rack r.quiesced)
     (reads_all (λ r g. role_back_at r.rack r.quiesced g) (record { only = role_only_at })))
 
@@ -110,11 +110,12 @@ marked_part rack false = cond (rack == 0) [] (decimal rack ∷ [])
 abbrev member_parts : Member → List (List ℕ)
 member_parts m = node_text m.id ∷ marked_part m.role.rack m.role.quiesced
 
-node_member : Reads IsMemberByte IsId node_text node_of
+node_member : Reads IsMemberByte IsId node_text parsed_node
 node_member = reads_wider of_digit node_digits
 
 abbrev marked_in : Reader Member
-marked_in = with_field node_of (λ n. with_field role_of (λ r. ended (record { id = n; role = r })))
+marked_in = with_field parsed_node
+    (λ n. with_field parsed_role (λ r. at_end (record { id = n; role = r })))
 
 -- members by their numbers and mark
 abbrev IsMember : ℕ → ℕ → Bool → Type 0
@@ -128,8 +129,8 @@ marked_back : (id rack : ℕ) (quiesced : Bool) → IsId id → IsMarked rack qu
 marked_back id rack quiesced i g =
     field_back _ node_member id i (field_back _ role_field (record { rack = rack; quiesced = quiesced }) g (ended_back IsMemberByte (member_at id rack quiesced)))
 
-plain_back : (id rack : ℕ) → IsId id → rack ≡ 0 → Back IsMemberByte member_in (node_text id ∷ []) (member_at id rack false)
-unfolding member_in
+plain_back : (id rack : ℕ) → IsId id → rack ≡ 0 → Back IsMemberByte parsed_member_parts (node_text id ∷ []) (member_at id rack false)
+unfolding parsed_member_parts
 plain_back id rack i e =
     record {
       again = ap (option_map plain_member) (node_member.again id i) ∙ ap (λ n. Some (member_at id n false)) (sym e);
@@ -137,16 +138,16 @@ plain_back id rack i e =
     }
 
 member_back_by : (id rack : ℕ) (t : Bool) → (rack == 0) ≡ t → IsId id → IsByte rack
-    → Back IsMemberByte member_in (node_text id ∷ cond t [] (decimal rack ∷ [])) (member_at id rack false)
-unfolding member_in
+    → Back IsMemberByte parsed_member_parts (node_text id ∷ cond t [] (decimal rack ∷ [])) (member_at id rack false)
+unfolding parsed_member_parts
 member_back_by id rack true is i g = plain_back id rack i (eqb-true _ _ is)
 member_back_by id rack false is i g =
     let other = eqb-false rack 0 is in
     let b = marked_back id rack false i (omega arith, g) in
     record { again = b.again; clean = b.clean }
 
-member_back_at : (id rack : ℕ) (quiesced : Bool) → IsId id → IsByte rack → Back IsMemberByte member_in (member_parts (member_at id rack quiesced)) (member_at id rack quiesced)
-unfolding member_in
+member_back_at : (id rack : ℕ) (quiesced : Bool) → IsId id → IsByte rack → Back IsMemberByte parsed_member_parts (member_parts (member_at id rack quiesced)) (member_at id rack quiesced)
+unfolding parsed_member_parts
 member_back_at id rack true i g =
     let b = marked_back id rack true i g in
     record { again = b.again; clean = b.clean }
@@ -163,11 +164,11 @@ marked_only : Only marked_in (λ fields m. (member_parts m ≡ fields) × FitsMe
 marked_only = field_only node_member (λ n i. field_only role_field (λ r g. ended_only _
     (let w = marked_is_by n r.rack r.quiesced i g in (sym w.0, record { id = i; rack = w.1 }))))
 
-member_only_at : (fields : List (List ℕ)) (m : Member) → member_in fields ≡ Some m → (member_parts m ≡ fields) × FitsMember m
-unfolding member_in
+member_only_at : (fields : List (List ℕ)) (m : Member) → parsed_member_parts fields ≡ Some m → (member_parts m ≡ fields) × FitsMember m
+unfolding parsed_member_parts
 member_only_at [] m e = absurd (none-some m e)
 member_only_at (id ∷ []) m e =
-    let s = map_some plain_member (node_of id) m e in
+    let s = map_some plain_member (parsed_node id) m e in
     let w = node_member.written id s.0 s.1 in
     subst (λ (n : Member). (member_parts n ≡ id ∷ []) × FitsMember n) s.2 (ap (λ t. t ∷ []) w.0, record { id = w.1; rack = omega arith })
 member_only_at (id ∷ role ∷ fields) m e = marked_only.only (id ∷ role ∷ fields) m e
@@ -180,12 +181,12 @@ member_join_at : (id rack : ℕ) (quiesced : Bool) → join_with_byte 47 (member
 member_join_at id rack true = refl
 member_join_at id rack false = member_join_by (node_text id) rack (rack == 0)
 
-member_read : (text : List ℕ) → member_of text ≡ member_in (parts_of 47 text)
-unfolding member_of
+member_read : (text : List ℕ) → parsed_member text ≡ parsed_member_parts (parts_of 47 text)
+unfolding parsed_member
 member_read text = refl
 
-pub member_field : Reads IsNoComma FitsMember member_text member_of
-member_field = reads_same member_text member_of (λ m. member_join_at m.id m.role.rack m.role.quiesced) member_read
+pub member_field : Reads IsNoComma FitsMember member_text parsed_member
+member_field = reads_same member_text parsed_member (λ m. member_join_at m.id m.role.rack m.role.quiesced) member_read
     (reads_parts 47 (λ b d. let low = d.low in ne_eqb b 47 (λ e. omega arith)) no_comma (record { above = omega arith; other = λ e. omega arith }) (λ m g. tt)
     (reads_all (λ m g. member_back_at m.id m.role.rack m.role.quiesced g.id g.rack) (record { only = member_only_at })))
 

@@ -10,7 +10,7 @@ use Rattle.std.proofs.lemmas.List.Sums.{AllPass-from_list_all, list_all-from_All
 use Rattle.cluster_types.specs.declared.member.Member.{Member}
 use Rattle.cluster_types.specs.Members.{AreMembers, AreDistinctMembers, ids_of}
 use Rattle.cluster_types.specs.NodeLists.{IsNodeList}
-use Rattle.journal_reader.specs.Fields.{holds_of_pairs, are_members, are_distinct, are_distinct_members, if_so}
+use Rattle.journal_reader.specs.Fields.{holds_of_pairs, are_members, are_distinct_ids, are_distinct_members, if_so}
 
 pairs_head : {A : Type 0} (R : A → A → Type 0) (x : A) (xs : List A) → AllPairs R (x ∷ xs) → All (R x) xs
 pairs_head R x xs h k d lt = h 0 (suc k) d (omega arith) (omega arith)
@@ -47,14 +47,14 @@ differ x y = not (x == y)
 abbrev falls : ℕ → ℕ → Bool
 falls x y = nat_lt y x
 
-pub distinct_from_test : (ids : List ℕ) → are_distinct ids ≡ true → IsNodeList ids
-unfolding are_distinct
+pub distinct_from_test : (ids : List ℕ) → are_distinct_ids ids ≡ true → IsNodeList ids
+unfolding are_distinct_ids
 distinct_from_test ids e =
     let parts = and_parts _ _ e in
     record { limit = leb-true _ _ parts.0; distinct = record { differ = pairs_from_test differ (λ x y. x ≢ y) (λ x y t. eqb-false x y (not-true _ t)) ids parts.1 } }
 
-pub test_of_distinct : (ids : List ℕ) → IsNodeList ids → are_distinct ids ≡ true
-unfolding are_distinct
+pub test_of_distinct : (ids : List ℕ) → IsNodeList ids → are_distinct_ids ids ≡ true
+unfolding are_distinct_ids
 test_of_distinct ids h =
     and_from _ _ (le-leb _ _ h.limit) (test_of_pairs differ (λ x y. x ≢ y) (λ x y t. not_from_false _ (ne_eqb x y t)) ids h.distinct.differ)
 
@@ -74,8 +74,8 @@ unfolding are_members
 test_of_members members h =
     and_from _ _ (and_from _ _ (lt-ltb _ _ h.some) (le-leb _ _ h.limit)) (test_of_pairs falls (λ x y. y < x) (λ x y t. lt-ltb y x t) (ids_of members) h.descending.falls)
 
-pub first_distinct : (ids more : List ℕ) → are_distinct (ids ++ more) ≡ true → (are_distinct ids ≡ true) × (are_distinct more ≡ true)
-unfolding are_distinct
+pub first_distinct : (ids more : List ℕ) → are_distinct_ids (ids ++ more) ≡ true → (are_distinct_ids ids ≡ true) × (are_distinct_ids more ≡ true)
+unfolding are_distinct_ids
 first_distinct ids more e =
     let parts = and_parts _ _ e in
     let pairs = pairs_append differ ids more parts.1 in
@@ -85,7 +85,7 @@ first_distinct ids more e =
 
 -- ---- what the lists' own tests say
 
-pub distinct_if : (ids : List ℕ) → (IsNodeList ids → false ≡ true) → are_distinct ids ≡ false
+pub distinct_if : (ids : List ℕ) → (IsNodeList ids → false ≡ true) → are_distinct_ids ids ≡ false
 distinct_if ids never = false_from_ne_true _ (λ t. false≢true (never (distinct_from_test ids t)))
 
 -- a value with a test, as it is made

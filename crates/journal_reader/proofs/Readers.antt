@@ -7,7 +7,7 @@ use Rattle.std.proofs.lemmas.Bool.{eq-eqb}
 use Rattle.std.proofs.lemmas.List.Elements.{All-nil, All-cons, All-append, All-weaker}
 use Rattle.std.proofs.lemmas.List.Splits.{slice_split_at, slice_split_none, join_with_byte-slice_split}
 use Rattle.std.proofs.lemmas.Option.{none-some, same_Some}
-use Rattle.journal_reader.specs.Fields.{Reader, parts_of, ended, first, with_field, with_rest}
+use Rattle.journal_reader.specs.Fields.{Reader, parts_of, at_end, first_field, with_field, with_rest}
 
 -- a field: what has a meaning is read back, what is read is written so, and its bytes are of a kind
 pub record Reads {A : Type 0} (P : ℕ → Type 0) (Good : A → Type 0) (write : A → List ℕ) (read : List ℕ → Option A) : Type 0 where
@@ -33,13 +33,13 @@ pub record Back {A : Type 0} (P : ℕ → Type 0) (read : Reader A) (fields : Li
 pub record Only {A : Type 0} (read : Reader A) (W : List (List ℕ) → A → Type 0) : Type 0 where
   pub only : (fields : List (List ℕ)) (x : A) → read fields ≡ Some x → W fields x
 
-pub ended_back : {A : Type 0} (P : ℕ → Type 0) (x : A) → Back P (ended x) [] x
-unfolding ended
+pub ended_back : {A : Type 0} (P : ℕ → Type 0) (x : A) → Back P (at_end x) [] x
+unfolding at_end
 ended_back P x = record { again = refl; clean = tt }
 
 pub field_back : {A B : Type 0} {P : ℕ → Type 0} {Good : A → Type 0} {write : A → List ℕ} {read : List ℕ → Option A} (next : A → Reader B) {fields : List (List ℕ)} {y : B}
     → Reads P Good write read → (x : A) → Good x → Back P (next x) fields y → Back P (with_field read next) (write x ∷ fields) y
-unfolding with_field first
+unfolding with_field first_field
 field_back {A = A} next {fields = fields} r x g b = record {
   again = ap (λ o. option_and_then (λ (z : A × List (List ℕ)). next z.0 z.1) (option_map (λ z. (z, fields)) o)) (r.again x g) ∙ b.again;
   clean = (r.clean x g, b.clean);
@@ -50,12 +50,12 @@ pub rest_back : {A B : Type 0} {P : ℕ → Type 0} {Good : A → Type 0} {write
 unfolding with_rest
 rest_back make r x g = record { again = ap (option_map make) (r.again x g); clean = r.clean x g }
 
-ended_at : {A : Type 0} (W : List (List ℕ) → A → Type 0) (x : A) → W [] x → (fields : List (List ℕ)) (y : A) → ended x fields ≡ Some y → W fields y
-unfolding ended
+ended_at : {A : Type 0} (W : List (List ℕ) → A → Type 0) (x : A) → W [] x → (fields : List (List ℕ)) (y : A) → at_end x fields ≡ Some y → W fields y
+unfolding at_end
 ended_at W x w [] y e = subst (W []) (same_Some x y e) w
 ended_at W x w (field ∷ fields) y e = absurd (none-some y e)
 
-pub ended_only : {A : Type 0} {W : List (List ℕ) → A → Type 0} (x : A) → W [] x → Only (ended x) W
+pub ended_only : {A : Type 0} {W : List (List ℕ) → A → Type 0} (x : A) → W [] x → Only (at_end x) W
 ended_only {W = W} x w = record { only = ended_at W x w }
 
 taken : {A B : Type 0} (next : A → Reader B) (fields : List (List ℕ)) (o : Option A) (y : B) (W : Type 0)
@@ -66,7 +66,7 @@ taken next fields (Some x) y W k e = k x refl e
 field_at : {A B : Type 0} {P : ℕ → Type 0} (Good : A → Type 0) (write : A → List ℕ) (read : List ℕ → Option A) (next : A → Reader B) (W : List (List ℕ) → B → Type 0)
     → Reads P Good write read → ((x : A) → Good x → Only (next x) (λ fields y. W (write x ∷ fields) y))
     → (fields : List (List ℕ)) (y : B) → with_field read next fields ≡ Some y → W fields y
-unfolding with_field first
+unfolding with_field first_field
 field_at Good write read next W r k [] y e = absurd (none-some y e)
 field_at Good write read next W r k (field ∷ fields) y e =
     taken next fields (read field) y (W (field ∷ fields) y) (λ x is rest.

@@ -17,7 +17,7 @@ use Rattle.conflict_order.specs.declared.version.Body.{Body}
 use Rattle.conflict_order.specs.declared.version.Body.TheVariants as body
 use Rattle.wire_messages.specs.Numbers.{IsNumber}
 use Rattle.wire_messages.specs.Versions.{IsValue, IsBody, IsVersion, IsOptionVersion}
-use Rattle.journal_reader.specs.Fields.{Reader, parts_of, first, with_field, ended, long_of, number_of, nothing_of, value_of, tombstone_of, written_value_of, stamp_of, version_of, optional_of}
+use Rattle.journal_reader.specs.Fields.{Reader, parts_of, first_field, with_field, at_end, long_of, number_of, nothing_of, parsed_value, tombstone_of, written_value_of, stamp_of, parsed_version, optional_of}
 use Rattle.journal_text.specs.Values.{body_text, version_text, optional_text}
 use Rattle.journal_reader.proofs.Readers.{Reads, Back, Only, ended_back, field_back, ended_only, field_only, reads_all, reads_wider, reads_parts, reads_same, map_some}
 use Rattle.journal_reader.proofs.NumberFields.{IsDigit, other_than_digit, decimal_is_clean}
@@ -78,7 +78,7 @@ abbrev value_parts : Stamp → List (List ℕ)
 value_parts s = decimal s.0 ∷ value_digits_of s.1 ∷ []
 
 abbrev value_in : Reader Stamp
-value_in = with_field number_of (λ generation. with_field value_of (λ bytes. ended (generation, body.Value bytes)))
+value_in = with_field number_of (λ generation. with_field parsed_value (λ bytes. at_end (generation, body.Value bytes)))
 
 number_hex : Reads IsHexDigit IsNumber decimal number_of
 number_hex = reads_wider hex_of_digit number_digits
@@ -110,7 +110,7 @@ abbrev tombstone_parts : Stamp → List (List ℕ)
 tombstone_parts s = decimal s.0 ∷ [] ∷ []
 
 abbrev tombstone_in : Reader Stamp
-tombstone_in = with_field number_of (λ generation. with_field nothing_of (λ rest. ended (generation, body.Tombstone)))
+tombstone_in = with_field number_of (λ generation. with_field nothing_of (λ rest. at_end (generation, body.Tombstone)))
 
 tombstone_back : (s : Stamp) → IsTombstone s → Back IsDigit tombstone_in (tombstone_parts s) s
 tombstone_back s g =
@@ -143,8 +143,8 @@ nothing_then next none (Some n) = none n
 
 -- with one part there is no second field
 one_part : (text : List ℕ) → value_in (text ∷ []) ≡ None
-unfolding with_field first
-one_part text = nothing_then (λ x. with_field value_of (λ bytes. ended (x.0, body.Value bytes)) x.1) (λ n. refl) (number_of text)
+unfolding with_field first_field
+one_part text = nothing_then (λ x. with_field parsed_value (λ bytes. at_end (x.0, body.Value bytes)) x.1) (λ n. refl) (number_of text)
 
 no_value : (g : ℕ) → IsNumber g → written_value_of (join_with_byte 45 (decimal g ∷ [] ∷ [])) ≡ None
 no_value g n =
@@ -200,7 +200,7 @@ abbrev version_parts : Version → List (List ℕ)
 version_parts v = decimal v.lut ∷ stamp_text (v.generation, v.body) ∷ []
 
 abbrev version_in : Reader Version
-version_in = with_field long_of (λ time. with_field stamp_of (λ stamp. ended (record { lut = time; generation = stamp.0; body = stamp.1 })))
+version_in = with_field long_of (λ time. with_field stamp_of (λ stamp. at_end (record { lut = time; generation = stamp.0; body = stamp.1 })))
 
 long_no_dot : Reads IsNoDot (λ n. n < 2 ^ 64) decimal long_of
 long_no_dot = reads_wider no_dot_digit long_digits
@@ -219,12 +219,12 @@ version_join v =
     sym (append_assoc (decimal v.lut ++ codes ".") (decimal v.generation) (body_text v.body)
     ∙ append_assoc (decimal v.lut) (codes ".") (decimal v.generation ++ body_text v.body))
 
-version_read : (text : List ℕ) → version_of text ≡ version_in (parts_of 46 text)
-unfolding version_of
+version_read : (text : List ℕ) → parsed_version text ≡ version_in (parts_of 46 text)
+unfolding parsed_version
 version_read text = refl
 
-pub version_field : Reads IsVisible IsVersion version_text version_of
-version_field = reads_same version_text version_of version_join version_read
+pub version_field : Reads IsVisible IsVersion version_text parsed_version
+version_field = reads_same version_text parsed_version version_join version_read
     (reads_parts 46 (λ b d. ne_eqb b 46 d.other) no_dot_visible (record { above = omega arith }) (λ v g. tt) (reads_all version_back version_only))
 
 -- ---- a version or none
@@ -250,15 +250,15 @@ optional_again : (v : Option Version) → IsOptionVersion v → optional_of (opt
 unfolding optional_of
 optional_again None g = refl
 optional_again (Some v) g =
-    ap (λ t. cond t (Some None) (option_map Some (version_of (version_text v)))) (no_none v g)
+    ap (λ t. cond t (Some None) (option_map Some (parsed_version (version_text v)))) (no_none v g)
     ∙ ap (option_map Some) (version_field.again v g)
 
 optional_written : (text : List ℕ) (v : Option Version) → optional_of text ≡ Some v → (optional_text v ≡ text) × IsOptionVersion v
 unfolding optional_of
 optional_written text v e =
-    word_case ((optional_text v ≡ text) × IsOptionVersion v) text (codes "none") (Some None) (option_map Some (version_of text)) v
+    word_case ((optional_text v ≡ text) × IsOptionVersion v) text (codes "none") (Some None) (option_map Some (parsed_version text)) v
     (λ s i. subst (λ (w : Option Version). (optional_text w ≡ text) × IsOptionVersion w) (same_Some None v i) (s, tt))
-    (λ other. let m = map_some Some (version_of text) v other in
+    (λ other. let m = map_some Some (parsed_version text) v other in
     subst (λ (w : Option Version). (optional_text w ≡ text) × IsOptionVersion w) m.2 (version_field.written text m.0 m.1)) e
 
 optional_clean : (v : Option Version) → IsOptionVersion v → All IsVisible (optional_text v)

@@ -5,7 +5,7 @@ use Rattle.std.specs.List.{AllByRecursion, list_all}
 use Rattle.std.proofs.lemmas.Option.{none-some, same_Some}
 use Rattle.journal_reader.specs.declared.reading.word.Word.{Word}
 use Rattle.journal_reader.specs.declared.reading.word.Word.TheVariants as word
-use Rattle.journal_reader.specs.Words.{word_in, word_of}
+use Rattle.journal_reader.specs.Words.{word_in, parsed_word}
 use Rattle.journal_reader.specs.declared.reading.word.TheConstants.{WORDS}
 use Rattle.journal_reader.proofs.KeyFields.{IsVisible}
 use Rattle.journal_reader.proofs.ByteFields.{word_case, word_clean}
@@ -75,8 +75,8 @@ word_text word.Scanned = codes "scanned"
 word_text word.Record = codes "record"
 word_text word.Unscanned = codes "unscanned"
 
-pub word_back : (w : Word) → word_of (word_text w) ≡ Some w
-unfolding word_of
+pub word_back : (w : Word) → parsed_word (word_text w) ≡ Some w
+unfolding parsed_word
 word_back word.Script = refl
 word_back word.Factor = refl
 word_back word.Node = refl
@@ -225,6 +225,6 @@ in_table (entry ∷ table) h text w e =
 the_table : IsTable (map (λ entry. (entry.0.now, entry.1)) WORDS)
 the_table = (refl, (refl, (refl, (refl, (refl, (refl, (refl, (refl, (refl, (refl, (refl, (refl, (refl, (refl, (refl, (refl, (refl, (refl, (refl, (refl, (refl, (refl, (refl, (refl, (refl, (refl, (refl, (refl, (refl, (refl, (refl, (refl, (refl, (refl, (refl, (refl, (refl, (refl, (refl, (refl, (refl, (refl, (refl, (refl, (refl, (refl, (refl, (refl, (refl, (refl, (refl, (refl, (refl, (refl, (refl, (refl, (refl, (refl, (refl, (refl, (refl, (refl, (refl, tt)))))))))))))))))))))))))))))))))))))))))))))))))))))))))))))))
 
-pub word_only : (text : List ℕ) (w : Word) → word_of text ≡ Some w → word_text w ≡ text
-unfolding word_of
+pub word_only : (text : List ℕ) (w : Word) → parsed_word text ≡ Some w → word_text w ≡ text
+unfolding parsed_word
 word_only text w e = in_table (map (λ entry. (entry.0.now, entry.1)) WORDS) the_table text w e

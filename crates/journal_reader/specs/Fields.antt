@@ -31,18 +31,18 @@ abbrev pub Reader : Type 0 → Type 0
 Reader A = List (List ℕ) → Option A
 
 -- no field is left
-unfoldable pub ended : {A : Type 0} → A → Reader A
-ended x [] = Some x
-ended x (field ∷ fields) = None
+unfoldable pub at_end : {A : Type 0} → A → Reader A
+at_end x [] = Some x
+at_end x (field ∷ fields) = None
 
 -- the first field's value, and the fields behind it
-unfoldable pub first : {A : Type 0} → (List ℕ → Option A) → List (List ℕ) → Option (A × List (List ℕ))
-first read [] = None
-first read (field ∷ fields) = option_map (λ x. (x, fields)) (read field)
+unfoldable pub first_field : {A : Type 0} → (List ℕ → Option A) → List (List ℕ) → Option (A × List (List ℕ))
+first_field read [] = None
+first_field read (field ∷ fields) = option_map (λ x. (x, fields)) (read field)
 
 -- the first field, and what the fields behind it say then
 unfoldable pub with_field : {A B : Type 0} → (List ℕ → Option A) → (A → Reader B) → Reader B
-with_field read next fields = option_and_then (λ x. next x.0 x.1) (first read fields)
+with_field read next fields = option_and_then (λ x. next x.0 x.1) (first_field read fields)
 
 -- what all fields that are left say
 unfoldable pub with_rest : {A B : Type 0} → Reader A → (A → B) → Reader B
@@ -75,19 +75,19 @@ number_in least most text = let n = digits_value 10 text in if nat_le least n &&
 abbrev pub script_version_of : List ℕ → Option ℕ
 script_version_of field = number_in 1 2 field
 
-abbrev pub factor_of : List ℕ → Option ℕ
-factor_of field = number_in 1 4 field
+abbrev pub parsed_factor : List ℕ → Option ℕ
+parsed_factor field = number_in 1 4 field
 
 -- a node's id
-abbrev pub node_of : List ℕ → Option ℕ
-node_of field = number_in 1 65535 field
+abbrev pub parsed_node : List ℕ → Option ℕ
+parsed_node field = number_in 1 65535 field
 
 -- a node's id, or 0 for the client
 abbrev pub endpoint_of : List ℕ → Option ℕ
 endpoint_of field = number_in 0 65535 field
 
-abbrev pub partition_of : List ℕ → Option ℕ
-partition_of field = number_in 0 4095 field
+abbrev pub parsed_partition : List ℕ → Option ℕ
+parsed_partition field = number_in 0 4095 field
 
 abbrev pub rack_of : List ℕ → Option ℕ
 rack_of field = number_in 0 255 field
@@ -101,25 +101,25 @@ abbrev pub number_of : List ℕ → Option ℕ
 number_of field = number_in 1 4294967295 field
 
 -- how many records a page has
-abbrev pub count_of : List ℕ → Option ℕ
-count_of field = number_in 0 4294967295 field
+abbrev pub parsed_count : List ℕ → Option ℕ
+parsed_count field = number_in 0 4294967295 field
 
 -- the round and the principal, with a dot between them
-unfoldable pub key_of : List ℕ → Option ClusterKey
-key_of field =
-    with_field (number_in 1 281474976710655) (λ round. with_field (number_in 1 65535) (λ principal. ended (record { round = round; principal = principal })))
+unfoldable pub parsed_key : List ℕ → Option ClusterKey
+parsed_key field =
+    with_field (number_in 1 281474976710655) (λ round. with_field (number_in 1 65535) (λ principal. at_end (record { round = round; principal = principal })))
     (parts_of 46 field)
 
 -- ---- words
 
-unfoldable pub policy_of : List ℕ → Option Policy
-policy_of field =
+unfoldable pub parsed_policy : List ℕ → Option Policy
+parsed_policy field =
     if bytes_eq field (codes "time") then Some policy.Time
     else if bytes_eq field (codes "generation") then Some policy.Generation
     else None
 
-unfoldable pub action_of : List ℕ → Option Action
-action_of field =
+unfoldable pub parsed_action : List ℕ → Option Action
+parsed_action field =
     if bytes_eq field (codes "get") then Some action.Get
     else if bytes_eq field (codes "put") then Some action.Put
     else if bytes_eq field (codes "del") then Some action.Del
@@ -132,16 +132,17 @@ abbrev pub is_capital : ℕ → Bool
 is_capital b = nat_le 65 b && nat_le b 70
 
 -- bytes as hexadecimal digits in lower case
-unfoldable pub bytes_of : List ℕ → Option (List ℕ)
-bytes_of field = if list_any is_capital field then None else result_ok (decode_of field)
+unfoldable pub parsed_bytes : List ℕ → Option (List ℕ)
+parsed_bytes field = if list_any is_capital field then None else result_ok (decode_of field)
 
 -- twenty bytes
-unfoldable pub digest_of : List ℕ → Option (List ℕ)
-digest_of field = if list_any is_capital field then None else result_ok (decode_sized field 20)
+unfoldable pub parsed_digest : List ℕ → Option (List ℕ)
+parsed_digest field = if list_any is_capital field then None else result_ok (decode_sized field 20)
 
 -- at most 128 bytes
-unfoldable pub value_of : List ℕ → Option (List ℕ)
-value_of field = option_and_then (if_so (λ bytes. nat_le (length bytes) 128)) (bytes_of field)
+unfoldable pub parsed_value : List ℕ → Option (List ℕ)
+parsed_value field = option_and_then (if_so (λ bytes. nat_le (length bytes) 128))
+    (parsed_bytes field)
 
 -- ---- versions
 
@@ -152,23 +153,23 @@ nothing_of (b ∷ bytes) = None
 
 -- a generation and the body behind it: a tombstone's mark
 unfoldable pub tombstone_of : List ℕ → Option (ℕ × Body)
-tombstone_of text = with_field number_of (λ generation. with_field nothing_of (λ rest. ended (generation, body.Tombstone))) (parts_of 45 text)
+tombstone_of text = with_field number_of (λ generation. with_field nothing_of (λ rest. at_end (generation, body.Tombstone))) (parts_of 45 text)
 
 -- a generation and the body behind it: a value's mark and its bytes
 unfoldable pub written_value_of : List ℕ → Option (ℕ × Body)
-written_value_of text = with_field number_of (λ generation. with_field value_of (λ bytes. ended (generation, body.Value bytes))) (parts_of 61 text)
+written_value_of text = with_field number_of (λ generation. with_field parsed_value (λ bytes. at_end (generation, body.Value bytes))) (parts_of 61 text)
 
 unfoldable pub stamp_of : List ℕ → Option (ℕ × Body)
 stamp_of text = option_or (written_value_of text) (tombstone_of text)
 
 -- the time, and behind a dot the generation and the body
-unfoldable pub version_of : List ℕ → Option Version
-version_of field =
-    with_field long_of (λ time. with_field stamp_of (λ stamp. ended (record { lut = time; generation = stamp.0; body = stamp.1 })))
+unfoldable pub parsed_version : List ℕ → Option Version
+parsed_version field =
+    with_field long_of (λ time. with_field stamp_of (λ stamp. at_end (record { lut = time; generation = stamp.0; body = stamp.1 })))
     (parts_of 46 field)
 
 unfoldable pub optional_of : List ℕ → Option (Option Version)
-optional_of field = if bytes_eq field (codes "none") then Some None else option_map Some (version_of field)
+optional_of field = if bytes_eq field (codes "none") then Some None else option_map Some (parsed_version field)
 
 -- ---- members
 
@@ -176,23 +177,23 @@ optional_of field = if bytes_eq field (codes "none") then Some None else option_
 unfoldable pub role_in : Reader Role
 role_in [] = None
 role_in (rack ∷ []) = option_map (λ n. record { rack = n; quiesced = false }) (number_in 1 255 rack)
-role_in (rack ∷ mark ∷ fields) = with_field rack_of (λ n. with_field nothing_of (λ rest. ended (record { rack = n; quiesced = true }))) (rack ∷ mark ∷ fields)
+role_in (rack ∷ mark ∷ fields) = with_field rack_of (λ n. with_field nothing_of (λ rest. at_end (record { rack = n; quiesced = true }))) (rack ∷ mark ∷ fields)
 
-unfoldable pub role_of : List ℕ → Option Role
-role_of text = role_in (parts_of 113 text)
+unfoldable pub parsed_role : List ℕ → Option Role
+parsed_role text = role_in (parts_of 113 text)
 
 -- an id alone, or behind it a slash and the rack
-unfoldable pub member_in : Reader Member
-member_in [] = None
-member_in (id ∷ []) = option_map plain_member (node_of id)
-member_in (id ∷ role ∷ fields) = with_field node_of (λ n. with_field role_of (λ r. ended (record { id = n; role = r }))) (id ∷ role ∷ fields)
+unfoldable pub parsed_member_parts : Reader Member
+parsed_member_parts [] = None
+parsed_member_parts (id ∷ []) = option_map plain_member (parsed_node id)
+parsed_member_parts (id ∷ role ∷ fields) = with_field parsed_node (λ n. with_field parsed_role (λ r. at_end (record { id = n; role = r }))) (id ∷ role ∷ fields)
 
-unfoldable pub member_of : List ℕ → Option Member
-member_of text = member_in (parts_of 47 text)
+unfoldable pub parsed_member : List ℕ → Option Member
+parsed_member text = parsed_member_parts (parts_of 47 text)
 
 -- members with commas between them, or the word for none
 unfoldable pub some_members_of : List ℕ → Option (List Member)
-some_members_of field = if bytes_eq field (codes "none") then Some [] else all_of member_of (parts_of 44 field)
+some_members_of field = if bytes_eq field (codes "none") then Some [] else all_of parsed_member (parts_of 44 field)
 
 -- whether the relation holds of each item and each later one
 abbrev pub holds_of_pairs : {A : Type 0} → (A → A → Bool) → List A → Bool
@@ -205,15 +206,15 @@ are_members members =
     nat_lt 0 (length members) && nat_le (length members) 16 && holds_of_pairs (λ x y. nat_lt y x) (ids_of members)
 
 -- at most 16, no id twice
-unfoldable pub are_distinct : List ℕ → Bool
-are_distinct ids = nat_le (length ids) 16 && holds_of_pairs (λ x y. not (x == y)) ids
+unfoldable pub are_distinct_ids : List ℕ → Bool
+are_distinct_ids ids = nat_le (length ids) 16 && holds_of_pairs (λ x y. not (x == y)) ids
 
 -- the members of a view
-unfoldable pub members_of : List ℕ → Option (List Member)
-members_of field = option_and_then (if_so are_members) (some_members_of field)
+unfoldable pub parsed_members : List ℕ → Option (List Member)
+parsed_members field = option_and_then (if_so are_members) (some_members_of field)
 
 abbrev pub are_distinct_members : List Member → Bool
-are_distinct_members members = are_distinct (ids_of members)
+are_distinct_members members = are_distinct_ids (ids_of members)
 
 -- members in any order
 unfoldable pub list_of : List ℕ → Option (List Member)
@@ -226,19 +227,20 @@ abbrev pub is_bar : List ℕ → Bool
 is_bar field = bytes_eq field (codes "|")
 
 -- a group by its ids
-unfoldable pub group_of : Reader (List ℕ)
-group_of fields = option_and_then (if_so are_distinct) (all_of node_of fields)
+unfoldable pub parsed_group : Reader (List ℕ)
+parsed_group fields = option_and_then (if_so are_distinct_ids) (all_of parsed_node fields)
 
 -- each group by its ids
 unfoldable pub each_group_of : List (List (List ℕ)) → Option (List (List ℕ))
 each_group_of [] = Some []
-each_group_of (part ∷ parts) = option_and_then (λ ids. option_map (λ groups. ids ∷ groups) (each_group_of parts)) (group_of part)
+each_group_of (part ∷ parts) = option_and_then (λ ids. option_map (λ groups. ids ∷ groups) (each_group_of parts)) (parsed_group part)
 
 -- 1 to 16 groups, none empty, with at most 16 ids in all and none twice
 unfoldable pub are_groups : List (List ℕ) → Bool
 are_groups groups =
-    nat_lt 0 (length groups) && nat_le (length groups) 16 && list_all (λ ids. nat_lt 0 (length ids)) groups && are_distinct (concat groups)
+    nat_lt 0 (length groups) && nat_le (length groups) 16 && list_all (λ ids. nat_lt 0 (length ids)) groups && are_distinct_ids (concat groups)
 
 -- groups with bars between them
-unfoldable pub groups_of : Reader (List (List ℕ))
-groups_of fields = option_and_then (if_so are_groups) (each_group_of (slice_split is_bar fields))
+unfoldable pub parsed_groups : Reader (List (List ℕ))
+parsed_groups fields = option_and_then (if_so are_groups)
+    (each_group_of (slice_split is_bar fields))

@@ -4,10 +4,10 @@ use Rattle.journal_reader.specs.declared.reading.unread.Unread.{Unread}
 use Rattle.journal_reader.specs.declared.reading.unread.Unread.TheVariants.{NoLine, NoMemory}
 
 -- the answer is what the fields say, unless memory ran out
-abbrev pub Reads : {A : Type 0} → Result A Unread → Option A → Type 0
-Reads (Ok x) read = read ≡ Some x
-Reads (Err NoLine) read = read ≡ None
-Reads (Err NoMemory) read = ⊤
+abbrev pub ReadsFields : {A : Type 0} → Result A Unread → Option A → Type 0
+ReadsFields (Ok x) read = read ≡ Some x
+ReadsFields (Err NoLine) read = read ≡ None
+ReadsFields (Err NoMemory) read = ⊤
 
 -- the same of a call that leaves the fields behind what it reads
 abbrev pub Takes : {A : Type 0} → Result A Unread → Option (A × List (List ℕ)) → List (List ℕ) → Type 0
@@ -16,7 +16,7 @@ Takes (Err NoLine) read fields = read ≡ None
 Takes (Err NoMemory) read fields = ⊤
 
 -- no field is left
-abbrev pub Ends : Result (Unit {0}) Unread → List (List ℕ) → Type 0
-Ends (Ok u) fields = fields ≡ []
-Ends (Err NoLine) fields = (fields ≡ []) → ⊥
-Ends (Err NoMemory) fields = ⊤
+abbrev pub ReadsEnd : Result (Unit {0}) Unread → List (List ℕ) → Type 0
+ReadsEnd (Ok u) fields = fields ≡ []
+ReadsEnd (Err NoLine) fields = (fields ≡ []) → ⊥
+ReadsEnd (Err NoMemory) fields = ⊤

@@ -10,5 +10,5 @@ word_in [] text = None
 word_in (entry ∷ table) text = if bytes_eq entry.0 text then Some entry.1 else word_in table text
 
 -- the word of that text
-unfoldable pub word_of : List ℕ → Option Word
-word_of = word_in (map (λ entry. (entry.0.now, entry.1)) WORDS)
+unfoldable pub parsed_word : List ℕ → Option Word
+parsed_word = word_in (map (λ entry. (entry.0.now, entry.1)) WORDS)

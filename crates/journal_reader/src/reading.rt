@@ -3,7 +3,7 @@ ghost use Rattle.std.specs.Prelude.{◌≡◌, IfOk, IfSome, Some};
 ghost use Rattle.journal_reader.specs.Reading as grammar;
 ghost use Rattle.journal_lines.specs.declared.line.Line.{Line};
 ghost use Rattle.journal_reader.specs.Reading.{of_word, read_line};
-ghost use Rattle.journal_reader.specs.Unread.{Reads};
+ghost use Rattle.journal_reader.specs.Unread.{ReadsFields};
 ghost use Rattle.journal_lines.specs.Proper.{IsProper};
 ghost use Rattle.journal_text.specs.Text.{line_text};
 
@@ -92,9 +92,9 @@ fn line_of_text(alloc: Global, text: &[u8]) -> Result<Option<Line>, NoMemory>
     }
 }
 
-#[tactic(auto, unfolding(crate::specs::Reading::line_of))]
+#[tactic(auto, unfolding(crate::specs::Reading::parsed_line))]
 fn line_of(alloc: Global, mut fields: Parts) -> Result<Line, Unread>
-    ensures { Reads result (grammar.line_of fields.entry) }
+    ensures { ReadsFields result (grammar.parsed_line fields.entry) }
 {
     let name = fields.take_first().ok_or(Unread::NoLine)?;
     let word = word_of(name).ok_or(Unread::NoLine)?;
@@ -103,7 +103,7 @@ fn line_of(alloc: Global, mut fields: Parts) -> Result<Line, Unread>
 
 /// The line of that word with these fields.
 fn line_of_word(alloc: Global, word: Word, fields: Parts) -> Result<Line, Unread>
-    ensures { Reads result (of_word word fields.entry) }
+    ensures { ReadsFields result (of_word word fields.entry) }
 {
     match word {
         Word::Script => script_line(fields),

@@ -10,7 +10,7 @@ use Rattle.partition_lists.specs.Lists as lists
 use Rattle.journal_lines.specs.declared.line.Line.{Line}
 use Rattle.journal_readings.specs.Lines.{has_node}
 use Rattle.journal_readings.specs.Contents.{content}
-use Rattle.journal_readings.specs.Views.{view, list}
+use Rattle.journal_readings.specs.Views.{view, succession_list}
 use Rattle.journal_readings.specs.Entries.{entry, fold_of}
 use Rattle.journal_readings.specs.Settled.{is_settled, has_open_write}
 use Rattle.journal_readings.specs.Classes.{is_in_class_of, class_of, are_in_one_class}
@@ -71,7 +71,7 @@ ClassEqual k n m lines = Where (are_in_one_class 2 k 4095 n m lines) (SameEntry 
 
 -- the lists of the view have these two nodes alone
 abbrev ListsTwo : ClusterKey → List Line → Type 0
-ListsTwo k lines = list_all (has_node (1 ∷ 2 ∷ [])) (list k 4095 lines) ≡ true
+ListsTwo k lines = list_all (has_node (1 ∷ 2 ∷ [])) (succession_list k 4095 lines) ≡ true
 
 record IsEqual (k : ClusterKey) : Type 0 where
   listed : AllFronts (ListsTwo k) [] met_again
@@ -98,15 +98,16 @@ equal_second = record {
 }
 
 -- one of a class is one of the list
-in_list : (k : ClusterKey) (n m : ℕ) (lines : List Line) → has_node (class_of 2 k 4095 n lines) m ≡ true → has_node (list k 4095 lines) m ≡ true
+in_list : (k : ClusterKey) (n m : ℕ) (lines : List Line) → has_node (class_of 2 k 4095 n lines) m ≡ true → has_node (succession_list k 4095 lines) m ≡ true
 unfolding class_of
-in_list k n m lines e = of_some (λ o. is_in_class_of 2 k 4095 n o lines) (list k 4095 lines) m e
+in_list k n m lines e = of_some (λ o. is_in_class_of 2 k 4095 n o lines)
+    (succession_list k 4095 lines) m e
 
 equal_in : (i : ℕ) (k : ClusterKey) (n m : ℕ) → IsEqual k → are_in_one_class 2 k 4095 n m (take i met_again) ≡ true → SameEntry k n m (take i met_again) digest
 equal_in i k n m h e =
     let listed : ListsTwo k (take i met_again) = each_front (ListsTwo k) met_again h.listed i in
-    let first : has_node (1 ∷ 2 ∷ []) n ≡ true = among (1 ∷ 2 ∷ []) (list k 4095 (take i met_again)) listed n (in_list k n n (take i met_again) (and_left _ _ e)) in
-    let second : has_node (1 ∷ 2 ∷ []) m ≡ true = among (1 ∷ 2 ∷ []) (list k 4095 (take i met_again)) listed m (in_list k n m (take i met_again) (and_right _ _ e)) in
+    let first : has_node (1 ∷ 2 ∷ []) n ≡ true = among (1 ∷ 2 ∷ []) (succession_list k 4095 (take i met_again)) listed n (in_list k n n (take i met_again) (and_left _ _ e)) in
+    let second : has_node (1 ∷ 2 ∷ []) m ≡ true = among (1 ∷ 2 ∷ []) (succession_list k 4095 (take i met_again)) listed m (in_list k n m (take i met_again) (and_right _ _ e)) in
     where_true _ _ (each_front (ClassEqual k n m) met_again (h.equal n first m second) i) e
 
 -- a view without members has no classes
@@ -123,7 +124,7 @@ no_node n (m ∷ ns) none e = differ (sym e ∙ ap (λ (x : List ℕ). has_node 
 
 no_class_in : (i : ℕ) (k : ClusterKey) (n m : ℕ) → has_key (key 1 2 ∷ key 2 2 ∷ []) k ≡ false → are_in_one_class 2 k 4095 n m (take i met_again) ≡ true → ⊥
 no_class_in i k n m other e =
-    no_node n (list k 4095 (take i met_again))
+    no_node n (succession_list k 4095 (take i met_again))
     (ap (λ (ms : List Member). lists.list ms 4095) (members-none (key 1 2 ∷ key 2 2 ∷ []) k other (take i met_again) (entered_front (key 1 2 ∷ key 2 2 ∷ []) i met_again refl)) ∙ no_list)
     (in_list k n n (take i met_again) (and_left _ _ e))
 

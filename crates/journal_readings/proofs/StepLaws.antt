@@ -8,7 +8,7 @@ use Rattle.conflict_order.specs.declared.policy.Policy.{Policy}
 use Rattle.cluster_types.specs.declared.cluster_key.ClusterKey.{ClusterKey}
 use Rattle.journal_lines.specs.declared.line.Line.{Line}
 use Rattle.journal_readings.specs.Lines.{is_enter, lines_before, fold_along}
-use Rattle.journal_readings.specs.Settings.{is_up, up_step, clock_of, clock_step, present_role, role_step}
+use Rattle.journal_readings.specs.Settings.{is_node_up, up_step, clock_of, clock_step, present_role, role_step}
 use Rattle.journal_readings.specs.Contents.{content, content_step, holds_any, copy_step, applied, applied_step}
 use Rattle.journal_readings.specs.Views.{promised_key, promise_step, last_key, last_step, view, view_step}
 use Rattle.journal_readings.specs.Entries.{entry, applied_in, applied_in_step}
@@ -84,8 +84,8 @@ pub promised_key-more : (n : ℕ) (ls : List Line) (l : Line) → promised_key n
 unfolding promised_key
 promised_key-more n ls l = fold-more (promise_step n) _ ls l
 
-pub is_up-more : (n : ℕ) (ls : List Line) (l : Line) → is_up n (ls ++ l ∷ []) ≡ up_step n (is_up n ls) l
-unfolding is_up
+pub is_up-more : (n : ℕ) (ls : List Line) (l : Line) → is_node_up n (ls ++ l ∷ []) ≡ up_step n (is_node_up n ls) l
+unfolding is_node_up
 is_up-more n ls l = fold-more (up_step n) _ ls l
 
 pub clock_of-more : (n : ℕ) (ls : List Line) (l : Line) → clock_of n (ls ++ l ∷ []) ≡ clock_step n (clock_of n ls) l

@@ -7,7 +7,7 @@ use Rattle.cluster_types.specs.Partitions.{partition_count, partition_of}
 use Rattle.cluster_types.specs.Members.{ids_of}
 use Rattle.journal_lines.specs.declared.line.Line.{Line}
 use Rattle.journal_lines.specs.declared.line.Line.TheVariants as line
-use Rattle.journal_readings.specs.Settings.{policy_of, factor_of, nodes, is_up, groups_of, up_members}
+use Rattle.journal_readings.specs.Settings.{policy_of, factor_of, nodes, is_node_up, groups_of, up_members}
 use Rattle.journal_readings.specs.Contents.{content, applied}
 use Rattle.journal_readings.specs.Views.{view, members, master, is_replica}
 use Rattle.journal_readings.specs.Entries.{fold_of}
@@ -33,13 +33,13 @@ pub record IsSettledThroughout (k : ClusterKey) (lines : List Line) : Type 0 whe
 
 -- all declared nodes are up and in one group
 pub record IsUndivided (lines : List Line) : Type 0 where
-  pub up : IsTrue (list_all (λ n. is_up n lines) (nodes lines))
+  pub up : IsTrue (list_all (λ n. is_node_up n lines) (nodes lines))
   pub one_group : length (groups_of lines) ≡ 1
 
 -- the up nodes of the group are in one view of just these nodes with the roles that they now have; its
 -- partitions are settled, and its records are spread over it
 pub record RestsIn (by : Policy) (factor : ℕ) (group : List ℕ) (k : ClusterKey) (lines : List Line) : Type 0 where
-  pub viewed : (n : ℕ) → Contains group n → IsTrue (is_up n lines) → view n lines ≡ Some k
+  pub viewed : (n : ℕ) → Contains group n → IsTrue (is_node_up n lines) → view n lines ≡ Some k
   pub among : members k lines ≡ up_members group lines
   pub settled : IsSettledThroughout k lines
   pub spread : IsSpread by factor k lines
@@ -47,7 +47,7 @@ pub record RestsIn (by : Policy) (factor : ℕ) (group : List ℕ) (k : ClusterK
 
 -- each group with an up node rests in a view
 abbrev pub IsAtRest : Policy → ℕ → List Line → Type 0
-IsAtRest by factor lines = (group : List ℕ) (n : ℕ) → Contains (groups_of lines) group → Contains group n → IsTrue (is_up n lines)
+IsAtRest by factor lines = (group : List ℕ) (n : ℕ) → Contains (groups_of lines) group → Contains group n → IsTrue (is_node_up n lines)
     → (k : ClusterKey) × RestsIn by factor group k lines
 
 -- at every line that says so the world is at rest

@@ -4,9 +4,9 @@ use Rattle.cluster_types.specs.declared.cluster_key.ClusterKey.{ClusterKey}
 use Rattle.cluster_types.specs.declared.copy_state.CopyState.{CopyState}
 use Rattle.cluster_types.specs.declared.copy_state.CopyState.TheVariants.{Empty, Part, Whole}
 use Rattle.journal_lines.specs.declared.line.Line.{Line}
+use Rattle.partition_lists.specs.Classes.{no_class}
 use Rattle.journal_readings.specs.Lines.{same_key, has_node}
-use Rattle.journal_readings.specs.Views.{list}
-use Rattle.journal_readings.specs.Counts.{no_class}
+use Rattle.journal_readings.specs.Views.{succession_list}
 use Rattle.journal_readings.specs.Rows.{row}
 
 -- whether a copy has records
@@ -29,7 +29,8 @@ is_in_class_of factor k p n m lines =
 
 -- the class of a member, in the order of the partition's list
 unfoldable pub class_of : ℕ → ClusterKey → ℕ → ℕ → List Line → List ℕ
-class_of factor k p n lines = filter (λ m. is_in_class_of factor k p n m lines) (list k p lines)
+class_of factor k p n lines = filter (λ m. is_in_class_of factor k p n m lines)
+    (succession_list k p lines)
 
 -- whether the two are members of one class
 abbrev pub are_in_one_class : ℕ → ClusterKey → ℕ → ℕ → ℕ → List Line → Bool
@@ -44,6 +45,6 @@ is_node n None = false
 is_node n (Some m) = m == n
 
 -- whether the member n hands its records on to r: it is the first of its class, and r isn't in it
-unfoldable pub sends : ℕ → ClusterKey → ℕ → ℕ → ℕ → List Line → Bool
-sends factor k n r p lines =
+unfoldable pub hands_on : ℕ → ClusterKey → ℕ → ℕ → ℕ → List Line → Bool
+hands_on factor k n r p lines =
     is_node n (first_of_class factor k p n lines) && not (has_node (class_of factor k p n lines) r)

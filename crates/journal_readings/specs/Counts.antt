@@ -7,21 +7,18 @@ use Rattle.wire_messages.specs.declared.message.Message.{Message}
 use Rattle.wire_messages.specs.declared.message.Message.TheVariants as message
 use Rattle.journal_lines.specs.declared.line.Line.{Line}
 use Rattle.journal_lines.specs.declared.line.Line.TheVariants as line
+use Rattle.partition_lists.specs.Classes.{no_class}
 use Rattle.journal_readings.specs.Lines.{same_key, is_enter, lines_after, fold_along}
 use Rattle.journal_readings.specs.Views.{is_in_view, master}
 use Rattle.journal_readings.specs.Messages.{arrival_between}
 
--- the count of a copy that is in no class of equal copies
-abbrev pub no_class : ℕ
-no_class = 4294967295
-
-abbrev pub has_number : List ℕ → ℕ → Bool
-has_number numbers x = list_any (λ y. y == x) numbers
+abbrev pub contains_number : List ℕ → ℕ → Bool
+contains_number numbers x = list_any (λ y. y == x) numbers
 
 -- the numbers with one more, each once
-abbrev pub with_number : Option ℕ → List ℕ → List ℕ
-with_number None numbers = numbers
-with_number (Some x) numbers = if has_number numbers x then numbers else (x ∷ numbers)
+abbrev pub with_new_number : Option ℕ → List ℕ → List ℕ
+with_new_number None numbers = numbers
+with_new_number (Some x) numbers = if contains_number numbers x then numbers else (x ∷ numbers)
 
 -- ---- which writes the copy has had
 
@@ -42,7 +39,7 @@ repl_number k p _ = None
 -- a write of the master reaches the node while the node is in the view
 abbrev pub heard_step : ClusterKey → ℕ → ℕ → ℕ → List Line → List ℕ → Line → List ℕ
 heard_step k n p master before numbers l =
-    if is_in_view k n before then with_number (option_and_then (repl_number k p) (arrival_between master n before l)) numbers else numbers
+    if is_in_view k n before then with_new_number (option_and_then (repl_number k p) (arrival_between master n before l)) numbers else numbers
 
 -- the numbers of the master's writes that reached the node so
 abbrev pub heard_numbers : ClusterKey → ℕ → ℕ → ℕ → List Line → List ℕ
@@ -67,7 +64,7 @@ has_foreign k n p lines = list_any (is_foreign k n p) (lines_after (is_enter k n
 
 -- whether the numbers, each once, are those from 1 to their count
 abbrev pub has_no_gap : List ℕ → Bool
-has_no_gap numbers = list_all (has_number numbers) (range_with_len 1 (length numbers))
+has_no_gap numbers = list_all (contains_number numbers) (range_with_len 1 (length numbers))
 
 -- how many of the list master's writes in the view the node has had, where they are the first ones without a
 -- gap and no other view's version came to the partition since the node entered the view

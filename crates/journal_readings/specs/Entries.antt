@@ -15,8 +15,8 @@ unfoldable pub entry : Policy → ClusterKey → ℕ → List ℕ → List Line 
 entry by k n d lines = option_and_then (λ before. content by n d before) (lines_before (is_enter k n) lines)
 
 -- the join of what the members held that have entered
-abbrev pub entries : Policy → ClusterKey → List ℕ → List Line → Option Version
-entries by k d lines = join_all by (map (λ m. entry by k m.id d lines) (members k lines))
+abbrev pub joined_entries : Policy → ClusterKey → List ℕ → List Line → Option Version
+joined_entries by k d lines = join_all by (map (λ m. entry by k m.id d lines) (members k lines))
 
 abbrev pub applied_in_step : Policy → ClusterKey → List ℕ → Option Version → Line → Option Version
 applied_in_step by k d held (line.Apply m l t e v) = joined_if (same_key l k && same_digest e d) by held v
@@ -28,4 +28,4 @@ applied_in by k d lines = fold (applied_in_step by k d) None lines
 
 -- the fold of a view: the join of what its members held on entry and of what was applied in it since
 unfoldable pub fold_of : Policy → ClusterKey → List ℕ → List Line → Option Version
-fold_of by k d lines = join by (entries by k d lines) (applied_in by k d lines)
+fold_of by k d lines = join by (joined_entries by k d lines) (applied_in by k d lines)

@@ -52,6 +52,6 @@ is_settled_line k n p (line.Settled m l q) = (m == n) && (same_key l k && (q == 
 is_settled_line k n p _ = false
 
 -- each other replica has the write of this transaction of the node in it
-abbrev pub is_done : ClusterKey → ℕ → ℕ → Line → Bool
-is_done k n t (line.Done m l u) = (m == n) && (same_key l k && (u == t))
-is_done k n t _ = false
+abbrev pub is_done_line : ClusterKey → ℕ → ℕ → Line → Bool
+is_done_line k n t (line.Done m l u) = (m == n) && (same_key l k && (u == t))
+is_done_line k n t _ = false

@@ -12,7 +12,7 @@ use Rattle.journal_readings.specs.Lines.{same_key, same_digest, is_exchanged, li
 use Rattle.journal_readings.specs.Contents.{content}
 use Rattle.journal_readings.specs.Views.{is_in_view, is_replica}
 use Rattle.journal_readings.specs.Messages.{sent_between, arrival_between}
-use Rattle.journal_readings.specs.Classes.{sends}
+use Rattle.journal_readings.specs.Classes.{hands_on}
 
 -- ---- the batches of a view from one member to another
 
@@ -21,8 +21,8 @@ batch_in k (message.Batch b) = if same_key b.key k then Some b else None
 batch_in k _ = None
 
 -- the batches, as they were sent one after another
-abbrev pub batches : ClusterKey → ℕ → ℕ → List Line → List Batch
-batches k n r lines = filter_map (batch_in k) (sent_between n r lines)
+abbrev pub sent_batches : ClusterKey → ℕ → ℕ → List Line → List Batch
+sent_batches k n r lines = filter_map (batch_in k) (sent_between n r lines)
 
 abbrev pub has_record : List ℕ → Batch → Bool
 has_record d b = list_any (λ x. same_digest x.0 d) b.records
@@ -35,7 +35,7 @@ is_ack k number (Some (message.BatchAck l other)) = same_key l k && (other == nu
 is_ack k number (Some _) = false
 
 abbrev pub has_batch : ClusterKey → ℕ → ℕ → ℕ → List Line → Bool
-has_batch k n r number lines = list_any (λ b. b.number == number) (batches k n r lines)
+has_batch k n r number lines = list_any (λ b. b.number == number) (sent_batches k n r lines)
 
 -- the batch's acknowledgement reaches its sender, which is in the view and has sent the batch
 abbrev pub acks : ClusterKey → ℕ → ℕ → ℕ → List Line → Line → Bool
@@ -52,12 +52,13 @@ unless_acked k n r lines b = if is_acked k n r b.number lines then None else Som
 
 -- the batch that is out from n to r: the last that was sent, unless it was acknowledged
 unfoldable pub out : ClusterKey → ℕ → ℕ → List Line → Option Batch
-out k n r lines = option_and_then (unless_acked k n r lines) (last_or None (batches k n r lines))
+out k n r lines = option_and_then (unless_acked k n r lines)
+    (last_or None (sent_batches k n r lines))
 
 -- the acknowledgement of a batch with the record reaches the sender, which is in the view
 abbrev pub acks_record : ClusterKey → ℕ → ℕ → List ℕ → List Line → Line → Bool
 acks_record k n r d before l =
-    is_in_view k n before && list_any (λ b. has_record d b && is_ack k b.number (arrival_between r n before l)) (batches k n r before)
+    is_in_view k n before && list_any (λ b. has_record d b && is_ack k b.number (arrival_between r n before l)) (sent_batches k n r before)
 
 -- whether a batch with the record, from n to r, was acknowledged
 unfoldable pub is_handed_on : ClusterKey → ℕ → ℕ → List ℕ → List Line → Bool
@@ -69,10 +70,10 @@ held_at_exchange by k n d lines = is_some (option_and_then (λ before. content b
 
 -- whether n still has to hand the record on to r: r is another member and a replica, n sends to it, held the
 -- record as it finished exchange, and no batch with it was acknowledged
-unfoldable pub is_pending : Policy → ℕ → ClusterKey → ℕ → ℕ → List ℕ → List Line → Bool
-is_pending by factor k n r d lines =
+unfoldable pub is_record_pending : Policy → ℕ → ClusterKey → ℕ → ℕ → List ℕ → List Line → Bool
+is_record_pending by factor k n r d lines =
     not (r == n)
     && (is_replica factor k (partition_of d) r lines
-    && (sends factor k n r (partition_of d) lines
+    && (hands_on factor k n r (partition_of d) lines
     && (held_at_exchange by k n d lines
     && not (is_handed_on k n r d lines))))

@@ -27,6 +27,6 @@ is_empty_row (Some Empty) = true
 is_empty_row _ = false
 
 -- the key of the view by which a copy is whole
-abbrev pub whole_key : Option CopyState → Option ClusterKey
-whole_key (Some (Whole k writes)) = Some k
-whole_key _ = None
+abbrev pub row_whole_key : Option CopyState → Option ClusterKey
+row_whole_key (Some (Whole k writes)) = Some k
+row_whole_key _ = None

@@ -51,8 +51,8 @@ up_step n up (line.Start m) = if m == n then true else up
 up_step n up _ = up
 
 -- whether the node is up: it hasn't been stopped since it was started last
-unfoldable pub is_up : ℕ → List Line → Bool
-is_up n lines = fold (up_step n) true lines
+unfoldable pub is_node_up : ℕ → List Line → Bool
+is_node_up n lines = fold (up_step n) true lines
 
 abbrev pub groups_step : Option (List (List ℕ)) → Line → Option (List (List ℕ))
 groups_step groups (line.Groups named) = Some named
@@ -85,4 +85,4 @@ present_members lines = with_present_roles (nodes lines) lines
 
 -- the up nodes of a group with the roles that they have by now, in descending order
 abbrev pub up_members : List ℕ → List Line → List Member
-up_members group lines = in_order (λ m o. nat_lt o.id m.id) (with_present_roles (filter (λ n. is_up n lines) group) lines)
+up_members group lines = in_order (λ m o. nat_lt o.id m.id) (with_present_roles (filter (λ n. is_node_up n lines) group) lines)

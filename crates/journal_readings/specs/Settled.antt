@@ -5,7 +5,7 @@ use Rattle.cluster_types.specs.declared.cluster_key.ClusterKey.{ClusterKey}
 use Rattle.cluster_types.specs.Partitions.{partition_of}
 use Rattle.journal_lines.specs.declared.line.Line.{Line}
 use Rattle.journal_lines.specs.declared.line.Line.TheVariants as line
-use Rattle.journal_readings.specs.Lines.{same_key, is_exchanged, is_settled_line, is_done}
+use Rattle.journal_readings.specs.Lines.{same_key, is_exchanged, is_settled_line, is_done_line}
 use Rattle.journal_readings.specs.Views.{master}
 use Rattle.journal_readings.specs.Stamps.{is_empty_everywhere}
 
@@ -19,7 +19,7 @@ is_settled k p lines = is_settled_by k p (master k p lines) lines
 
 -- the node's write of the partition in the view that not each other replica has
 abbrev pub is_open_write : ClusterKey → ℕ → ℕ → List Line → Line → Bool
-is_open_write k p n lines (line.Apply m l t d v) = (m == n) && (same_key l k && ((partition_of d == p) && not (list_any (is_done k n t) lines)))
+is_open_write k p n lines (line.Apply m l t d v) = (m == n) && (same_key l k && ((partition_of d == p) && not (list_any (is_done_line k n t) lines)))
 is_open_write k p n lines _ = false
 
 -- whether a write of the list master is open; a line that leaves it in doubt doesn't end it

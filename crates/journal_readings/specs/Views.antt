@@ -39,13 +39,13 @@ view_step n view _ = view
 unfoldable pub view : ℕ → List Line → Option ClusterKey
 view n lines = fold (view_step n) None lines
 
-abbrev pub is_key : ClusterKey → Option ClusterKey → Bool
-is_key k None = false
-is_key k (Some l) = same_key l k
+abbrev pub is_key_of_view : ClusterKey → Option ClusterKey → Bool
+is_key_of_view k None = false
+is_key_of_view k (Some l) = same_key l k
 
 -- whether that is the node's view
 abbrev pub is_in_view : ClusterKey → ℕ → List Line → Bool
-is_in_view k n lines = is_key k (view n lines)
+is_in_view k n lines = is_key_of_view k (view n lines)
 
 -- ---- the members of a view
 
@@ -56,8 +56,8 @@ members k (line.Enter n l ms ∷ ls) = if same_key l k then ms else members k ls
 members k (_ ∷ ls) = members k ls
 
 -- the list of a partition: its members in the order in which they are to have its records
-abbrev pub list : ClusterKey → ℕ → List Line → List ℕ
-list k p lines = lists.list (members k lines) p
+abbrev pub succession_list : ClusterKey → ℕ → List Line → List ℕ
+succession_list k p lines = lists.list (members k lines) p
 
 -- the first of a list, 0 where it is empty
 abbrev pub first_of : List ℕ → ℕ
@@ -65,8 +65,8 @@ first_of ids = slice_index ids 0
 
 -- the list master
 abbrev pub master : ClusterKey → ℕ → List Line → ℕ
-master k p lines = first_of (list k p lines)
+master k p lines = first_of (succession_list k p lines)
 
 -- whether the node is a replica: one of the first of the list, as many as the factor says or all
 abbrev pub is_replica : ℕ → ClusterKey → ℕ → ℕ → List Line → Bool
-is_replica factor k p n lines = lists.is_replica n (members k lines) p factor
+is_replica factor k p n lines = lists.is_replica_of n (members k lines) p factor

@@ -10,18 +10,19 @@ ghost use Rattle.journal_lines.specs.declared.line.Line.{Line};
 ghost use Rattle.std.specs.List.{list_any};
 ghost use Rattle.wire_messages.specs.declared.message.Message.TheVariants as message;
 ghost use Rattle.journal_lines.specs.declared.line.Line.TheVariants as line;
+ghost use Rattle.partition_lists.specs.Classes.{no_class};
 ghost use Rattle.journal_readings.specs.Lines.{is_enter};
 ghost use Rattle.journal_readings.specs.Messages.{arrival, arrival_between};
-ghost use Rattle.journal_readings.specs.Settings.{is_up, up_step, clock_of, clock_step, present_role, role_step, present_members, up_members};
+ghost use Rattle.journal_readings.specs.Settings.{is_node_up, up_step, clock_of, clock_step, present_role, role_step, present_members, up_members};
 ghost use Rattle.journal_readings.specs.Contents.{content, content_step, holds_any, copy_step, applied, applied_step};
 ghost use Rattle.journal_readings.specs.Views.{view, view_step, last_key, last_step, promised_key, promise_step, master, is_replica};
 ghost use Rattle.journal_readings.specs.Entries.{entry, applied_in, applied_in_step, fold_of};
 ghost use Rattle.journal_readings.specs.Stamps.{stamp, stamp_step, is_empty_at_entry, is_empty_everywhere};
-ghost use Rattle.journal_readings.specs.Counts.{count, no_class, heard_numbers, heard_step};
+ghost use Rattle.journal_readings.specs.Counts.{count, heard_numbers, heard_step};
 ghost use Rattle.journal_readings.specs.Rows.{row, copy_state, is_empty_row};
-ghost use Rattle.journal_readings.specs.Classes.{class_of, first_of_class, sends};
+ghost use Rattle.journal_readings.specs.Classes.{class_of, first_of_class, hands_on};
 ghost use Rattle.journal_readings.specs.Maps.{acting, listed_members};
-ghost use Rattle.journal_readings.specs.Pending.{is_acked, acks, is_handed_on, acks_record, is_pending, out};
+ghost use Rattle.journal_readings.specs.Pending.{is_acked, acks, is_handed_on, acks_record, is_record_pending, out};
 ghost use Rattle.journal_readings.specs.Settled.{is_settled, has_open_write};
 ghost use Rattle.journal_readings.specs.Claims.{OneMap, NoLoss, newest, SettledJoin, ReadJoin, EqualClasses, KeysRise};
 ghost use Rattle.journal_readings.specs.CalmEnd.{CalmEnd};
@@ -40,7 +41,7 @@ pub fn readings_go_line_by_line()
     ensures view { (n : ℕ) → (lines : List Line) → (l : Line) → view n (lines ++ l ∷ []) ≡ view_step n (view n lines) l }
     ensures last { (n : ℕ) → (lines : List Line) → (l : Line) → last_key n (lines ++ l ∷ []) ≡ last_step n (last_key n lines) l }
     ensures promised { (n : ℕ) → (lines : List Line) → (l : Line) → promised_key n (lines ++ l ∷ []) ≡ promise_step n (promised_key n lines) l }
-    ensures up { (n : ℕ) → (lines : List Line) → (l : Line) → is_up n (lines ++ l ∷ []) ≡ up_step n (is_up n lines) l }
+    ensures up { (n : ℕ) → (lines : List Line) → (l : Line) → is_node_up n (lines ++ l ∷ []) ≡ up_step n (is_node_up n lines) l }
     ensures clock { (n : ℕ) → (lines : List Line) → (l : Line) → clock_of n (lines ++ l ∷ []) ≡ clock_step n (clock_of n lines) l }
     ensures role { (n : ℕ) → (lines : List Line) → (l : Line) → present_role n (lines ++ l ∷ []) ≡ role_step n (present_role n lines) l }
     ensures stamp { (factor : ℕ) → (n : ℕ) → (p : ℕ) → (lines : List Line) → (l : Line) → stamp factor n p (lines ++ l ∷ []) ≡ stamp_step factor n p lines (stamp factor n p lines) l }
@@ -83,12 +84,12 @@ pub fn sides_hand_on()
     ensures entries { (entry Time (key 4 2) 1 digest sides ≡ Some (version 9 1 97)) × (entry Time (key 4 2) 2 digest sides ≡ Some (version 0 1 98)) }
     ensures folded { fold_of Time (key 4 2) digest sides ≡ Some (version 9 1 97) }
     ensures unsettled { is_settled (key 4 2) 4095 sides ≡ false }
-    ensures pending { (is_pending Time 1 (key 4 2) 1 2 digest sides ≡ true) × (is_pending Time 1 (key 4 2) 2 1 digest sides ≡ false) }
+    ensures pending { (is_record_pending Time 1 (key 4 2) 1 2 digest sides ≡ true) × (is_record_pending Time 1 (key 4 2) 2 1 digest sides ≡ false) }
     ensures none_out { out (key 4 2) 1 2 sides ≡ None }
     ensures out { out (key 4 2) 1 2 batch_out ≡ Some batch }
-    ensures still_pending { is_pending Time 1 (key 4 2) 1 2 digest batch_merged ≡ true }
+    ensures still_pending { is_record_pending Time 1 (key 4 2) 1 2 digest batch_merged ≡ true }
     ensures merged { (content Time 1 digest batch_merged ≡ Some (version 9 1 97)) × (content Time 2 digest batch_merged ≡ Some (version 9 1 97)) }
-    ensures acked { (is_pending Time 1 (key 4 2) 1 2 digest batch_acked ≡ false) × (out (key 4 2) 1 2 batch_acked ≡ None) }
+    ensures acked { (is_record_pending Time 1 (key 4 2) 1 2 digest batch_acked ≡ false) × (out (key 4 2) 1 2 batch_acked ≡ None) }
 {}
 
 /// Where the partition is settled the replica's copy is whole by the view, and the other member has
@@ -109,7 +110,7 @@ pub fn equal_copies_are_one_class()
     ensures rows { (row 2 (key 2 2) 1 4095 met_again ≡ Some (Whole (key 1 2) 1)) × (row 2 (key 2 2) 2 4095 met_again ≡ Some (Whole (key 1 2) 1)) }
     ensures classes { (class_of 2 (key 2 2) 4095 1 met_again ≡ 2 ∷ 1 ∷ []) × (class_of 2 (key 2 2) 4095 2 met_again ≡ 2 ∷ 1 ∷ []) }
     ensures first { first_of_class 2 (key 2 2) 4095 1 met_again ≡ Some 2 }
-    ensures sends { (sends 2 (key 2 2) 2 1 4095 met_again ≡ false) × (sends 2 (key 2 2) 1 2 4095 met_again ≡ false) }
+    ensures sends { (hands_on 2 (key 2 2) 2 1 4095 met_again ≡ false) × (hands_on 2 (key 2 2) 1 2 4095 met_again ≡ false) }
 {}
 
 /// A write that was lost on its way leaves copies that aren't equal, and both are handed on.
@@ -118,7 +119,7 @@ pub fn unequal_copies_are_two_classes()
     ensures counts { (count (key 1 2) 2 4095 met_unequal ≡ 1) × (count (key 1 2) 1 4095 met_unequal ≡ 0) }
     ensures rows { (row 2 (key 2 2) 2 4095 met_unequal ≡ Some (Whole (key 1 2) 1)) × (row 2 (key 2 2) 1 4095 met_unequal ≡ Some Empty) }
     ensures class { class_of 2 (key 2 2) 4095 2 met_unequal ≡ 2 ∷ [] }
-    ensures sends { (sends 2 (key 2 2) 2 1 4095 met_unequal ≡ true) × (sends 2 (key 2 2) 1 2 4095 met_unequal ≡ false) }
+    ensures sends { (hands_on 2 (key 2 2) 2 1 4095 met_unequal ≡ true) × (hands_on 2 (key 2 2) 1 2 4095 met_unequal ≡ false) }
 {}
 
 /// A copy that lacks a write before one that it has is in no class with another, and both are handed
@@ -126,8 +127,8 @@ pub fn unequal_copies_are_two_classes()
 pub fn a_gap_leaves_a_copy_alone()
     ensures rows { (row 2 (key 2 2) 2 4095 first_lost ≡ Some (Whole (key 1 2) 2)) × (row 2 (key 2 2) 1 4095 first_lost ≡ Some (Whole (key 1 2) no_class)) }
     ensures classes { (class_of 2 (key 2 2) 4095 2 first_lost ≡ 2 ∷ []) × (class_of 2 (key 2 2) 4095 1 first_lost ≡ 1 ∷ []) }
-    ensures sends { (sends 2 (key 2 2) 2 1 4095 first_lost ≡ true) × (sends 2 (key 2 2) 1 2 4095 first_lost ≡ true) }
-    ensures pending { (is_pending Time 2 (key 2 2) 2 1 digest first_lost ≡ true) × (is_pending Time 2 (key 2 2) 1 2 second first_lost ≡ true) × (is_pending Time 2 (key 2 2) 1 2 digest first_lost ≡ false) }
+    ensures sends { (hands_on 2 (key 2 2) 2 1 4095 first_lost ≡ true) × (hands_on 2 (key 2 2) 1 2 4095 first_lost ≡ true) }
+    ensures pending { (is_record_pending Time 2 (key 2 2) 2 1 digest first_lost ≡ true) × (is_record_pending Time 2 (key 2 2) 1 2 second first_lost ≡ true) × (is_record_pending Time 2 (key 2 2) 1 2 digest first_lost ≡ false) }
     ensures open { has_open_write (key 1 2) 4095 first_lost ≡ true }
 {}
 

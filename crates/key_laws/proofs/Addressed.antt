@@ -21,8 +21,8 @@ use Rattle.node_rules.specs.Agreement.{Proposal, proposes, proposal_of}
 use Rattle.node_rules.specs.Batches as batches
 use Rattle.node_rules.specs.Batches.{Target, Targets}
 use Rattle.node_rules.specs.Exchange.{View, is_member, members_of}
-use Rattle.node_rules.specs.Facts.{Facts, view_key, members, list_at}
-use Rattle.node_rules.specs.Map.{state_at, master}
+use Rattle.node_rules.specs.Facts.{Facts, view_key, members_of_view, list_at}
+use Rattle.node_rules.specs.Map.{row_state_at, list_master}
 use Rattle.node_rules.specs.Notes.{note, reached, sent, in_view, target_for}
 use Rattle.node_rules.specs.Notes as notes
 use Rattle.node_rules.specs.Standing.{others, other_replicas, asked, asked_by_known, knows_settled}
@@ -30,7 +30,7 @@ use Rattle.node_rules.specs.Tables.{contains, changed_if}
 use Rattle.node_rules.specs.Transactions as transactions
 use Rattle.node_rules.specs.Transactions.{Transaction, Transactions}
 use Rattle.key_laws.specs.Addressed.{Addressed, GoesBetween}
-use Rattle.key_laws.specs.Sound.{NodeKeys, Views, Grows}
+use Rattle.key_laws.specs.Sound.{NodeKeys, ViewStands, Grows}
 use Rattle.key_laws.specs.Traced.{Traced}
 use Rattle.key_laws.proofs.Frames.{num_same, num_eq, num_differ, never}
 
@@ -94,7 +94,7 @@ pub listed_member : (ms : List Member) (p n : ℕ) → contains (list ms p) n �
 listed_member ms p n e = (any_is_contained n (ids_of ms)).1 ((list_contains ms p n).0 ((any_is_contained n (list ms p)).0 e))
 
 -- of a list over the members, the nodes but one are others
-pub list_others : (me : ℕ) (ms : List Member) (p n : ℕ) → contains (list ms p) n ≡ true → (n ≡ me → ⊥) → contains (agreement.others me ms) n ≡ true
+pub list_others : (me : ℕ) (ms : List Member) (p n : ℕ) → contains (list ms p) n ≡ true → (n ≡ me → ⊥) → contains (agreement.others_among me ms) n ≡ true
 list_others me ms p n e apart = to_without (ids_of ms) me n (listed_member ms p n e) apart
 
 pub in_filter : (test : ℕ → Bool) (xs : List ℕ) (n : ℕ) → contains (filter test xs) n ≡ true → (contains xs n ≡ true) × (test n ≡ true)
@@ -141,13 +141,13 @@ asked_among_others f p = record { each = λ n e. go (knows_settled f p) n e }
     go : (b : Bool) (n : ℕ) → contains (asked_by_known b (list_at f p) f.exchange.rows p f.me) n ≡ true → contains (others f) n ≡ true
     go true n e = differ refl (sym e)
     go false n e =
-        let found = in_filter (λ m. is_first_by (list_at f p) (state_at f.exchange.rows p) m && not (same_class_by (state_at f.exchange.rows p) f.me m)) (list_at f p) n e in
-        list_others f.me (members f) p n found.0 (asks_others (list_at f p) (state_at f.exchange.rows p) f.me n found.1)
+        let found = in_filter (λ m. is_first_by (list_at f p) (row_state_at f.exchange.rows p) m && not (same_class_by (row_state_at f.exchange.rows p) f.me m)) (list_at f p) n e in
+        list_others f.me (members_of_view f) p n found.0 (asks_others (list_at f p) (row_state_at f.exchange.rows p) f.me n found.1)
 
 pub replicas_among_others : (f : Facts) (p : ℕ) → Among (others f) (other_replicas f (list_at f p))
 replicas_among_others f p = record {
   each = λ n e.
-      list_others f.me (members f) p n (taken f.factor (list_at f p) n (in_without (replicas (list_at f p) f.factor) f.me n e)) (not_gone (replicas (list_at f p) f.factor) f.me n e);
+      list_others f.me (members_of_view f) p n (taken f.factor (list_at f p) n (in_without (replicas (list_at f p) f.factor) f.me n e)) (not_gone (replicas (list_at f p) f.factor) f.me n e);
 }
 
 pub among_without : (os ns : List ℕ) (a : ℕ) → Among os ns → Among os (without ns a)
@@ -248,7 +248,7 @@ note_goes t q f (line.Enter n key ms) h = record { targets = tt; waits = tt }
 note_goes t q f (line.Exchanged n key) h = record { targets = new_targets t f (others f) (all_among (others f)); waits = h.waits }
 note_goes t q f (line.Opened n key number d a) h = record {
   targets = h.targets;
-  waits = opening_waits (others f) (notes.new_transaction f (list_at f (partition_of d)) number d (notes.want_of q a)) f.transactions.running (asked_among_others f (partition_of d)) h.waits;
+  waits = opening_waits (others f) (notes.opening_transaction f (list_at f (partition_of d)) number d (notes.request_want q a)) f.transactions.running (asked_among_others f (partition_of d)) h.waits;
 }
 note_goes t q f (line.Value n key number d v) h = record { targets = h.targets; waits = closing_waits (others f) number f.transactions.running h.waits }
 note_goes t q f (line.Apply n key number d v) h = record {
@@ -303,9 +303,9 @@ reached_goes t f from (message.Progress key wants done handed settled) h = go (i
     go : (b : Bool) → NodeGoes t (notes.progress_came f from done handed settled b)
     go true = record { targets = h.targets; waits = h.waits }
     go false = h
-reached_goes t f from (message.Repl key number nth d v) h = go (in_view f key) (from == master (list_at f (partition_of d)))
+reached_goes t f from (message.Repl key number nth d v) h = go (in_view f key) (from == list_master (list_at f (partition_of d)))
   where
-    go : (b c : Bool) → NodeGoes t (notes.if_view b (notes.counted_if f key (list_at f (partition_of d)) (partition_of d) nth c) f)
+    go : (b c : Bool) → NodeGoes t (notes.if_view b (notes.write_counted_if f key (list_at f (partition_of d)) (partition_of d) nth c) f)
     go true true = record { targets = h.targets; waits = h.waits }
     go true false = h
     go false c = h
@@ -356,7 +356,7 @@ sent_goes t f to _ a h = h
 pub to_other : (t : Traced) (f : Facts) (b : ℕ) → NodeKeys t f.me f → contains (others f) b ≡ true → Addressed t f.me b (view_key f)
 to_other t f b h e = go f.exchange.view h.view e
   where
-    go : (o : Option View) → Views t f.me f.agreement.last o → contains (agreement.others f.me (members_of o)) b ≡ true → Addressed t f.me b (Rattle.node_rules.specs.Exchange.key_of o)
+    go : (o : Option View) → ViewStands t f.me f.agreement.last o → contains (agreement.others_among f.me (members_of o)) b ≡ true → Addressed t f.me b (Rattle.node_rules.specs.Exchange.exchange_key o)
     go None v e = differ refl (sym e)
     go (Some v) i e = record {
       list = v.members;

@@ -19,7 +19,7 @@ use Rattle.node_rules.specs.Effects.{sends_only, to_one}
 use Rattle.node_rules.specs.Exchange.{View, is_member, members_of}
 use Rattle.node_rules.specs.Facts.{Facts, list_at}
 use Rattle.node_rules.specs.Map.{entry_of}
-use Rattle.node_rules.specs.Messages.{due_message_of}
+use Rattle.node_rules.specs.Messages.{due_message_of, client}
 use Rattle.node_rules.specs.Notes.{in_view}
 use Rattle.node_rules.specs.Requests.{due_request, due_stop, due_start, map_refusal}
 use Rattle.node_rules.specs.Shows.{due_map, due_show, map_if, map_line}
@@ -32,16 +32,16 @@ use Rattle.journal_readings.specs.Lines.{has_node}
 use Rattle.cluster_rules.specs.Marks as marks
 use Rattle.cluster_rules.specs.Marks.{Mark, Begins, Writes}
 use Rattle.journal_readings.specs.Messages.{Posting}
-use Rattle.cluster_rules.specs.Network.{Network, client, landed, flying_at, posting_if}
+use Rattle.cluster_rules.specs.Network.{Network, landed, flying_at, posting_if}
 use Rattle.cluster_rules.specs.NodeSteps.{AreOf}
 use Rattle.cluster_rules.specs.Opening.{Header}
 use Rattle.cluster_rules.specs.Steps.{Step, marks_of, all_marks, AreDue}
 use Rattle.cluster_rules.specs.World.{World, opened}
 use Rattle.cluster_rules.proofs.OwnLines.{tick_own, message_own, request_own, stop_own, start_own}
 use Rattle.key_laws.specs.Addressed.{Addressed, GoesBetween, IsOther, ComesFromOther}
-use Rattle.key_laws.specs.Licences.{Licensed}
-use Rattle.key_laws.specs.Sound.{Sound, NodeKeys, Views}
-use Rattle.key_laws.specs.Traced.{Traced, facts_of, after, after_all, untouched}
+use Rattle.key_laws.specs.Licences.{LicensedMarks}
+use Rattle.key_laws.specs.Sound.{Sound, NodeKeys, ViewStands}
+use Rattle.key_laws.specs.Traced.{Traced, facts_of, traced_after, traced_after_all, untouched}
 use Rattle.key_laws.proofs.Addressed.{or_cases, differ, and_left, NodeGoes}
 use Rattle.key_laws.proofs.Directed.{Directed, WentTo, AllGo, all_go_grow, line_goes, begun_goes}
 use Rattle.key_laws.proofs.DueDirected.{SendsGo, written_go, tick_go, message_go, request_go, stop_go, start_go}
@@ -156,53 +156,53 @@ map_own n f from to = go (map_refusal f)
     go (Some cause) = (tt, tt)
     go None = each (range_with_len from (to + 1 - from))
 
-pub event_go : (n : ℕ) (t : Traced) (e : Event) → Sound (after t (Begins e)) → Directed (after t (Begins e)) → AllGo (after t (Begins e)) (due_of n t.world e)
+pub event_go : (n : ℕ) (t : Traced) (e : Event) → Sound (traced_after t (Begins e)) → Directed (traced_after t (Begins e)) → AllGo (traced_after t (Begins e)) (due_of n t.world e)
 event_go n t (event.Clock node time) s h = (tt, tt)
 event_go n t (event.Groups groups) s h = (tt, tt)
 event_go n t (event.Tick node) s h =
-    let u : Traced = after t (Begins (event.Tick node)) in
+    let u : Traced = traced_after t (Begins (event.Tick node)) in
     written_go u node t.world.network (tick_of n (facts_of u node)) (own_node u node s _ (tick_own n (facts_of u node)))
     (at_node u node s _ (tick_go u n (facts_of u node) (own_keys u node s) (h.nodes node)))
 event_go n t (event.Stop node) s h =
-    let u : Traced = after t (Begins (event.Stop node)) in
+    let u : Traced = traced_after t (Begins (event.Stop node)) in
     written_go u node t.world.network (due_stop (facts_of u node)) (own_node u node s _ (stop_own (facts_of u node))) (stop_go u node (facts_of u node))
 event_go n t (event.Start node) s h =
-    let u : Traced = after t (Begins (event.Start node)) in
+    let u : Traced = traced_after t (Begins (event.Start node)) in
     written_go u node t.world.network (due_start (facts_of u node)) (own_node u node s _ (start_own (facts_of u node))) (start_go u node (facts_of u node))
-event_go n t (event.Put node d v) s h = request_at_go (after t (Begins (event.Put node d v))) t.world.network node (t.world.clocks node) d (want.Put v) s h
-event_go n t (event.Get node d) s h = request_at_go (after t (Begins (event.Get node d))) t.world.network node (t.world.clocks node) d want.Get s h
-event_go n t (event.Del node d) s h = request_at_go (after t (Begins (event.Del node d))) t.world.network node (t.world.clocks node) d want.Del s h
-event_go n t (event.ClientPut d v) s h = named_go (after t (Begins (event.ClientPut d v))) t.world d (want.Put v) (node_for t.world.tables (partition_of d)) refl s h
-event_go n t (event.ClientGet d) s h = named_go (after t (Begins (event.ClientGet d))) t.world d want.Get (node_for t.world.tables (partition_of d)) refl s h
-event_go n t (event.ClientDel d) s h = named_go (after t (Begins (event.ClientDel d))) t.world d want.Del (node_for t.world.tables (partition_of d)) refl s h
+event_go n t (event.Put node d v) s h = request_at_go (traced_after t (Begins (event.Put node d v))) t.world.network node (t.world.clocks node) d (want.Put v) s h
+event_go n t (event.Get node d) s h = request_at_go (traced_after t (Begins (event.Get node d))) t.world.network node (t.world.clocks node) d want.Get s h
+event_go n t (event.Del node d) s h = request_at_go (traced_after t (Begins (event.Del node d))) t.world.network node (t.world.clocks node) d want.Del s h
+event_go n t (event.ClientPut d v) s h = named_go (traced_after t (Begins (event.ClientPut d v))) t.world d (want.Put v) (node_for t.world.tables (partition_of d)) refl s h
+event_go n t (event.ClientGet d) s h = named_go (traced_after t (Begins (event.ClientGet d))) t.world d want.Get (node_for t.world.tables (partition_of d)) refl s h
+event_go n t (event.ClientDel d) s h = named_go (traced_after t (Begins (event.ClientDel d))) t.world d want.Del (node_for t.world.tables (partition_of d)) refl s h
 event_go n t (event.Ask node) s h =
-    let u : Traced = after t (Begins (event.Ask node)) in
+    let u : Traced = traced_after t (Begins (event.Ask node)) in
     let asks : SendsGo u client (to_one node message.MapAsk) = (read_map_ask (λ m. GoesBetween u client node m) tt, tt) in
     written_go u client t.world.network (sends_only (to_one node message.MapAsk)) tt asks
 event_go n t (event.Deliver i) s h =
-    let u : Traced = after t (Begins (event.Deliver i)) in
+    let u : Traced = traced_after t (Begins (event.Deliver i)) in
     delivery_go u t.world i _ (λ p e. (went_to t u i p refl e, arriving_go n u t.world (landed t.world.network i) p refl s h (posted_in t u i p refl e)))
 event_go n t (event.Repeat i) s h =
-    let u : Traced = after t (Begins (event.Repeat i)) in
+    let u : Traced = traced_after t (Begins (event.Repeat i)) in
     delivery_go u t.world i _ (λ p e. (went_to t u i p refl e, arriving_go n u t.world t.world.network p refl s h (posted_in t u i p refl e)))
 event_go n t (event.Lose i) s h = go (flying_at t.world.network i)
   where
-    go : (o : Option Posting) → AllGo (after t (Begins (event.Lose i))) (losing i o)
+    go : (o : Option Posting) → AllGo (traced_after t (Begins (event.Lose i))) (losing i o)
     go None = (tt, tt)
     go (Some p) = (tt, tt)
 event_go n t (event.Cut i size) s h = delivery_go u t.world i _ (λ p e. (went_to t u i p refl e, go p e (nat_lt size (length p.bytes))))
   where
     u : Traced
-    u = after t (Begins (event.Cut i size))
+    u = traced_after t (Begins (event.Cut i size))
 
     go : (p : Posting) → flying_at t.world.network i ≡ Some p → (b : Bool) → AllGo u (arriving_cut n t.world (landed t.world.network i) p b)
     go p e true = (tt, tt)
     go p e false = arriving_go n u t.world (landed t.world.network i) p refl s h (posted_in t u i p refl e)
 event_go n t (event.Map node from to) s h =
-    let u : Traced = after t (Begins (event.Map node from to)) in
+    let u : Traced = traced_after t (Begins (event.Map node from to)) in
     written_go u node t.world.network (due_map (facts_of u node) from to) (map_own node (facts_of u node) from to) tt
 event_go n t (event.Show node d) s h =
-    let u : Traced = after t (Begins (event.Show node d)) in
+    let u : Traced = traced_after t (Begins (event.Show node d)) in
     written_go u node t.world.network (due_show (facts_of u node) d) (tt, tt) tt
 event_go n t (event.Place p) s h = (tt, tt)
 event_go n t (event.Hash d) s h = (tt, tt)
@@ -213,25 +213,25 @@ event_go n t _ s h = tt
 
 -- ---- steps
 
-lines_go : (t : Traced) (ls : List Line) → Sound t → Licensed t (writes ls) → AllGo t ls → Directed t → Directed (after_all t (writes ls))
+lines_go : (t : Traced) (ls : List Line) → Sound t → LicensedMarks t (writes ls) → AllGo t ls → Directed t → Directed (traced_after_all t (writes ls))
 lines_go t [] s ok go h = h
 lines_go t (l ∷ ls) s ok go h =
-    let k : Keeps t (after t (Writes l)) = kept_line t l ok.0 s in
-    lines_go (after t (Writes l)) ls k.sound ok.1 (all_go_grow t (after t (Writes l)) k.grows ls go.1) (line_goes t l s k.grows go.0 h)
+    let k : Keeps t (traced_after t (Writes l)) = kept_line t l ok.0 s in
+    lines_go (traced_after t (Writes l)) ls k.sound ok.1 (all_go_grow t (traced_after t (Writes l)) k.grows ls go.1) (line_goes t l s k.grows go.0 h)
 
-pub step_goes : (n : ℕ) (t : Traced) (e : Event) → Begun e → Sound t → Directed t → Directed (after_all t (Begins e ∷ writes (due_of n t.world e)))
+pub step_goes : (n : ℕ) (t : Traced) (e : Event) → Begun e → Sound t → Directed t → Directed (traced_after_all t (Begins e ∷ writes (due_of n t.world e)))
 step_goes n t e b s h =
-    let u : Traced = after t (Begins e) in
+    let u : Traced = traced_after t (Begins e) in
     let k : Keeps t u = kept_begun t e s in
     let d : Directed u = begun_goes t e k.grows h in
     lines_go u (due_of n t.world e) k.sound (step_ok n t e b s).1 (event_go n t e k.sound d) d
 
-pub steps_go : (n : ℕ) (t : Traced) (ss : List Step) → Sound t → Directed t → AllBegun ss → AreDue n t.world ss → Directed (after_all t (all_marks ss))
+pub steps_go : (n : ℕ) (t : Traced) (ss : List Step) → Sound t → Directed t → AllBegun ss → AreDue n t.world ss → Directed (traced_after_all t (all_marks ss))
 steps_go n t [] s h b d = h
 steps_go n t (x ∷ ss) s h b d =
-    let u : Traced = after_all t (marks_of x) in
-    let ok : Licensed t (marks_of x) = subst (λ ls. Licensed t (Begins x.event ∷ writes ls)) (sym d.0) (step_ok n t x.event b.0 s) in
-    let next : Directed u = subst (λ ls. Directed (after_all t (Begins x.event ∷ writes ls))) (sym d.0) (step_goes n t x.event b.0 s h) in
+    let u : Traced = traced_after_all t (marks_of x) in
+    let ok : LicensedMarks t (marks_of x) = subst (λ ls. LicensedMarks t (Begins x.event ∷ writes ls)) (sym d.0) (step_ok n t x.event b.0 s) in
+    let next : Directed u = subst (λ ls. Directed (traced_after_all t (Begins x.event ∷ writes ls))) (sym d.0) (step_goes n t x.event b.0 s h) in
     subst (λ (v : Traced). Directed v) (sym (after_all-append t (marks_of x) (all_marks ss)))
     (steps_go n u ss (kept_all t (marks_of x) ok s).sound next b.1 (subst (λ v. AreDue n v ss) (sym (world_of t (marks_of x))) d.1))
 
@@ -246,15 +246,15 @@ none_directed w nodes e = record { nodes = nodes; sent = λ i p m found r. absur
 
 -- what the marks of allowed steps lead to
 pub record Reached (h : Header) (ss : List Step) : Type 0 where
-  pub licensed : Licensed (untouched (opened h)) (all_marks ss)
-  pub sound : Sound (after_all (untouched (opened h)) (all_marks ss))
-  pub directed : Directed (after_all (untouched (opened h)) (all_marks ss))
+  pub licensed : LicensedMarks (untouched (opened h)) (all_marks ss)
+  pub sound : Sound (traced_after_all (untouched (opened h)) (all_marks ss))
+  pub directed : Directed (traced_after_all (untouched (opened h)) (all_marks ss))
 
 pub reached_by : (n : ℕ) (h : Header) (ss : List Step) → All IsProperHeaderLine h → AreAllowed n (opened h) ss → Reached h ss
 reached_by n h ss proper allowed =
     let t : Traced = untouched (opened h) in
     let a : Allowed n (opened h) ss = allowed_due n (opened h) ss (declared_ids h proper) allowed in
-    let ok : Licensed t (all_marks ss) = steps_ok n t ss (start h).sound a.begun a.due in
+    let ok : LicensedMarks t (all_marks ss) = steps_ok n t ss (start h).sound a.begun a.due in
     record {
       licensed = ok;
       sound = (kept_all t (all_marks ss) ok (start h).sound).sound;
@@ -262,8 +262,8 @@ reached_by n h ss proper allowed =
     }
 
 pub goes_between : (n : ℕ) (h : Header) (ss : List Step) → All IsProperHeaderLine h → AreAllowed n (opened h) ss → (i : ℕ) (p : Posting) (m : Message)
-    → slice_get (after_all (untouched (opened h)) (all_marks ss)).world.network.sent i ≡ Some p → message_of p.bytes ≡ Some m
-    → GoesBetween (after_all (untouched (opened h)) (all_marks ss)) p.from p.to m
+    → slice_get (traced_after_all (untouched (opened h)) (all_marks ss)).world.network.sent i ≡ Some p → message_of p.bytes ≡ Some m
+    → GoesBetween (traced_after_all (untouched (opened h)) (all_marks ss)) p.from p.to m
 goes_between n h ss proper allowed i p m found read = (reached_by n h ss proper allowed).directed.sent i p m found read
 
 -- ---- at the receiver
@@ -274,7 +274,7 @@ same_list a b e = grind arith
 at_receiver : (t : Traced) (f : Facts) (a n : ℕ) (k : ClusterKey) → NodeKeys t n f → Addressed t a n k → in_view f k ≡ true → IsOther f a
 at_receiver t f a n k h x e = record { member = go f.exchange.view h.view e; other = λ same. x.differ (same ∙ h.me) }
   where
-    go : (o : Option View) → Views t n f.agreement.last o → Rattle.node_rules.specs.Exchange.is_view o k ≡ true → IsTrue (is_member (members_of o) a)
+    go : (o : Option View) → ViewStands t n f.agreement.last o → Rattle.node_rules.specs.Exchange.is_view o k ≡ true → IsTrue (is_member (members_of o) a)
     go None v e = differ refl (sym e)
     go (Some v) i e =
         let key : v.key ≡ k = same_is v.key k e in
@@ -296,7 +296,7 @@ pub comes_from_other : (n : ℕ) (h : Header) (ss : List Step) → All IsProperH
     → slice_get (marks.after_all (opened h) (all_marks ss)).network.sent i ≡ Some p → message_of p.bytes ≡ Some m
     → ComesFromOther ((marks.after_all (opened h) (all_marks ss)).facts p.to) p.from m
 comes_from_other n h ss proper allowed i p m found read =
-    let t : Traced = after_all (untouched (opened h)) (all_marks ss) in
+    let t : Traced = traced_after_all (untouched (opened h)) (all_marks ss) in
     let r : Reached h ss = reached_by n h ss proper allowed in
     let same : t.world ≡ marks.after_all (opened h) (all_marks ss) = world_of (untouched (opened h)) (all_marks ss) in
     let posted : slice_get t.world.network.sent i ≡ Some p = subst (λ (w : World). slice_get w.network.sent i ≡ Some p) (sym same) found in

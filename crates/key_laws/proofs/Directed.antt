@@ -13,11 +13,12 @@ use Rattle.cluster_rules.specs.declared.event.Event.TheVariants as event
 use Rattle.cluster_rules.specs.Marks as marks
 use Rattle.cluster_rules.specs.Marks.{Mark, Begins, Writes}
 use Rattle.journal_readings.specs.Messages.{Posting, Arrival, arrived, arrived_cut}
-use Rattle.cluster_rules.specs.Network.{client, posting, posting_at, posting_if}
-use Rattle.cluster_rules.specs.World.{at}
+use Rattle.cluster_rules.specs.Network.{posting, posting_at, posting_if}
+use Rattle.cluster_rules.specs.World.{changed_at}
+use Rattle.node_rules.specs.Messages.{client}
 use Rattle.key_laws.specs.Addressed.{GoesBetween}
 use Rattle.key_laws.specs.Sound.{Sound, Grows}
-use Rattle.key_laws.specs.Traced.{Traced, facts_of, after}
+use Rattle.key_laws.specs.Traced.{Traced, facts_of, traced_after}
 use Rattle.key_laws.proofs.Addressed.{NodeGoes, node_goes_grows, goes_grows, note_goes, reached_goes, sent_goes}
 use Rattle.key_laws.proofs.Kept.{more}
 use Rattle.key_laws.proofs.Frames.{at_each}
@@ -80,7 +81,7 @@ all_go_grow t u g (l ∷ ls) h = (line_goes_grows t u g l h.0, all_go_grow t u g
 -- ---- each line keeps it
 
 -- nothing that counts here has changed but one node
-one_node : (t u : Traced) (n : ℕ) (new : Facts) → Grows t u → u.world.facts ≡ at t.world.facts n new → u.world.network.sent ≡ t.world.network.sent
+one_node : (t u : Traced) (n : ℕ) (new : Facts) → Grows t u → u.world.facts ≡ changed_at t.world.facts n new → u.world.network.sent ≡ t.world.network.sent
     → Directed t → NodeGoes u new → Directed u
 one_node t u n new g facts sent h here = record {
   nodes = λ m. subst (λ (fs : ℕ → Facts). NodeGoes u (fs m)) (sym facts) (at_each (λ k f. NodeGoes u f) t.world.facts n new (λ k. node_goes_grows t u g (facts_of t k) (h.nodes k)) here m);
@@ -93,7 +94,7 @@ beside t u g facts sent h = record {
   sent = λ i p m e r. goes_grows t u g p.from p.to m (h.sent i p m (subst (λ xs. slice_get xs i ≡ Some p) sent e) r);
 }
 
-noted_by : (t u : Traced) (n : ℕ) (l : Line) → Grows t u → u.world.facts ≡ at t.world.facts n (note t.world.want (facts_of t n) l) → u.world.network.sent ≡ t.world.network.sent → Directed t → Directed u
+noted_by : (t u : Traced) (n : ℕ) (l : Line) → Grows t u → u.world.facts ≡ changed_at t.world.facts n (note t.world.want (facts_of t n) l) → u.world.network.sent ≡ t.world.network.sent → Directed t → Directed u
 noted_by t u n l g facts sent h =
     one_node t u n (note t.world.want (facts_of t n) l) g facts sent h (note_goes u t.world.want (facts_of t n) l (node_goes_grows t u g (facts_of t n) (h.nodes n)))
 
@@ -135,11 +136,11 @@ posted_goes t u i p me same g goes h = record { nodes = nodes (message_of p.byte
     sends : (j : ℕ) (q : Posting) (m : Message) → slice_get (t.world.network.sent ++ p ∷ []) j ≡ Some q → message_of q.bytes ≡ Some m → GoesBetween u q.from q.to m
     sends j q m e r = ⊎_elim (λ z. goes_grows t u g q.from q.to m (h.sent j q m z r)) (λ z. last q m z r) (more t.world.network.sent p q j e)
 
-pub line_goes : (t : Traced) (l : Line) → Sound t → Grows t (after t (Writes l)) → LineGoes t l → Directed t → Directed (after t (Writes l))
+pub line_goes : (t : Traced) (l : Line) → Sound t → Grows t (traced_after t (Writes l)) → LineGoes t l → Directed t → Directed (traced_after t (Writes l))
 line_goes t (line.Deliver i a b) s g go h = arrived_goes t (option_and_then (arrived b) (posting_at t.world.network i)) _ refl g h
 line_goes t (line.Repeat i a b) s g go h = arrived_goes t (option_and_then (arrived b) (posting_at t.world.network i)) _ refl g h
 line_goes t (line.Cut i a b size) s g go h = arrived_goes t (option_and_then (arrived_cut b size) (posting_at t.world.network i)) _ refl g h
-line_goes t (line.Sent i a b bytes) s g go h = posted_goes t (after t (Writes (line.Sent i a b bytes))) i (record { from = a; to = b; bytes = bytes }) (s.nodes a).me refl g go h
+line_goes t (line.Sent i a b bytes) s g go h = posted_goes t (traced_after t (Writes (line.Sent i a b bytes))) i (record { from = a; to = b; bytes = bytes }) (s.nodes a).me refl g go h
 line_goes t (line.Tick n) s g go h = noted_by t _ n (line.Tick n) g refl refl h
 line_goes t (line.Stop n) s g go h = noted_by t _ n (line.Stop n) g refl refl h
 line_goes t (line.Start n) s g go h = noted_by t _ n (line.Start n) g refl refl h
@@ -161,7 +162,7 @@ line_goes t (line.Learn n k p) s g go h = noted_by t _ n (line.Learn n k p) g re
 line_goes t (line.Drop n k p) s g go h = noted_by t _ n (line.Drop n k p) g refl refl h
 line_goes t _ s g go h = beside t _ g refl refl h
 
-pub begun_goes : (t : Traced) (e : Event) → Grows t (after t (Begins e)) → Directed t → Directed (after t (Begins e))
+pub begun_goes : (t : Traced) (e : Event) → Grows t (traced_after t (Begins e)) → Directed t → Directed (traced_after t (Begins e))
 begun_goes t (event.Deliver i) g h = beside t _ g refl refl h
 begun_goes t (event.Lose i) g h = beside t _ g refl refl h
 begun_goes t (event.Cut i size) g h = beside t _ g refl refl h

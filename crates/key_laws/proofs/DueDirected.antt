@@ -22,17 +22,17 @@ use Rattle.node_rules.specs.Batches.{Target, Targets, next_batch, batch_after, f
 use Rattle.node_rules.specs.ByParts.{entered_alone, exchanged_if}
 use Rattle.node_rules.specs.Copies.{is_nil}
 use Rattle.node_rules.specs.Effects.{Effects, to_each}
-use Rattle.node_rules.specs.Exchange.{Exchange, View, key_of, members_of, is_view}
-use Rattle.node_rules.specs.Facts.{Facts, view_key, members, list_at}
+use Rattle.node_rules.specs.Exchange.{Exchange, View, exchange_key, members_of, is_view}
+use Rattle.node_rules.specs.Facts.{Facts, view_key, members_of_view, list_at}
 use Rattle.node_rules.specs.Hearing.{heard_ids}
 use Rattle.node_rules.specs.Map.{lacks}
 use Rattle.node_rules.specs.Messages as due
 use Rattle.node_rules.specs.Messages.{due_message_of}
 use Rattle.node_rules.specs.Notes as notes
-use Rattle.node_rules.specs.Notes.{noted, neighbours, after_ages, reached, in_view, new_transaction}
-use Rattle.node_rules.specs.Requests.{due_request, due_stop, due_start, asking, request_if, refusal_of, stop_if, start_if}
+use Rattle.node_rules.specs.Notes.{noted, neighbours, after_ages, reached, in_view, opening_transaction}
+use Rattle.node_rules.specs.Requests.{due_request, due_stop, due_start, asking, request_if, request_refusal, stop_if, start_if}
 use Rattle.node_rules.specs.Resolving.{repl, resolving_want}
-use Rattle.node_rules.specs.Settling.{settling, line_if, hand, settle, learn, drop, settling_at, settling_from, settling_if}
+use Rattle.node_rules.specs.Settling.{settling_due, line_if, hand, settle, learn, drop, settling_at, settling_from, settling_if}
 use Rattle.node_rules.specs.Standing.{others, other_replicas, asked}
 use Rattle.node_rules.specs.Tables.{contains}
 use Rattle.node_rules.specs.Tick as tick
@@ -45,7 +45,7 @@ use Rattle.cluster_rules.specs.Network.{Network, has_place}
 use Rattle.cluster_rules.specs.NodeSteps.{IsOf, AreOf}
 use Rattle.cluster_rules.proofs.OwnLines.{noted_me}
 use Rattle.key_laws.specs.Addressed.{Addressed, GoesBetween}
-use Rattle.key_laws.specs.Licences.{Known, Says}
+use Rattle.key_laws.specs.Licences.{IsPromisedKey, Says}
 use Rattle.key_laws.specs.Sound.{NodeKeys, Outs, OutKnown, RowsKnown, Sound}
 use Rattle.key_laws.specs.Traced.{Traced}
 use Rattle.key_laws.proofs.Addressed.{or_left, or_right, and_right, in_filter, differ, NodeGoes, TargetsGo, TargetGoes, OutGoes, AllAwait, Among, to_other, back, asked_among_others, replicas_among_others}
@@ -102,7 +102,7 @@ each_goes t a m (n ∷ ns) h = (h n (or_left (n == n) (contains ns n) (num_eq n 
 
 -- keys that stand somewhere, and whom it sends to
 pub record Knows (t : Traced) (f : Facts) : Type 0 where
-  pub view : Known t (view_key f)
+  pub view : IsPromisedKey t (view_key f)
   pub outs : Outs t f.batches
   pub rows : RowsKnown t f.exchange.rows
   pub others : (to : ℕ) → contains (others f) to ≡ true → Addressed t f.me to (view_key f)
@@ -115,15 +115,15 @@ knows_of t f h g = record { view = view_known t f.me f h; outs = h.outs; rows = 
 
 state_goes : (t : Traced) (f : Facts) (to : ℕ) (wants : Bool) → Knows t f → Addressed t f.me to (view_key f) → GoesIf t f.me to (message_of (spelling (state f wants)))
 state_goes t f to wants h a =
-    read_state (λ x. GoesBetween t f.me to x) (λ k. Known t k) (λ k i. i.field) (view_key f) wants (tick.own_row_in f) h.view.field (found_row t f.me f.exchange.rows h.rows) (λ w r q. a)
+    read_state (λ x. GoesBetween t f.me to x) (λ k. IsPromisedKey t k) (λ k i. i.field) (view_key f) wants (tick.own_row_in f) h.view.field (found_row t f.me f.exchange.rows h.rows) (λ w r q. a)
 
-progress_goes : (t : Traced) (n : ℕ) (f : Facts) (me to : ℕ) (wants : Bool) → Known t (view_key f) → Addressed t me to (view_key f) → GoesIf t me to (message_of (spelling (progress_message n f wants)))
+progress_goes : (t : Traced) (n : ℕ) (f : Facts) (me to : ℕ) (wants : Bool) → IsPromisedKey t (view_key f) → Addressed t me to (view_key f) → GoesIf t me to (message_of (spelling (progress_message n f wants)))
 progress_goes t n f me to wants h a = read_progress (λ x. GoesBetween t me to x) (view_key f) wants _ _ _ h.field (λ w x y z. a)
 
-ask_goes : (t : Traced) (me to : ℕ) (k : ClusterKey) (number : ℕ) (d : List ℕ) → Known t k → Addressed t me to k → GoesIf t me to (message_of (spelling (message.Ask k number d)))
+ask_goes : (t : Traced) (me to : ℕ) (k : ClusterKey) (number : ℕ) (d : List ℕ) → IsPromisedKey t k → Addressed t me to k → GoesIf t me to (message_of (spelling (message.Ask k number d)))
 ask_goes t me to k number d h a = read_ask (λ x. GoesBetween t me to x) k number d h.field (λ i e. a)
 
-repl_goes : (t : Traced) (f : Facts) (x : Transaction) (w : Write) (to : ℕ) → Known t (view_key f) → Addressed t f.me to (view_key f) → GoesIf t f.me to (message_of (spelling (repl f x w)))
+repl_goes : (t : Traced) (f : Facts) (x : Transaction) (w : Write) (to : ℕ) → IsPromisedKey t (view_key f) → Addressed t f.me to (view_key f) → GoesIf t f.me to (message_of (spelling (repl f x w)))
 repl_goes t f x w to h a = read_repl (λ y. GoesBetween t f.me to y) (view_key f) x.number w.nth x.digest w.version h.field (λ i j e v. a)
 
 -- ---- parts of a tick
@@ -141,7 +141,7 @@ all_again_go t f (x ∷ xs) h a = sends_append t f.me _ _ (again_go t f x x.appl
 
 -- the next batch is of a key that is known, and goes to its target
 record NextGoes (t : Traced) (me to : ℕ) (b : Batch) : Type 0 where
-  known : Known t b.key
+  known : IsPromisedKey t b.key
   goes : Addressed t me to b.key
 
 abbrev NextIf : Traced → ℕ → ℕ → Option Batch → Type 0
@@ -171,11 +171,11 @@ batches_from t f (x ∷ xs) h outs a = go (next_batch (view_key f) f.store.conte
 batches_go : (t : Traced) (f : Facts) → Knows t f → SendsGo t f.me (tick.batches f).sends
 batches_go t f h = batches_from t f f.batches h h.outs h.goes.targets
 
-progress_go : (t : Traced) (n : ℕ) (f : Facts) (me : ℕ) (b : Bool) → Known t (view_key f) → ((to : ℕ) → contains (others f) to ≡ true → Addressed t me to (view_key f)) → SendsGo t me (tick.progress_if n f b).sends
+progress_go : (t : Traced) (n : ℕ) (f : Facts) (me : ℕ) (b : Bool) → IsPromisedKey t (view_key f) → ((to : ℕ) → contains (others f) to ≡ true → Addressed t me to (view_key f)) → SendsGo t me (tick.progress_if n f b).sends
 progress_go t n f me true known h = each_goes t me _ (others f) (λ to e. progress_goes t n f me to true known (h to e))
 progress_go t n f me false known h = tt
 
-beat_go : (t : Traced) (f : Facts) → Knows t f → Known t f.agreement.promised → SendsGo t f.me (tick.beat f).sends
+beat_go : (t : Traced) (f : Facts) → Knows t f → IsPromisedKey t f.agreement.promised → SendsGo t f.me (tick.beat f).sends
 beat_go t f h promised = each_goes t f.me _ f.peers (λ n e. read_heartbeat (λ x. GoesBetween t f.me n x) (view_key f) f.agreement.promised (heard_ids f.hearing.heard) f.role h.view.field promised.field (λ x r. tt))
 
 proposals_go : (t : Traced) (a : ℕ) (k : ClusterKey) (ms : List Member) (ns : List ℕ) → SendsGo t a (to_each ns (message.Propose k ms))
@@ -184,12 +184,12 @@ proposals_go t a k ms ns = each_goes t a _ ns (λ n e. any_propose (λ x. GoesBe
 propose_go : (t : Traced) (f : Facts) → SendsGo t f.me (propose f).sends
 propose_go t f = go f.agreement.proposal
   where
-    to : (ns : List ℕ) → SendsGo t f.me (tick.proposing_to f (agreement.next_key f.me f.agreement) (neighbours f) ns).sends
+    to : (ns : List ℕ) → SendsGo t f.me (tick.proposal_effects f (agreement.next_key f.me f.agreement) (neighbours f) ns).sends
     to [] = tt
     to (n ∷ ns) = proposals_go t f.me (agreement.next_key f.me f.agreement) (neighbours f) (n ∷ ns)
 
     new : (b : Bool) → SendsGo t f.me (tick.propose_new f b).sends
-    new true = to (agreement.others f.me (neighbours f))
+    new true = to (agreement.others_among f.me (neighbours f))
     new false = tt
 
     go : (o : Option Proposal) → SendsGo t f.me (tick.propose_with f o).sends
@@ -198,10 +198,10 @@ propose_go t f = go f.agreement.proposal
 
 -- ---- answers
 
-accept_goes : (t : Traced) (a b : ℕ) (k : ClusterKey) → Known t k → GoesIf t a b (message_of (spelling (message.Accept k)))
+accept_goes : (t : Traced) (a b : ℕ) (k : ClusterKey) → IsPromisedKey t k → GoesIf t a b (message_of (spelling (message.Accept k)))
 accept_goes t a b k h = read_accept (λ x. GoesBetween t a b x) k h.field tt
 
-refuse_goes : (t : Traced) (a b : ℕ) (k promised : ClusterKey) → Known t k → Known t promised → GoesIf t a b (message_of (spelling (message.Refuse k promised)))
+refuse_goes : (t : Traced) (a b : ℕ) (k promised : ClusterKey) → IsPromisedKey t k → IsPromisedKey t promised → GoesIf t a b (message_of (spelling (message.Refuse k promised)))
 refuse_goes t a b k promised h i = read_refuse (λ x. GoesBetween t a b x) k promised h.field i.field tt
 
 -- ---- a tick
@@ -216,12 +216,12 @@ no_node : (ns : List ℕ) → is_nil ns ≡ true → ns ≡ []
 no_node [] e = refl
 no_node (n ∷ ns) e = differ refl (sym e)
 
-pub alone_in : (f : Facts) (key : ClusterKey) (set : List Member) (b : Bool) → agreement.others f.me set ≡ [] → Alone (exchanged_if (notes.entered f key set (notes.own_row f)) key b)
+pub alone_in : (f : Facts) (key : ClusterKey) (set : List Member) (b : Bool) → agreement.others_among f.me set ≡ [] → Alone (exchanged_if (notes.entered f key set (notes.own_row f)) key b)
 alone_in f key set true e = record { others = e; running = refl; batches = ap (λ ns. map (notes.target_for (notes.entered f key set (notes.own_row f))) ns) e }
 alone_in f key set false e = record { others = e; running = refl; batches = refl }
 
-pub alone_now : (f : Facts) (set : List Member) → (agreement.proposes_anew f.agreement (is_candidate f) && is_nil (agreement.others f.me set)) ≡ true → agreement.others f.me set ≡ []
-alone_now f set e = no_node (agreement.others f.me set) (and_right (agreement.proposes_anew f.agreement (is_candidate f)) _ e)
+pub alone_now : (f : Facts) (set : List Member) → (agreement.proposes_anew f.agreement (is_candidate f) && is_nil (agreement.others_among f.me set)) ≡ true → agreement.others_among f.me set ≡ []
+alone_now f set e = no_node (agreement.others_among f.me set) (and_right (agreement.proposes_anew f.agreement (is_candidate f)) _ e)
 
 -- what the later parts of a tick send, of the facts after the proposal and after settling
 abbrev pub later : ℕ → Facts → Facts → List (ℕ × Message)
@@ -271,40 +271,40 @@ settled_view n f true = settling_view n 0 f
 settled_view n f false = refl
 
 pub same_others : (f g : Facts) → g.me ≡ f.me → g.exchange ≡ f.exchange → others g ≡ others f
-same_others f g me x = ap (λ (e : Exchange). agreement.others g.me (members_of e.view)) x ∙ ap (λ (n : ℕ). agreement.others n (members f)) me
+same_others f g me x = ap (λ (e : Exchange). agreement.others_among g.me (members_of e.view)) x ∙ ap (λ (n : ℕ). agreement.others_among n (members_of_view f)) me
 
 same_key_of : (f g : Facts) → g.exchange ≡ f.exchange → view_key g ≡ view_key f
-same_key_of f g x = ap (λ (e : Exchange). key_of e.view) x
+same_key_of f g x = ap (λ (e : Exchange). exchange_key e.view) x
 
 later_go : (t : Traced) (n : ℕ) (g i : Facts) → Knows t g → i.me ≡ g.me → i.exchange ≡ g.exchange → SendsGo t g.me (later n g i)
 later_go t n g i h me x =
     sends_append t g.me _ _ (rows_go t g h)
     (sends_append t g.me _ _ (all_again_go t g g.transactions.running h h.goes.waits)
     (sends_append t g.me _ _ (batches_go t g h)
-    (sends_append t g.me (tick.progress n i).sends [] (progress_go t n i g.me _ (subst (λ k. Known t k) (sym (same_key_of g i x)) h.view)
+    (sends_append t g.me (tick.progress n i).sends [] (progress_go t n i g.me _ (subst (λ k. IsPromisedKey t k) (sym (same_key_of g i x)) h.view)
     (λ to e. subst (λ k. Addressed t g.me to k) (sym (same_key_of g i x)) (h.others to (subst (λ ns. contains ns to ≡ true) (same_others g i me x) e)))) tt)))
 
 -- the parts of a tick, of the facts with its line
-tick_parts_go : (t : Traced) (n : ℕ) (f : Facts) → Knows t f → Known t f.agreement.promised
-    → SendsGo t f.me ((tick.beat f).sends ++ ((propose f).sends ++ later n (noted None f (propose f).lines) (noted None (noted None f (propose f).lines) (settling n (noted None f (propose f).lines)))))
+tick_parts_go : (t : Traced) (n : ℕ) (f : Facts) → Knows t f → IsPromisedKey t f.agreement.promised
+    → SendsGo t f.me ((tick.beat f).sends ++ ((propose f).sends ++ later n (noted None f (propose f).lines) (noted None (noted None f (propose f).lines) (settling_due n (noted None f (propose f).lines)))))
 tick_parts_go t n f h promised = sends_append t f.me _ _ (beat_go t f h promised) (sends_append t f.me _ _ (propose_go t f) (go (enters_alone f.me f.agreement (neighbours f) (is_candidate f)) refl))
   where
     settled : (g : Facts) → Facts
-    settled g = noted None g (settling n g)
+    settled g = noted None g (settling_due n g)
 
-    go : (b : Bool) → enters_alone f.me f.agreement (neighbours f) (is_candidate f) ≡ b → SendsGo t f.me (later n (noted None f (propose f).lines) (noted None (noted None f (propose f).lines) (settling n (noted None f (propose f).lines))))
+    go : (b : Bool) → enters_alone f.me f.agreement (neighbours f) (is_candidate f) ≡ b → SendsGo t f.me (later n (noted None f (propose f).lines) (noted None (noted None f (propose f).lines) (settling_due n (noted None f (propose f).lines))))
     go true e =
         let g : Facts = entered_alone f (agreement.next_key f.me f.agreement) (neighbours f) in
         let alone : Alone g = alone_in (record f { agreement = agreement.promising f.agreement (agreement.next_key f.me f.agreement) }) (agreement.next_key f.me f.agreement) (neighbours f) _ (alone_now f (neighbours f) e) in
-        let i : Facts = noted None g (settling n g) in
-        subst (λ (x : Facts). SendsGo t f.me (later n x (noted None x (settling n x)))) (sym (alone_is f e))
-        (subst (λ ms. SendsGo t f.me ms) (sym (nothing_later n g i alone (same_others g i (noted_me None g (settling n g)) (settled_view n g g.exchange.exchanged)))) tt)
+        let i : Facts = noted None g (settling_due n g) in
+        subst (λ (x : Facts). SendsGo t f.me (later n x (noted None x (settling_due n x)))) (sym (alone_is f e))
+        (subst (λ ms. SendsGo t f.me ms) (sym (nothing_later n g i alone (same_others g i (noted_me None g (settling_due n g)) (settled_view n g g.exchange.exchanged)))) tt)
     go false e =
         let g : Facts = record f { agreement = (noted None f (propose f).lines).agreement } in
-        let i : Facts = noted None g (settling n g) in
+        let i : Facts = noted None g (settling_due n g) in
         let k : Knows t g = record { view = h.view; outs = h.outs; rows = h.rows; others = h.others; goes = record { targets = h.goes.targets; waits = h.goes.waits } } in
-        subst (λ (x : Facts). SendsGo t f.me (later n x (noted None x (settling n x)))) (sym (among_others_is f e))
-        (later_go t n g i k (noted_me None g (settling n g)) (settled_view n g g.exchange.exchanged))
+        subst (λ (x : Facts). SendsGo t f.me (later n x (noted None x (settling_due n x)))) (sym (among_others_is f e))
+        (later_go t n g i k (noted_me None g (settling_due n g)) (settled_view n g g.exchange.exchanged))
 
 pub tick_go : (t : Traced) (n : ℕ) (f : Facts) → NodeKeys t f.me f → NodeGoes t f → SendsGo t f.me (tick_of n f).sends
 tick_go t n f keys goes = go f.up
@@ -321,7 +321,7 @@ tick_go t n f keys goes = go f.up
 view_is : (f : Facts) (k : ClusterKey) → in_view f k ≡ true → view_key f ≡ k
 view_is f k e = go f.exchange.view e
   where
-    go : (o : Option View) → is_view o k ≡ true → key_of o ≡ k
+    go : (o : Option View) → is_view o k ≡ true → exchange_key o ≡ k
     go None e = differ refl (sym e)
     go (Some v) e = same_is v.key k e
 
@@ -354,19 +354,19 @@ pub message_go : (n : ℕ) (t : Traced) (f : Facts) (clock from : ℕ) (m : Mess
 message_go n t f clock from (message.Heartbeat view promised hears role) c = tt
 message_go n t f clock from (message.Propose k ms) c = go (keys.key_lt k f.agreement.promised)
   where
-    known : Known t k
+    known : IsPromisedKey t k
     known = (c.sound.lists k ms c.says.1).known
 
-    go : (b : Bool) → SendsGo t f.me (due.voting f from k b).sends
+    go : (b : Bool) → SendsGo t f.me (due.vote_effects f from k b).sends
     go true = (refuse_goes t f.me from k f.agreement.promised known c.keys.agrees.promised, tt)
     go false = (accept_goes t f.me from k known, tt)
 message_go n t f clock from (message.Accept k) c = go f.agreement.proposal (agreement.proposes f.agreement.proposal k)
   where
-    deep : (p : Proposal) (b : Bool) → SendsGo t f.me (due.committing f p b).sends
-    deep p true = commits_go t f.me p.key p.members (agreement.others f.me p.members)
+    deep : (p : Proposal) (b : Bool) → SendsGo t f.me (due.commit_effects f p b).sends
+    deep p true = commits_go t f.me p.key p.members (agreement.others_among f.me p.members)
     deep p false = tt
 
-    go : (o : Option Proposal) (b : Bool) → SendsGo t f.me (due.counting f from k o b).sends
+    go : (o : Option Proposal) (b : Bool) → SendsGo t f.me (due.accept_effects f from k o b).sends
     go (Some p) true = deep p (is_nil (agreement.without_missing p from).missing)
     go (Some p) false = tt
     go None b = tt
@@ -375,9 +375,9 @@ message_go n t f clock from (message.Refuse k promised) c = go (agreement.propos
     go : (b : Bool) → SendsGo t f.me (due.unless_stale f b).sends
     go true = tt
     go false = tt
-message_go n t f clock from (message.Commit k ms) c = go (due.may_enter f k ms)
+message_go n t f clock from (message.Commit k ms) c = go (due.may_enter_view f k ms)
   where
-    go : (b : Bool) → SendsGo t f.me (due.entering_if f k ms b).sends
+    go : (b : Bool) → SendsGo t f.me (due.entry_effects_if f k ms b).sends
     go true = tt
     go false = tt
 message_go n t f clock from (message.State k wants row) c = go (in_view f k) refl
@@ -413,10 +413,10 @@ message_go n t f clock from (message.Progress k wants done handed settled) c = g
     same false = refl
 
     answer : (b : Bool) → view_key f ≡ k → SendsGo t f.me (due.answer_progress n now from b).sends
-    answer true e = (progress_goes t n now f.me from false (subst (λ q. Known t q) (sym (same (in_view f k) ∙ e)) c.says) (subst (λ q. Addressed t f.me from q) (sym (same (in_view f k) ∙ e)) (back t from f.me k c.between)), tt)
+    answer true e = (progress_goes t n now f.me from false (subst (λ q. IsPromisedKey t q) (sym (same (in_view f k) ∙ e)) c.says) (subst (λ q. Addressed t f.me from q) (sym (same (in_view f k) ∙ e)) (back t from f.me k c.between)), tt)
     answer false e = tt
 
-    go : (b : Bool) → in_view f k ≡ b → SendsGo t f.me (due.progress_came n f now from wants b).sends
+    go : (b : Bool) → in_view f k ≡ b → SendsGo t f.me (due.progress_effects_if n f now from wants b).sends
     go true e = answer _ (view_is f k e)
     go false e = tt
 message_go n t f clock from (message.Repl k number nth d v) c = go (in_view f k)
@@ -456,7 +456,7 @@ message_go n t f clock from (message.Answer k number v) c = go (in_view f k)
     answer None = tt
     answer (Some x) = deep x (Rattle.node_rules.specs.Transactions.awaits_answer x from)
 
-    go : (b : Bool) → SendsGo t f.me (due.answer_came f clock from number v b).sends
+    go : (b : Bool) → SendsGo t f.me (due.answer_effects_if f clock from number v b).sends
     go true = answer (transaction f.transactions number)
     go false = tt
 message_go n t f clock from message.MapAsk c = go f.exchange.exchanged
@@ -469,13 +469,13 @@ message_go n t f clock from _ c = tt
 -- ---- requests
 
 pub request_go : (t : Traced) (f : Facts) (clock : ℕ) (d : List ℕ) (w : Want) → NodeKeys t f.me f → NodeGoes t f → SendsGo t f.me (due_request f clock d w).sends
-request_go t f clock d w keys goes = go (refusal_of f (list_at f (partition_of d)) d)
+request_go t f clock d w keys goes = go (request_refusal f (list_at f (partition_of d)) d)
   where
     h : Knows t f
     h = knows_of t f keys goes
 
     new : Facts → Transaction
-    new g = new_transaction g (list_at g (partition_of d)) (g.transactions.opened + 1) d w
+    new g = opening_transaction g (list_at g (partition_of d)) (g.transactions.opened + 1) d w
 
     asks : (ns : List ℕ) → Among (others f) ns → SendsGo t f.me (asking f clock (list_at f (partition_of d)) (new f) ns).sends
     asks [] a = resolving_go t f clock (new f) w h

@@ -21,10 +21,10 @@ use Rattle.node_rules.specs.Batches.{out_to, has_number}
 use Rattle.node_rules.specs.Copies.{is_nil, Row}
 use Rattle.node_rules.specs.Effects.{nothing, lines_only}
 use Rattle.node_rules.specs.Entering.{entering}
-use Rattle.node_rules.specs.Exchange.{is_member, key_of}
+use Rattle.node_rules.specs.Exchange.{is_member, exchange_key}
 use Rattle.node_rules.specs.Facts.{Facts, view_key}
 use Rattle.node_rules.specs.Keys.{same_key}
-use Rattle.node_rules.specs.Messages.{stale, spent, voting, due_propose, committing, counting, due_accept, unless_stale, entering_if, due_commit, finishes, answer_state, state_came, merging, merging_all, batch_came, unless_spent, batch_ack_came, answer_progress, progress_came, repl_came, done_by, ack_of, repl_ack_came, ask_came, resolving_if, answered_by, answer_of, answer_came, map_table, table_if, due_message_of, due_state}
+use Rattle.node_rules.specs.Messages.{stale, spent, vote_effects, due_propose, commit_effects, accept_effects, due_accept, unless_stale, entry_effects_if, due_commit, finishes, answer_state, state_came, merging, merging_all, batch_came, unless_spent, batch_ack_came, answer_progress, progress_effects_if, repl_came, done_by, ack_of, repl_ack_came, ask_came, resolving_if, answered_by, answer_of, answer_effects_if, map_table, table_if, due_message_of, due_state}
 use Rattle.node_rules.specs.Notes.{noted, reached, in_view}
 use Rattle.node_rules.specs.Resolving.{done_if, writing, resolving, resolving_want}
 use Rattle.node_rules.specs.Settling.{line_if}
@@ -32,10 +32,10 @@ use Rattle.node_rules.specs.Standing.{other_replicas}
 use Rattle.node_rules.specs.Transactions.{Transaction, transaction, awaits_answer, awaits_ack, answered, is_last_awaited}
 use Rattle.cluster_rules.specs.DueEvents.{written}
 use Rattle.cluster_rules.specs.Network.{Network}
-use Rattle.key_laws.specs.Traced.{Traced, facts_of, after_all}
-use Rattle.key_laws.specs.Licences.{Known, Says, MaySend, WasSent, Licensed, Visited}
+use Rattle.key_laws.specs.Traced.{Traced, facts_of, traced_after_all}
+use Rattle.key_laws.specs.Licences.{IsPromisedKey, Says, MaySendKey, WasPosted, LicensedMarks, Visited}
 use Rattle.key_laws.proofs.Order.{lt_below, same_is}
-use Rattle.key_laws.specs.Sound.{GoodList, Proposed, Stands, RowsKnown, NodeKeys, Listed, Sound, Grows}
+use Rattle.key_laws.specs.Sound.{GoodList, Proposed, ProposalStands, RowsKnown, NodeKeys, Listed, Sound, Grows}
 use Rattle.key_laws.proofs.Growth.{known_grows, rows_grow}
 use Rattle.key_laws.proofs.KeptNodes.{accepting_keeps, Lawful, row_same}
 use Rattle.key_laws.proofs.Kept.{Keeps, kept_all}
@@ -91,14 +91,14 @@ merging_all_of_view f (r ∷ rs) =
 
 -- ---- quiet kinds
 
-answer_state_posts : (t : Traced) (n : ℕ) (f : Facts) (from : ℕ) (b : Bool) → Known t (view_key f) → RowsKnown t f.exchange.rows → Posts t n (answer_state f from b)
+answer_state_posts : (t : Traced) (n : ℕ) (f : Facts) (from : ℕ) (b : Bool) → IsPromisedKey t (view_key f) → RowsKnown t f.exchange.rows → Posts t n (answer_state f from b)
 answer_state_posts t n f from true h rows = (state_posts t n f false h rows, tt)
 answer_state_posts t n f from false h rows = tt
 
-batch_quiet : (t : Traced) (n : ℕ) (f : Facts) (from : ℕ) (b : Batch) (c : Bool) → (c ≡ true → Visited t f.me (view_key f)) → Known t b.key → Quiet t n (batch_came f from b c)
+batch_quiet : (t : Traced) (n : ℕ) (f : Facts) (from : ℕ) (b : Batch) (c : Bool) → (c ≡ true → Visited t f.me (view_key f)) → IsPromisedKey t b.key → Quiet t n (batch_came f from b c)
 batch_quiet t n f from b true h k = record {
   lines = all_quiet t f.me (view_key f) _ (h refl) (merging_all_of_view f b.records);
-  posts = (posts_of t n _ (read_batch_ack (λ x. Says t n x × MaySend t n x) b.key b.number k.field (λ i. (k, tt))), tt);
+  posts = (posts_of t n _ (read_batch_ack (λ x. Says t n x × MaySendKey t n x) b.key b.number k.field (λ i. (k, tt))), tt);
 }
 batch_quiet t n f from b false h k = stale_quiet t n f
 
@@ -110,18 +110,18 @@ batch_ack_quiet : (t : Traced) (n : ℕ) (f : Facts) (from number : ℕ) (b : Bo
 batch_ack_quiet t n f from number true = unless_spent_quiet t n f (has_number (out_to f.batches from) number)
 batch_ack_quiet t n f from number false = stale_quiet t n f
 
-answer_progress_quiet : (t : Traced) (n count : ℕ) (now : Facts) (from : ℕ) (b : Bool) → Known t (view_key now) → Quiet t n (answer_progress count now from b)
+answer_progress_quiet : (t : Traced) (n count : ℕ) (now : Facts) (from : ℕ) (b : Bool) → IsPromisedKey t (view_key now) → Quiet t n (answer_progress count now from b)
 answer_progress_quiet t n count now from true h = record { lines = tt; posts = (progress_posts t n _ now false h, tt) }
 answer_progress_quiet t n count now from false h = nothing_quiet t n
 
-progress_quiet : (t : Traced) (n count : ℕ) (f now : Facts) (from : ℕ) (wants b : Bool) → Known t (view_key now) → Quiet t n (progress_came count f now from wants b)
+progress_quiet : (t : Traced) (n count : ℕ) (f now : Facts) (from : ℕ) (wants b : Bool) → IsPromisedKey t (view_key now) → Quiet t n (progress_effects_if count f now from wants b)
 progress_quiet t n count f now from wants true h = answer_progress_quiet t n count now from _ h
 progress_quiet t n count f now from wants false h = stale_quiet t n f
 
-repl_quiet : (t : Traced) (n : ℕ) (f : Facts) (from : ℕ) (k : ClusterKey) (number : ℕ) (d : List ℕ) (v : Version) (b : Bool) → (b ≡ true → Visited t f.me (view_key f)) → Known t k → Quiet t n (repl_came f from k number d v b)
+repl_quiet : (t : Traced) (n : ℕ) (f : Facts) (from : ℕ) (k : ClusterKey) (number : ℕ) (d : List ℕ) (v : Version) (b : Bool) → (b ≡ true → Visited t f.me (view_key f)) → IsPromisedKey t k → Quiet t n (repl_came f from k number d v b)
 repl_quiet t n f from k number d v true h i = record {
   lines = all_quiet t f.me (view_key f) _ (h refl) (merging_of_view f d v);
-  posts = (posts_of t n _ (read_repl_ack (λ x. Says t n x × MaySend t n x) k number i.field (λ j. (i, tt))), tt);
+  posts = (posts_of t n _ (read_repl_ack (λ x. Says t n x × MaySendKey t n x) k number i.field (λ j. (i, tt))), tt);
 }
 repl_quiet t n f from k number d v false h i = stale_quiet t n f
 
@@ -137,8 +137,8 @@ repl_ack_quiet : (t : Traced) (n : ℕ) (f : Facts) (from number : ℕ) (b : Boo
 repl_ack_quiet t n f from number true h = ack_of_quiet t n f from (transaction f.transactions number) (h refl)
 repl_ack_quiet t n f from number false h = stale_quiet t n f
 
-ask_quiet : (t : Traced) (n : ℕ) (f : Facts) (from : ℕ) (k : ClusterKey) (number : ℕ) (d : List ℕ) (b : Bool) → Known t k → Quiet t n (ask_came f from k number d b)
-ask_quiet t n f from k number d true h = record { lines = tt; posts = (posts_of t n _ (read_answer (λ x. Says t n x × MaySend t n x) k number _ h.field (λ i w. (h, tt))), tt) }
+ask_quiet : (t : Traced) (n : ℕ) (f : Facts) (from : ℕ) (k : ClusterKey) (number : ℕ) (d : List ℕ) (b : Bool) → IsPromisedKey t k → Quiet t n (ask_came f from k number d b)
+ask_quiet t n f from k number d true h = record { lines = tt; posts = (posts_of t n _ (read_answer (λ x. Says t n x × MaySendKey t n x) k number _ h.field (λ i w. (h, tt))), tt) }
 ask_quiet t n f from k number d false h = stale_quiet t n f
 
 resolving_if_quiet : (t : Traced) (n : ℕ) (f : Facts) (clock : ℕ) (x : Transaction) (b : Bool) → Visited t f.me (view_key f) → Quiet t n (resolving_if f clock x b)
@@ -153,12 +153,12 @@ answer_of_quiet : (t : Traced) (n : ℕ) (f : Facts) (clock from : ℕ) (v : Opt
 answer_of_quiet t n f clock from v None h = spent_quiet t n f
 answer_of_quiet t n f clock from v (Some x) h = answered_by_quiet t n f clock x from v (awaits_answer x from) h
 
-answer_quiet : (t : Traced) (n : ℕ) (f : Facts) (clock from number : ℕ) (v : Option Version) (b : Bool) → (b ≡ true → Visited t f.me (view_key f)) → Quiet t n (answer_came f clock from number v b)
+answer_quiet : (t : Traced) (n : ℕ) (f : Facts) (clock from number : ℕ) (v : Option Version) (b : Bool) → (b ≡ true → Visited t f.me (view_key f)) → Quiet t n (answer_effects_if f clock from number v b)
 answer_quiet t n f clock from number v true h = answer_of_quiet t n f clock from v (transaction f.transactions number) (h refl)
 answer_quiet t n f clock from number v false h = stale_quiet t n f
 
-table_quiet : (t : Traced) (n : ℕ) (f : Facts) (b : Bool) → Known t (view_key f) → Quiet t n (table_if f b)
-table_quiet t n f true h = record { lines = tt; posts = (posts_of t n _ (read_table (λ x. Says t n x × MaySend t n x) (map_table f) h.field (λ y e. (subst (λ k. Known t k) (sym e) h, tt))), tt) }
+table_quiet : (t : Traced) (n : ℕ) (f : Facts) (b : Bool) → IsPromisedKey t (view_key f) → Quiet t n (table_if f b)
+table_quiet t n f true h = record { lines = tt; posts = (posts_of t n _ (read_table (λ x. Says t n x × MaySendKey t n x) (map_table f) h.field (λ y e. (subst (λ k. IsPromisedKey t k) (sym e) h, tt))), tt) }
 table_quiet t n f false h = nothing_quiet t n
 
 unless_stale_quiet : (t : Traced) (n : ℕ) (f : Facts) (b : Bool) → Quiet t n (unless_stale f b)
@@ -172,54 +172,55 @@ pub record Came (t : Traced) (f : Facts) (from : ℕ) (m : Message) : Type 0 whe
   pub sound : Sound t
   pub keys : NodeKeys t f.me f
   pub says : Says t from m
-  pub was_sent : WasSent t m
+  pub was_sent : WasPosted t m
   pub here : facts_of t f.me ≡ reached f from m
 
-accept_posts : (t : Traced) (n : ℕ) (k : ClusterKey) → Known t k → MayPost t n (message.Accept k)
-accept_posts t n k h = posts_of t n _ (read_accept (λ x. Says t n x × MaySend t n x) k h.field (h, tt))
+accept_posts : (t : Traced) (n : ℕ) (k : ClusterKey) → IsPromisedKey t k
+    → MayPost t n (message.Accept k)
+accept_posts t n k h = posts_of t n _ (read_accept (λ x. Says t n x × MaySendKey t n x) k h.field (h, tt))
 
-propose_ok : (t : Traced) (net : Network) (f : Facts) (from : ℕ) (k : ClusterKey) (ms : List Member) → Came t f from (message.Propose k ms) → Licensed t (writes (written net f.me (due_propose f from k)))
+propose_ok : (t : Traced) (net : Network) (f : Facts) (from : ℕ) (k : ClusterKey) (ms : List Member) → Came t f from (message.Propose k ms) → LicensedMarks t (writes (written net f.me (due_propose f from k)))
 propose_ok t net f from k ms c = go (keys.key_lt k f.agreement.promised)
   where
     listed : Listed t k ms
     listed = c.sound.lists k ms c.says.1
 
-    promising : (b : Bool) → keys.key_lt f.agreement.promised k ≡ b → Licensed t (writes (line_if (line.Promise f.me k) b))
+    promising : (b : Bool) → keys.key_lt f.agreement.promised k ≡ b → LicensedMarks t (writes (line_if (line.Promise f.me k) b))
     promising true e = (record { above = subst (λ (g : Facts). IsBelow g.agreement.promised k) (sym c.here) (lt_below f.agreement.promised k e); source = inr (ms, c.was_sent) }, tt)
     promising false e = tt
 
-    go : (b : Bool) → Licensed t (writes (written net f.me (voting f from k b)))
-    go true = quiet_ok t f.me net (voting f from k true) c.sound (record {
+    go : (b : Bool) → LicensedMarks t (writes (written net f.me (vote_effects f from k b)))
+    go true = quiet_ok t f.me net (vote_effects f from k true) c.sound (record {
       lines = tt;
-      posts = (posts_of t f.me _ (read_refuse (λ x. Says t f.me x × MaySend t f.me x) k f.agreement.promised listed.known.field c.keys.agrees.promised.field ((listed.known, c.keys.agrees.promised), tt)), tt);
+      posts = (posts_of t f.me _ (read_refuse (λ x. Says t f.me x × MaySendKey t f.me x) k f.agreement.promised listed.known.field c.keys.agrees.promised.field ((listed.known, c.keys.agrees.promised), tt)), tt);
     })
     go false =
-        let ok : Licensed t (writes (line_if (line.Promise f.me k) (keys.key_lt f.agreement.promised k))) = promising (keys.key_lt f.agreement.promised k) refl in
-        written_ok t f.me net (voting f from k false) ok c.sound (accept_posts _ f.me k (known_grows t _ (kept_all t _ ok c.sound).grows k listed.known), tt)
+        let ok : LicensedMarks t (writes (line_if (line.Promise f.me k) (keys.key_lt f.agreement.promised k))) = promising (keys.key_lt f.agreement.promised k) refl in
+        written_ok t f.me net (vote_effects f from k false) ok c.sound (accept_posts _ f.me k (known_grows t _ (kept_all t _ ok c.sound).grows k listed.known), tt)
 
 -- ---- a row
 
 state_ok : (t : Traced) (net : Network) (f : Facts) (from : ℕ) (k : ClusterKey) (wants : Bool) (row : Row) → Came t f from (message.State k wants row)
-    → Licensed t (writes (written net f.me (due_state f (reached f from (message.State k wants row)) from k wants)))
+    → LicensedMarks t (writes (written net f.me (due_state f (reached f from (message.State k wants row)) from k wants)))
 state_ok t net f from k wants row c = go (in_view f k) refl
   where
     now : Facts
     now = reached f from (message.State k wants row)
 
-    known : Known t (view_key f)
+    known : IsPromisedKey t (view_key f)
     known = view_known t f.me f c.keys
 
     view : view_key f ≡ view_key (facts_of t f.me)
-    view = ap (λ v. key_of v) (row_same t f from row (in_view f k) c.says.1).view ∙ ap (λ (g : Facts). view_key g) (sym c.here)
+    view = ap (λ v. exchange_key v) (row_same t f from row (in_view f k) c.says.1).view ∙ ap (λ (g : Facts). view_key g) (sym c.here)
 
-    finishing : Visited t f.me (view_key f) → (b : Bool) → Licensed t (writes (line_if (line.Exchanged f.me (view_key f)) b))
+    finishing : Visited t f.me (view_key f) → (b : Bool) → LicensedMarks t (writes (line_if (line.Exchanged f.me (view_key f)) b))
     finishing h true = (record { visited = h; view = view }, tt)
     finishing h false = tt
 
-    go : (b : Bool) → in_view f k ≡ b → Licensed t (writes (written net f.me (state_came f now from wants b)))
+    go : (b : Bool) → in_view f k ≡ b → LicensedMarks t (writes (written net f.me (state_came f now from wants b)))
     go true e =
-        let ok : Licensed t (writes (line_if (line.Exchanged f.me (view_key f)) (finishes f now))) = finishing (viewed t f.me f k c.keys e) (finishes f now) in
-        let g : Grows t (after_all t (writes (line_if (line.Exchanged f.me (view_key f)) (finishes f now)))) = (kept_all t _ ok c.sound).grows in
+        let ok : LicensedMarks t (writes (line_if (line.Exchanged f.me (view_key f)) (finishes f now))) = finishing (viewed t f.me f k c.keys e) (finishes f now) in
+        let g : Grows t (traced_after_all t (writes (line_if (line.Exchanged f.me (view_key f)) (finishes f now)))) = (kept_all t _ ok c.sound).grows in
         written_ok t f.me net (state_came f now from wants true) ok c.sound (answer_state_posts _ f.me f from wants (known_grows t _ g (view_key f) known) (rows_grow t _ g f.exchange.rows c.keys.rows))
     go false e = quiet_ok t f.me net _ c.sound (stale_quiet t f.me f)
 
@@ -228,10 +229,10 @@ state_ok t net f from k wants row c = go (in_view f k) refl
 commit_posts : (t : Traced) (n : ℕ) (k : ClusterKey) (ms : List Member) → Sound t → t.lists k ≡ Some ms → MayPost t n (message.Commit k ms)
 commit_posts t n k ms s list =
     let listed : Listed t k ms = s.lists k ms list in
-    posts_of t n _ (read_commit (λ x. Says t n x × MaySend t n x) k ms k.principal listed.key listed.good (list, tt))
+    posts_of t n _ (read_commit (λ x. Says t n x × MaySendKey t n x) k ms k.principal listed.key listed.good (list, tt))
 
-committing_ok : (t : Traced) (net : Network) (f : Facts) (from : ℕ) (k : ClusterKey) (p : Proposal) (b : Bool) → Came t f from (message.Accept k) → Proposed t f.me f.agreement.promised f.agreement.last p → Licensed t (writes (written net f.me (committing f p b)))
-committing_ok t net f from k p false c q = quiet_ok t f.me net (committing f p false) c.sound (nothing_quiet t f.me)
+committing_ok : (t : Traced) (net : Network) (f : Facts) (from : ℕ) (k : ClusterKey) (p : Proposal) (b : Bool) → Came t f from (message.Accept k) → Proposed t f.me f.agreement.promised f.agreement.last p → LicensedMarks t (writes (written net f.me (commit_effects f p b)))
+committing_ok t net f from k p false c q = quiet_ok t f.me net (commit_effects f p false) c.sound (nothing_quiet t f.me)
 committing_ok t net f from k p true c q =
     let good : GoodList p.key.principal p.members = (c.sound.lists p.key p.members q.list).good in
     let kept : (f.agreement.promised ≡ (agreement.accepting f.agreement from k).promised) × (f.agreement.last ≡ (agreement.accepting f.agreement from k).last) = accepting_keeps f.agreement from (proposes f.agreement.proposal k) in
@@ -241,24 +242,25 @@ committing_ok t net f from k p true c q =
       list = q.list;
       among = subst (λ (x : ℕ). IsTrue (is_member p.members x)) q.own good.led;
     } in
-    let ok : Licensed t (writes (entering f p.key p.members)) = entering_ok t f p.key p.members c.sound (view_known t f.me f c.keys) h in
-    let k : Keeps t (after_all t (writes (entering f p.key p.members))) = kept_all t _ ok c.sound in
-    written_ok t f.me net (committing f p true) ok c.sound (each_posts _ f.me _ (agreement.others f.me p.members) (commit_posts _ f.me p.key p.members k.sound (k.grows.lists p.key p.members q.list)))
+    let ok : LicensedMarks t (writes (entering f p.key p.members)) = entering_ok t f p.key p.members c.sound (view_known t f.me f c.keys) h in
+    let k : Keeps t
+    (traced_after_all t (writes (entering f p.key p.members))) = kept_all t _ ok c.sound in
+    written_ok t f.me net (commit_effects f p true) ok c.sound (each_posts _ f.me _ (agreement.others_among f.me p.members) (commit_posts _ f.me p.key p.members k.sound (k.grows.lists p.key p.members q.list)))
 
-accept_ok : (t : Traced) (net : Network) (f : Facts) (from : ℕ) (k : ClusterKey) → Came t f from (message.Accept k) → Licensed t (writes (written net f.me (due_accept f from k)))
+accept_ok : (t : Traced) (net : Network) (f : Facts) (from : ℕ) (k : ClusterKey) → Came t f from (message.Accept k) → LicensedMarks t (writes (written net f.me (due_accept f from k)))
 accept_ok t net f from k c = go f.agreement.proposal (proposes f.agreement.proposal k) c.keys.agrees.proposal
   where
-    go : (o : Option Proposal) (b : Bool) → Stands t f.me f.agreement.promised f.agreement.last o → Licensed t (writes (written net f.me (counting f from k o b)))
+    go : (o : Option Proposal) (b : Bool) → ProposalStands t f.me f.agreement.promised f.agreement.last o → LicensedMarks t (writes (written net f.me (accept_effects f from k o b)))
     go (Some p) true q = committing_ok t net f from k p (is_nil (without_missing p from).missing) c q
     go (Some p) false q = quiet_ok t f.me net _ c.sound (stale_quiet t f.me f)
     go None b q = quiet_ok t f.me net _ c.sound (stale_quiet t f.me f)
 
 -- ---- an entry by a commit
 
-commit_ok : (t : Traced) (net : Network) (f : Facts) (from : ℕ) (k : ClusterKey) (ms : List Member) → Came t f from (message.Commit k ms) → Licensed t (writes (written net f.me (due_commit f k ms)))
+commit_ok : (t : Traced) (net : Network) (f : Facts) (from : ℕ) (k : ClusterKey) (ms : List Member) → Came t f from (message.Commit k ms) → LicensedMarks t (writes (written net f.me (due_commit f k ms)))
 commit_ok t net f from k ms c = go (same_key k f.agreement.promised) (keys.key_lt f.agreement.last k) (is_member ms f.me) refl refl refl
   where
-    go : (x y z : Bool) → same_key k f.agreement.promised ≡ x → keys.key_lt f.agreement.last k ≡ y → is_member ms f.me ≡ z → Licensed t (writes (written net f.me (entering_if f k ms (x && (y && z)))))
+    go : (x y z : Bool) → same_key k f.agreement.promised ≡ x → keys.key_lt f.agreement.last k ≡ y → is_member ms f.me ≡ z → LicensedMarks t (writes (written net f.me (entry_effects_if f k ms (x && (y && z)))))
     go true true true e u v =
         let h : Lawful t f.me k ms = record {
           promised = same_is k f.agreement.promised e ∙ ap (λ (g : Facts). g.agreement.promised) (sym c.here);
@@ -273,10 +275,10 @@ commit_ok t net f from k ms c = go (same_key k f.agreement.promised) (keys.key_l
 
 -- ---- all kinds
 
-now_known : (t : Traced) (f : Facts) (from : ℕ) (m : Message) → Came t f from m → Known t (view_key (reached f from m))
+now_known : (t : Traced) (f : Facts) (from : ℕ) (m : Message) → Came t f from m → IsPromisedKey t (view_key (reached f from m))
 now_known t f from m c = view_known t f.me (reached f from m) (subst (λ g. NodeKeys t f.me g) c.here (c.sound.nodes f.me))
 
-pub message_ok : (n : ℕ) (t : Traced) (net : Network) (f : Facts) (clock from : ℕ) (m : Message) → Came t f from m → Licensed t (writes (written net f.me (due_message_of n f clock from m)))
+pub message_ok : (n : ℕ) (t : Traced) (net : Network) (f : Facts) (clock from : ℕ) (m : Message) → Came t f from m → LicensedMarks t (writes (written net f.me (due_message_of n f clock from m)))
 message_ok n t net f clock from (message.Heartbeat v promised hears role) c = quiet_ok t f.me net _ c.sound (nothing_quiet t f.me)
 message_ok n t net f clock from (message.Propose k ms) c = propose_ok t net f from k ms c
 message_ok n t net f clock from (message.Accept k) c = accept_ok t net f from k c

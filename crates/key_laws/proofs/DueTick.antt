@@ -21,17 +21,17 @@ use Rattle.node_rules.specs.Exchange.{is_single}
 use Rattle.node_rules.specs.Facts.{Facts, view_key}
 use Rattle.node_rules.specs.Hearing.{heard_ids}
 use Rattle.node_rules.specs.Notes.{note, noted, neighbours, after_ages}
-use Rattle.node_rules.specs.Settling.{settling}
+use Rattle.node_rules.specs.Settling.{settling_due}
 use Rattle.node_rules.specs.Standing.{others}
-use Rattle.node_rules.specs.Tick.{parts, in_order, propose_again, proposing_to, propose_new, propose_with, propose, is_candidate, beat, rows, transactions, batches, progress, progress_if, tick_if, tick_of, settlings}
+use Rattle.node_rules.specs.Tick.{parts, parts_in_order, propose_again, proposal_effects, propose_new, propose_with, propose, is_candidate, beat, rows, transactions, batches, progress, progress_if, tick_if, tick_of, settlings}
 use Rattle.cluster_rules.specs.DueEvents.{written}
 use Rattle.cluster_rules.specs.Marks.{Writes}
 use Rattle.cluster_rules.specs.Network.{Network}
-use Rattle.key_laws.specs.Order.{AtMost}
-use Rattle.key_laws.specs.Traced.{Traced, facts_of, after, after_all, promised_by, listed_if}
-use Rattle.key_laws.specs.Licences.{Known, Says, MaySend, MayPromise, Licensed}
+use Rattle.key_laws.specs.Order.{KeyAtMost}
+use Rattle.key_laws.specs.Traced.{Traced, facts_of, traced_after, traced_after_all, promised_by, listed_if}
+use Rattle.key_laws.specs.Licences.{IsPromisedKey, Says, MaySendKey, MayPromise, LicensedMarks}
 use Rattle.key_laws.proofs.Order.{at_most_below, below_next, same_self}
-use Rattle.key_laws.specs.Sound.{GoodList, Proposed, Stands, Outs, RowsKnown, StampsKnown, NodeKeys, Listed, Sound, Grows}
+use Rattle.key_laws.specs.Sound.{GoodList, Proposed, ProposalStands, Outs, RowsKnown, StampsKnown, NodeKeys, Listed, Sound, Grows}
 use Rattle.key_laws.proofs.Growth.{grows_on, known_grows, outs_grow, rows_grow, node_grows}
 use Rattle.key_laws.proofs.Frames.{num_eq, at_here}
 use Rattle.key_laws.proofs.StampLaws.{row_known}
@@ -44,12 +44,12 @@ use Rattle.key_laws.proofs.DueViews.{view_known, all_view_stays, settling_of_vie
 
 -- what the part that proposes does, of these facts
 record Proposing (t : Traced) (f : Facts) (e : Effects) : Type 0 where
-  ok : Licensed t (writes e.lines)
-  posts : Posts (after_all t (writes e.lines)) f.me e.sends
-  known : Known (after_all t (writes e.lines)) (view_key (noted None f e.lines))
-  outs : Outs (after_all t (writes e.lines)) (noted None f e.lines).batches
-  rows : RowsKnown (after_all t (writes e.lines)) (noted None f e.lines).exchange.rows
-  finished : (noted None f e.lines).exchange.exchanged ≡ true → (after_all t (writes e.lines)).entered (noted None f e.lines).me (view_key (noted None f e.lines)) ≡ true
+  ok : LicensedMarks t (writes e.lines)
+  posts : Posts (traced_after_all t (writes e.lines)) f.me e.sends
+  known : IsPromisedKey (traced_after_all t (writes e.lines)) (view_key (noted None f e.lines))
+  outs : Outs (traced_after_all t (writes e.lines)) (noted None f e.lines).batches
+  rows : RowsKnown (traced_after_all t (writes e.lines)) (noted None f e.lines).exchange.rows
+  finished : (noted None f e.lines).exchange.exchanged ≡ true → (traced_after_all t (writes e.lines)).entered (noted None f e.lines).me (view_key (noted None f e.lines)) ≡ true
 
 keys_here : (t : Traced) (f : Facts) → Sound t → facts_of t f.me ≡ f → NodeKeys t f.me f
 keys_here t f s here = subst (λ g. NodeKeys t f.me g) here (s.nodes f.me)
@@ -57,12 +57,12 @@ keys_here t f s here = subst (λ g. NodeKeys t f.me g) here (s.nodes f.me)
 propose_posts : (t : Traced) (n : ℕ) (k : ClusterKey) (ms : List Member) → Sound t → k.principal ≡ n → t.lists k ≡ Some ms → k ≡ (facts_of t n).agreement.promised → IsBelow (facts_of t n).agreement.last k → MayPost t n (message.Propose k ms)
 propose_posts t n k ms s own list promised above =
     let listed : Listed t k ms = s.lists k ms list in
-    posts_of t n _ (read_propose (λ x. Says t n x × MaySend t n x) k ms k.principal listed.key listed.good ((own, list), record { promised = promised; above = above }))
+    posts_of t n _ (read_propose (λ x. Says t n x × MaySendKey t n x) k ms k.principal listed.key listed.good ((own, list), record { promised = promised; above = above }))
 
 again_ok : (t : Traced) (f : Facts) (p : Proposal) → Sound t → facts_of t f.me ≡ f → f.agreement.proposal ≡ Some p → Proposing t f (propose_again p)
 again_ok t f p s here e =
     let h : NodeKeys t f.me f = keys_here t f s here in
-    let q : Proposed t f.me f.agreement.promised f.agreement.last p = subst (λ o. Stands t f.me f.agreement.promised f.agreement.last o) e h.agrees.proposal in
+    let q : Proposed t f.me f.agreement.promised f.agreement.last p = subst (λ o. ProposalStands t f.me f.agreement.promised f.agreement.last o) e h.agrees.proposal in
     record {
       ok = tt;
       posts = each_posts t f.me _ p.missing (propose_posts t f.me p.key p.members s q.own q.list
@@ -92,7 +92,7 @@ record Promised (t u : Traced) (f : Facts) (k : ClusterKey) : Type 0 where
   list : u.lists k ≡ Some (neighbours f)
 
 promised_next : (t : Traced) (f : Facts) → Sound t → facts_of t f.me ≡ f → IsId f.me → has_round f.agreement ≡ true
-    → Promised t (after t (Writes (line.Promise f.me (next_key f.me f.agreement)))) f (next_key f.me f.agreement)
+    → Promised t (traced_after t (Writes (line.Promise f.me (next_key f.me f.agreement)))) f (next_key f.me f.agreement)
 promised_next t f s here id round =
     let k : ClusterKey = next_key f.me f.agreement in
     let l : Line = line.Promise f.me k in
@@ -101,7 +101,7 @@ promised_next t f s here id round =
       above = subst (λ (g : Facts). IsBelow g.agreement.promised k) (sym here) up;
       source = inl (refl, next_is_key f.me f.agreement id round);
     } in
-    let ordered : AtMost (facts_of t f.me).agreement.last (facts_of t f.me).agreement.promised = (s.nodes f.me).agrees.ordered in
+    let ordered : KeyAtMost (facts_of t f.me).agreement.last (facts_of t f.me).agreement.promised = (s.nodes f.me).agrees.ordered in
     record {
       ok = ok;
       keeps = kept_line t l ok s;
@@ -112,7 +112,7 @@ promised_next t f s here id round =
     }
 
 -- the facts after an entry
-entered_known : (t : Traced) (g : Facts) (n : ℕ) (k : ClusterKey) (ms : List Member) (b : Bool) → Known t k → Known t (view_key (noted None (note None g (line.Enter n k ms)) (exchanging n k b)))
+entered_known : (t : Traced) (g : Facts) (n : ℕ) (k : ClusterKey) (ms : List Member) (b : Bool) → IsPromisedKey t k → IsPromisedKey t (view_key (noted None (note None g (line.Enter n k ms)) (exchanging n k b)))
 entered_known t g n k ms true h = h
 entered_known t g n k ms false h = h
 
@@ -134,18 +134,18 @@ noted_append q f [] b = refl
 noted_append q f (l ∷ a) b = noted_append q (note q f l) a b
 
 -- a view without other members is entered at once
-alone_ok : (t : Traced) (f : Facts) → Sound t → facts_of t f.me ≡ f → IsId f.me → has_round f.agreement ≡ true → Proposing t f (proposing_to f (next_key f.me f.agreement) (neighbours f) [])
+alone_ok : (t : Traced) (f : Facts) → Sound t → facts_of t f.me ≡ f → IsId f.me → has_round f.agreement ≡ true → Proposing t f (proposal_effects f (next_key f.me f.agreement) (neighbours f) [])
 alone_ok t f s here id round =
     let k : ClusterKey = next_key f.me f.agreement in
     let ms : List Member = neighbours f in
     let l : Line = line.Promise f.me k in
-    let u : Traced = after t (Writes l) in
+    let u : Traced = traced_after t (Writes l) in
     let p : Promised t u f k = promised_next t f s here id round in
-    let known : Known u (view_key f) = known_grows t u p.keeps.grows (view_key f) (view_known t f.me f (keys_here t f s here)) in
+    let known : IsPromisedKey u (view_key f) = known_grows t u p.keeps.grows (view_key f) (view_known t f.me f (keys_here t f s here)) in
     let good : GoodList f.me ms = (p.keeps.sound.lists k ms p.list).good in
-    let entry : Licensed u (writes (entering f k ms)) = entering_ok u f k ms p.keeps.sound known (record { promised = p.promised; above = p.above; list = p.list; among = good.led }) in
-    let v : Traced = after_all u (writes (entering f k ms)) in
-    let kept_known : Known v k = known_grows u v (kept_all u (writes (entering f k ms)) entry p.keeps.sound).grows k (promised_known u f.me k p.keeps.sound p.promised) in
+    let entry : LicensedMarks u (writes (entering f k ms)) = entering_ok u f k ms p.keeps.sound known (record { promised = p.promised; above = p.above; list = p.list; among = good.led }) in
+    let v : Traced = traced_after_all u (writes (entering f k ms)) in
+    let kept_known : IsPromisedKey v k = known_grows u v (kept_all u (writes (entering f k ms)) entry p.keeps.sound).grows k (promised_known u f.me k p.keeps.sound p.promised) in
     let g : Facts = note None f l in
     let to : Grows t v = grows_on t u v p.keeps.grows (kept_all u (writes (entering f k ms)) entry p.keeps.sound).grows in
     let stamps : StampsKnown v f.store.stamps = (node_grows t v to f.me f (keys_here t f s here)).stamps in
@@ -154,7 +154,7 @@ alone_ok t f s here id round =
     record {
       ok = (p.ok, entry);
       posts = tt;
-      known = subst (λ (x : Facts). Known v (view_key x)) (sym e) (entered_known v (noted None g (closing f)) f.me k ms (is_single ms) kept_known);
+      known = subst (λ (x : Facts). IsPromisedKey v (view_key x)) (sym e) (entered_known v (noted None g (closing f)) f.me k ms (is_single ms) kept_known);
       outs = subst (λ (x : Facts). Outs v x.batches) (sym e) (entered_outs v (noted None g (closing f)) f.me k ms (is_single ms));
       rows = subst (λ (x : Facts). RowsKnown v x.exchange.rows) (sym e) (entered_rows v (noted None g (closing f)) f.me k ms (is_single ms)
           (subst (λ (x : Store). StampsKnown v x.stamps) (sym (closed_store None f g)) stamps));
@@ -163,10 +163,10 @@ alone_ok t f s here id round =
     }
 
 -- a view with others is proposed to them
-proposed_ok : (t : Traced) (f : Facts) (n : ℕ) (ns : List ℕ) → Sound t → facts_of t f.me ≡ f → IsId f.me → has_round f.agreement ≡ true → Proposing t f (proposing_to f (next_key f.me f.agreement) (neighbours f) (n ∷ ns))
+proposed_ok : (t : Traced) (f : Facts) (n : ℕ) (ns : List ℕ) → Sound t → facts_of t f.me ≡ f → IsId f.me → has_round f.agreement ≡ true → Proposing t f (proposal_effects f (next_key f.me f.agreement) (neighbours f) (n ∷ ns))
 proposed_ok t f n ns s here id round =
     let k : ClusterKey = next_key f.me f.agreement in
-    let u : Traced = after t (Writes (line.Promise f.me k)) in
+    let u : Traced = traced_after t (Writes (line.Promise f.me k)) in
     let p : Promised t u f k = promised_next t f s here id round in
     let h : NodeKeys t f.me f = keys_here t f s here in
     record {
@@ -181,7 +181,7 @@ proposed_ok t f n ns s here id round =
 propose_ok : (t : Traced) (f : Facts) → Sound t → facts_of t f.me ≡ f → IsId f.me → Proposing t f (propose f)
 propose_ok t f s here id = go f.agreement.proposal refl
   where
-    to : (ns : List ℕ) → has_round f.agreement ≡ true → Proposing t f (proposing_to f (next_key f.me f.agreement) (neighbours f) ns)
+    to : (ns : List ℕ) → has_round f.agreement ≡ true → Proposing t f (proposal_effects f (next_key f.me f.agreement) (neighbours f) ns)
     to [] round = alone_ok t f s here id round
     to (n ∷ ns) round = proposed_ok t f n ns s here id round
 
@@ -190,7 +190,7 @@ propose_ok t f s here id = go f.agreement.proposal refl
     second false b e = absurd (grind arith)
 
     new : (b : Bool) → (is_candidate f && has_round f.agreement) ≡ b → Proposing t f (propose_new f b)
-    new true e = to (agreement.others f.me (neighbours f)) (second (is_candidate f) (has_round f.agreement) e)
+    new true e = to (agreement.others_among f.me (neighbours f)) (second (is_candidate f) (has_round f.agreement) e)
     new false e = nothing_ok t f s here
 
     go : (o : Option Proposal) → f.agreement.proposal ≡ o → Proposing t f (propose_with f o)
@@ -199,14 +199,14 @@ propose_ok t f s here id = go f.agreement.proposal refl
 
 -- ---- the tick
 
-beat_posts : (t : Traced) (f : Facts) → IsId f.me → Known t (view_key f) → Known t f.agreement.promised → Posts t f.me (beat f).sends
+beat_posts : (t : Traced) (f : Facts) → IsId f.me → IsPromisedKey t (view_key f) → IsPromisedKey t f.agreement.promised → Posts t f.me (beat f).sends
 beat_posts t f id view promised =
-    each_posts t f.me _ f.peers (posts_of t f.me _ (read_heartbeat (λ x. Says t f.me x × MaySend t f.me x) (view_key f) f.agreement.promised (heard_ids f.hearing.heard) f.role view.field promised.field (λ h r. ((id, view, promised), tt))))
+    each_posts t f.me _ f.peers (posts_of t f.me _ (read_heartbeat (λ x. Says t f.me x × MaySendKey t f.me x) (view_key f) f.agreement.promised (heard_ids f.hearing.heard) f.role view.field promised.field (λ h r. ((id, view, promised), tt))))
 
 -- all effects of the parts behind the line of the tick
 record Parts (t : Traced) (f : Facts) (e : Effects) : Type 0 where
-  ok : Licensed t (writes e.lines)
-  posts : Posts (after_all t (writes e.lines)) f.me e.sends
+  ok : LicensedMarks t (writes e.lines)
+  posts : Posts (traced_after_all t (writes e.lines)) f.me e.sends
 
 -- the messages of a tick: by the facts before the proposal, after it, and after settling
 abbrev all_sends : ℕ → Facts → Effects → Facts → Facts → List (ℕ × Message)
@@ -219,21 +219,21 @@ progress_lines t n f false = tt
 parts_ok : (t : Traced) (f : Facts) (n : ℕ) → Sound t → facts_of t f.me ≡ f → IsId f.me
     → (fe : Effects) → propose f ≡ fe → Proposing t f fe
     → Parts t f (record {
-      lines = fe.lines ++ (settling n (noted None f fe.lines) ++ ((progress n (noted None (noted None f fe.lines) (settling n (noted None f fe.lines)))).lines ++ []));
-      sends = all_sends n f fe (noted None f fe.lines) (noted None (noted None f fe.lines) (settling n (noted None f fe.lines)));
+      lines = fe.lines ++ (settling_due n (noted None f fe.lines) ++ ((progress n (noted None (noted None f fe.lines) (settling_due n (noted None f fe.lines)))).lines ++ []));
+      sends = all_sends n f fe (noted None f fe.lines) (noted None (noted None f fe.lines) (settling_due n (noted None f fe.lines)));
     })
 parts_ok t f n s here id fe e p =
-    let u : Traced = after_all t (writes fe.lines) in
+    let u : Traced = traced_after_all t (writes fe.lines) in
     let k : Keeps t u = kept_all t (writes fe.lines) p.ok s in
     let g : Facts = noted None f fe.lines in
-    let ls : List Line = settling n g in
+    let ls : List Line = settling_due n g in
     let i : Facts = noted None g ls in
     let rest : List Line = (progress n i).lines ++ [] in
     let c0 : Calmly u (ls ++ rest) = quietly u (ls ++ rest) k.sound (quiet_append u ls rest (settling_quiet u n g p.known p.finished) (quiet_append u (progress n i).lines [] (progress_lines u n i _) tt)) in
-    let w : Traced = after_all u (writes (ls ++ rest)) in
+    let w : Traced = traced_after_all u (writes (ls ++ rest)) in
     let h : NodeKeys t f.me f = keys_here t f s here in
     let first : Grows t w = grows_on t u w k.grows c0.keeps.grows in
-    let view : Known w (view_key g) = known_grows u w c0.keeps.grows (view_key g) p.known in
+    let view : IsPromisedKey w (view_key g) = known_grows u w c0.keeps.grows (view_key g) p.known in
     record {
       ok = licensed_both t fe.lines (ls ++ rest) p.ok c0.ok;
       posts = subst (λ (x : Traced). Posts x f.me (all_sends n f fe g i)) (sym (after_both t fe.lines (ls ++ rest)))
@@ -242,14 +242,14 @@ parts_ok t f n s here id fe e p =
           (posts_append w f.me (rows g).sends _ (rows_posts w f.me g view (rows_grow u w c0.keeps.grows g.exchange.rows p.rows))
           (posts_append w f.me (transactions g).sends _ (transactions_posts w f.me g view)
           (posts_append w f.me (batches g).sends _ (batches_posts w f.me g view (outs_grow u w c0.keeps.grows g.batches p.outs))
-          (posts_append w f.me (progress n i).sends [] (progress_if_posts w f.me n i _ (subst (λ x. Known w x) (sym (all_view_stays None g g.me (view_key g) ls (settling_of_view n g))) view)) tt))))));
+          (posts_append w f.me (progress n i).sends [] (progress_if_posts w f.me n i _ (subst (λ x. IsPromisedKey w x) (sym (all_view_stays None g g.me (view_key g) ls (settling_of_view n g))) view)) tt))))));
     }
 
-pub tick_ok : (t : Traced) (net : Network) (f : Facts) (n : ℕ) → Sound t → facts_of t f.me ≡ f → IsId f.me → Licensed t (writes (written net f.me (tick_of n f)))
+pub tick_ok : (t : Traced) (net : Network) (f : Facts) (n : ℕ) → Sound t → facts_of t f.me ≡ f → IsId f.me → LicensedMarks t (writes (written net f.me (tick_of n f)))
 tick_ok t net f n s here id = go f.up
   where
     u : Traced
-    u = after t (Writes (line.Tick f.me))
+    u = traced_after t (Writes (line.Tick f.me))
 
     first : Keeps t u
     first = kept_line t (line.Tick f.me) tt s
@@ -260,9 +260,9 @@ tick_ok t net f n s here id = go f.up
     here1 : facts_of u f.me ≡ f1
     here1 = at_here t.world.facts f.me f.me _ refl (λ (g : Facts). g ≡ f1) (ap (λ (g : Facts). after_ages g) here)
 
-    all : Parts u f1 (in_order (beat ∷ propose ∷ rows ∷ transactions ∷ batches ∷ settlings n ∷ progress n ∷ []) f1)
+    all : Parts u f1 (parts_in_order (beat ∷ propose ∷ rows ∷ transactions ∷ batches ∷ settlings n ∷ progress n ∷ []) f1)
     all = parts_ok u f1 n first.sound here1 id (propose f1) refl (propose_ok u f1 first.sound here1 id)
 
-    go : (b : Bool) → Licensed t (writes (written net f.me (tick_if n f b)))
-    go true = written_ok t f.me net (in_order (parts n) f) (tt, all.ok) s all.posts
+    go : (b : Bool) → LicensedMarks t (writes (written net f.me (tick_if n f b)))
+    go true = written_ok t f.me net (parts_in_order (parts n) f) (tt, all.ok) s all.posts
     go false = written_ok t f.me net (tick_if n f false) (tt, tt) s tt

@@ -15,22 +15,22 @@ use Rattle.node_rules.specs.Batches.{Target, Targets, batch_after, fresh_batch, 
 use Rattle.node_rules.specs.Copies.{Content}
 use Rattle.node_rules.specs.Entering.{ending, closing, exchanging, entering}
 use Rattle.node_rules.specs.declared.member_row.MemberRow.{MemberRow}
-use Rattle.node_rules.specs.Map.{row_of}
-use Rattle.node_rules.specs.Exchange.{View, is_single, key_of, is_view}
+use Rattle.node_rules.specs.Map.{row_of_member}
+use Rattle.node_rules.specs.Exchange.{View, is_single, exchange_key, is_view}
 use Rattle.node_rules.specs.Facts.{Facts, view_key, list_at}
 use Rattle.node_rules.specs.Notes.{note, noted, in_view}
 use Rattle.node_rules.specs.Resolving.{repl}
-use Rattle.node_rules.specs.Settling.{line_if, hand, settle, learn, drop, and_then, settling_at, settling_from, settling_if, settling, may_hand, may_settle}
+use Rattle.node_rules.specs.Settling.{line_if, hand, settle, learn, drop, lines_then, settling_at, settling_from, settling_if, settling_due, may_hand, may_settle}
 use Rattle.node_rules.specs.Standing.{is_to_learn, is_to_drop, others}
 use Rattle.node_rules.specs.Tick.{sends_again, transactions, batch_to, batches, state, own_row_in, rows, progress_message, progress_if}
 use Rattle.node_rules.specs.Transactions.{Transaction, Write}
 use Rattle.cluster_rules.specs.Marks.{Writes, Begins, Mark}
 use Rattle.journal_readings.specs.Lines.{is_enter}
 use Rattle.key_laws.proofs.Frames.{at_here, never}
-use Rattle.key_laws.specs.Traced.{Traced, facts_of, after, after_all}
-use Rattle.key_laws.specs.Licences.{Known, RowOf, Says, MaySend, MayEnter, Licensed, Visited, MayFinish}
+use Rattle.key_laws.specs.Traced.{Traced, facts_of, traced_after, traced_after_all}
+use Rattle.key_laws.specs.Licences.{IsPromisedKey, RowOf, Says, MaySendKey, MayEnterKey, LicensedMarks, Visited, MayFinishExchange}
 use Rattle.key_laws.proofs.Order.{at_most_none}
-use Rattle.key_laws.specs.Sound.{Views, OutKnown, Outs, RowsKnown, NodeKeys, Sound}
+use Rattle.key_laws.specs.Sound.{ViewStands, OutKnown, Outs, RowsKnown, NodeKeys, Sound}
 use Rattle.key_laws.proofs.Growth.{known_grows}
 use Rattle.key_laws.proofs.KeptNodes.{Lawful, just_entered, or_later}
 use Rattle.key_laws.proofs.Kept.{Keeps, kept_line}
@@ -39,21 +39,21 @@ use Rattle.key_laws.proofs.Quiet.{writes, licensed_both, QuietLine, QuietLines, 
 
 -- ---- the view's key
 
-pub none_known : (t : Traced) → Known t none
+pub none_known : (t : Traced) → IsPromisedKey t none
 none_known t = record { bound = at_most_none _; field = inl refl }
 
-pub view_known : (t : Traced) (n : ℕ) (f : Facts) → NodeKeys t n f → Known t (view_key f)
+pub view_known : (t : Traced) (n : ℕ) (f : Facts) → NodeKeys t n f → IsPromisedKey t (view_key f)
 view_known t n f h = go f.exchange.view h.view
   where
-    go : (v : Option View) → Views t n f.agreement.last v → Known t (key_of v)
+    go : (v : Option View) → ViewStands t n f.agreement.last v → IsPromisedKey t (exchange_key v)
     go None i = none_known t
-    go (Some v) i = subst (λ k. Known t k) (sym i.key) h.agrees.last
+    go (Some v) i = subst (λ k. IsPromisedKey t k) (sym i.key) h.agrees.last
 
 -- a node that is in a view has entered it
 pub view_visited : (t : Traced) (n : ℕ) (f : Facts) (v : View) → NodeKeys t n f → f.exchange.view ≡ Some v → Visited t n (view_key f)
-view_visited t n f v h e = subst (λ o. Visited t n (key_of o)) (sym e) (record {
-  known = subst (λ o. Known t (key_of o)) e (view_known t n f h);
-  entered = (subst (λ o. Views t n f.agreement.last o) e h.view).entered;
+view_visited t n f v h e = subst (λ o. Visited t n (exchange_key o)) (sym e) (record {
+  known = subst (λ o. IsPromisedKey t (exchange_key o)) e (view_known t n f h);
+  entered = (subst (λ o. ViewStands t n f.agreement.last o) e h.view).entered;
 })
 
 pub viewed : (t : Traced) (n : ℕ) (f : Facts) (k : ClusterKey) → NodeKeys t n f → in_view f k ≡ true → Visited t n (view_key f)
@@ -82,8 +82,8 @@ abbrev pub AllOfView : ℕ → ClusterKey → List Line → Type 0
 AllOfView m k [] = Unit {0}
 AllOfView m k (l ∷ ls) = OfView m k l × AllOfView m k ls
 
-at_key : (t : Traced) (k l : ClusterKey) → Known t k → l ≡ k → Known t l
-at_key t k l h e = subst (λ x. Known t x) (sym e) h
+at_key : (t : Traced) (k l : ClusterKey) → IsPromisedKey t k → l ≡ k → IsPromisedKey t l
+at_key t k l h e = subst (λ x. IsPromisedKey t x) (sym e) h
 
 at_view : (t : Traced) (m n : ℕ) (k l : ClusterKey) → Visited t m k → (n ≡ m) × (l ≡ k) → Visited t n l
 at_view t m n k l h e = subst (λ (x : ℕ). Visited t x l) (sym e.0) (subst (λ q. Visited t m q) (sym e.1) h)
@@ -143,14 +143,14 @@ line_if_of_view m k l false h = tt
 abbrev LinesOfView : (Facts → List Line) → Type 0
 LinesOfView part = (f : Facts) → AllOfView f.me (view_key f) (part f)
 
-and_then_of_view : (first second : Facts → List Line) → LinesOfView first → LinesOfView second → LinesOfView (and_then first second)
+and_then_of_view : (first second : Facts → List Line) → LinesOfView first → LinesOfView second → LinesOfView (lines_then first second)
 and_then_of_view first second h i f = of_view_append f.me (view_key f) (first f) (second (noted None f (first f))) (h f) (after_lines f (first f) second (h f) i)
 
 settling_at_of_view : (l : List ℕ) (p : ℕ) → LinesOfView (settling_at l p)
 settling_at_of_view l p =
-    and_then_of_view (λ f. hand f l p) (and_then (λ f. settle f l p) (and_then (λ f. learn f l p) (λ f. drop f l p)))
+    and_then_of_view (λ f. hand f l p) (lines_then (λ f. settle f l p) (lines_then (λ f. learn f l p) (λ f. drop f l p)))
     (λ f. line_if_of_view f.me (view_key f) _ (may_hand f l p) (refl, refl))
-    (and_then_of_view (λ f. settle f l p) (and_then (λ f. learn f l p) (λ f. drop f l p))
+    (and_then_of_view (λ f. settle f l p) (lines_then (λ f. learn f l p) (λ f. drop f l p))
     (λ f. line_if_of_view f.me (view_key f) _ (may_settle f l p) (refl, refl))
     (and_then_of_view (λ f. learn f l p) (λ f. drop f l p)
     (λ f. line_if_of_view f.me (view_key f) _ (is_to_learn f l p) (refl, refl))
@@ -163,7 +163,7 @@ settling_from_of_view (suc n) p f =
     of_view_append f.me (view_key f) (settling_at (list_at f p) p f) (settling_from n (p + 1) (noted None f (settling_at (list_at f p) p f))) (settling_at_of_view (list_at f p) p f)
     (after_lines f (settling_at (list_at f p) p f) (settling_from n (p + 1)) (settling_at_of_view (list_at f p) p f) (settling_from_of_view n (p + 1)))
 
-pub settling_of_view : (n : ℕ) (f : Facts) → AllOfView f.me (view_key f) (settling n f)
+pub settling_of_view : (n : ℕ) (f : Facts) → AllOfView f.me (view_key f) (settling_due n f)
 settling_of_view n f = go f.exchange.exchanged
   where
     go : (b : Bool) → AllOfView f.me (view_key f) (settling_if n f b)
@@ -171,7 +171,7 @@ settling_of_view n f = go f.exchange.exchanged
     go false = tt
 
 -- what settles is in a view that it has entered
-pub settling_quiet : (t : Traced) (n : ℕ) (f : Facts) → Known t (view_key f) → (f.exchange.exchanged ≡ true → t.entered f.me (view_key f) ≡ true) → QuietLines t (settling n f)
+pub settling_quiet : (t : Traced) (n : ℕ) (f : Facts) → IsPromisedKey t (view_key f) → (f.exchange.exchanged ≡ true → t.entered f.me (view_key f) ≡ true) → QuietLines t (settling_due n f)
 settling_quiet t n f known entered = go f.exchange.exchanged refl
   where
     go : (b : Bool) → f.exchange.exchanged ≡ b → QuietLines t (settling_if n f b)
@@ -180,15 +180,16 @@ settling_quiet t n f known entered = go f.exchange.exchanged refl
 
 -- ---- closing, and an entry
 
-ending_quiet : (t : Traced) (me : ℕ) (k : ClusterKey) (number : ℕ) (o : Option Write) → Known t k → QuietLine t (ending me k number o)
+ending_quiet : (t : Traced) (me : ℕ) (k : ClusterKey) (number : ℕ) (o : Option Write) → IsPromisedKey t k → QuietLine t (ending me k number o)
 ending_quiet t me k number None h = h
 ending_quiet t me k number (Some w) h = h
 
-closing_from : (t : Traced) (me : ℕ) (k : ClusterKey) (xs : List Transaction) → Known t k → QuietLines t (map (λ (x : Transaction). ending me k x.number x.applied) xs)
+closing_from : (t : Traced) (me : ℕ) (k : ClusterKey) (xs : List Transaction) → IsPromisedKey t k → QuietLines t (map (λ (x : Transaction). ending me k x.number x.applied) xs)
 closing_from t me k [] h = tt
 closing_from t me k (x ∷ xs) h = (ending_quiet t me k x.number x.applied h, closing_from t me k xs h)
 
-pub closing_quiet : (t : Traced) (f : Facts) → Known t (view_key f) → QuietLines t (closing f)
+pub closing_quiet : (t : Traced) (f : Facts) → IsPromisedKey t (view_key f)
+    → QuietLines t (closing f)
 closing_quiet t f h = closing_from t f.me (view_key f) f.transactions.running h
 
 closing_store : (q : Option Want) (f : Facts) (me : ℕ) (k : ClusterKey) (xs : List Transaction) → (noted q f (map (λ (x : Transaction). ending me k x.number x.applied) xs)).store ≡ f.store
@@ -214,83 +215,84 @@ closed_me q f g = closing_me q g f.me (view_key f) f.transactions.running
 pub closed_store : (q : Option Want) (f g : Facts) → (noted q g (closing f)).store ≡ g.store
 closed_store q f g = closing_store q g f.me (view_key f) f.transactions.running
 
-exchanging_ok : (t : Traced) (me : ℕ) (k : ClusterKey) (b : Bool) → MayFinish t me k → Licensed t (writes (exchanging me k b))
+exchanging_ok : (t : Traced) (me : ℕ) (k : ClusterKey) (b : Bool) → MayFinishExchange t me k → LicensedMarks t (writes (exchanging me k b))
 exchanging_ok t me k true h = (h, tt)
 exchanging_ok t me k false h = tt
 
-pub promised_known : (t : Traced) (n : ℕ) (k : ClusterKey) → Sound t → k ≡ (facts_of t n).agreement.promised → Known t k
+pub promised_known : (t : Traced) (n : ℕ) (k : ClusterKey) → Sound t → k ≡ (facts_of t n).agreement.promised → IsPromisedKey t k
 promised_known t n k s e = at_key t _ k (s.nodes n).agrees.promised e
 
-pub entering_ok : (t : Traced) (f : Facts) (k : ClusterKey) (ms : List Member) → Sound t → Known t (view_key f) → Lawful t f.me k ms → Licensed t (writes (entering f k ms))
+pub entering_ok : (t : Traced) (f : Facts) (k : ClusterKey) (ms : List Member) → Sound t → IsPromisedKey t (view_key f) → Lawful t f.me k ms → LicensedMarks t (writes (entering f k ms))
 entering_ok t f k ms s known h =
     let c : Calmly t (closing f) = quietly t (closing f) s (closing_quiet t f known) in
-    let u : Traced = after_all t (writes (closing f)) in
+    let u : Traced = traced_after_all t (writes (closing f)) in
     let promised : k ≡ (facts_of u f.me).agreement.promised = h.promised ∙ sym (ap (λ (a : Agreement). a.promised) (c.same f.me)) in
-    let ok : MayEnter u f.me k ms = record {
+    let ok : MayEnterKey u f.me k ms = record {
       promised = promised;
       above = subst (λ (a : Agreement). IsBelow a.last k) (sym (c.same f.me)) h.above;
       among = h.among;
       source = inl (c.keeps.grows.lists k ms h.list);
     } in
     let l : Line = line.Enter f.me k ms in
-    let entered : Keeps u (after u (Writes l)) = kept_line u l ok c.keeps.sound in
+    let entered : Keeps u (traced_after u (Writes l)) = kept_line u l ok c.keeps.sound in
     licensed_both t (closing f) (l ∷ exchanging f.me k (is_single ms)) c.ok (
       ok,
-      exchanging_ok (after u (Writes l)) f.me k (is_single ms) (record {
+      exchanging_ok (traced_after u (Writes l)) f.me k (is_single ms) (record {
         visited = record { known = known_grows u _ entered.grows k (promised_known u f.me k c.keeps.sound promised); entered = just_entered u f.me k ms };
         view = at_here u.world.facts f.me f.me _ refl (λ (g : Facts). k ≡ view_key g) refl;
       }),
     )
 
 -- who has entered has entered later on
-entered_stays : (t : Traced) (ms : List Mark) (n : ℕ) (k : ClusterKey) → t.entered n k ≡ true → (after_all t ms).entered n k ≡ true
+entered_stays : (t : Traced) (ms : List Mark) (n : ℕ) (k : ClusterKey) → t.entered n k ≡ true → (traced_after_all t ms).entered n k ≡ true
 entered_stays t [] n k h = h
-entered_stays t (Begins e ∷ ms) n k h = entered_stays (after t (Begins e)) ms n k h
-entered_stays t (Writes l ∷ ms) n k h = entered_stays (after t (Writes l)) ms n k (or_later (is_enter k n l) (t.entered n k) h)
+entered_stays t (Begins e ∷ ms) n k h = entered_stays (traced_after t (Begins e)) ms n k h
+entered_stays t (Writes l ∷ ms) n k h = entered_stays (traced_after t (Writes l)) ms n k (or_later (is_enter k n l) (t.entered n k) h)
 
-pub entering_visits : (t : Traced) (f : Facts) (k : ClusterKey) (ms : List Member) → (after_all t (writes (entering f k ms))).entered f.me k ≡ true
+pub entering_visits : (t : Traced) (f : Facts) (k : ClusterKey) (ms : List Member) → (traced_after_all t (writes (entering f k ms))).entered f.me k ≡ true
 entering_visits t f k ms =
-    let u : Traced = after_all t (writes (closing f)) in
+    let u : Traced = traced_after_all t (writes (closing f)) in
     subst (λ (x : Traced). x.entered f.me k ≡ true) (sym (after_both t (closing f) (line.Enter f.me k ms ∷ exchanging f.me k (is_single ms))))
-    (entered_stays (after u (Writes (line.Enter f.me k ms))) (writes (exchanging f.me k (is_single ms))) f.me k (just_entered u f.me k ms))
+    (entered_stays (traced_after u (Writes (line.Enter f.me k ms))) (writes (exchanging f.me k (is_single ms))) f.me k (just_entered u f.me k ms))
 
 -- ---- messages of the view
 
-pub found_row : (t : Traced) (n : ℕ) (rs : List MemberRow) → RowsKnown t rs → RowOf (λ k. Known t k) (unwrap_or (row_of rs n) [])
+pub found_row : (t : Traced) (n : ℕ) (rs : List MemberRow) → RowsKnown t rs → RowOf (λ k. IsPromisedKey t k) (unwrap_or (row_of_member rs n) [])
 found_row t n [] h = tt
 found_row t n (r ∷ rs) h = go (r.node == n) (found_row t n rs h.1)
   where
-    go : (b : Bool) → RowOf (λ k. Known t k) (unwrap_or (row_of rs n) []) → RowOf (λ k. Known t k) (unwrap_or (option_map (λ x. x.row) (cond b (Some r) (find (λ x. x.node == n) rs))) [])
+    go : (b : Bool) → RowOf (λ k. IsPromisedKey t k) (unwrap_or (row_of_member rs n) []) → RowOf (λ k. IsPromisedKey t k) (unwrap_or (option_map (λ x. x.row) (cond b (Some r) (find (λ x. x.node == n) rs))) [])
     go true i = h.0
     go false i = i
 
-pub state_posts : (t : Traced) (n : ℕ) (f : Facts) (wants : Bool) → Known t (view_key f) → RowsKnown t f.exchange.rows → MayPost t n (state f wants)
-state_posts t n f wants h rows = posts_of t n _ (read_state (λ x. Says t n x × MaySend t n x) (λ k. Known t k) (λ k i. i.field) (view_key f) wants (own_row_in f) h.field (found_row t f.me f.exchange.rows rows) (λ w r q. ((h, q), tt)))
+pub state_posts : (t : Traced) (n : ℕ) (f : Facts) (wants : Bool) → IsPromisedKey t (view_key f) → RowsKnown t f.exchange.rows → MayPost t n (state f wants)
+state_posts t n f wants h rows = posts_of t n _ (read_state (λ x. Says t n x × MaySendKey t n x) (λ k. IsPromisedKey t k) (λ k i. i.field) (view_key f) wants (own_row_in f) h.field (found_row t f.me f.exchange.rows rows) (λ w r q. ((h, q), tt)))
 
-pub ask_posts : (t : Traced) (n : ℕ) (k : ClusterKey) (number : ℕ) (d : List ℕ) → Known t k → MayPost t n (message.Ask k number d)
-ask_posts t n k number d h = posts_of t n _ (read_ask (λ x. Says t n x × MaySend t n x) k number d h.field (λ i e. (h, tt)))
+pub ask_posts : (t : Traced) (n : ℕ) (k : ClusterKey) (number : ℕ) (d : List ℕ) → IsPromisedKey t k → MayPost t n (message.Ask k number d)
+ask_posts t n k number d h = posts_of t n _ (read_ask (λ x. Says t n x × MaySendKey t n x) k number d h.field (λ i e. (h, tt)))
 
-pub repl_posts : (t : Traced) (n : ℕ) (f : Facts) (x : Transaction) (w : Write) → Known t (view_key f) → MayPost t n (repl f x w)
-repl_posts t n f x w h = posts_of t n _ (read_repl (λ x. Says t n x × MaySend t n x) (view_key f) x.number w.nth x.digest w.version h.field (λ i j e v. (h, tt)))
+pub repl_posts : (t : Traced) (n : ℕ) (f : Facts) (x : Transaction) (w : Write) → IsPromisedKey t (view_key f) → MayPost t n (repl f x w)
+repl_posts t n f x w h = posts_of t n _ (read_repl (λ x. Says t n x × MaySendKey t n x) (view_key f) x.number w.nth x.digest w.version h.field (λ i j e v. (h, tt)))
 
-pub progress_posts : (t : Traced) (n k : ℕ) (f : Facts) (wants : Bool) → Known t (view_key f) → MayPost t n (progress_message k f wants)
-progress_posts t n k f wants h = posts_of t n _ (read_progress (λ x. Says t n x × MaySend t n x) (view_key f) wants _ _ _ h.field (λ w a b c. (h, tt)))
+pub progress_posts : (t : Traced) (n k : ℕ) (f : Facts) (wants : Bool) → IsPromisedKey t (view_key f) → MayPost t n (progress_message k f wants)
+progress_posts t n k f wants h = posts_of t n _ (read_progress (λ x. Says t n x × MaySendKey t n x) (view_key f) wants _ _ _ h.field (λ w a b c. (h, tt)))
 
-again_posts : (t : Traced) (n : ℕ) (f : Facts) (x : Transaction) (o : Option Write) → Known t (view_key f) → Posts t n (sends_again f x o)
+again_posts : (t : Traced) (n : ℕ) (f : Facts) (x : Transaction) (o : Option Write) → IsPromisedKey t (view_key f) → Posts t n (sends_again f x o)
 again_posts t n f x None h = each_posts t n _ x.awaiting (ask_posts t n (view_key f) x.number x.digest h)
 again_posts t n f x (Some w) h = each_posts t n _ x.awaiting (repl_posts t n f x w h)
 
-transactions_from : (t : Traced) (n : ℕ) (f : Facts) (xs : List Transaction) → Known t (view_key f) → Posts t n (flat_map (λ (x : Transaction). sends_again f x x.applied) xs)
+transactions_from : (t : Traced) (n : ℕ) (f : Facts) (xs : List Transaction) → IsPromisedKey t (view_key f) → Posts t n (flat_map (λ (x : Transaction). sends_again f x x.applied) xs)
 transactions_from t n f [] h = tt
 transactions_from t n f (x ∷ xs) h = posts_append t n _ _ (again_posts t n f x x.applied h) (transactions_from t n f xs h)
 
-pub transactions_posts : (t : Traced) (n : ℕ) (f : Facts) → Known t (view_key f) → Posts t n (transactions f).sends
+pub transactions_posts : (t : Traced) (n : ℕ) (f : Facts) → IsPromisedKey t (view_key f) → Posts t n (transactions f).sends
 transactions_posts t n f h = transactions_from t n f f.transactions.running h
 
-batch_posts : (t : Traced) (n : ℕ) (b : Batch) → Known t b.key → MayPost t n (message.Batch b)
-batch_posts t n b h = posts_of t n _ (read_batch (λ x. Says t n x × MaySend t n x) b h.field (λ c e. (at_key t b.key c.key h e, tt)))
+batch_posts : (t : Traced) (n : ℕ) (b : Batch) → IsPromisedKey t b.key
+    → MayPost t n (message.Batch b)
+batch_posts t n b h = posts_of t n _ (read_batch (λ x. Says t n x × MaySendKey t n x) b h.field (λ c e. (at_key t b.key c.key h e, tt)))
 
-next_known : (t : Traced) (k : ClusterKey) (content : Content) (x : Target) → Known t k → (o : Option Batch) → OutKnown t o → OutKnown t (batch_after k content x o)
+next_known : (t : Traced) (k : ClusterKey) (content : Content) (x : Target) → IsPromisedKey t k → (o : Option Batch) → OutKnown t o → OutKnown t (batch_after k content x o)
 next_known t k content x h (Some b) out = out
 next_known t k content x h None out = fresh x.pending
   where
@@ -298,7 +300,7 @@ next_known t k content x h None out = fresh x.pending
     fresh [] = tt
     fresh (d ∷ ds) = h
 
-batches_from : (t : Traced) (n : ℕ) (k : ClusterKey) (content : Content) (xs : Targets) → Known t k → Outs t xs → Posts t n (filter_map (λ (x : Target). batch_to x.node (next_batch k content x)) xs)
+batches_from : (t : Traced) (n : ℕ) (k : ClusterKey) (content : Content) (xs : Targets) → IsPromisedKey t k → Outs t xs → Posts t n (filter_map (λ (x : Target). batch_to x.node (next_batch k content x)) xs)
 batches_from t n k content [] h outs = tt
 batches_from t n k content (x ∷ xs) h outs = go (next_batch k content x) (next_known t k content x h x.out outs.0) (batches_from t n k content xs h outs.1)
   where
@@ -307,12 +309,12 @@ batches_from t n k content (x ∷ xs) h outs = go (next_batch k content x) (next
     go None i rest = rest
     go (Some b) i rest = (batch_posts t n b i, rest)
 
-pub batches_posts : (t : Traced) (n : ℕ) (f : Facts) → Known t (view_key f) → Outs t f.batches → Posts t n (batches f).sends
+pub batches_posts : (t : Traced) (n : ℕ) (f : Facts) → IsPromisedKey t (view_key f) → Outs t f.batches → Posts t n (batches f).sends
 batches_posts t n f h outs = batches_from t n (view_key f) f.store.content f.batches h outs
 
-pub rows_posts : (t : Traced) (n : ℕ) (f : Facts) → Known t (view_key f) → RowsKnown t f.exchange.rows → Posts t n (rows f).sends
+pub rows_posts : (t : Traced) (n : ℕ) (f : Facts) → IsPromisedKey t (view_key f) → RowsKnown t f.exchange.rows → Posts t n (rows f).sends
 rows_posts t n f h known = each_posts t n _ _ (state_posts t n f true h known)
 
-pub progress_if_posts : (t : Traced) (n k : ℕ) (f : Facts) (b : Bool) → Known t (view_key f) → Posts t n (progress_if k f b).sends
+pub progress_if_posts : (t : Traced) (n k : ℕ) (f : Facts) (b : Bool) → IsPromisedKey t (view_key f) → Posts t n (progress_if k f b).sends
 progress_if_posts t n k f true h = each_posts t n _ (others f) (progress_posts t n k f true h)
 progress_if_posts t n k f false h = tt

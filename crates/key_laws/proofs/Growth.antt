@@ -17,9 +17,9 @@ use Rattle.node_rules.specs.Facts.{Facts}
 use Rattle.node_rules.specs.Hearing.{Heard}
 use Rattle.node_rules.specs.Tables.{Table}
 use Rattle.key_laws.specs.Traced.{Traced}
-use Rattle.key_laws.specs.Licences.{Known, CopyOf, RowOf, Says, SaysIf, Visited}
+use Rattle.key_laws.specs.Licences.{IsPromisedKey, CopyOf, RowOf, Says, SaysIf, Visited}
 use Rattle.key_laws.proofs.Order.{at_most_refl, at_most_trans}
-use Rattle.key_laws.specs.Sound.{Stands, Agrees, Views, HeardAll, Hears, OutKnown, Outs, RowsKnown, NodeKeys, Listed, Shown, Grows}
+use Rattle.key_laws.specs.Sound.{ProposalStands, Agrees, ViewStands, HeardAll, Hears, OutKnown, Outs, RowsKnown, NodeKeys, Listed, Shown, Grows}
 
 pub same_grows : (t : Traced) → Grows t t
 same_grows t = record { promised = λ n. at_most_refl _; lists = λ k ms e. e; sent = λ i p e. e; entered = λ n k e. e }
@@ -32,15 +32,16 @@ grows_on t u v g h = record {
   entered = λ n k e. h.entered n k (g.entered n k e);
 }
 
-pub known_grows : (t u : Traced) → Grows t u → (k : ClusterKey) → Known t k → Known u k
+pub known_grows : (t u : Traced) → Grows t u → (k : ClusterKey) → IsPromisedKey t k
+    → IsPromisedKey u k
 known_grows t u g k h = record { bound = at_most_trans h.bound (g.promised k.principal); field = h.field }
 
-copy_grows : (t u : Traced) → Grows t u → (c : CopyState) → CopyOf (λ k. Known t k) c → CopyOf (λ k. Known u k) c
+copy_grows : (t u : Traced) → Grows t u → (c : CopyState) → CopyOf (λ k. IsPromisedKey t k) c → CopyOf (λ k. IsPromisedKey u k) c
 copy_grows t u g Empty h = h
 copy_grows t u g Part h = h
 copy_grows t u g (Whole k writes) h = known_grows t u g k h
 
-pub row_grows : (t u : Traced) → Grows t u → (row : Row) → RowOf (λ k. Known t k) row → RowOf (λ k. Known u k) row
+pub row_grows : (t u : Traced) → Grows t u → (row : Row) → RowOf (λ k. IsPromisedKey t k) row → RowOf (λ k. IsPromisedKey u k) row
 row_grows t u g [] h = tt
 row_grows t u g (e ∷ es) h = (copy_grows t u g e.1 h.0, row_grows t u g es h.1)
 
@@ -79,7 +80,7 @@ pub says_if_grows : (t u : Traced) → Grows t u → (a : ℕ) (m : Option Messa
 says_if_grows t u g a None h = tt
 says_if_grows t u g a (Some m) h = says_grows t u g a m h
 
-pub stands_grows : (t u : Traced) → Grows t u → (n : ℕ) (promised last : ClusterKey) (p : Option Proposal) → Stands t n promised last p → Stands u n promised last p
+pub stands_grows : (t u : Traced) → Grows t u → (n : ℕ) (promised last : ClusterKey) (p : Option Proposal) → ProposalStands t n promised last p → ProposalStands u n promised last p
 stands_grows t u g n promised last None h = tt
 stands_grows t u g n promised last (Some p) h = record { key = h.key; above = h.above; own = h.own; list = g.lists _ _ h.list }
 
@@ -91,7 +92,7 @@ agrees_grows t u g n a h = record {
   proposal = stands_grows t u g n a.promised a.last a.proposal h.proposal;
 }
 
-pub views_grow : (t u : Traced) → Grows t u → (n : ℕ) (last : ClusterKey) (v : Option View) → Views t n last v → Views u n last v
+pub views_grow : (t u : Traced) → Grows t u → (n : ℕ) (last : ClusterKey) (v : Option View) → ViewStands t n last v → ViewStands u n last v
 views_grow t u g n last None h = tt
 views_grow t u g n last (Some v) h = record { key = h.key; list = g.lists _ _ h.list; entered = g.entered n v.key h.entered; among = h.among }
 

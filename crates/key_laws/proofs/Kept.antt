@@ -25,13 +25,14 @@ use Rattle.node_rules.specs.Notes.{sent, target_for, exchanged}
 use Rattle.cluster_rules.specs.declared.event.Event.{Event}
 use Rattle.cluster_rules.specs.declared.event.Event.TheVariants as event
 use Rattle.journal_readings.specs.Messages.{Posting, Arrival, arrived, arrived_cut}
-use Rattle.cluster_rules.specs.Network.{client, posting_at, posting_if, posting}
+use Rattle.cluster_rules.specs.Network.{posting_at, posting_if, posting}
 use Rattle.cluster_rules.specs.Marks.{Mark, Begins, Writes, came, came_to, sent_by, posted_by}
-use Rattle.key_laws.specs.Order.{AtMost}
-use Rattle.key_laws.specs.Traced.{Traced, facts_of, after, after_all}
-use Rattle.key_laws.specs.Licences.{Known, Says, SaysIf, MaySend, MaySendIf, Proposes, MayPromise, OkLine, Ok, Licensed, MayFinish}
+use Rattle.node_rules.specs.Messages.{client}
+use Rattle.key_laws.specs.Order.{KeyAtMost}
+use Rattle.key_laws.specs.Traced.{Traced, facts_of, traced_after, traced_after_all}
+use Rattle.key_laws.specs.Licences.{IsPromisedKey, Says, SaysIf, MaySendKey, MaySendKeyIf, Proposes, MayPromise, OkLine, OkMark, LicensedMarks, MayFinishExchange}
 use Rattle.key_laws.proofs.Order.{at_most_refl, at_most_eq}
-use Rattle.key_laws.specs.Sound.{Agrees, OutKnown, Outs, NodeKeys, Shown, Sound, Grows, Views}
+use Rattle.key_laws.specs.Sound.{Agrees, OutKnown, Outs, NodeKeys, Shown, Sound, Grows, ViewStands}
 use Rattle.key_laws.proofs.Growth.{same_grows, grows_on, known_grows, says_grows, node_grows, listed_grows, shown_grow}
 use Rattle.key_laws.proofs.Frames.{num_same, num_differ, never, moved, moved_grows, kept_moved, SameKeys, kept_same, same_moved_grows}
 use Rattle.key_laws.proofs.StampLaws.{stamps_changed, stamps_with, stamps_without, recounted_known, spoiled_known, stamped_known}
@@ -63,11 +64,11 @@ abbrev pub Told : Traced → Option Arrival → Type 0
 Told t None = Unit {0}
 Told t (Some x) = Says t x.from x.message
 
-shown_more : (t : Traced) (xs : List MapTable) (x : MapTable) → Shown t xs → Known t x.key → Shown t (xs ++ x ∷ [])
+shown_more : (t : Traced) (xs : List MapTable) (x : MapTable) → Shown t xs → IsPromisedKey t x.key → Shown t (xs ++ x ∷ [])
 shown_more t [] x h k = (k, tt)
 shown_more t (y ∷ ys) x h k = (h.0, shown_more t ys x h.1 k)
 
-kept_table : (t : Traced) (x : MapTable) → Known t x.key → Sound t → Keeps t (record { world = record t.world { tables = t.world.tables ++ x ∷ [] }; lists = t.lists; entered = t.entered })
+kept_table : (t : Traced) (x : MapTable) → IsPromisedKey t x.key → Sound t → Keeps t (record { world = record t.world { tables = t.world.tables ++ x ∷ [] }; lists = t.lists; entered = t.entered })
 kept_table t x k h =
     let u : Traced = record { world = record t.world { tables = t.world.tables ++ x ∷ [] }; lists = t.lists; entered = t.entered } in
     let g : Grows t u = record { promised = λ n. at_most_refl _; lists = λ q ms e. e; sent = λ i p e. e; entered = λ m q e. e } in
@@ -182,7 +183,7 @@ kept_proposing t n to k ms s ok h =
     let f : Facts = facts_of t n in
     let b : Bool = proposes f.agreement.proposal k in
     let new : Facts = sent f to (message.Propose k ms) in
-    let le : AtMost f.agreement.promised new.agreement.promised = at_most_eq (proposing_promised f.agreement (proposal_of f.me k ms) b) in
+    let le : KeyAtMost f.agreement.promised new.agreement.promised = at_most_eq (proposing_promised f.agreement (proposal_of f.me k ms) b) in
     let u : Traced = moved t n new in
     let g : Grows t u = moved_grows t n new le in
     let old : NodeKeys u n f = node_grows t u g n f (h.nodes n) in
@@ -190,7 +191,7 @@ kept_proposing t n to k ms s ok h =
       sound = kept_moved t n new le h (record {
         me = old.me;
         agrees = subst (λ (x : ℕ). Agrees u n (agreement.proposed_if f.agreement (proposal_of x k ms) b)) (sym old.me) (proposing_agrees u n f.agreement k ms b old.agrees ok.promised ok.above s.0 s.1);
-        view = subst (λ last. Views u n last f.exchange.view) (proposing_last f.agreement (proposal_of f.me k ms) b) old.view;
+        view = subst (λ last. ViewStands u n last f.exchange.view) (proposing_last f.agreement (proposal_of f.me k ms) b) old.view;
         hears = old.hears;
         outs = old.outs;
         rows = old.rows;
@@ -200,7 +201,7 @@ kept_proposing t n to k ms s ok h =
       grows = g;
     }
 
-outs_sending : (t : Traced) (to : ℕ) (b : Batch) (xs : Targets) → Known t b.key → Outs t xs → Outs t (batches.sending xs to b)
+outs_sending : (t : Traced) (to : ℕ) (b : Batch) (xs : Targets) → IsPromisedKey t b.key → Outs t xs → Outs t (batches.sending xs to b)
 outs_sending t to b [] k h = tt
 outs_sending t to b (x ∷ xs) k h = (go (x.node == to), outs_sending t to b xs k h.1)
   where
@@ -212,7 +213,7 @@ pub outs_new : (t : Traced) (f : Facts) (ns : List ℕ) → Outs t (map (target_
 outs_new t f [] = tt
 outs_new t f (n ∷ ns) = (tt, outs_new t f ns)
 
-kept_sent_by : (t : Traced) (a b : ℕ) (m : Message) → Says t a m → MaySend t a m → Sound t → Keeps t (moved t a (sent (facts_of t a) b m))
+kept_sent_by : (t : Traced) (a b : ℕ) (m : Message) → Says t a m → MaySendKey t a m → Sound t → Keeps t (moved t a (sent (facts_of t a) b m))
 kept_sent_by t a b (message.Propose k ms) s ok h = kept_proposing t a b k ms s ok h
 kept_sent_by t a b (message.Batch x) s ok h =
     let f : Facts = facts_of t a in
@@ -228,11 +229,11 @@ kept_sent_by t a b m s ok h =
     let same : SameKeys t (facts_of t a) (facts_of t a) = record { me = refl; agreement = refl; view = refl; heard = refl; exchanged = refl; outs = λ u g h. h; rows = λ u g h. h; stamps = λ u g h. h } in
     record { sound = kept_same t a _ same h; grows = same_moved_grows t a _ same }
 
-may_posted : (t : Traced) (i : ℕ) (p : Posting) (a : ℕ) (m : Message) → MaySend t a m → MaySend (posted_in t i p) a m
+may_posted : (t : Traced) (i : ℕ) (p : Posting) (a : ℕ) (m : Message) → MaySendKey t a m → MaySendKey (posted_in t i p) a m
 may_posted t i p a (message.Propose k ms) h = record { promised = h.promised; above = h.above }
 may_posted t i p a _ h = tt
 
-kept_sent : (t : Traced) (i a b : ℕ) (bytes : List ℕ) → SaysIf t a (message_of bytes) → MaySendIf t a (message_of bytes) → Sound t → Keeps t (record { world = posted_by t.world i (record { from = a; to = b; bytes = bytes }); lists = t.lists; entered = t.entered })
+kept_sent : (t : Traced) (i a b : ℕ) (bytes : List ℕ) → SaysIf t a (message_of bytes) → MaySendKeyIf t a (message_of bytes) → Sound t → Keeps t (record { world = posted_by t.world i (record { from = a; to = b; bytes = bytes }); lists = t.lists; entered = t.entered })
 kept_sent t i a b bytes s ok h = go (message_of bytes) s ok
   where
     p : Posting
@@ -244,10 +245,10 @@ kept_sent t i a b bytes s ok h = go (message_of bytes) s ok
     first : Keeps t v
     first = kept_posted t i p s h
 
-    second : (m : Message) → Says t a m → MaySend t a m → Keeps v (moved v a (sent (facts_of v a) b m))
+    second : (m : Message) → Says t a m → MaySendKey t a m → Keeps v (moved v a (sent (facts_of v a) b m))
     second m s ok = kept_sent_by v a b m (says_grows t v first.grows a m s) (may_posted t i p a m ok) first.sound
 
-    go : (o : Option Message) → SaysIf t a o → MaySendIf t a o → Keeps t (record { world = sent_by v.world a b o; lists = t.lists; entered = t.entered })
+    go : (o : Option Message) → SaysIf t a o → MaySendKeyIf t a o → Keeps t (record { world = sent_by v.world a b o; lists = t.lists; entered = t.entered })
     go None s ok = first
     go (Some m) s ok = record { sound = (second m s ok).sound; grows = grows_on t v _ first.grows (second m s ok).grows }
 
@@ -291,7 +292,7 @@ quiet : (t : Traced) (n : ℕ) (new : Facts) → SameKeys t (facts_of t n) new �
 quiet t n new s h = record { sound = kept_same t n new s h; grows = same_moved_grows t n new s }
 
 -- the end of an exchange
-kept_exchanged : (t : Traced) (n : ℕ) (k : ClusterKey) → MayFinish t n k → Sound t → Keeps t (moved t n (exchanged (facts_of t n) k))
+kept_exchanged : (t : Traced) (n : ℕ) (k : ClusterKey) → MayFinishExchange t n k → Sound t → Keeps t (moved t n (exchanged (facts_of t n) k))
 kept_exchanged t n k ok h =
     let f : Facts = facts_of t n in
     let new : Facts = exchanged f k in
@@ -312,7 +313,7 @@ kept_exchanged t n k ok h =
       grows = g;
     }
 
-pub kept_line : (t : Traced) (l : Line) → OkLine t l → Sound t → Keeps t (after t (Writes l))
+pub kept_line : (t : Traced) (l : Line) → OkLine t l → Sound t → Keeps t (traced_after t (Writes l))
 kept_line t (line.Deliver i a b) ok h = kept_arrival t _ (told_at t b i h) h
 kept_line t (line.Repeat i a b) ok h = kept_arrival t _ (told_at t b i h) h
 kept_line t (line.Cut i a b size) ok h = kept_arrival t _ (told_cut t b size i h) h
@@ -338,54 +339,55 @@ kept_line t (line.Learn n k p) ok h = quiet t n _ (record { me = refl; agreement
 kept_line t (line.Drop n k p) ok h = quiet t n _ (record { me = refl; agreement = refl; view = refl; heard = refl; exchanged = refl; outs = λ u g h. h; rows = λ u g h. h; stamps = λ u g h. stamps_without u (facts_of t n).store.stamps p h }) h
 kept_line t _ ok h = beside t _ refl refl refl refl refl h
 
-pub kept_begun : (t : Traced) (e : Event) → Sound t → Keeps t (after t (Begins e))
+pub kept_begun : (t : Traced) (e : Event) → Sound t → Keeps t (traced_after t (Begins e))
 kept_begun t (event.Deliver i) h = beside t _ refl refl refl refl refl h
 kept_begun t (event.Lose i) h = beside t _ refl refl refl refl refl h
 kept_begun t (event.Cut i size) h = beside t _ refl refl refl refl refl h
 kept_begun t _ h = beside t _ refl refl refl refl refl h
 
-pub kept : (t : Traced) (m : Mark) → Ok t m → Sound t → Keeps t (after t m)
+pub kept : (t : Traced) (m : Mark) → OkMark t m → Sound t → Keeps t (traced_after t m)
 kept t (Begins e) ok h = kept_begun t e h
 kept t (Writes l) ok h = kept_line t l ok h
 
 -- ---- licensed marks
 
-pub kept_all : (t : Traced) (ms : List Mark) → Licensed t ms → Sound t → Keeps t (after_all t ms)
+pub kept_all : (t : Traced) (ms : List Mark) → LicensedMarks t ms → Sound t
+    → Keeps t (traced_after_all t ms)
 kept_all t [] ok h = unchanged t h
 kept_all t (m ∷ ms) ok h =
-    let first : Keeps t (after t m) = kept t m ok.0 h in
-    let others : Keeps (after t m) (after_all (after t m) ms) = kept_all (after t m) ms ok.1 first.sound in
+    let first : Keeps t (traced_after t m) = kept t m ok.0 h in
+    let others : Keeps (traced_after t m) (traced_after_all (traced_after t m) ms) = kept_all (traced_after t m) ms ok.1 first.sound in
     record { sound = others.sound; grows = grows_on t _ _ first.grows others.grows }
 
 -- at each place of licensed marks
-pub kept_at : (t : Traced) (ms : List Mark) (i : ℕ) → Licensed t ms → Sound t → Keeps t (after_all t (take i ms))
+pub kept_at : (t : Traced) (ms : List Mark) (i : ℕ) → LicensedMarks t ms → Sound t → Keeps t (traced_after_all t (take i ms))
 kept_at t [] zero ok h = unchanged t h
 kept_at t [] (suc i) ok h = unchanged t h
 kept_at t (m ∷ ms) zero ok h = unchanged t h
 kept_at t (m ∷ ms) (suc i) ok h =
-    let first : Keeps t (after t m) = kept t m ok.0 h in
-    let others : Keeps (after t m) (after_all (after t m) (take i ms)) = kept_at (after t m) ms i ok.1 first.sound in
+    let first : Keeps t (traced_after t m) = kept t m ok.0 h in
+    let others : Keeps (traced_after t m) (traced_after_all (traced_after t m) (take i ms)) = kept_at (traced_after t m) ms i ok.1 first.sound in
     record { sound = others.sound; grows = grows_on t _ _ first.grows others.grows }
 
 -- from one place to a later one
-pub grows_from : (t : Traced) (ms : List Mark) (i j : ℕ) → Licensed t ms → Sound t → i ≤ j → Grows (after_all t (take i ms)) (after_all t (take j ms))
+pub grows_from : (t : Traced) (ms : List Mark) (i j : ℕ) → LicensedMarks t ms → Sound t → i ≤ j → Grows (traced_after_all t (take i ms)) (traced_after_all t (take j ms))
 grows_from t [] zero zero ok h le = same_grows t
 grows_from t [] zero (suc j) ok h le = same_grows t
 grows_from t [] (suc i) zero ok h le = same_grows t
 grows_from t [] (suc i) (suc j) ok h le = same_grows t
 grows_from t (m ∷ ms) zero j ok h le = (kept_at t (m ∷ ms) j ok h).grows
 grows_from t (m ∷ ms) (suc i) zero ok h le = absurd (omega arith)
-grows_from t (m ∷ ms) (suc i) (suc j) ok h le = grows_from (after t m) ms i j ok.1 (kept t m ok.0 h).sound (omega arith)
+grows_from t (m ∷ ms) (suc i) (suc j) ok h le = grows_from (traced_after t m) ms i j ok.1 (kept t m ok.0 h).sound (omega arith)
 
-pub licensed_at : (t : Traced) (ms : List Mark) (i : ℕ) (m : Mark) → Licensed t ms → slice_get ms i ≡ Some m → Ok (after_all t (take i ms)) m
+pub licensed_at : (t : Traced) (ms : List Mark) (i : ℕ) (m : Mark) → LicensedMarks t ms → slice_get ms i ≡ Some m → OkMark (traced_after_all t (take i ms)) m
 licensed_at t [] i m ok e = absurd (grind arith)
-licensed_at t (x ∷ ms) zero m ok e = subst (Ok t) (grind arith) ok.0
-licensed_at t (x ∷ ms) (suc i) m ok e = licensed_at (after t x) ms i m ok.1 e
+licensed_at t (x ∷ ms) zero m ok e = subst (OkMark t) (grind arith) ok.0
+licensed_at t (x ∷ ms) (suc i) m ok e = licensed_at (traced_after t x) ms i m ok.1 e
 
-pub after_all-append : (t : Traced) (a b : List Mark) → after_all t (a ++ b) ≡ after_all (after_all t a) b
+pub after_all-append : (t : Traced) (a b : List Mark) → traced_after_all t (a ++ b) ≡ traced_after_all (traced_after_all t a) b
 after_all-append t [] b = refl
-after_all-append t (m ∷ a) b = after_all-append (after t m) a b
+after_all-append t (m ∷ a) b = after_all-append (traced_after t m) a b
 
-pub licensed_append : (t : Traced) (a b : List Mark) → Licensed t a → Licensed (after_all t a) b → Licensed t (a ++ b)
+pub licensed_append : (t : Traced) (a b : List Mark) → LicensedMarks t a → LicensedMarks (traced_after_all t a) b → LicensedMarks t (a ++ b)
 licensed_append t [] b p q = q
-licensed_append t (m ∷ a) b p q = (p.0, licensed_append (after t m) a b p.1 q)
+licensed_append t (m ∷ a) b p q = (p.0, licensed_append (traced_after t m) a b p.1 q)

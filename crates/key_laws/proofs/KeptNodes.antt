@@ -20,16 +20,16 @@ use Rattle.node_rules.specs.declared.member_row.MemberRow.{MemberRow}
 use Rattle.node_rules.specs.Exchange.{is_member, with_row_if}
 use Rattle.node_rules.specs.Facts.{Facts}
 use Rattle.node_rules.specs.Keys.{same_key}
-use Rattle.node_rules.specs.Notes.{neighbours, after_ages, stopped, entered, own_row, reached, in_view, row_came, batch_acked, progress_came, write_came, counted_if, write_acked, answer_came}
+use Rattle.node_rules.specs.Notes.{neighbours, after_ages, stopped, entered, own_row, reached, in_view, row_came, batch_acked, progress_came, write_came, write_counted_if, write_acked, answer_came}
 use Rattle.node_rules.specs.Facts.{list_at}
-use Rattle.node_rules.specs.Map.{master, lacks}
+use Rattle.node_rules.specs.Map.{list_master, lacks}
 use Rattle.cluster_types.specs.Partitions.{partition_count}
 use Rattle.journal_readings.specs.Lines.{is_enter}
-use Rattle.key_laws.specs.Order.{AtMost}
+use Rattle.key_laws.specs.Order.{KeyAtMost}
 use Rattle.key_laws.specs.Traced.{Traced, facts_of, listed_if, promised_by, entered_after}
-use Rattle.key_laws.specs.Licences.{Known, RowOf, Says, WasSent, MayPromise, MayEnter}
+use Rattle.key_laws.specs.Licences.{IsPromisedKey, RowOf, Says, WasPosted, MayPromise, MayEnterKey}
 use Rattle.key_laws.proofs.Order.{at_most_refl, at_most_eq, below_at_most, at_most_below, not_below, same_is, same_self}
-use Rattle.key_laws.specs.Sound.{GoodList, Stands, Agrees, Views, OutKnown, Outs, RowsKnown, NodeKeys, Listed, Sound, Grows}
+use Rattle.key_laws.specs.Sound.{GoodList, ProposalStands, Agrees, ViewStands, OutKnown, Outs, RowsKnown, NodeKeys, Listed, Sound, Grows}
 use Rattle.key_laws.proofs.Growth.{same_grows, known_grows, row_grows, says_grows, node_grows, listed_grows, shown_grow}
 use Rattle.key_laws.proofs.Frames.{at_here, at_each, moved, moved_grows, kept_moved, SameKeys, same_keys, never, num_eq}
 use Rattle.key_laws.proofs.StampLaws.{stamps_changed, recounted_known, row_known}
@@ -37,24 +37,24 @@ use Rattle.key_laws.proofs.Neighbours.{by_test, neighbours_good, aged_hears, bea
 
 -- ---- proposals
 
-stands_if : (t : Traced) (n : ℕ) (promised last : ClusterKey) (b : Bool) (p : Option Proposal) → Stands t n promised last p → Stands t n promised last (kept_if b p)
+stands_if : (t : Traced) (n : ℕ) (promised last : ClusterKey) (b : Bool) (p : Option Proposal) → ProposalStands t n promised last p → ProposalStands t n promised last (kept_if b p)
 stands_if t n promised last true p h = h
 stands_if t n promised last false p h = tt
 
 -- the proposal that stays under a new promise is of that promise
-stands_promised : (t : Traced) (n : ℕ) (promised last k : ClusterKey) (p : Option Proposal) → Stands t n promised last p → Stands t n k last (kept_if (proposes p k) p)
+stands_promised : (t : Traced) (n : ℕ) (promised last k : ClusterKey) (p : Option Proposal) → ProposalStands t n promised last p → ProposalStands t n k last (kept_if (proposes p k) p)
 stands_promised t n promised last k None h = tt
 stands_promised t n promised last k (Some p) h = go (same_key p.key k) refl
   where
-    go : (b : Bool) → same_key p.key k ≡ b → Stands t n k last (kept_if b (Some p))
+    go : (b : Bool) → same_key p.key k ≡ b → ProposalStands t n k last (kept_if b (Some p))
     go true e = record { key = same_is p.key k e; above = h.above; own = h.own; list = h.list }
     go false e = tt
 
-stands_accepted : (t : Traced) (n : ℕ) (promised last : ClusterKey) (from : ℕ) (p : Option Proposal) → Stands t n promised last p → Stands t n promised last (accepted_by p from)
+stands_accepted : (t : Traced) (n : ℕ) (promised last : ClusterKey) (from : ℕ) (p : Option Proposal) → ProposalStands t n promised last p → ProposalStands t n promised last (accepted_by p from)
 stands_accepted t n promised last from None h = tt
 stands_accepted t n promised last from (Some p) h = record { key = h.key; above = h.above; own = h.own; list = h.list }
 
-agrees_with : (t : Traced) (n : ℕ) (a : Agreement) (p : Option Proposal) → Agrees t n a → Stands t n a.promised a.last p → Agrees t n (record a { proposal = p })
+agrees_with : (t : Traced) (n : ℕ) (a : Agreement) (p : Option Proposal) → Agrees t n a → ProposalStands t n a.promised a.last p → Agrees t n (record a { proposal = p })
 agrees_with t n a p h s = record { ordered = h.ordered; promised = h.promised; last = h.last; proposal = s }
 
 agrees_seeing : (t : Traced) (n : ℕ) (a : Agreement) (k : ClusterKey) → Agrees t n a → Agrees t n (agreement.seeing a k)
@@ -98,12 +98,12 @@ outs_acked t from number (x ∷ xs) h = (go (x.node == from), outs_acked t from 
     go true = out_acked t x number x.out h.0
     go false = h.0
 
-rows_with : (t : Traced) (rs : List MemberRow) (n : ℕ) (row : Row) (b : Bool) → RowOf (λ k. Known t k) row → RowsKnown t rs → RowsKnown t (with_row_if rs n row b)
+rows_with : (t : Traced) (rs : List MemberRow) (n : ℕ) (row : Row) (b : Bool) → RowOf (λ k. IsPromisedKey t k) row → RowsKnown t rs → RowsKnown t (with_row_if rs n row b)
 rows_with t [] n row true k h = (k, tt)
 rows_with t (r ∷ rs) n row true k h = (h.0, rows_with t rs n row true k h.1)
 rows_with t rs n row false k h = h
 
-pub row_same : (t : Traced) (f : Facts) (from : ℕ) (row : Row) (b : Bool) → RowOf (λ k. Known t k) row → SameKeys t f (row_came f from row b)
+pub row_same : (t : Traced) (f : Facts) (from : ℕ) (row : Row) (b : Bool) → RowOf (λ k. IsPromisedKey t k) row → SameKeys t f (row_came f from row b)
 row_same t f from row true k = record { me = refl; agreement = refl; view = refl; heard = refl; exchanged = refl; outs = λ u g h. h; rows = λ u g h. rows_with u f.exchange.rows from row (lacks f.exchange.rows from) (row_grows t u g row k) h; stamps = λ u g h. h }
 row_same t f from row false k = record { me = refl; agreement = refl; view = refl; heard = refl; exchanged = refl; outs = λ u g h. h; rows = λ u g h. h; stamps = λ u g h. h }
 
@@ -115,12 +115,12 @@ progress_same : (t : Traced) (f : Facts) (from : ℕ) (done handed settled : Lis
 progress_same t f from done handed settled true = record { me = refl; agreement = refl; view = refl; heard = refl; exchanged = refl; outs = λ u g h. h; rows = λ u g h. h; stamps = λ u g h. h }
 progress_same t f from done handed settled false = record { me = refl; agreement = refl; view = refl; heard = refl; exchanged = refl; outs = λ u g h. h; rows = λ u g h. h; stamps = λ u g h. h }
 
-counted_same : (t : Traced) (f : Facts) (key : ClusterKey) (l : List ℕ) (p nth : ℕ) (b : Bool) → Known t key → SameKeys t f (counted_if f key l p nth b)
+counted_same : (t : Traced) (f : Facts) (key : ClusterKey) (l : List ℕ) (p nth : ℕ) (b : Bool) → IsPromisedKey t key → SameKeys t f (write_counted_if f key l p nth b)
 counted_same t f key l p nth true k = record { me = refl; agreement = refl; view = refl; heard = refl; exchanged = refl; outs = λ u g h. h; rows = λ u g h. h; stamps = λ u g h. stamps_changed u f.store p _ (λ x i. recounted_known u key _ x (known_grows t u g key k) i) h }
 counted_same t f key l p nth false k = record { me = refl; agreement = refl; view = refl; heard = refl; exchanged = refl; outs = λ u g h. h; rows = λ u g h. h; stamps = λ u g h. h }
 
-write_same : (t : Traced) (f : Facts) (from : ℕ) (key : ClusterKey) (nth p : ℕ) (b : Bool) → Known t key → SameKeys t f (write_came f from key nth p b)
-write_same t f from key nth p true k = counted_same t f key (list_at f p) p nth (from == master (list_at f p)) k
+write_same : (t : Traced) (f : Facts) (from : ℕ) (key : ClusterKey) (nth p : ℕ) (b : Bool) → IsPromisedKey t key → SameKeys t f (write_came f from key nth p b)
+write_same t f from key nth p true k = counted_same t f key (list_at f p) p nth (from == list_master (list_at f p)) k
 write_same t f from key nth p false k = record { me = refl; agreement = refl; view = refl; heard = refl; exchanged = refl; outs = λ u g h. h; rows = λ u g h. h; stamps = λ u g h. h }
 
 write_ack_same : (t : Traced) (f : Facts) (from number : ℕ) (b : Bool) → SameKeys t f (write_acked f from number b)
@@ -154,7 +154,7 @@ reaches t n f from (message.Accept k) s h =
       keys = record {
         me = h.me;
         agrees = agrees_accepting t n f.agreement from (proposes f.agreement.proposal k) h.agrees;
-        view = subst (λ last. Views t n last f.exchange.view) keeps.1 h.view;
+        view = subst (λ last. ViewStands t n last f.exchange.view) keeps.1 h.view;
         hears = h.hears;
         outs = h.outs;
         rows = h.rows;
@@ -170,7 +170,7 @@ reaches t n f from (message.Refuse k promised) s h =
       keys = record {
         me = h.me;
         agrees = agrees_seeing t n (agreement.refused f.agreement k) promised (agrees_refused t n f.agreement (proposes f.agreement.proposal k) h.agrees);
-        view = subst (λ last. Views t n last f.exchange.view) keeps.1 h.view;
+        view = subst (λ last. ViewStands t n last f.exchange.view) keeps.1 h.view;
         hears = h.hears;
         outs = h.outs;
         rows = h.rows;
@@ -189,7 +189,7 @@ reaches t n f from _ s h = record { promised = refl; last = refl; keys = h }
 pub kept_reached : (t : Traced) (n from : ℕ) (m : Message) → Says t from m → Sound t → Sound (moved t n (reached (facts_of t n) from m))
 kept_reached t n from m s h =
     let new : Facts = reached (facts_of t n) from m in
-    let le : AtMost (facts_of t n).agreement.promised new.agreement.promised = at_most_eq (reaches t n (facts_of t n) from m s (h.nodes n)).promised in
+    let le : KeyAtMost (facts_of t n).agreement.promised new.agreement.promised = at_most_eq (reaches t n (facts_of t n) from m s (h.nodes n)).promised in
     let u : Traced = moved t n new in
     kept_moved t n new le h (reaches u n (facts_of t n) from m (says_grows t u (moved_grows t n new le) from m s) (node_grows t u (moved_grows t n new le) n (facts_of t n) (h.nodes n))).keys
 
@@ -243,7 +243,7 @@ pub record Lawful (t : Traced) (n : ℕ) (k : ClusterKey) (ms : List Member) : T
   pub among : IsTrue (is_member ms n)
 
 -- what stands behind an entry
-pub entered_as : (t : Traced) (n : ℕ) (k : ClusterKey) (ms : List Member) → Sound t → MayEnter t n k ms → Lawful t n k ms
+pub entered_as : (t : Traced) (n : ℕ) (k : ClusterKey) (ms : List Member) → Sound t → MayEnterKey t n k ms → Lawful t n k ms
 entered_as t n k ms h ok = record {
   promised = ok.promised;
   above = ok.above;
@@ -284,7 +284,8 @@ kept_enter t n k ms h ok =
     let u : Traced = entered_in t n k ms in
     let g : Grows t u = enter_grows t n k ms in
     let old : NodeKeys u n f = node_grows t u g n f (h.nodes n) in
-    let known : Known u k = subst (λ x. Known u x) (sym ok.promised) old.agrees.promised in
+    let known : IsPromisedKey u k = subst (λ x. IsPromisedKey u x)
+    (sym ok.promised) old.agrees.promised in
     record {
       nodes = at_each (λ m f. NodeKeys u m f) t.world.facts n _ (λ m. node_grows t u g m (facts_of t m) (h.nodes m)) (record {
         me = old.me;
@@ -318,7 +319,7 @@ pub record Own (n : ℕ) (k : ClusterKey) : Type 0 where
 
 -- a key of the node's own above its promise was promised by nobody
 unlisted : (t : Traced) (n : ℕ) (k : ClusterKey) (ms : List Member) → Sound t → IsBelow (facts_of t n).agreement.promised k → k.principal ≡ n → t.lists k ≡ Some ms → ⊥
-unlisted t n k ms h above own e = not_below above (subst (λ (x : ℕ). AtMost k (facts_of t x).agreement.promised) own (h.lists k ms e).known.bound)
+unlisted t n k ms h above own e = not_below above (subst (λ (x : ℕ). KeyAtMost k (facts_of t x).agreement.promised) own (h.lists k ms e).known.bound)
 
 other_stays : (t : Traced) (n : ℕ) (k q : ClusterKey) (new ms : List Member) → Sound t → IsBelow (facts_of t n).agreement.promised k → k.principal ≡ n → t.lists q ≡ Some ms → (b : Bool) → same_key k q ≡ b → listed_if k new (t.lists q) b ≡ Some ms
 other_stays t n k q new ms h above own e true s = absurd (unlisted t n k ms h above own (ap t.lists (same_is k q s) ∙ e))
@@ -334,7 +335,7 @@ promise_grows t n k true h above own = record {
 promise_grows t n k false h above own = moved_grows t n _ (below_at_most above)
 
 -- what a node keeps over a promise, where the key is known after it
-promised_keys : (t : Traced) (n : ℕ) (f : Facts) (k : ClusterKey) → NodeKeys t n f → IsBelow f.agreement.promised k → Known t k → NodeKeys t n (record f { agreement = agreement.promising f.agreement k })
+promised_keys : (t : Traced) (n : ℕ) (f : Facts) (k : ClusterKey) → NodeKeys t n f → IsBelow f.agreement.promised k → IsPromisedKey t k → NodeKeys t n (record f { agreement = agreement.promising f.agreement k })
 promised_keys t n f k h above known = record {
   me = h.me;
   agrees = record {
@@ -351,9 +352,9 @@ promised_keys t n f k h above known = record {
   finished = h.finished;
 }
 
-own_known : (t : Traced) (n : ℕ) (k : ClusterKey) (b : Bool) → Own n k → Known (promised_in t n k b) k
+own_known : (t : Traced) (n : ℕ) (k : ClusterKey) (b : Bool) → Own n k → IsPromisedKey (promised_in t n k b) k
 own_known t n k b own = record {
-  bound = at_here t.world.facts n k.principal _ (sym own.led) (λ f. AtMost k f.agreement.promised) (at_most_refl k);
+  bound = at_here t.world.facts n k.principal _ (sym own.led) (λ f. KeyAtMost k f.agreement.promised) (at_most_refl k);
   field = inr own.field;
 }
 
@@ -376,7 +377,7 @@ kept_own_promise t n k h above own =
     let f : Facts = facts_of t n in
     let u : Traced = promised_in t n k true in
     let g : Grows t u = promise_grows t n k true h above (λ e. own.led) in
-    let known : Known u k = own_known t n k true own in
+    let known : IsPromisedKey u k = own_known t n k true own in
     record {
       nodes = at_each (λ m f. NodeKeys u m f) t.world.facts n _ (λ m. node_grows t u g m (facts_of t m) (h.nodes m)) (promised_keys u n f k (node_grows t u g n f (h.nodes n)) above known);
       lists = λ q ms e. listed_after t u n k q ms h g (record { known = known; key = own.field; good = own_good t n k h own }) (same_key k q) refl e;
@@ -384,7 +385,7 @@ kept_own_promise t n k h above own =
       tables = shown_grow t u g t.world.tables h.tables;
     }
 
-pub kept_other_promise : (t : Traced) (n : ℕ) (k : ClusterKey) → Sound t → IsBelow (facts_of t n).agreement.promised k → Known t k → Sound (promised_in t n k false)
+pub kept_other_promise : (t : Traced) (n : ℕ) (k : ClusterKey) → Sound t → IsBelow (facts_of t n).agreement.promised k → IsPromisedKey t k → Sound (promised_in t n k false)
 kept_other_promise t n k h above known =
     let f : Facts = facts_of t n in
     let new : Facts = record f { agreement = agreement.promising f.agreement k } in
@@ -393,11 +394,11 @@ kept_other_promise t n k h above known =
     kept_moved t n new (below_at_most above) h (promised_keys u n f k (node_grows t u g n f (h.nodes n)) above (known_grows t u g k known))
 
 -- who stands behind a promise
-proposed_listed : (t : Traced) (n : ℕ) (k : ClusterKey) (ms : List Member) → Sound t → WasSent t (message.Propose k ms) → Listed t k ms
+proposed_listed : (t : Traced) (n : ℕ) (k : ClusterKey) (ms : List Member) → Sound t → WasPosted t (message.Propose k ms) → Listed t k ms
 proposed_listed t n k ms h w = h.lists k ms (h.sent w.number w.posting (message.Propose k ms) w.stands w.read).1
 
 pub promise_own : (t : Traced) (n : ℕ) (k : ClusterKey) → Sound t → MayPromise t n k → k.principal ≡ n → Own n k
 promise_own t n k h ok own = ⊎_elim (λ c. record { led = own; field = c.1 }) (λ c. record { led = own; field = (proposed_listed t n k c.0 h c.1).key }) ok.source
 
-pub promise_known : (t : Traced) (n : ℕ) (k : ClusterKey) → Sound t → MayPromise t n k → (k.principal ≡ n → ⊥) → Known t k
+pub promise_known : (t : Traced) (n : ℕ) (k : ClusterKey) → Sound t → MayPromise t n k → (k.principal ≡ n → ⊥) → IsPromisedKey t k
 promise_known t n k h ok other = ⊎_elim (λ c. absurd (other c.0)) (λ c. (proposed_listed t n k c.0 h c.1).known) ok.source

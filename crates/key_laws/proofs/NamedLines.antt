@@ -22,20 +22,20 @@ use Rattle.node_rules.specs.Agreement as agreement
 use Rattle.node_rules.specs.Agreement.{Proposal}
 use Rattle.node_rules.specs.Entering.{ending, exchanging, closing, entering}
 use Rattle.node_rules.specs.Exchange.{View, is_member, members_of, first_missing}
-use Rattle.node_rules.specs.Facts.{Facts, view_key, members, list_at}
+use Rattle.node_rules.specs.Facts.{Facts, view_key, members_of_view, list_at}
 use Rattle.node_rules.specs.Hearing.{Heard, heard_ids, neighbours_of, aged, older, names, member_of, timeout}
 use Rattle.node_rules.specs.Map.{lacks, entry_of}
 use Rattle.node_rules.specs.Messages as due
 use Rattle.node_rules.specs.Messages.{due_message_of}
-use Rattle.node_rules.specs.Notes.{noted, neighbours, new_transaction, reached, in_view, after_ages}
-use Rattle.node_rules.specs.Requests.{due_request, due_stop, due_start, asking, refusal_of, refusal_after, acting_refusal, busy_refusal, map_refusal, up_refusal, view_refusal, exchange_refusal, request_if, stop_if, start_if}
+use Rattle.node_rules.specs.Notes.{noted, neighbours, opening_transaction, reached, in_view, after_ages}
+use Rattle.node_rules.specs.Requests.{due_request, due_stop, due_start, asking, request_refusal, refusal_after, acting_refusal, busy_refusal, map_refusal, up_refusal, view_refusal, exchange_refusal, request_if, stop_if, start_if}
 use Rattle.node_rules.specs.Resolving.{resolving_want, done_if}
-use Rattle.node_rules.specs.Settling.{line_if, hand, settle, learn, drop, and_then, settling_at, settling_from, settling_if}
+use Rattle.node_rules.specs.Settling.{line_if, hand, settle, learn, drop, lines_then, settling_at, settling_from, settling_if}
 use Rattle.node_rules.specs.Shows.{with_roles, map_line, map_if, due_map, due_show}
 use Rattle.node_rules.specs.Standing.{acts}
-use Rattle.node_rules.specs.Tables.{Table, contains, with_entry}
+use Rattle.node_rules.specs.Tables.{Table, contains, table_with}
 use Rattle.node_rules.specs.Tick as tick
-use Rattle.node_rules.specs.Tick.{Part, in_order, tick_of}
+use Rattle.node_rules.specs.Tick.{Part, parts_in_order, tick_of}
 use Rattle.node_rules.specs.Transactions.{Transaction, Write, answered, is_last_awaited, transaction_on}
 use Rattle.cluster_rules.proofs.OwnLines.{noted_me}
 use Rattle.key_laws.specs.Ends.{AllNodes, CauseNames, LineNames, AllName}
@@ -89,7 +89,7 @@ members_onto Q [] ms h i = i
 members_onto Q (x ∷ xs) ms h i = members_onto Q xs (x ∷ ms) h.1 (h.0, i)
 
 pub neighbours_as : (Q : ℕ → Role → Type 0) (me : ℕ) (role : Role) (es : Table Heard) → Q me role → HeardAs Q es → MembersAs Q (neighbours_of me role es)
-neighbours_as Q me role es h i = members_onto Q (map member_of (with_entry (map (λ e. (e.0, e.1.beat.role)) (filter (names me) es)) me role)) [] (members_of_table Q _ (roles_put Q me role _ h (roles_heard Q me es i))) tt
+neighbours_as Q me role es h i = members_onto Q (map member_of (table_with (map (λ e. (e.0, e.1.beat.role)) (filter (names me) es)) me role)) [] (members_of_table Q _ (roles_put Q me role _ h (roles_heard Q me es i))) tt
 
 -- the ids of those that are heard
 abbrev pub Ids : (ℕ → Type 0) → Table Heard → Type 0
@@ -129,7 +129,7 @@ all_each P (n ∷ ns) h = (h n (or_left (n == n) (contains ns n) (num_eq n n ref
 
 pub record Aware (P : ℕ → Type 0) (f : Facts) : Type 0 where
   pub me : P f.me
-  pub members : (n : ℕ) → is_member (members f) n ≡ true → P n
+  pub members : (n : ℕ) → is_member (members_of_view f) n ≡ true → P n
   -- in a view the node is a member
   pub among : (v : View) → f.exchange.view ≡ Some v → is_member v.members f.me ≡ true
   pub heard : Ids P f.hearing.heard
@@ -171,12 +171,12 @@ entering_name P f key ms h i = name_append P (closing f) _ (closing_name P f.me 
 propose_name : (P : ℕ → Type 0) (f : Facts) → P f.me → AllMembers P (neighbours f) → AllName P (tick.propose f).lines
 propose_name P f h i = go f.agreement.proposal
   where
-    deep : (ns : List ℕ) → AllName P (tick.proposing_to f (agreement.next_key f.me f.agreement) (neighbours f) ns).lines
+    deep : (ns : List ℕ) → AllName P (tick.proposal_effects f (agreement.next_key f.me f.agreement) (neighbours f) ns).lines
     deep [] = (h, entering_name P f (agreement.next_key f.me f.agreement) (neighbours f) h i)
     deep (n ∷ ns) = (h, tt)
 
     new : (b : Bool) → AllName P (tick.propose_new f b).lines
-    new true = deep (agreement.others f.me (neighbours f))
+    new true = deep (agreement.others_among f.me (neighbours f))
     new false = tt
 
     go : (o : Option Proposal) → AllName P (tick.propose_with f o).lines
@@ -185,8 +185,8 @@ propose_name P f h i = go f.agreement.proposal
 
 settling_at_name : (P : ℕ → Type 0) (l : List ℕ) (p : ℕ) (f : Facts) → P f.me → AllName P (settling_at l p f)
 settling_at_name P l p f me =
-    then_name P f (hand f l p) (and_then (λ f. settle f l p) (and_then (λ f. learn f l p) (λ f. drop f l p))) me (one_if P _ _ me)
-    (λ g a. then_name P g (settle g l p) (and_then (λ f. learn f l p) (λ f. drop f l p)) a (one_if P _ _ a)
+    then_name P f (hand f l p) (lines_then (λ f. settle f l p) (lines_then (λ f. learn f l p) (λ f. drop f l p))) me (one_if P _ _ me)
+    (λ g a. then_name P g (settle g l p) (lines_then (λ f. learn f l p) (λ f. drop f l p)) a (one_if P _ _ a)
     (λ h b. then_name P h (learn h l p) (λ f. drop f l p) b (one_if P _ _ b) (λ k c. one_if P _ _ c)))
 
 settling_from_name : (P : ℕ → Type 0) (n p : ℕ) (f : Facts) → P f.me → AllName P (settling_from n p f)
@@ -207,9 +207,9 @@ abbrev AllOwn : (ℕ → Type 0) → List Part → Type 0
 AllOwn P [] = Unit {0}
 AllOwn P (part ∷ parts) = ((f : Facts) → P f.me → AllName P (part f).lines) × AllOwn P parts
 
-in_order_name : (P : ℕ → Type 0) (parts : List Part) → AllOwn P parts → (f : Facts) → P f.me → AllName P (in_order parts f).lines
+in_order_name : (P : ℕ → Type 0) (parts : List Part) → AllOwn P parts → (f : Facts) → P f.me → AllName P (parts_in_order parts f).lines
 in_order_name P [] h f me = tt
-in_order_name P (part ∷ parts) h f me = then_name P f (part f).lines (λ g. (in_order parts g).lines) me (h.0 f me) (λ g a. in_order_name P parts h.1 g a)
+in_order_name P (part ∷ parts) h f me = then_name P f (part f).lines (λ g. (parts_in_order parts g).lines) me (h.0 f me) (λ g a. in_order_name P parts h.1 g a)
 
 pub tick_name : (P : ℕ → Type 0) (n : ℕ) (f : Facts) → Aware P f → AllName P (tick_of n f).lines
 tick_name P n f h = go f.up
@@ -223,7 +223,7 @@ tick_name P n f h = go f.up
     go : (b : Bool) → AllName P (tick.tick_if n f b).lines
     go true = (
       h.me,
-      then_name P g (tick.propose g).lines (λ k. (in_order later k).lines) h.me
+      then_name P g (tick.propose g).lines (λ k. (parts_in_order later k).lines) h.me
           (propose_name P g h.me (neighbours_are P f.me f.role (aged f.hearing.heard) h.me (heard_aged (λ n r. P n) f.hearing.heard h.heard)))
           (λ k a. in_order_name P later (λ x _. tt, (λ x _. tt, (λ x _. tt, (λ x b. settling_name P n x x.exchange.exchanged b, (λ x _. progress_name P n x _, tt))))) k a),
     )
@@ -268,13 +268,13 @@ in_list P f p h e = go f.up e
   where
     in_view_of : (o : Option View) → f.exchange.view ≡ o → view_refusal f o ≡ None → contains (list_at f p) f.me ≡ true
     in_view_of None i e = cc
-    in_view_of (Some v) i e = member_listed (members f) p f.me (member_id (members f) f.me ∙ ap (λ (o : Option View). is_member (members_of o) f.me) i ∙ h.among v i)
+    in_view_of (Some v) i e = member_listed (members_of_view f) p f.me (member_id (members_of_view f) f.me ∙ ap (λ (o : Option View). is_member (members_of o) f.me) i ∙ h.among v i)
 
     go : (b : Bool) → up_refusal f b ≡ None → contains (list_at f p) f.me ≡ true
     go true e = in_view_of f.exchange.view refl e
     go false e = cc
 
-refusal_cause : (P : ℕ → Type 0) (f : Facts) (d : List ℕ) → Aware P f → CauseIf P (refusal_of f (list_at f (partition_of d)) d)
+refusal_cause : (P : ℕ → Type 0) (f : Facts) (d : List ℕ) → Aware P f → CauseIf P (request_refusal f (list_at f (partition_of d)) d)
 refusal_cause P f d h = go (map_refusal f) refl (map_cause P f h)
   where
     busy : (o : Option Transaction) → CauseIf P (busy_refusal o)
@@ -283,7 +283,7 @@ refusal_cause P f d h = go (map_refusal f) refl (map_cause P f h)
 
     acting_of : (b : Bool) → map_refusal f ≡ None → CauseIf P (acting_refusal f (list_at f (partition_of d)) d b)
     acting_of true e = busy (transaction_on f.transactions d)
-    acting_of false e = named_in P f (list_at f (partition_of d)) (partition_of d) f.me (in_list P f (partition_of d) h e) (each_listed P (members f) (partition_of d) h.members)
+    acting_of false e = named_in P f (list_at f (partition_of d)) (partition_of d) f.me (in_list P f (partition_of d) h e) (each_listed P (members_of_view f) (partition_of d) h.members)
 
     go : (o : Option Refusal) → map_refusal f ≡ o → CauseIf P o → CauseIf P (refusal_after f (list_at f (partition_of d)) d o)
     go (Some cause) e c = c
@@ -301,7 +301,7 @@ map_name P f from to h = go (map_refusal f) refl (map_cause P f h)
   where
     each : map_refusal f ≡ None → (ps : List ℕ) → AllName P (map (λ p. map_line f p (entry_of (list_at f p) f.exchange.rows p)) ps)
     each e [] = tt
-    each e (p ∷ ps) = ((h.me, (acting_in P f (list_at f p) p f.me (in_list P f p h e) (each_listed P (members f) p h.members), roles_all P (members f) (list_at f p) (all_each P (list_at f p) (each_listed P (members f) p h.members)))), each e ps)
+    each e (p ∷ ps) = ((h.me, (acting_in P f (list_at f p) p f.me (in_list P f p h e) (each_listed P (members_of_view f) p h.members), roles_all P (members_of_view f) (list_at f p) (all_each P (list_at f p) (each_listed P (members_of_view f) p h.members)))), each e ps)
 
     go : (o : Option Refusal) → map_refusal f ≡ o → CauseIf P o → AllName P (map_if f from to o)
     go (Some cause) e c = ((h.me, c), tt)
@@ -312,15 +312,15 @@ show_name P f d h = (h, tt)
 
 -- ---- messages
 
-voting_name : (P : ℕ → Type 0) (f : Facts) (from : ℕ) (key : ClusterKey) (b : Bool) → P f.me → AllName P (due.voting f from key b).lines
+voting_name : (P : ℕ → Type 0) (f : Facts) (from : ℕ) (key : ClusterKey) (b : Bool) → P f.me → AllName P (due.vote_effects f from key b).lines
 voting_name P f from key true h = tt
 voting_name P f from key false h = one_if P _ _ h
 
-committing_name : (P : ℕ → Type 0) (f : Facts) (p : Proposal) (b : Bool) → P f.me → AllMembers P p.members → AllName P (due.committing f p b).lines
+committing_name : (P : ℕ → Type 0) (f : Facts) (p : Proposal) (b : Bool) → P f.me → AllMembers P p.members → AllName P (due.commit_effects f p b).lines
 committing_name P f p true h i = entering_name P f p.key p.members h i
 committing_name P f p false h i = tt
 
-counting_name : (P : ℕ → Type 0) (f : Facts) (from : ℕ) (key : ClusterKey) (o : Option Proposal) (b : Bool) → P f.me → ((p : Proposal) → o ≡ Some p → AllMembers P p.members) → AllName P (due.counting f from key o b).lines
+counting_name : (P : ℕ → Type 0) (f : Facts) (from : ℕ) (key : ClusterKey) (o : Option Proposal) (b : Bool) → P f.me → ((p : Proposal) → o ≡ Some p → AllMembers P p.members) → AllName P (due.accept_effects f from key o b).lines
 counting_name P f from key (Some p) true h i = committing_name P f p _ h (i p refl)
 counting_name P f from key (Some p) false h i = (inr h, tt)
 counting_name P f from key None b h i = (inr h, tt)
@@ -333,7 +333,7 @@ spent_name : (P : ℕ → Type 0) (f : Facts) (b : Bool) → P f.me → AllName 
 spent_name P f true h = tt
 spent_name P f false h = (inr h, tt)
 
-commit_name : (P : ℕ → Type 0) (f : Facts) (key : ClusterKey) (ms : List Member) (b : Bool) → P f.me → AllMembers P ms → AllName P (due.entering_if f key ms b).lines
+commit_name : (P : ℕ → Type 0) (f : Facts) (key : ClusterKey) (ms : List Member) (b : Bool) → P f.me → AllMembers P ms → AllName P (due.entry_effects_if f key ms b).lines
 commit_name P f key ms true h i = entering_name P f key ms h i
 commit_name P f key ms false h i = (inr h, tt)
 
@@ -345,7 +345,7 @@ merging_name : (P : ℕ → Type 0) (f : Facts) (rs : List (List ℕ × Version)
 merging_name P f [] h = tt
 merging_name P f (r ∷ rs) h = then_name P f (due.merging f r.0 r.1) (λ g. due.merging_all g rs) h (one_if P _ _ h) (λ g a. merging_name P g rs a)
 
-progressed_name : (P : ℕ → Type 0) (n : ℕ) (f now : Facts) (from : ℕ) (wants b : Bool) → P f.me → AllName P (due.progress_came n f now from wants b).lines
+progressed_name : (P : ℕ → Type 0) (n : ℕ) (f now : Facts) (from : ℕ) (wants b : Bool) → P f.me → AllName P (due.progress_effects_if n f now from wants b).lines
 progressed_name P n f now from wants true h = go _
   where
     go : (c : Bool) → AllName P (due.answer_progress n now from c).lines
@@ -374,7 +374,7 @@ resolving_name P f clock l t want.Get h = (h, tt)
 resolving_name P f clock l t (want.Put bytes) h = (h, done_name P f t.number _ h)
 resolving_name P f clock l t want.Del h = (h, done_name P f t.number _ h)
 
-answered_name : (P : ℕ → Type 0) (f : Facts) (clock from number : ℕ) (v : Option Version) (b : Bool) → P f.me → AllName P (due.answer_came f clock from number v b).lines
+answered_name : (P : ℕ → Type 0) (f : Facts) (clock from number : ℕ) (v : Option Version) (b : Bool) → P f.me → AllName P (due.answer_effects_if f clock from number v b).lines
 answered_name P f clock from number v true h = go _
   where
     last : (t : Transaction) (c : Bool) → AllName P (due.resolving_if f clock t c).lines
@@ -435,10 +435,10 @@ message_name P n f clock from _ h i = (inr h.me, tt)
 -- ---- requests, stops and starts
 
 pub request_name : (P : ℕ → Type 0) (f : Facts) (clock : ℕ) (d : List ℕ) (w : Want) → Aware P f → AllName P (due_request f clock d w).lines
-request_name P f clock d w h = go (refusal_of f (list_at f (partition_of d)) d) (refusal_cause P f d h)
+request_name P f clock d w h = go (request_refusal f (list_at f (partition_of d)) d) (refusal_cause P f d h)
   where
     new : Facts → Transaction
-    new g = new_transaction g (list_at g (partition_of d)) (g.transactions.opened + 1) d w
+    new g = opening_transaction g (list_at g (partition_of d)) (g.transactions.opened + 1) d w
 
     asks : (l : List ℕ) (t : Transaction) (ns : List ℕ) → AllName P (asking f clock l t ns).lines
     asks l t [] = resolving_name P f clock l t t.want h.me

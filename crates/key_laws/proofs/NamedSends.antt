@@ -21,15 +21,15 @@ use Rattle.node_rules.specs.ByParts.{entered_alone}
 use Rattle.node_rules.specs.Copies.{is_nil}
 use Rattle.node_rules.specs.Effects.{to_each}
 use Rattle.node_rules.specs.Exchange.{is_member}
-use Rattle.node_rules.specs.Facts.{Facts, view_key, members, list_at}
+use Rattle.node_rules.specs.Facts.{Facts, view_key, members_of_view, list_at}
 use Rattle.node_rules.specs.Hearing.{aged}
 use Rattle.node_rules.specs.Map.{lacks}
 use Rattle.node_rules.specs.Messages as due
 use Rattle.node_rules.specs.Messages.{due_message_of}
-use Rattle.node_rules.specs.Notes.{noted, neighbours, after_ages, reached, in_view, new_transaction}
-use Rattle.node_rules.specs.Requests.{due_request, due_stop, due_start, asking, request_if, refusal_of, stop_if, start_if}
+use Rattle.node_rules.specs.Notes.{noted, neighbours, after_ages, reached, in_view, opening_transaction}
+use Rattle.node_rules.specs.Requests.{due_request, due_stop, due_start, asking, request_if, request_refusal, stop_if, start_if}
 use Rattle.node_rules.specs.Resolving.{repl, resolving_want}
-use Rattle.node_rules.specs.Settling.{settling}
+use Rattle.node_rules.specs.Settling.{settling_due}
 use Rattle.node_rules.specs.Standing.{others, other_replicas, asked}
 use Rattle.node_rules.specs.Tables.{contains}
 use Rattle.node_rules.specs.Tick as tick
@@ -81,7 +81,7 @@ pub record Aims (P : ℕ → Type 0) (t : Traced) (f : Facts) : Type 0 where
   pub goes : NodeGoes t f
 
 -- of such members the others are other such nodes
-pub others_are : (P : ℕ → Type 0) (me : ℕ) (ms : List Member) → ((n : ℕ) → is_member ms n ≡ true → P n) → (to : ℕ) → contains (agreement.others me ms) to ≡ true → Other P me to
+pub others_are : (P : ℕ → Type 0) (me : ℕ) (ms : List Member) → ((n : ℕ) → is_member ms n ≡ true → P n) → (to : ℕ) → contains (agreement.others_among me ms) to ≡ true → Other P me to
 others_are P me ms h to e = record {
   node = h to (sym (member_id ms to) ∙ in_without (ids_of ms) me to e);
   differ = λ same. not_gone (ids_of ms) me to e (sym same);
@@ -91,11 +91,14 @@ pub record Knows (P : ℕ → Type 0) (t : Traced) (f : Facts) : Type 0 where
   pub aware : Aware P f
   pub peers : (n : ℕ) → contains f.peers n ≡ true → Other P f.me n
   -- whoever hasn't accepted a proposal is another of its members
-  pub missing : (p : Proposal) → f.agreement.proposal ≡ Some p → Among (agreement.others f.me p.members) p.missing
+  pub missing : (p : Proposal) → f.agreement.proposal ≡ Some p → Among (agreement.others_among f.me p.members) p.missing
   pub goes : NodeGoes t f
 
 aims_of : (P : ℕ → Type 0) (t : Traced) (f : Facts) → Knows P t f → Aims P t f
-aims_of P t f h = record { others = others_are P f.me (members f) h.aware.members; goes = h.goes }
+aims_of P t f h = record {
+  others = others_are P f.me (members_of_view f) h.aware.members;
+  goes = h.goes;
+}
 
 -- ---- parts of a tick
 
@@ -123,15 +126,15 @@ progress_right : (P : ℕ → Type 0) (n : ℕ) (f : Facts) (me : ℕ) (b : Bool
 progress_right P n f me true h = each_right P me _ (others f) refl h
 progress_right P n f me false h = tt
 
-propose_right : (P : ℕ → Type 0) (f : Facts) → ((p : Proposal) → f.agreement.proposal ≡ Some p → (to : ℕ) → contains p.missing to ≡ true → Other P f.me to) → ((to : ℕ) → contains (agreement.others f.me (neighbours f)) to ≡ true → Other P f.me to) → AllRight P f.me (propose f).sends
+propose_right : (P : ℕ → Type 0) (f : Facts) → ((p : Proposal) → f.agreement.proposal ≡ Some p → (to : ℕ) → contains p.missing to ≡ true → Other P f.me to) → ((to : ℕ) → contains (agreement.others_among f.me (neighbours f)) to ≡ true → Other P f.me to) → AllRight P f.me (propose f).sends
 propose_right P f h i = go f.agreement.proposal refl
   where
-    to : (ns : List ℕ) → ((n : ℕ) → contains ns n ≡ true → Other P f.me n) → AllRight P f.me (tick.proposing_to f (agreement.next_key f.me f.agreement) (neighbours f) ns).sends
+    to : (ns : List ℕ) → ((n : ℕ) → contains ns n ≡ true → Other P f.me n) → AllRight P f.me (tick.proposal_effects f (agreement.next_key f.me f.agreement) (neighbours f) ns).sends
     to [] a = tt
     to (n ∷ ns) a = each_right P f.me _ (n ∷ ns) refl a
 
     new : (b : Bool) → AllRight P f.me (tick.propose_new f b).sends
-    new true = to (agreement.others f.me (neighbours f)) i
+    new true = to (agreement.others_among f.me (neighbours f)) i
     new false = tt
 
     go : (o : Option Proposal) → f.agreement.proposal ≡ o → AllRight P f.me (tick.propose_with f o).sends
@@ -148,22 +151,22 @@ later_right P t n g i h me x =
     (right_append P g.me (tick.progress n i).sends [] (progress_right P n i g.me _ (λ to e. h.others to (subst (λ ns. contains ns to ≡ true) (same_others g i me x) e))) tt)))
 
 tick_parts_right : (P : ℕ → Type 0) (t : Traced) (n : ℕ) (f : Facts) → Aims P t f → ((n : ℕ) → contains f.peers n ≡ true → Other P f.me n) → AllRight P f.me (propose f).sends
-    → AllRight P f.me ((tick.beat f).sends ++ ((propose f).sends ++ later n (noted None f (propose f).lines) (noted None (noted None f (propose f).lines) (settling n (noted None f (propose f).lines)))))
+    → AllRight P f.me ((tick.beat f).sends ++ ((propose f).sends ++ later n (noted None f (propose f).lines) (noted None (noted None f (propose f).lines) (settling_due n (noted None f (propose f).lines)))))
 tick_parts_right P t n f h peers proposed = right_append P f.me _ _ (each_right P f.me _ f.peers refl peers) (right_append P f.me _ _ proposed (go (enters_alone f.me f.agreement (neighbours f) (is_candidate f)) refl))
   where
-    go : (b : Bool) → enters_alone f.me f.agreement (neighbours f) (is_candidate f) ≡ b → AllRight P f.me (later n (noted None f (propose f).lines) (noted None (noted None f (propose f).lines) (settling n (noted None f (propose f).lines))))
+    go : (b : Bool) → enters_alone f.me f.agreement (neighbours f) (is_candidate f) ≡ b → AllRight P f.me (later n (noted None f (propose f).lines) (noted None (noted None f (propose f).lines) (settling_due n (noted None f (propose f).lines))))
     go true e =
         let g : Facts = entered_alone f (agreement.next_key f.me f.agreement) (neighbours f) in
         let alone : Alone g = alone_in (record f { agreement = agreement.promising f.agreement (agreement.next_key f.me f.agreement) }) (agreement.next_key f.me f.agreement) (neighbours f) _ (alone_now f (neighbours f) e) in
-        let i : Facts = noted None g (settling n g) in
-        subst (λ (x : Facts). AllRight P f.me (later n x (noted None x (settling n x)))) (sym (alone_is f e))
-        (subst (λ ms. AllRight P f.me ms) (sym (nothing_later n g i alone (same_others g i (noted_me None g (settling n g)) (settled_view n g g.exchange.exchanged)))) tt)
+        let i : Facts = noted None g (settling_due n g) in
+        subst (λ (x : Facts). AllRight P f.me (later n x (noted None x (settling_due n x)))) (sym (alone_is f e))
+        (subst (λ ms. AllRight P f.me ms) (sym (nothing_later n g i alone (same_others g i (noted_me None g (settling_due n g)) (settled_view n g g.exchange.exchanged)))) tt)
     go false e =
         let g : Facts = record f { agreement = (noted None f (propose f).lines).agreement } in
-        let i : Facts = noted None g (settling n g) in
+        let i : Facts = noted None g (settling_due n g) in
         let k : Aims P t g = record { others = h.others; goes = record { targets = h.goes.targets; waits = h.goes.waits } } in
-        subst (λ (x : Facts). AllRight P f.me (later n x (noted None x (settling n x)))) (sym (among_others_is f e))
-        (later_right P t n g i k (noted_me None g (settling n g)) (settled_view n g g.exchange.exchanged))
+        subst (λ (x : Facts). AllRight P f.me (later n x (noted None x (settling_due n x)))) (sym (among_others_is f e))
+        (later_right P t n g i k (noted_me None g (settling_due n g)) (settled_view n g g.exchange.exchanged))
 
 -- a proposal that stands after a tick's line stood before it
 pub aged_proposal : (f : Facts) (p : Proposal) → (after_ages f).agreement.proposal ≡ Some p → f.agreement.proposal ≡ Some p
@@ -214,16 +217,16 @@ pub message_right : (P : ℕ → Type 0) (n : ℕ) (t : Traced) (f : Facts) (clo
 message_right P n t f clock from (message.Heartbeat view promised hears role) c = tt
 message_right P n t f clock from (message.Propose k ms) c = go (keys.key_lt k f.agreement.promised)
   where
-    go : (b : Bool) → AllRight P f.me (due.voting f from k b).sends
+    go : (b : Bool) → AllRight P f.me (due.vote_effects f from k b).sends
     go true = (one_right P f.me from _ refl (c.from_other refl), tt)
     go false = (one_right P f.me from _ refl (c.from_other refl), tt)
 message_right P n t f clock from (message.Accept k) c = go f.agreement.proposal refl (agreement.proposes f.agreement.proposal k)
   where
-    deep : (p : Proposal) → f.agreement.proposal ≡ Some p → (b : Bool) → AllRight P f.me (due.committing f p b).sends
-    deep p e true = each_right P f.me _ (agreement.others f.me p.members) refl (others_are P f.me p.members (λ n m. member_is P p.members n (c.knows.aware.proposal p e) m))
+    deep : (p : Proposal) → f.agreement.proposal ≡ Some p → (b : Bool) → AllRight P f.me (due.commit_effects f p b).sends
+    deep p e true = each_right P f.me _ (agreement.others_among f.me p.members) refl (others_are P f.me p.members (λ n m. member_is P p.members n (c.knows.aware.proposal p e) m))
     deep p e false = tt
 
-    go : (o : Option Proposal) → f.agreement.proposal ≡ o → (b : Bool) → AllRight P f.me (due.counting f from k o b).sends
+    go : (o : Option Proposal) → f.agreement.proposal ≡ o → (b : Bool) → AllRight P f.me (due.accept_effects f from k o b).sends
     go (Some p) e true = deep p e (is_nil (agreement.without_missing p from).missing)
     go (Some p) e false = tt
     go None e b = tt
@@ -232,9 +235,9 @@ message_right P n t f clock from (message.Refuse k promised) c = go (agreement.p
     go : (b : Bool) → AllRight P f.me (due.unless_stale f b).sends
     go true = tt
     go false = tt
-message_right P n t f clock from (message.Commit k ms) c = go (due.may_enter f k ms)
+message_right P n t f clock from (message.Commit k ms) c = go (due.may_enter_view f k ms)
   where
-    go : (b : Bool) → AllRight P f.me (due.entering_if f k ms b).sends
+    go : (b : Bool) → AllRight P f.me (due.entry_effects_if f k ms b).sends
     go true = tt
     go false = tt
 message_right P n t f clock from (message.State k wants row) c = go (in_view f k)
@@ -269,7 +272,7 @@ message_right P n t f clock from (message.Progress k wants done handed settled) 
     answer true = (one_right P f.me from _ refl (c.from_other refl), tt)
     answer false = tt
 
-    go : (b : Bool) → AllRight P f.me (due.progress_came n f now from wants b).sends
+    go : (b : Bool) → AllRight P f.me (due.progress_effects_if n f now from wants b).sends
     go true = answer _
     go false = tt
 message_right P n t f clock from (message.Repl k number nth d v) c = go (in_view f k)
@@ -309,7 +312,7 @@ message_right P n t f clock from (message.Answer k number v) c = go (in_view f k
     answer None = tt
     answer (Some x) = deep x (awaits_answer x from)
 
-    go : (b : Bool) → AllRight P f.me (due.answer_came f clock from number v b).sends
+    go : (b : Bool) → AllRight P f.me (due.answer_effects_if f clock from number v b).sends
     go true = answer (transaction f.transactions number)
     go false = tt
 message_right P n t f clock from message.MapAsk c = go f.exchange.exchanged
@@ -322,13 +325,13 @@ message_right P n t f clock from _ c = tt
 -- ---- requests, stops and starts
 
 pub request_right : (P : ℕ → Type 0) (t : Traced) (f : Facts) (clock : ℕ) (d : List ℕ) (w : Want) → Knows P t f → AllRight P f.me (due_request f clock d w).sends
-request_right P t f clock d w k = go (refusal_of f (list_at f (partition_of d)) d)
+request_right P t f clock d w k = go (request_refusal f (list_at f (partition_of d)) d)
   where
     h : Aims P t f
     h = aims_of P t f k
 
     new : Facts → Transaction
-    new g = new_transaction g (list_at g (partition_of d)) (g.transactions.opened + 1) d w
+    new g = opening_transaction g (list_at g (partition_of d)) (g.transactions.opened + 1) d w
 
     asks : (ns : List ℕ) → Among (others f) ns → AllRight P f.me (asking f clock (list_at f (partition_of d)) (new f) ns).sends
     asks [] a = resolving_right P t f clock (new f) w h

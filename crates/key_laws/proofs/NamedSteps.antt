@@ -23,8 +23,8 @@ use Rattle.node_rules.specs.Agreement.{Proposal}
 use Rattle.node_rules.specs.Client.{node_for, latest_at, is_latest_at}
 use Rattle.node_rules.specs.Effects.{Effects, to_one}
 use Rattle.node_rules.specs.Exchange.{View, is_member, members_of}
-use Rattle.node_rules.specs.Facts.{Facts, members}
-use Rattle.node_rules.specs.Messages.{due_message_of}
+use Rattle.node_rules.specs.Facts.{Facts, members_of_view}
+use Rattle.node_rules.specs.Messages.{due_message_of, client}
 use Rattle.node_rules.specs.Requests.{due_request, due_stop, due_start}
 use Rattle.node_rules.specs.Shows.{due_map, due_show}
 use Rattle.node_rules.specs.Tables.{contains}
@@ -36,14 +36,14 @@ use Rattle.cluster_rules.specs.DueEvents.{due_of, due_at_named, due_at_client, d
 use Rattle.journal_readings.specs.Lines.{has_node}
 use Rattle.cluster_rules.specs.Marks.{Begins, Writes}
 use Rattle.journal_readings.specs.Messages.{Posting}
-use Rattle.cluster_rules.specs.Network.{Network, client, landed, flying_at, has_place, are_apart}
+use Rattle.cluster_rules.specs.Network.{Network, landed, flying_at, has_place, are_apart}
 use Rattle.cluster_rules.specs.Opening.{Header, declared_nodes, rack_in, rack_if}
 use Rattle.cluster_rules.specs.Steps.{Step, marks_of, all_marks, all_lines}
 use Rattle.cluster_rules.specs.World.{World, opened, is_up, members_now}
 use Rattle.key_laws.specs.Ends.{IsOneOf, IsEnd, TableNames, FromNode, GoesRight, AllNodes, AllName}
-use Rattle.key_laws.specs.Sound.{Sound, Views, Entered, Proposed, Stands}
-use Rattle.key_laws.specs.Traced.{Traced, facts_of, after, after_all, untouched}
-use Rattle.key_laws.specs.Licences.{Says, Licensed}
+use Rattle.key_laws.specs.Sound.{Sound, ViewStands, Entered, Proposed, ProposalStands}
+use Rattle.key_laws.specs.Traced.{Traced, facts_of, traced_after, traced_after_all, untouched}
+use Rattle.key_laws.specs.Licences.{Says, LicensedMarks}
 use Rattle.key_laws.proofs.Addressed.{or_cases, differ, and_left, and_right, in_without, not_gone}
 use Rattle.key_laws.proofs.AllowedRuns.{Allowed, allowed_due, declared_id, posted_in, event_go, step_goes, none_directed}
 use Rattle.key_laws.proofs.Directed.{Directed, AllGo, all_go_grow, begun_goes}
@@ -94,21 +94,21 @@ peer_is ns me n e = let was : contains (without ns me) n ≡ true = ordered_was 
 
 -- ---- what a declared node knows
 
-members_are : (ns : List ℕ) (t : Traced) (n : ℕ) → Sound t → Peopled ns t → (m : ℕ) → is_member (members (facts_of t n)) m ≡ true → IsOneOf ns m
+members_are : (ns : List ℕ) (t : Traced) (n : ℕ) → Sound t → Peopled ns t → (m : ℕ) → is_member (members_of_view (facts_of t n)) m ≡ true → IsOneOf ns m
 members_are ns t n s h m e = go (facts_of t n).exchange.view (s.nodes n).view e
   where
-    go : (o : Option View) → Views t n (facts_of t n).agreement.last o → is_member (members_of o) m ≡ true → IsOneOf ns m
+    go : (o : Option View) → ViewStands t n (facts_of t n).agreement.last o → is_member (members_of o) m ≡ true → IsOneOf ns m
     go None v e = differ e refl
     go (Some v) i e = h.lists v.key v.members m i.list e
 
 in_own_view : (t : Traced) (n : ℕ) → Sound t → (v : View) → (facts_of t n).exchange.view ≡ Some v → is_member v.members n ≡ true
-in_own_view t n s v e = (entered (subst (Views t n (facts_of t n).agreement.last) e (s.nodes n).view)).among
+in_own_view t n s v e = (entered (subst (ViewStands t n (facts_of t n).agreement.last) e (s.nodes n).view)).among
   where
     entered : Entered t n (facts_of t n).agreement.last v → Entered t n (facts_of t n).agreement.last v
     entered x = x
 
 proposed_to : (ns : List ℕ) (t : Traced) (n : ℕ) → Sound t → Peopled ns t → (p : Proposal) → (facts_of t n).agreement.proposal ≡ Some p → AllMembers (IsOneOf ns) p.members
-proposed_to ns t n s h p e = all_members (IsOneOf ns) p.members (λ m i. h.lists p.key p.members m (list (subst (Stands t n (facts_of t n).agreement.promised (facts_of t n).agreement.last) e (s.nodes n).agrees.proposal)) i)
+proposed_to ns t n s h p e = all_members (IsOneOf ns) p.members (λ m i. h.lists p.key p.members m (list (subst (ProposalStands t n (facts_of t n).agreement.promised (facts_of t n).agreement.last) e (s.nodes n).agrees.proposal)) i)
   where
     list : Proposed t n (facts_of t n).agreement.promised (facts_of t n).agreement.last p → t.lists p.key ≡ Some p.members
     list x = x.list
@@ -286,37 +286,37 @@ now_members ns w (x ∷ xs) h = (h.0, now_members ns w xs h.1)
 node_of : (ns : List ℕ) (t : Traced) (n : ℕ) (net : Network) (e : Effects) → Peopled ns t → IsOneOf ns n → AllName (IsOneOf ns) e.lines → AllName (IsOneOf ns) (written net n (record { lines = e.lines; sends = [] }))
 node_of ns t n net e h one lines = written_name (IsOneOf ns) n net (record { lines = e.lines; sends = [] }) one lines tt
 
-pub event_named : (n : ℕ) (ns : List ℕ) (t : Traced) (e : Event) → AreIds ns → t.world.nodes ≡ ns → names_known ns e ≡ true → Sound (after t (Begins e)) → Directed (after t (Begins e)) → Peopled ns (after t (Begins e)) → AllName (IsOneOf ns) (due_of n t.world e)
+pub event_named : (n : ℕ) (ns : List ℕ) (t : Traced) (e : Event) → AreIds ns → t.world.nodes ≡ ns → names_known ns e ≡ true → Sound (traced_after t (Begins e)) → Directed (traced_after t (Begins e)) → Peopled ns (traced_after t (Begins e)) → AllName (IsOneOf ns) (due_of n t.world e)
 event_named n ns t (event.Clock node time) ids all k s d h = (one_known ns node true k, tt)
 event_named n ns t (event.Groups groups) ids all k s d h = (all_known ns (concat groups) (and_left (list_all (has_node ns) (concat groups)) _ k), tt)
 event_named n ns t (event.Tick node) ids all k s d h =
-    let u : Traced = after t (Begins (event.Tick node)) in
+    let u : Traced = traced_after t (Begins (event.Tick node)) in
     let one : IsOneOf ns node = one_known ns node true k in
     let kn : Knows (IsOneOf ns) u (facts_of u node) = knows_of ns u node s d h one in
     of_node ns u node t.world.network (tick_of n (facts_of u node)) h one (tick_name (IsOneOf ns) n (facts_of u node) kn.aware) (tick_right (IsOneOf ns) u n (facts_of u node) kn)
 event_named n ns t (event.Stop node) ids all k s d h =
-    let u : Traced = after t (Begins (event.Stop node)) in
+    let u : Traced = traced_after t (Begins (event.Stop node)) in
     let one : IsOneOf ns node = one_known ns node true k in
     of_node ns u node t.world.network (due_stop (facts_of u node)) h one (stop_name (IsOneOf ns) (facts_of u node) (aware_of ns u node s h one).me) (stop_right (IsOneOf ns) (facts_of u node).me (facts_of u node))
 event_named n ns t (event.Start node) ids all k s d h =
-    let u : Traced = after t (Begins (event.Start node)) in
+    let u : Traced = traced_after t (Begins (event.Start node)) in
     let one : IsOneOf ns node = one_known ns node true k in
     of_node ns u node t.world.network (due_start (facts_of u node)) h one (start_name (IsOneOf ns) (facts_of u node) (aware_of ns u node s h one).me) (start_right (IsOneOf ns) (facts_of u node).me (facts_of u node))
-event_named n ns t (event.Put node x v) ids all k s d h = request_named ns (after t (Begins (event.Put node x v))) t.world.network node (t.world.clocks node) x (want.Put v) s d h (one_known ns node true k)
-event_named n ns t (event.Get node x) ids all k s d h = request_named ns (after t (Begins (event.Get node x))) t.world.network node (t.world.clocks node) x want.Get s d h (one_known ns node true k)
-event_named n ns t (event.Del node x) ids all k s d h = request_named ns (after t (Begins (event.Del node x))) t.world.network node (t.world.clocks node) x want.Del s d h (one_known ns node true k)
-event_named n ns t (event.ClientPut x v) ids all k s d h = client_named ns (after t (Begins (event.ClientPut x v))) t.world x (want.Put v) (node_for t.world.tables (partition_of x)) refl (λ m e. asked_is ns t.world.tables h.tables (partition_of x) m (below_count x) e) s d h
-event_named n ns t (event.ClientGet x) ids all k s d h = client_named ns (after t (Begins (event.ClientGet x))) t.world x want.Get (node_for t.world.tables (partition_of x)) refl (λ m e. asked_is ns t.world.tables h.tables (partition_of x) m (below_count x) e) s d h
-event_named n ns t (event.ClientDel x) ids all k s d h = client_named ns (after t (Begins (event.ClientDel x))) t.world x want.Del (node_for t.world.tables (partition_of x)) refl (λ m e. asked_is ns t.world.tables h.tables (partition_of x) m (below_count x) e) s d h
+event_named n ns t (event.Put node x v) ids all k s d h = request_named ns (traced_after t (Begins (event.Put node x v))) t.world.network node (t.world.clocks node) x (want.Put v) s d h (one_known ns node true k)
+event_named n ns t (event.Get node x) ids all k s d h = request_named ns (traced_after t (Begins (event.Get node x))) t.world.network node (t.world.clocks node) x want.Get s d h (one_known ns node true k)
+event_named n ns t (event.Del node x) ids all k s d h = request_named ns (traced_after t (Begins (event.Del node x))) t.world.network node (t.world.clocks node) x want.Del s d h (one_known ns node true k)
+event_named n ns t (event.ClientPut x v) ids all k s d h = client_named ns (traced_after t (Begins (event.ClientPut x v))) t.world x (want.Put v) (node_for t.world.tables (partition_of x)) refl (λ m e. asked_is ns t.world.tables h.tables (partition_of x) m (below_count x) e) s d h
+event_named n ns t (event.ClientGet x) ids all k s d h = client_named ns (traced_after t (Begins (event.ClientGet x))) t.world x want.Get (node_for t.world.tables (partition_of x)) refl (λ m e. asked_is ns t.world.tables h.tables (partition_of x) m (below_count x) e) s d h
+event_named n ns t (event.ClientDel x) ids all k s d h = client_named ns (traced_after t (Begins (event.ClientDel x))) t.world x want.Del (node_for t.world.tables (partition_of x)) refl (λ m e. asked_is ns t.world.tables h.tables (partition_of x) m (below_count x) e) s d h
 event_named n ns t (event.Ask node) ids all k s d h =
     sent_name (IsOneOf ns) client _ _ (to_one node message.MapAsk)
     (record { ends = inr (record { sender = refl; receiver = one_known ns node true k; asks = read_back message.MapAsk tt }); tells = others_tell (IsOneOf ns) message.MapAsk refl }, tt)
 event_named n ns t (event.Deliver i) ids all k s d h =
-    let u : Traced = after t (Begins (event.Deliver i)) in
+    let u : Traced = traced_after t (Begins (event.Deliver i)) in
     delivery_named ns t.world i _ (λ p e free. let posted : WasPosted u p = posted_in t u i p refl e in let g : GoesRight (IsOneOf ns) p.from p.to p.bytes = h.sent posted.place p posted.stands in
     ((from_end (IsOneOf ns) p.from p.to p.bytes g, to_end (IsOneOf ns) p.from p.to p.bytes g), arriving_named n ns u t.world (landed t.world.network i) p ids refl free s d h posted))
 event_named n ns t (event.Repeat i) ids all k s d h =
-    let u : Traced = after t (Begins (event.Repeat i)) in
+    let u : Traced = traced_after t (Begins (event.Repeat i)) in
     delivery_named ns t.world i _ (λ p e free. let posted : WasPosted u p = posted_in t u i p refl e in let g : GoesRight (IsOneOf ns) p.from p.to p.bytes = h.sent posted.place p posted.stands in
     ((from_end (IsOneOf ns) p.from p.to p.bytes g, to_end (IsOneOf ns) p.from p.to p.bytes g), arriving_named n ns u t.world t.world.network p ids refl free s d h posted))
 event_named n ns t (event.Lose i) ids all k s d h = go (flying_at t.world.network i)
@@ -327,7 +327,7 @@ event_named n ns t (event.Lose i) ids all k s d h = go (flying_at t.world.networ
 event_named n ns t (event.Cut i size) ids all k s d h = delivery_named ns t.world i _ (λ p e free. ((from_end (IsOneOf ns) p.from p.to p.bytes (right p e), to_end (IsOneOf ns) p.from p.to p.bytes (right p e)), go p e free (nat_lt size (length p.bytes))))
   where
     u : Traced
-    u = after t (Begins (event.Cut i size))
+    u = traced_after t (Begins (event.Cut i size))
 
     right : (p : Posting) → flying_at t.world.network i ≡ Some p → GoesRight (IsOneOf ns) p.from p.to p.bytes
     right p e = let posted : WasPosted u p = posted_in t u i p refl e in h.sent posted.place p posted.stands
@@ -336,11 +336,11 @@ event_named n ns t (event.Cut i size) ids all k s d h = delivery_named ns t.worl
     go p e free true = (to_end (IsOneOf ns) p.from p.to p.bytes (right p e), tt)
     go p e free false = arriving_named n ns u t.world (landed t.world.network i) p ids refl free s d h (posted_in t u i p refl e)
 event_named n ns t (event.Map node from to) ids all k s d h =
-    let u : Traced = after t (Begins (event.Map node from to)) in
+    let u : Traced = traced_after t (Begins (event.Map node from to)) in
     let one : IsOneOf ns node = one_known ns node true k in
     of_node ns u node t.world.network (due_map (facts_of u node) from to) h one (map_name (IsOneOf ns) (facts_of u node) from to (aware_of ns u node s h one)) tt
 event_named n ns t (event.Show node x) ids all k s d h =
-    let u : Traced = after t (Begins (event.Show node x)) in
+    let u : Traced = traced_after t (Begins (event.Show node x)) in
     let one : IsOneOf ns node = one_known ns node true k in
     of_node ns u node t.world.network (due_show (facts_of u node) x) h one (show_name (IsOneOf ns) (facts_of u node) x (aware_of ns u node s h one).me) tt
 event_named n ns t (event.Place p) ids all k s d h =
@@ -353,24 +353,24 @@ event_named n ns t _ ids all k s d h = tt
 
 -- ---- steps
 
-lines_peopled : (ns : List ℕ) (t : Traced) (ls : List Line) → Sound t → Licensed t (writes ls) → AllGo t ls → AllName (IsOneOf ns) ls → Peopled ns t → Peopled ns (after_all t (writes ls))
+lines_peopled : (ns : List ℕ) (t : Traced) (ls : List Line) → Sound t → LicensedMarks t (writes ls) → AllGo t ls → AllName (IsOneOf ns) ls → Peopled ns t → Peopled ns (traced_after_all t (writes ls))
 lines_peopled ns t [] s ok go names h = h
 lines_peopled ns t (l ∷ ls) s ok go names h =
-    let k : Keeps t (after t (Writes l)) = kept_line t l ok.0 s in
-    lines_peopled ns (after t (Writes l)) ls k.sound ok.1 (all_go_grow t (after t (Writes l)) k.grows ls go.1) names.1 (line_peopled ns t l go.0 names.0 h)
+    let k : Keeps t (traced_after t (Writes l)) = kept_line t l ok.0 s in
+    lines_peopled ns (traced_after t (Writes l)) ls k.sound ok.1 (all_go_grow t (traced_after t (Writes l)) k.grows ls go.1) names.1 (line_peopled ns t l go.0 names.0 h)
 
 -- where steps lead, and their lines
 pub record Named (ns : List ℕ) (t : Traced) (ss : List Step) : Type 0 where
-  pub peopled : Peopled ns (after_all t (all_marks ss))
+  pub peopled : Peopled ns (traced_after_all t (all_marks ss))
   pub names : AllName (IsOneOf ns) (all_lines ss)
 
 pub steps_named : (n : ℕ) (ns : List ℕ) (t : Traced) (ss : List Step) → AreIds ns → t.world.nodes ≡ ns → Sound t → Directed t → Peopled ns t → AllBegun ss → AreAllowed n t.world ss → Named ns t ss
 steps_named n ns t [] ids all s d h b a = record { peopled = h; names = tt }
 steps_named n ns t (x ∷ ss) ids all s d h b a =
-    let u : Traced = after t (Begins x.event) in
-    let next : Traced = after_all t (marks_of x) in
-    let ok : Licensed t (marks_of x) = subst (λ ls. Licensed t (Begins x.event ∷ writes ls)) (sym a.0.due) (step_ok n t x.event b.0 s) in
-    let goes : Directed next = subst (λ ls. Directed (after_all t (Begins x.event ∷ writes ls))) (sym a.0.due) (step_goes n t x.event b.0 s d) in
+    let u : Traced = traced_after t (Begins x.event) in
+    let next : Traced = traced_after_all t (marks_of x) in
+    let ok : LicensedMarks t (marks_of x) = subst (λ ls. LicensedMarks t (Begins x.event ∷ writes ls)) (sym a.0.due) (step_ok n t x.event b.0 s) in
+    let goes : Directed next = subst (λ ls. Directed (traced_after_all t (Begins x.event ∷ writes ls))) (sym a.0.due) (step_goes n t x.event b.0 s d) in
     let k : Keeps t u = kept_begun t x.event s in
     let known : names_known ns x.event ≡ true = subst (λ (ms : List ℕ). names_known ms x.event ≡ true) all (and_left (names_known t.world.nodes x.event) (ends_calm n t.world x.event) a.0.comes) in
     let names : AllName (IsOneOf ns) x.lines = subst (AllName (IsOneOf ns)) (sym a.0.due) (event_named n ns t x.event ids all known k.sound (begun_goes t x.event k.grows d) (begun_peopled ns t x.event h)) in

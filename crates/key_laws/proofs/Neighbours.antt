@@ -13,9 +13,9 @@ use Rattle.cluster_types.specs.Distinct.{IsDescending}
 use Rattle.cluster_types.specs.Members.{ids_of}
 use Rattle.node_rules.specs.Exchange.{is_member}
 use Rattle.node_rules.specs.Hearing.{Heard, heard_ids, neighbours_of, aged, older, names, member_of, timeout}
-use Rattle.node_rules.specs.Tables.{Table, with_entry}
+use Rattle.node_rules.specs.Tables.{Table, table_with}
 use Rattle.key_laws.specs.Traced.{Traced}
-use Rattle.key_laws.specs.Sound.{GoodList, HeardOf, HeardAll, Hears, Rises, IsUnder}
+use Rattle.key_laws.specs.Sound.{GoodList, HeardOf, HeardAll, Hears, RisesByNumber, IsUnder}
 
 pub by_test : {A : Type 0} (P : A → Type 0) (b : Bool) (x y : A) → P x → P y → P (cond b x y)
 by_test P true x y h i = h
@@ -41,9 +41,10 @@ under_put : {X : Type 0} (n k : ℕ) (v : X) (es : List (ℕ × X)) → n < k �
 under_put n k v [] lt h = (lt, tt)
 under_put n k v (e ∷ es) lt h = put_cases (λ xs. IsUnder n xs) k v e es (λ _. (lt, h)) (λ _. h) (λ _. (h.0, under_put n k v es lt h.1))
 
-rises_put : {X : Type 0} (k : ℕ) (v : X) (es : List (ℕ × X)) → Rises es → Rises (put nat_cmp k v es)
+rises_put : {X : Type 0} (k : ℕ) (v : X) (es : List (ℕ × X)) → RisesByNumber es
+    → RisesByNumber (put nat_cmp k v es)
 rises_put k v [] h = (tt, tt)
-rises_put k v (e ∷ es) h = put_cases (λ xs. Rises xs) k v e es
+rises_put k v (e ∷ es) h = put_cases (λ xs. RisesByNumber xs) k v e es
     (λ lt. ((lt, under_less k e.0 es lt h.0), h))
     (λ eq. h)
     (λ gt. (under_put e.0 k v es gt h.0, rises_put k v es h.1))
@@ -57,16 +58,16 @@ heard_put t k v (e ∷ es) here h = put_cases (λ xs. HeardAll t xs) k v e es
     (λ eq. (record { sender = h.0.sender; view = here.view; promised = here.promised }, h.1))
     (λ gt. (h.0, heard_put t k v es here h.1))
 
-pub beat_hears : (t : Traced) (heard : Table Heard) (from : ℕ) (new : Heard) → HeardOf t (from, new) → Hears t heard → Hears t (with_entry heard from new)
+pub beat_hears : (t : Traced) (heard : Table Heard) (from : ℕ) (new : Heard) → HeardOf t (from, new) → Hears t heard → Hears t (table_with heard from new)
 beat_hears t heard from new here h = record { rises = rises_put from new heard h.rises; each = heard_put t from new heard here h.each }
 
 under_aged : (n : ℕ) (es : Table Heard) → IsUnder n es → IsUnder n (aged es)
 under_aged n [] h = tt
 under_aged n (e ∷ es) h = by_test (λ xs. IsUnder n xs) (nat_lt (older e).1.age timeout) (older e ∷ aged es) (aged es) (h.0, under_aged n es h.1) (under_aged n es h.1)
 
-rises_aged : (es : Table Heard) → Rises es → Rises (aged es)
+rises_aged : (es : Table Heard) → RisesByNumber es → RisesByNumber (aged es)
 rises_aged [] h = tt
-rises_aged (e ∷ es) h = by_test (λ xs. Rises xs) (nat_lt (older e).1.age timeout) (older e ∷ aged es) (aged es) (under_aged e.0 es h.0, rises_aged es h.1) (rises_aged es h.1)
+rises_aged (e ∷ es) h = by_test (λ xs. RisesByNumber xs) (nat_lt (older e).1.age timeout) (older e ∷ aged es) (aged es) (under_aged e.0 es h.0, rises_aged es h.1) (rises_aged es h.1)
 
 heard_aged : (t : Traced) (es : Table Heard) → HeardAll t es → HeardAll t (aged es)
 heard_aged t [] h = tt
@@ -89,9 +90,9 @@ under_roles : (m n : ℕ) (es : Table Heard) → IsUnder m es → IsUnder m (rol
 under_roles m n [] h = tt
 under_roles m n (e ∷ es) h = by_test (λ xs. IsUnder m (map (λ e. (e.0, e.1.beat.role)) xs)) (names n e) (e ∷ filter (names n) es) (filter (names n) es) (h.0, under_roles m n es h.1) (under_roles m n es h.1)
 
-rises_roles : (n : ℕ) (es : Table Heard) → Rises es → Rises (roles n es)
+rises_roles : (n : ℕ) (es : Table Heard) → RisesByNumber es → RisesByNumber (roles n es)
 rises_roles n [] h = tt
-rises_roles n (e ∷ es) h = by_test (λ xs. Rises (map (λ e. (e.0, e.1.beat.role)) xs)) (names n e) (e ∷ filter (names n) es) (filter (names n) es) (under_roles e.0 n es h.0, rises_roles n es h.1) (rises_roles n es h.1)
+rises_roles n (e ∷ es) h = by_test (λ xs. RisesByNumber (map (λ e. (e.0, e.1.beat.role)) xs)) (names n e) (e ∷ filter (names n) es) (filter (names n) es) (under_roles e.0 n es h.0, rises_roles n es h.1) (rises_roles n es h.1)
 
 fit_roles : (t : Traced) (n : ℕ) (es : Table Heard) → HeardAll t es → FitTable (roles n es)
 fit_roles t n [] h = tt
@@ -143,7 +144,7 @@ over_more : (es : Table Role) (m : Member) (ms : List Member) → IsUnder m.id e
 over_more [] m ms u h = tt
 over_more (e ∷ es) m ms u h = ((u.0, h.0), over_more es m ms u.1 h.1)
 
-falls_onto : (es : Table Role) (ms : List Member) → Rises es → Falls ms → AreOver es ms → Falls (onto es ms)
+falls_onto : (es : Table Role) (ms : List Member) → RisesByNumber es → Falls ms → AreOver es ms → Falls (onto es ms)
 falls_onto [] ms r f o = f
 falls_onto (e ∷ es) ms r f o = falls_onto es (member_of e ∷ ms) r.1 (o.0, f) (over_more es (member_of e) ms r.0 o.1)
 
@@ -198,7 +199,7 @@ falls_pairs : (ms : List Member) → Falls ms → AllPairs (λ x y. y < x) (ids_
 falls_pairs [] h = pairs_none (λ x y. y < x)
 falls_pairs (m ∷ ms) h = pairs_cons (λ x y. y < x) m.id (ids_of ms) (over_all m.id ms h.0) (falls_pairs ms h.1)
 
-good_onto : (n : ℕ) (role : Role) (es : Table Role) → IsId n → Rises es → FitTable es → GoodList n (onto (put nat_cmp n role es) [])
+good_onto : (n : ℕ) (role : Role) (es : Table Role) → IsId n → RisesByNumber es → FitTable es → GoodList n (onto (put nat_cmp n role es) [])
 good_onto n role es fits rises fit = record {
   led = led_onto n (put nat_cmp n role es) [] (either _ _ (has_put n role es));
   fit = fit_all _ (fit_onto (put nat_cmp n role es) [] (fit_put n role es fits fit) tt);
@@ -219,7 +220,7 @@ under_all : (n : ℕ) (es : Table Heard) → IsUnder n es → IsUnder n (all_rol
 under_all n [] h = tt
 under_all n (e ∷ es) h = (h.0, under_all n es h.1)
 
-rises_all : (es : Table Heard) → Rises es → Rises (all_roles es)
+rises_all : (es : Table Heard) → RisesByNumber es → RisesByNumber (all_roles es)
 rises_all [] h = tt
 rises_all (e ∷ es) h = (under_all e.0 es h.0, rises_all es h.1)
 

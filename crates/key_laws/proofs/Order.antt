@@ -4,27 +4,27 @@ use Rattle.std.proofs.lemmas.Bool.Decides.{nat_tests}
 use Rattle.cluster_types.specs.declared.cluster_key.ClusterKey.{ClusterKey}
 use Rattle.cluster_types.specs.ClusterKeys.{IsBelow, key_lt, none}
 use Rattle.node_rules.specs.Keys.{same_key}
-use Rattle.key_laws.specs.Order.{AtMost}
+use Rattle.key_laws.specs.Order.{KeyAtMost}
 
-pub at_most_refl : (a : ClusterKey) → AtMost a a
+pub at_most_refl : (a : ClusterKey) → KeyAtMost a a
 at_most_refl a = omega arith
 
-pub at_most_none : (a : ClusterKey) → AtMost none a
+pub at_most_none : (a : ClusterKey) → KeyAtMost none a
 at_most_none a = omega arith
 
-pub at_most_eq : {a b : ClusterKey} → a ≡ b → AtMost a b
-at_most_eq {a} {b} e = subst (AtMost a) e (at_most_refl a)
+pub at_most_eq : {a b : ClusterKey} → a ≡ b → KeyAtMost a b
+at_most_eq {a} {b} e = subst (KeyAtMost a) e (at_most_refl a)
 
-pub at_most_trans : {a b c : ClusterKey} → AtMost a b → AtMost b c → AtMost a c
+pub at_most_trans : {a b c : ClusterKey} → KeyAtMost a b → KeyAtMost b c → KeyAtMost a c
 at_most_trans {a} {b} {c} p q = omega arith
 
-pub below_at_most : {a b : ClusterKey} → IsBelow a b → AtMost a b
+pub below_at_most : {a b : ClusterKey} → IsBelow a b → KeyAtMost a b
 below_at_most {a} {b} p = omega arith
 
-pub at_most_below : {a b c : ClusterKey} → AtMost a b → IsBelow b c → IsBelow a c
+pub at_most_below : {a b c : ClusterKey} → KeyAtMost a b → IsBelow b c → IsBelow a c
 at_most_below {a} {b} {c} p q = omega arith
 
-pub not_below : {a b : ClusterKey} → IsBelow a b → AtMost b a → ⊥
+pub not_below : {a b : ClusterKey} → IsBelow a b → KeyAtMost b a → ⊥
 not_below {a} {b} p q = grind arith
 
 pub lt_below : (a b : ClusterKey) → key_lt a b ≡ true → IsBelow a b
@@ -33,10 +33,10 @@ lt_below a b p = grind (arith, nat_tests)
 pub below_lt : (a b : ClusterKey) → IsBelow a b → key_lt a b ≡ true
 below_lt a b p = grind (arith, nat_tests)
 
-pub lt_at_most : (a b : ClusterKey) → key_lt a b ≡ false → AtMost b a
+pub lt_at_most : (a b : ClusterKey) → key_lt a b ≡ false → KeyAtMost b a
 lt_at_most a b p = grind (arith, nat_tests)
 
-pub at_most_lt : (a b : ClusterKey) → AtMost b a → key_lt a b ≡ false
+pub at_most_lt : (a b : ClusterKey) → KeyAtMost b a → key_lt a b ≡ false
 at_most_lt a b p = grind (arith, nat_tests)
 
 pub same_is : (a b : ClusterKey) → same_key a b ≡ true → a ≡ b

@@ -22,7 +22,7 @@ use Rattle.node_rules.specs.Exchange.{is_member}
 use Rattle.node_rules.specs.Facts.{Facts, list_at}
 use Rattle.node_rules.specs.Hearing.{Heard}
 use Rattle.node_rules.specs.Keys.{same_key}
-use Rattle.node_rules.specs.Map.{master}
+use Rattle.node_rules.specs.Map.{list_master}
 use Rattle.node_rules.specs.Notes as notes
 use Rattle.node_rules.specs.Notes.{note, neighbours, reached, sent, in_view}
 use Rattle.node_rules.specs.Tables.{Table}
@@ -31,10 +31,11 @@ use Rattle.cluster_rules.specs.declared.event.Event.TheVariants as event
 use Rattle.cluster_rules.specs.Marks as marks
 use Rattle.cluster_rules.specs.Marks.{Begins, Writes}
 use Rattle.journal_readings.specs.Messages.{Posting, Arrival, arrived, arrived_cut}
-use Rattle.cluster_rules.specs.Network.{client, posting, posting_at}
-use Rattle.cluster_rules.specs.World.{World, at}
+use Rattle.cluster_rules.specs.Network.{posting, posting_at}
+use Rattle.cluster_rules.specs.World.{World, changed_at}
+use Rattle.node_rules.specs.Messages.{client}
 use Rattle.key_laws.specs.Ends.{is_map_ask, IsOneOf, TableNames, TellsIf, FromNode, GoesRight, LineNames}
-use Rattle.key_laws.specs.Traced.{Traced, facts_of, after, listed_if, promised_by}
+use Rattle.key_laws.specs.Traced.{Traced, facts_of, traced_after, listed_if, promised_by}
 use Rattle.key_laws.proofs.Addressed.{Among, among_without}
 use Rattle.key_laws.proofs.Directed.{WentTo, LineGoes}
 use Rattle.key_laws.proofs.Frames.{at_each}
@@ -48,7 +49,8 @@ peers_of ns n = in_order nat_lt (without ns n)
 
 -- whoever hasn't accepted a proposal is another of its members
 pub record Missing (me : ℕ) (a : Agreement) : Type 0 where
-  pub each : (p : Proposal) → a.proposal ≡ Some p → Among (agreement.others me p.members) p.missing
+  pub each : (p : Proposal) → a.proposal ≡ Some p
+      → Among (agreement.others_among me p.members) p.missing
 
 -- a rack that has a spelling
 abbrev pub FitsRack : ℕ → Role → Type 0
@@ -93,9 +95,9 @@ some_same {A} {x} {y} e = grind arith
 accepted_missing : (me : ℕ) (a : Agreement) (from : ℕ) (k : ClusterKey) → Missing me a → Missing me (agreement.accepting a from k)
 accepted_missing me a from k h = go (proposes a.proposal k)
   where
-    one : (o : Option Proposal) → a.proposal ≡ o → (p : Proposal) → agreement.accepted_by o from ≡ Some p → Among (agreement.others me p.members) p.missing
+    one : (o : Option Proposal) → a.proposal ≡ o → (p : Proposal) → agreement.accepted_by o from ≡ Some p → Among (agreement.others_among me p.members) p.missing
     one None e p i = no_proposal i
-    one (Some q) e p i = subst (λ (x : Proposal). Among (agreement.others me x.members) x.missing) (some_same i) (among_without (agreement.others me q.members) q.missing from (h.each q e))
+    one (Some q) e p i = subst (λ (x : Proposal). Among (agreement.others_among me x.members) x.missing) (some_same i) (among_without (agreement.others_among me q.members) q.missing from (h.each q e))
 
     go : (b : Bool) → Missing me (agreement.accepting_if a from b)
     go true = record { each = one a.proposal refl }
@@ -113,7 +115,7 @@ proposed_missing me a k ms h = go (proposes a.proposal k)
   where
     go : (b : Bool) → Missing me (agreement.proposed_if a (proposal_of me k ms) b)
     go true = h
-    go false = record { each = λ p i. subst (λ (x : Proposal). Among (agreement.others me x.members) x.missing) (some_same i) (record { each = λ n e. e }) }
+    go false = record { each = λ p i. subst (λ (x : Proposal). Among (agreement.others_among me x.members) x.missing) (some_same i) (record { each = λ n e. e }) }
 
 -- ---- lines of the node
 
@@ -166,12 +168,12 @@ reached_ends ns n f from (message.Progress k wants done handed settled) p s h = 
     by_bool false = h
 reached_ends ns n f from (message.Repl k t nth d v) p s h = by_bool (in_view f k)
   where
-    counted : (l : List ℕ) (p : ℕ) (q : Bool) → EndsOf ns n (notes.counted_if f k l p nth q)
+    counted : (l : List ℕ) (p : ℕ) (q : Bool) → EndsOf ns n (notes.write_counted_if f k l p nth q)
     counted l p true = h
     counted l p false = h
 
     by_bool : (q : Bool) → EndsOf ns n (notes.write_came f from k nth (partition_of d) q)
-    by_bool true = counted (list_at f (partition_of d)) (partition_of d) (from == master (list_at f (partition_of d)))
+    by_bool true = counted (list_at f (partition_of d)) (partition_of d) (from == list_master (list_at f (partition_of d)))
     by_bool false = h
 reached_ends ns n f from (message.ReplAck k t) p s h = by_bool (in_view f k)
   where
@@ -206,7 +208,7 @@ pub record Peopled (ns : List ℕ) (t : Traced) : Type 0 where
 abbrev Nodes : List ℕ → (ℕ → Facts) → Type 0
 Nodes ns facts = (n : ℕ) → EndsOf ns n (facts n)
 
-one : (ns : List ℕ) (facts : ℕ → Facts) (n : ℕ) (g : Facts) → Nodes ns facts → EndsOf ns n g → Nodes ns (at facts n g)
+one : (ns : List ℕ) (facts : ℕ → Facts) (n : ℕ) (g : Facts) → Nodes ns facts → EndsOf ns n g → Nodes ns (changed_at facts n g)
 one ns facts n g h here = at_each (λ m f. EndsOf ns m f) facts n g h here
 
 table_more : (ns : List ℕ) (ts : List MapTable) (t : MapTable) → AllTables ns ts → TableNames (IsOneOf ns) t → AllTables ns (ts ++ t ∷ [])
@@ -332,7 +334,7 @@ posted_right ns t i h p e = let w : WasPosted t p = was_posted t i p e in h.sent
 goes_to : (t : Traced) (i b : ℕ) → WentTo t i b → (p : Posting) → posting_at t.world.network i ≡ Some p → p.to ≡ b
 goes_to t i b w p e = ap (λ (x : Posting). x.to) (some_same (sym e ∙ w.stands)) ∙ w.end
 
-pub line_peopled : (ns : List ℕ) (t : Traced) (l : Line) → LineGoes t l → LineNames (IsOneOf ns) l → Peopled ns t → Peopled ns (after t (Writes l))
+pub line_peopled : (ns : List ℕ) (t : Traced) (l : Line) → LineGoes t l → LineNames (IsOneOf ns) l → Peopled ns t → Peopled ns (traced_after t (Writes l))
 line_peopled ns t (line.Deliver i a b) go d h = arrived_peopled ns t (option_and_then (arrived b) (posting_at t.world.network i)) _ (arrival_stays ns t b (posting_at t.world.network i) (goes_to t i b go) (posted_right ns t i h) h) h
 line_peopled ns t (line.Repeat i a b) go d h = arrived_peopled ns t (option_and_then (arrived b) (posting_at t.world.network i)) _ (arrival_stays ns t b (posting_at t.world.network i) (goes_to t i b go) (posted_right ns t i h) h) h
 line_peopled ns t (line.Cut i a b size) go d h = arrived_peopled ns t (option_and_then (arrived_cut b size) (posting_at t.world.network i)) _ (cut_stays ns t b size (posting_at t.world.network i) (goes_to t i b go) (posted_right ns t i h) h) h
@@ -360,7 +362,7 @@ line_peopled ns t (line.Learn n k p) go d h = noted_peopled ns t n (line.Learn n
 line_peopled ns t (line.Drop n k p) go d h = noted_peopled ns t n (line.Drop n k p) _ (no_start ns n (line.Drop n k p) refl) h
 line_peopled ns t _ go d h = record { nodes = h.nodes; lists = h.lists; racks = h.racks; sent = h.sent; tables = h.tables }
 
-pub begun_peopled : (ns : List ℕ) (t : Traced) (e : Event) → Peopled ns t → Peopled ns (after t (Begins e))
+pub begun_peopled : (ns : List ℕ) (t : Traced) (e : Event) → Peopled ns t → Peopled ns (traced_after t (Begins e))
 begun_peopled ns t (event.Deliver i) h = record { nodes = h.nodes; lists = h.lists; racks = h.racks; sent = h.sent; tables = h.tables }
 begun_peopled ns t (event.Lose i) h = record { nodes = h.nodes; lists = h.lists; racks = h.racks; sent = h.sent; tables = h.tables }
 begun_peopled ns t (event.Cut i size) h = record { nodes = h.nodes; lists = h.lists; racks = h.racks; sent = h.sent; tables = h.tables }

@@ -15,9 +15,9 @@ use Rattle.node_rules.specs.Notes.{note, sent}
 use Rattle.cluster_rules.specs.DueEvents.{sent_lines, full_unless, one_more_if, written}
 use Rattle.cluster_rules.specs.Marks.{Mark, Writes, by_node, sent_by}
 use Rattle.cluster_rules.specs.Network.{Network, has_place, posting}
-use Rattle.cluster_rules.specs.World.{World, at}
-use Rattle.key_laws.specs.Traced.{Traced, facts_of, after, after_all}
-use Rattle.key_laws.specs.Licences.{Known, Says, SaysIf, MaySend, MaySendIf, OkLine, Licensed, Visited}
+use Rattle.cluster_rules.specs.World.{World, changed_at}
+use Rattle.key_laws.specs.Traced.{Traced, facts_of, traced_after, traced_after_all}
+use Rattle.key_laws.specs.Licences.{IsPromisedKey, Says, SaysIf, MaySendKey, MaySendKeyIf, OkLine, LicensedMarks, Visited}
 use Rattle.key_laws.specs.Sound.{Sound, Grows}
 use Rattle.key_laws.proofs.Growth.{same_grows, grows_on, known_grows, says_if_grows, visited_grows}
 use Rattle.key_laws.proofs.Frames.{at_each}
@@ -32,11 +32,11 @@ pub writes_append : (a b : List Line) → writes (a ++ b) ≡ writes a ++ writes
 writes_append [] b = refl
 writes_append (l ∷ a) b = ap (λ ms. Writes l ∷ ms) (writes_append a b)
 
-pub licensed_both : (t : Traced) (a b : List Line) → Licensed t (writes a) → Licensed (after_all t (writes a)) (writes b) → Licensed t (writes (a ++ b))
-licensed_both t a b p q = subst (λ ms. Licensed t ms) (sym (writes_append a b)) (licensed_append t (writes a) (writes b) p q)
+pub licensed_both : (t : Traced) (a b : List Line) → LicensedMarks t (writes a) → LicensedMarks (traced_after_all t (writes a)) (writes b) → LicensedMarks t (writes (a ++ b))
+licensed_both t a b p q = subst (λ ms. LicensedMarks t ms) (sym (writes_append a b)) (licensed_append t (writes a) (writes b) p q)
 
-pub after_both : (t : Traced) (a b : List Line) → after_all t (writes (a ++ b)) ≡ after_all (after_all t (writes a)) (writes b)
-after_both t a b = ap (λ ms. after_all t ms) (writes_append a b) ∙ after_all-append t (writes a) (writes b)
+pub after_both : (t : Traced) (a b : List Line) → traced_after_all t (writes (a ++ b)) ≡ traced_after_all (traced_after_all t (writes a)) (writes b)
+after_both t a b = ap (λ ms. traced_after_all t ms) (writes_append a b) ∙ after_all-append t (writes a) (writes b)
 
 -- ---- lines
 
@@ -55,19 +55,19 @@ QuietLine t (line.Opened n k number d a) = Visited t n k
 QuietLine t (line.Value n k number d v) = Visited t n k
 QuietLine t (line.Apply n k number d v) = Visited t n k
 QuietLine t (line.Done n k number) = Visited t n k
-QuietLine t (line.Aborted n k number) = Known t k
-QuietLine t (line.Doubt n k number) = Known t k
+QuietLine t (line.Aborted n k number) = IsPromisedKey t k
+QuietLine t (line.Doubt n k number) = IsPromisedKey t k
 QuietLine t (line.Merge n k d v) = Visited t n k
 QuietLine t (line.Handed n k p) = Visited t n k
 QuietLine t (line.Settled n k p) = Visited t n k
 QuietLine t (line.Learn n k p) = Visited t n k
 QuietLine t (line.Drop n k p) = Visited t n k
 QuietLine t (line.Map n k p ms a) = Visited t n k
-QuietLine t (line.Table k) = Known t k
-QuietLine t (line.Proxy n k x d a acting) = Known t k
-QuietLine t (line.Proxied n k x body) = Known t k
-QuietLine t (line.Unproxied n k x) = Known t k
-QuietLine t (line.Scanned s n k p size) = Known t k
+QuietLine t (line.Table k) = IsPromisedKey t k
+QuietLine t (line.Proxy n k x d a acting) = IsPromisedKey t k
+QuietLine t (line.Proxied n k x body) = IsPromisedKey t k
+QuietLine t (line.Unproxied n k x) = IsPromisedKey t k
+QuietLine t (line.Scanned s n k p size) = IsPromisedKey t k
 QuietLine t _ = Unit {0}
 
 abbrev pub QuietLines : Traced → List Line → Type 0
@@ -122,7 +122,7 @@ SameAgreement t u = (n : ℕ) → (facts_of u n).agreement ≡ (facts_of t n).ag
 same_by_node : (t : Traced) (w : World) (m : ℕ) (l : Line) → w.facts ≡ t.world.facts → (note w.want (w.facts m) l).agreement ≡ (w.facts m).agreement → (n : ℕ) → ((by_node w m l).facts n).agreement ≡ (t.world.facts n).agreement
 same_by_node t w m l facts e = at_each (λ n f. f.agreement ≡ (t.world.facts n).agreement) w.facts m (note w.want (w.facts m) l) (λ n. ap (λ fs. (fs n).agreement) facts) (e ∙ ap (λ fs. (fs m).agreement) facts)
 
-quiet_same : (t : Traced) (l : Line) → QuietLine t l → SameAgreement t (after t (Writes l))
+quiet_same : (t : Traced) (l : Line) → QuietLine t l → SameAgreement t (traced_after t (Writes l))
 quiet_same t (line.Tick n) h = absurd h
 quiet_same t (line.Stop n) h = absurd h
 quiet_same t (line.Promise n k) h = absurd h
@@ -150,16 +150,16 @@ quiet_same t _ h = λ n. refl
 
 -- lines that may stand, after which the agreements are as before
 pub record Calmly (t : Traced) (ls : List Line) : Type 0 where
-  pub ok : Licensed t (writes ls)
-  pub keeps : Keeps t (after_all t (writes ls))
-  pub same : SameAgreement t (after_all t (writes ls))
+  pub ok : LicensedMarks t (writes ls)
+  pub keeps : Keeps t (traced_after_all t (writes ls))
+  pub same : SameAgreement t (traced_after_all t (writes ls))
 
 pub quietly : (t : Traced) (ls : List Line) → Sound t → QuietLines t ls → Calmly t ls
 quietly t [] s h = record { ok = tt; keeps = record { sound = s; grows = same_grows t }; same = λ n. refl }
 quietly t (l ∷ ls) s h =
     let ok : OkLine t l = quiet_ok_line t l h.0 in
-    let first : Keeps t (after t (Writes l)) = kept_line t l ok s in
-    let others : Calmly (after t (Writes l)) ls = quietly (after t (Writes l)) ls first.sound (quiet_lines_grow t (after t (Writes l)) first.grows ls h.1) in
+    let first : Keeps t (traced_after t (Writes l)) = kept_line t l ok s in
+    let others : Calmly (traced_after t (Writes l)) ls = quietly (traced_after t (Writes l)) ls first.sound (quiet_lines_grow t (traced_after t (Writes l)) first.grows ls h.1) in
     record {
       ok = (ok, others.ok);
       keeps = record { sound = others.keeps.sound; grows = grows_on t _ _ first.grows others.keeps.grows };
@@ -171,20 +171,20 @@ quietly t (l ∷ ls) s h =
 -- the message may be sent: what its bytes are read as says what is so
 pub record MayPost (t : Traced) (n : ℕ) (m : Message) : Type 0 where
   pub says : SaysIf t n (message_of (spelling m))
-  pub may : MaySendIf t n (message_of (spelling m))
+  pub may : MaySendKeyIf t n (message_of (spelling m))
 
 abbrev pub Posts : Traced → ℕ → List (ℕ × Message) → Type 0
 Posts t n [] = Unit {0}
 Posts t n (m ∷ ms) = MayPost t n m.1 × Posts t n ms
 
-pub posts_of : (t : Traced) (n : ℕ) (m : Message) → If (λ x. Says t n x × MaySend t n x) (message_of (spelling m)) → MayPost t n m
+pub posts_of : (t : Traced) (n : ℕ) (m : Message) → If (λ x. Says t n x × MaySendKey t n x) (message_of (spelling m)) → MayPost t n m
 posts_of t n m h = record { says = says (message_of (spelling m)) h; may = may (message_of (spelling m)) h }
   where
-    says : (o : Option Message) → If (λ x. Says t n x × MaySend t n x) o → SaysIf t n o
+    says : (o : Option Message) → If (λ x. Says t n x × MaySendKey t n x) o → SaysIf t n o
     says None h = tt
     says (Some x) h = h.0
 
-    may : (o : Option Message) → If (λ x. Says t n x × MaySend t n x) o → MaySendIf t n o
+    may : (o : Option Message) → If (λ x. Says t n x × MaySendKey t n x) o → MaySendKeyIf t n o
     may None h = tt
     may (Some x) h = h.1
 
@@ -200,7 +200,7 @@ pub record SameKeysOf (t u : Traced) (n : ℕ) : Type 0 where
 pub same_of : (t u : Traced) (n : ℕ) → SameAgreement t u → SameKeysOf t u n
 same_of t u n h = record { promised = ap (λ (a : Agreement). a.promised) (h n); last = ap (λ (a : Agreement). a.last) (h n) }
 
-may_stays : (t u : Traced) (n : ℕ) → SameKeysOf t u n → (m : Option Message) → MaySendIf t n m → MaySendIf u n m
+may_stays : (t u : Traced) (n : ℕ) → SameKeysOf t u n → (m : Option Message) → MaySendKeyIf t n m → MaySendKeyIf u n m
 may_stays t u n s None h = tt
 may_stays t u n s (Some (message.Propose k ms)) h = record { promised = h.promised ∙ sym s.promised; above = subst (λ last. IsBelow last k) (sym s.last) h.above }
 may_stays t u n s (Some _) h = tt
@@ -223,13 +223,13 @@ sent_same f b (message.Propose k ms) = proposed_same f.agreement (proposal_of f.
 sent_same f b (message.Batch x) = (refl, refl)
 sent_same f b _ = (refl, refl)
 
-sent_keeps : (t : Traced) (i n b : ℕ) (bytes : List ℕ) → SameKeysOf t (after t (Writes (line.Sent i n b bytes))) n
+sent_keeps : (t : Traced) (i n b : ℕ) (bytes : List ℕ) → SameKeysOf t (traced_after t (Writes (line.Sent i n b bytes))) n
 sent_keeps t i n b bytes = go (message_of bytes)
   where
     v : World
     v = record t.world { network = posting t.world.network i (record { from = n; to = b; bytes = bytes }) }
 
-    both : (m : Message) → (k : ℕ) → (((at v.facts n (sent (v.facts n) b m) k).agreement.promised ≡ (t.world.facts k).agreement.promised) × ((at v.facts n (sent (v.facts n) b m) k).agreement.last ≡ (t.world.facts k).agreement.last))
+    both : (m : Message) → (k : ℕ) → (((changed_at v.facts n (sent (v.facts n) b m) k).agreement.promised ≡ (t.world.facts k).agreement.promised) × ((changed_at v.facts n (sent (v.facts n) b m) k).agreement.last ≡ (t.world.facts k).agreement.last))
     both m = at_each (λ k f. (f.agreement.promised ≡ (t.world.facts k).agreement.promised) × (f.agreement.last ≡ (t.world.facts k).agreement.last)) v.facts n (sent (v.facts n) b m) (λ k. (refl, refl)) (sent_same (v.facts n) b m)
 
     go : (o : Option Message) → SameKeysOf t (record { world = sent_by v n b o; lists = t.lists; entered = t.entered }) n
@@ -237,35 +237,35 @@ sent_keeps t i n b bytes = go (message_of bytes)
     go (Some m) = record { promised = (both m n).0; last = (both m n).1 }
 
 -- all messages of a step may stand
-pub posts_ok : (t : Traced) (n before flying : ℕ) (ms : List (ℕ × Message)) → Sound t → Posts t n ms → Licensed t (writes (sent_lines n before flying ms))
+pub posts_ok : (t : Traced) (n before flying : ℕ) (ms : List (ℕ × Message)) → Sound t → Posts t n ms → LicensedMarks t (writes (sent_lines n before flying ms))
 posts_ok t n before flying [] s h = tt
 posts_ok t n before flying (m ∷ ms) s h =
     let l : Line = line.Sent (before + 1) n m.0 (spelling m.1) in
-    let u : Traced = after t (Writes l) in
+    let u : Traced = traced_after t (Writes l) in
     let ok : OkLine t l = (h.0.says, h.0.may) in
     let first : Keeps t u = kept_line t l ok s in
     let left : Posts u n ms = posts_stay t u n first.grows (sent_keeps t (before + 1) n m.0 (spelling m.1)) ms h.1 in
     (ok, full (has_place flying) u first.sound (λ v f. posts_ok v n (before + 1) f ms) left)
   where
-    full : (b : Bool) (u : Traced) → Sound u → ((v : Traced) (f : ℕ) → Sound v → Posts v n ms → Licensed v (writes (sent_lines n (before + 1) f ms))) → Posts u n ms
-        → Licensed u (writes (full_unless (before + 1) b ++ sent_lines n (before + 1) (one_more_if flying b) ms))
+    full : (b : Bool) (u : Traced) → Sound u → ((v : Traced) (f : ℕ) → Sound v → Posts v n ms → LicensedMarks v (writes (sent_lines n (before + 1) f ms))) → Posts u n ms
+        → LicensedMarks u (writes (full_unless (before + 1) b ++ sent_lines n (before + 1) (one_more_if flying b) ms))
     full true u s next h = next u (flying + 1) s h
     full false u s next h =
-        let k : Keeps u (after u (Writes (line.Full (before + 1)))) = kept_line u (line.Full (before + 1)) tt s in
-        (tt, next (after u (Writes (line.Full (before + 1)))) flying k.sound (posts_stay u _ n k.grows (record { promised = refl; last = refl }) ms h))
+        let k : Keeps u (traced_after u (Writes (line.Full (before + 1)))) = kept_line u (line.Full (before + 1)) tt s in
+        (tt, next (traced_after u (Writes (line.Full (before + 1)))) flying k.sound (posts_stay u _ n k.grows (record { promised = refl; last = refl }) ms h))
 
 -- what an endpoint does may stand: its lines, and its messages after them
-pub written_ok : (t : Traced) (n : ℕ) (net : Network) (e : Effects) → Licensed t (writes e.lines) → Sound t → Posts (after_all t (writes e.lines)) n e.sends → Licensed t (writes (written net n e))
+pub written_ok : (t : Traced) (n : ℕ) (net : Network) (e : Effects) → LicensedMarks t (writes e.lines) → Sound t → Posts (traced_after_all t (writes e.lines)) n e.sends → LicensedMarks t (writes (written net n e))
 written_ok t n net e ok s h =
     licensed_both t e.lines (sent_lines n (length net.sent) (length net.flying) e.sends) ok
-    (posts_ok (after_all t (writes e.lines)) n (length net.sent) (length net.flying) e.sends (kept_all t (writes e.lines) ok s).sound h)
+    (posts_ok (traced_after_all t (writes e.lines)) n (length net.sent) (length net.flying) e.sends (kept_all t (writes e.lines) ok s).sound h)
 
 -- quiet effects: lines that leave the agreements, and messages that say what is so already
 pub record Quiet (t : Traced) (n : ℕ) (e : Effects) : Type 0 where
   pub lines : QuietLines t e.lines
   pub posts : Posts t n e.sends
 
-pub quiet_ok : (t : Traced) (n : ℕ) (net : Network) (e : Effects) → Sound t → Quiet t n e → Licensed t (writes (written net n e))
+pub quiet_ok : (t : Traced) (n : ℕ) (net : Network) (e : Effects) → Sound t → Quiet t n e → LicensedMarks t (writes (written net n e))
 quiet_ok t n net e s h =
     let c : Calmly t e.lines = quietly t e.lines s h.lines in
     written_ok t n net e c.ok s (posts_stay t _ n c.keeps.grows (same_of t _ n c.same) e.sends h.posts)

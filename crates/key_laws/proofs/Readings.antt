@@ -15,12 +15,13 @@ use Rattle.node_rules.specs.Notes.{note, reached, sent}
 use Rattle.cluster_rules.specs.Marks.{Mark, Begins, Writes, came_to, sent_by, lines_among, by_node}
 use Rattle.journal_readings.specs.Lines.{is_enter, same_key}
 use Rattle.journal_readings.specs.Messages.{Arrival}
-use Rattle.cluster_rules.specs.Network.{client, posting}
+use Rattle.cluster_rules.specs.Network.{posting}
 use Rattle.journal_readings.specs.Views.{promise_step, last_step}
-use Rattle.cluster_rules.specs.World.{World, at, new_if}
-use Rattle.key_laws.specs.Traced.{Traced, facts_of, after, after_all}
-use Rattle.key_laws.specs.Order.{AtMost}
-use Rattle.key_laws.specs.Licences.{Ok, OkLine, Licensed}
+use Rattle.cluster_rules.specs.World.{World, changed_at, new_if}
+use Rattle.node_rules.specs.Messages.{client}
+use Rattle.key_laws.specs.Traced.{Traced, facts_of, traced_after, traced_after_all}
+use Rattle.key_laws.specs.Order.{KeyAtMost}
+use Rattle.key_laws.specs.Licences.{OkMark, OkLine, LicensedMarks}
 use Rattle.key_laws.specs.Sound.{Sound}
 use Rattle.key_laws.proofs.Order.{at_most_refl, at_most_eq, at_most_trans, below_at_most, same_is}
 use Rattle.key_laws.proofs.Frames.{at_each, num_same, never}
@@ -39,7 +40,7 @@ record Stay (t u : Traced) (n : ℕ) : Type 0 where
   last : (facts_of t n).agreement.last ≡ (facts_of u n).agreement.last
 
 moved_stay : (w : World) (m : ℕ) (new : Facts) → (w.facts m).agreement.promised ≡ new.agreement.promised → (w.facts m).agreement.last ≡ new.agreement.last
-    → (n : ℕ) → ((w.facts n).agreement.promised ≡ (at w.facts m new n).agreement.promised) × ((w.facts n).agreement.last ≡ (at w.facts m new n).agreement.last)
+    → (n : ℕ) → ((w.facts n).agreement.promised ≡ (changed_at w.facts m new n).agreement.promised) × ((w.facts n).agreement.last ≡ (changed_at w.facts m new n).agreement.last)
 moved_stay w m new p l = at_each (λ n f. ((w.facts n).agreement.promised ≡ f.agreement.promised) × ((w.facts n).agreement.last ≡ f.agreement.last)) w.facts m new (λ n. (refl, refl)) (p, l)
 
 came_stay : (t : Traced) (x : Option Arrival) → Told t x → Sound t → (n : ℕ) → Stay t (arrived_in t x) n
@@ -53,7 +54,7 @@ came_stay t (Some x) s h n = go (x.to == client)
     r : Reaches t x.to (facts_of t x.to) (reached (facts_of t x.to) x.from x.message)
     r = reaches t x.to (facts_of t x.to) x.from x.message s (h.nodes x.to)
 
-    at_node : ((facts_of t n).agreement.promised ≡ (at t.world.facts x.to (reached (facts_of t x.to) x.from x.message) n).agreement.promised) × ((facts_of t n).agreement.last ≡ (at t.world.facts x.to (reached (facts_of t x.to) x.from x.message) n).agreement.last)
+    at_node : ((facts_of t n).agreement.promised ≡ (changed_at t.world.facts x.to (reached (facts_of t x.to) x.from x.message) n).agreement.promised) × ((facts_of t n).agreement.last ≡ (changed_at t.world.facts x.to (reached (facts_of t x.to) x.from x.message) n).agreement.last)
     at_node = moved_stay t.world x.to (reached (facts_of t x.to) x.from x.message) r.promised r.last n
 
     go : (b : Bool) → Stay t (record { world = came_to t.world x b; lists = t.lists; entered = t.entered }) n
@@ -63,21 +64,21 @@ came_stay t (Some x) s h n = go (x.to == client)
 sent_stay : (t : Traced) (v : World) (a b : ℕ) → v.facts ≡ t.world.facts → (o : Option Message) → (n : ℕ) → Stay t (record { world = sent_by v a b o; lists = t.lists; entered = t.entered }) n
 sent_stay t v a b e None n = record { promised = ap (λ fs. (fs n).agreement.promised) (sym e); last = ap (λ fs. (fs n).agreement.last) (sym e) }
 sent_stay t v a b e (Some m) n =
-    let moved : ((v.facts n).agreement.promised ≡ (at v.facts a (sent (v.facts a) b m) n).agreement.promised) × ((v.facts n).agreement.last ≡ (at v.facts a (sent (v.facts a) b m) n).agreement.last) =
+    let moved : ((v.facts n).agreement.promised ≡ (changed_at v.facts a (sent (v.facts a) b m) n).agreement.promised) × ((v.facts n).agreement.last ≡ (changed_at v.facts a (sent (v.facts a) b m) n).agreement.last) =
     moved_stay v a (sent (v.facts a) b m) (sym (sent_same (v.facts a) b m).0) (sym (sent_same (v.facts a) b m).1) n in
     record { promised = ap (λ fs. (fs n).agreement.promised) (sym e) ∙ moved.0; last = ap (λ fs. (fs n).agreement.last) (sym e) ∙ moved.1 }
 
 by_line : (t : Traced) (m : ℕ) (l : Line) (n : ℕ) → (facts_of t m).agreement.promised ≡ (note t.world.want (facts_of t m) l).agreement.promised → (facts_of t m).agreement.last ≡ (note t.world.want (facts_of t m) l).agreement.last
     → Stay t (record { world = by_node t.world m l; lists = t.lists; entered = t.entered }) n
 by_line t m l n p q =
-    let moved : ((facts_of t n).agreement.promised ≡ (at t.world.facts m (note t.world.want (facts_of t m) l) n).agreement.promised) × ((facts_of t n).agreement.last ≡ (at t.world.facts m (note t.world.want (facts_of t m) l) n).agreement.last) =
+    let moved : ((facts_of t n).agreement.promised ≡ (changed_at t.world.facts m (note t.world.want (facts_of t m) l) n).agreement.promised) × ((facts_of t n).agreement.last ≡ (changed_at t.world.facts m (note t.world.want (facts_of t m) l) n).agreement.last) =
     moved_stay t.world m (note t.world.want (facts_of t m) l) p q n in
     record { promised = moved.0; last = moved.1 }
 
 stays : (t u : Traced) (l : Line) (n : ℕ) → promise_step n (facts_of t n).agreement.promised l ≡ (facts_of t n).agreement.promised → last_step n (facts_of t n).agreement.last l ≡ (facts_of t n).agreement.last → Stay t u n → Reads t u l n
 stays t u l n p q s = record { promised = p ∙ s.promised; last = q ∙ s.last }
 
-reads_promise : (t : Traced) (m : ℕ) (k : ClusterKey) (n : ℕ) → Reads t (after t (Writes (line.Promise m k))) (line.Promise m k) n
+reads_promise : (t : Traced) (m : ℕ) (k : ClusterKey) (n : ℕ) → Reads t (traced_after t (Writes (line.Promise m k))) (line.Promise m k) n
 reads_promise t m k n = record { promised = promised (m == n); last = last n }
   where
     new : Facts
@@ -87,23 +88,24 @@ reads_promise t m k n = record { promised = promised (m == n); last = last n }
     promised true = refl
     promised false = refl
 
-    last : (n : ℕ) → (t.world.facts n).agreement.last ≡ (at t.world.facts m new n).agreement.last
+    last : (n : ℕ)
+        → (t.world.facts n).agreement.last ≡ (changed_at t.world.facts m new n).agreement.last
     last = at_each (λ n f. (t.world.facts n).agreement.last ≡ f.agreement.last) t.world.facts m new (λ n. refl) refl
 
-reads_enter : (t : Traced) (m : ℕ) (k : ClusterKey) (ms : List Member) (n : ℕ) → Reads t (after t (Writes (line.Enter m k ms))) (line.Enter m k ms) n
+reads_enter : (t : Traced) (m : ℕ) (k : ClusterKey) (ms : List Member) (n : ℕ) → Reads t (traced_after t (Writes (line.Enter m k ms))) (line.Enter m k ms) n
 reads_enter t m k ms n = record { promised = promised n; last = last (m == n) }
   where
     new : Facts
     new = note t.world.want (facts_of t m) (line.Enter m k ms)
 
-    promised : (n : ℕ) → (t.world.facts n).agreement.promised ≡ (at t.world.facts m new n).agreement.promised
+    promised : (n : ℕ) → (t.world.facts n).agreement.promised ≡ (changed_at t.world.facts m new n).agreement.promised
     promised = at_each (λ n f. (t.world.facts n).agreement.promised ≡ f.agreement.promised) t.world.facts m new (λ n. refl) refl
 
     last : (b : Bool) → (if b then k else (facts_of t n).agreement.last) ≡ (new_if new t.world.facts n b).agreement.last
     last true = refl
     last false = refl
 
-reads_line : (t : Traced) (l : Line) → Sound t → (n : ℕ) → Reads t (after t (Writes l)) l n
+reads_line : (t : Traced) (l : Line) → Sound t → (n : ℕ) → Reads t (traced_after t (Writes l)) l n
 reads_line t (line.Promise m k) s n = reads_promise t m k n
 reads_line t (line.Enter m k ms) s n = reads_enter t m k ms n
 reads_line t (line.Deliver i a b) s n = stays t _ (line.Deliver i a b) n refl refl (came_stay t _ (told_at t b i s) s n)
@@ -136,15 +138,15 @@ pub record ReadOf (t u : Traced) (ls : List Line) (n : ℕ) : Type 0 where
   pub promised : fold (promise_step n) (facts_of t n).agreement.promised ls ≡ (facts_of u n).agreement.promised
   pub last : fold (last_step n) (facts_of t n).agreement.last ls ≡ (facts_of u n).agreement.last
 
-pub read_marks : (t : Traced) (ms : List Mark) → Licensed t ms → Sound t → (n : ℕ) → ReadOf t (after_all t ms) (lines_among ms) n
+pub read_marks : (t : Traced) (ms : List Mark) → LicensedMarks t ms → Sound t → (n : ℕ) → ReadOf t (traced_after_all t ms) (lines_among ms) n
 read_marks t [] ok s n = record { promised = refl; last = refl }
 read_marks t (Begins e ∷ ms) ok s n =
-    let rest : ReadOf (after t (Begins e)) (after_all (after t (Begins e)) ms) (lines_among ms) n = read_marks (after t (Begins e)) ms ok.1 (kept t (Begins e) ok.0 s).sound n in
+    let rest : ReadOf (traced_after t (Begins e)) (traced_after_all (traced_after t (Begins e)) ms) (lines_among ms) n = read_marks (traced_after t (Begins e)) ms ok.1 (kept t (Begins e) ok.0 s).sound n in
     record { promised = rest.promised; last = rest.last }
 read_marks t (Writes l ∷ ms) ok s n =
-    let u : Traced = after t (Writes l) in
+    let u : Traced = traced_after t (Writes l) in
     let first : Reads t u l n = reads_line t l s n in
-    let rest : ReadOf u (after_all u ms) (lines_among ms) n = read_marks u ms ok.1 (kept t (Writes l) ok.0 s).sound n in
+    let rest : ReadOf u (traced_after_all u ms) (lines_among ms) n = read_marks u ms ok.1 (kept t (Writes l) ok.0 s).sound n in
     record {
       promised = ap (λ k. fold (promise_step n) k (lines_among ms)) first.promised ∙ rest.promised;
       last = ap (λ k. fold (last_step n) k (lines_among ms)) first.last ∙ rest.last;
@@ -152,21 +154,21 @@ read_marks t (Writes l ∷ ms) ok s n =
 
 -- ---- the last key only rises
 
-last_rises : (t : Traced) (m : Mark) → Ok t m → Sound t → (n : ℕ) → AtMost (facts_of t n).agreement.last (facts_of (after t m) n).agreement.last
+last_rises : (t : Traced) (m : Mark) → OkMark t m → Sound t → (n : ℕ) → KeyAtMost (facts_of t n).agreement.last (facts_of (traced_after t m) n).agreement.last
 last_rises t (Begins e) ok s n = at_most_refl _
-last_rises t (Writes l) ok s n = subst (λ k. AtMost (facts_of t n).agreement.last k) (reads_line t l s n).last (by_word l ok)
+last_rises t (Writes l) ok s n = subst (λ k. KeyAtMost (facts_of t n).agreement.last k) (reads_line t l s n).last (by_word l ok)
   where
-    entering : (m : ℕ) (k : ClusterKey) → IsBelow (facts_of t m).agreement.last k → (b : Bool) → (m == n) ≡ b → AtMost (facts_of t n).agreement.last (if b then k else (facts_of t n).agreement.last)
+    entering : (m : ℕ) (k : ClusterKey) → IsBelow (facts_of t m).agreement.last k → (b : Bool) → (m == n) ≡ b → KeyAtMost (facts_of t n).agreement.last (if b then k else (facts_of t n).agreement.last)
     entering m k above true e = below_at_most (subst (λ (x : ℕ). IsBelow (facts_of t x).agreement.last k) (num_same m n e) above)
     entering m k above false e = at_most_refl _
 
-    by_word : (l : Line) → OkLine t l → AtMost (facts_of t n).agreement.last (last_step n (facts_of t n).agreement.last l)
+    by_word : (l : Line) → OkLine t l → KeyAtMost (facts_of t n).agreement.last (last_step n (facts_of t n).agreement.last l)
     by_word (line.Enter m k ms) ok = entering m k ok.above (m == n) refl
     by_word _ ok = at_most_refl _
 
-pub last_rises_all : (t : Traced) (ms : List Mark) → Licensed t ms → Sound t → (n : ℕ) → AtMost (facts_of t n).agreement.last (facts_of (after_all t ms) n).agreement.last
+pub last_rises_all : (t : Traced) (ms : List Mark) → LicensedMarks t ms → Sound t → (n : ℕ) → KeyAtMost (facts_of t n).agreement.last (facts_of (traced_after_all t ms) n).agreement.last
 last_rises_all t [] ok s n = at_most_refl _
-last_rises_all t (m ∷ ms) ok s n = at_most_trans (last_rises t m ok.0 s n) (last_rises_all (after t m) ms ok.1 (kept t m ok.0 s).sound n)
+last_rises_all t (m ∷ ms) ok s n = at_most_trans (last_rises t m ok.0 s n) (last_rises_all (traced_after t m) ms ok.1 (kept t m ok.0 s).sound n)
 
 either_way : {A : Type 0} (a b : Bool) → (a || b) ≡ true → (a ≡ true → A) → (b ≡ true → A) → A
 either_way true b e f g = f refl
@@ -177,17 +179,18 @@ both_true true b e = (refl, e)
 both_true false b e = absurd (never e refl)
 
 -- the node's last key is the one that it has just entered
-just_entered : (t : Traced) (l : Line) → Sound t → (n : ℕ) (k : ClusterKey) → is_enter k n l ≡ true → AtMost k (facts_of (after t (Writes l)) n).agreement.last
+just_entered : (t : Traced) (l : Line) → Sound t → (n : ℕ) (k : ClusterKey) → is_enter k n l ≡ true → KeyAtMost k (facts_of (traced_after t (Writes l)) n).agreement.last
 just_entered t (line.Enter m l ms) s n k e =
     let both : ((m == n) ≡ true) × (same_key l k ≡ true) = both_true (m == n) (same_key l k) e in
-    subst (λ x. AtMost k x) (ap (λ b. if b then l else (facts_of t n).agreement.last) (sym both.0) ∙ (reads_enter t m l ms n).last) (at_most_eq (sym (same_is l k both.1)))
+    subst (λ x. KeyAtMost k x) (ap (λ b. if b then l else (facts_of t n).agreement.last) (sym both.0) ∙ (reads_enter t m l ms n).last) (at_most_eq (sym (same_is l k both.1)))
 just_entered t _ s n k e = absurd (never e refl)
 
 -- a key that was entered is at most the last one
-pub entered_at_most : (t : Traced) (ms : List Mark) → Licensed t ms → Sound t → (n : ℕ) (k : ClusterKey) → list_any (is_enter k n) (lines_among ms) ≡ true → AtMost k (facts_of (after_all t ms) n).agreement.last
+pub entered_at_most : (t : Traced) (ms : List Mark) → LicensedMarks t ms → Sound t → (n : ℕ) (k : ClusterKey) → list_any (is_enter k n) (lines_among ms) ≡ true → KeyAtMost k (facts_of (traced_after_all t ms) n).agreement.last
 entered_at_most t [] ok s n k h = absurd (never h refl)
-entered_at_most t (Begins e ∷ ms) ok s n k h = entered_at_most (after t (Begins e)) ms ok.1 (kept t (Begins e) ok.0 s).sound n k h
+entered_at_most t (Begins e ∷ ms) ok s n k h = entered_at_most (traced_after t (Begins e)) ms ok.1 (kept t (Begins e) ok.0 s).sound n k h
 entered_at_most t (Writes l ∷ ms) ok s n k h =
     either_way (is_enter k n l) (list_any (is_enter k n) (lines_among ms)) h
-    (λ e. at_most_trans (just_entered t l s n k e) (last_rises_all (after t (Writes l)) ms ok.1 (kept t (Writes l) ok.0 s).sound n))
-    (λ e. entered_at_most (after t (Writes l)) ms ok.1 (kept t (Writes l) ok.0 s).sound n k e)
+    (λ e. at_most_trans (just_entered t l s n k e) (last_rises_all (traced_after t (Writes l)) ms ok.1 (kept t (Writes l) ok.0 s).sound n))
+    (λ e. entered_at_most (traced_after t (Writes l)) ms ok.1
+    (kept t (Writes l) ok.0 s).sound n k e)

@@ -25,16 +25,17 @@ use Rattle.journal_readings.specs.Claims.{KeysRise}
 use Rattle.cluster_rules.specs.Marks as marks
 use Rattle.cluster_rules.specs.Marks.{Mark, Begins, Writes, lines_among}
 use Rattle.journal_readings.specs.Messages.{Arrival, arrived, arrived_cut}
-use Rattle.cluster_rules.specs.Network.{client, posting_at}
+use Rattle.cluster_rules.specs.Network.{posting_at}
 use Rattle.cluster_rules.specs.Opening.{Header, declared_policy, header_lines, declared_nodes, node_in}
 use Rattle.cluster_rules.specs.Runs.{Plays, PlaysAll, RunOf, run_marks}
-use Rattle.cluster_rules.specs.Steps.{Step, Played, marks_of, all_marks, AreDue, no_steps, and_then, play, play_all, flow, flows, round, rounds}
+use Rattle.cluster_rules.specs.Steps.{Step, Played, marks_of, all_marks, AreDue, no_steps, then_played, play, play_all, flow, flows, round, rounds}
 use Rattle.cluster_rules.specs.World.{World, opened, is_up, up_nodes}
 use Rattle.cluster_rules.proofs.MarkLaws.{lines_of_run, Follows, round_follows}
 use Rattle.cluster_rules.proofs.RunLaws.{commands_follow}
+use Rattle.node_rules.specs.Messages.{client}
 use Rattle.key_laws.proofs.Frames.{never}
-use Rattle.key_laws.specs.Traced.{Traced, after, after_all, untouched}
-use Rattle.key_laws.specs.Licences.{Known, Licensed}
+use Rattle.key_laws.specs.Traced.{Traced, traced_after, traced_after_all, untouched}
+use Rattle.key_laws.specs.Licences.{IsPromisedKey, LicensedMarks}
 use Rattle.key_laws.specs.Laws.{KeepsRanges, traced_at, EntriesAgree}
 use Rattle.key_laws.specs.Sound.{Sound}
 use Rattle.key_laws.proofs.Order.{at_most_refl, at_most_none}
@@ -118,7 +119,7 @@ line_nodes w _ = refl
 
 pub marks_nodes : (w : World) (ms : List Mark) → (marks.after_all w ms).nodes ≡ w.nodes
 marks_nodes w [] = refl
-marks_nodes w (Begins e ∷ ms) = marks_nodes (marks.begun w e) ms
+marks_nodes w (Begins e ∷ ms) = marks_nodes (marks.event_begun w e) ms
 marks_nodes w (Writes l ∷ ms) = marks_nodes (marks.after_line w l) ms ∙ line_nodes w l
 
 pub follows_nodes : (n : ℕ) (w : World) (x : Played) → Follows n w x → x.world.nodes ≡ w.nodes
@@ -190,34 +191,35 @@ begun_commands n (c ∷ cs) w x ids p h =
   where
     first_nodes : (y : Played) → Plays n w c y → y.world.nodes ≡ w.nodes
     first_nodes y q =
-        let alone : Played = and_then y (λ v. no_steps y.world) in
+        let alone : Played = then_played y (λ v. no_steps y.world) in
         let turn : PlaysAll n w (c ∷ []) alone = record { first = y; plays = q; others = no_steps y.world; follows = refl; whole = refl } in
         follows_nodes n w alone (commands_follow n (c ∷ []) w alone turn)
 
 -- ---- due steps are licensed
 
-pub world_of : (t : Traced) (ms : List Mark) → (after_all t ms).world ≡ marks.after_all t.world ms
+pub world_of : (t : Traced) (ms : List Mark)
+    → (traced_after_all t ms).world ≡ marks.after_all t.world ms
 world_of t [] = refl
-world_of t (Begins e ∷ ms) = world_of (after t (Begins e)) ms
-world_of t (Writes l ∷ ms) = world_of (after t (Writes l)) ms
+world_of t (Begins e ∷ ms) = world_of (traced_after t (Begins e)) ms
+world_of t (Writes l ∷ ms) = world_of (traced_after t (Writes l)) ms
 
-pub steps_ok : (n : ℕ) (t : Traced) (ss : List Step) → Sound t → AllBegun ss → AreDue n t.world ss → Licensed t (all_marks ss)
+pub steps_ok : (n : ℕ) (t : Traced) (ss : List Step) → Sound t → AllBegun ss → AreDue n t.world ss → LicensedMarks t (all_marks ss)
 steps_ok n t [] s b d = tt
 steps_ok n t (x ∷ ss) s b d =
-    let ok : Licensed t (marks_of x) = subst (λ ls. Licensed t (Begins x.event ∷ writes ls)) (sym d.0) (step_ok n t x.event b.0 s) in
+    let ok : LicensedMarks t (marks_of x) = subst (λ ls. LicensedMarks t (Begins x.event ∷ writes ls)) (sym d.0) (step_ok n t x.event b.0 s) in
     licensed_append t (marks_of x) (all_marks ss) ok
-    (steps_ok n (after_all t (marks_of x)) ss (kept_all t (marks_of x) ok s).sound b.1 (subst (λ v. AreDue n v ss) (sym (world_of t (marks_of x))) d.1))
+    (steps_ok n (traced_after_all t (marks_of x)) ss (kept_all t (marks_of x) ok s).sound b.1 (subst (λ v. AreDue n v ss) (sym (world_of t (marks_of x))) d.1))
 
 -- ---- the header
 
-pub header_ok : (t : Traced) (h : Header) → Licensed t (writes (header_lines h))
+pub header_ok : (t : Traced) (h : Header) → LicensedMarks t (writes (header_lines h))
 header_ok t [] = tt
 header_ok t (header.Script version ∷ h) = (tt, header_ok t h)
 header_ok t (header.Factor factor ∷ h) = (tt, header_ok t h)
 header_ok t (header.Node node rack ∷ h) = (tt, header_ok t h)
 header_ok t (header.Policy policy ∷ h) = (tt, header_ok t h)
 
-pub header_same : (t : Traced) (h : Header) → after_all t (writes (header_lines h)) ≡ t
+pub header_same : (t : Traced) (h : Header) → traced_after_all t (writes (header_lines h)) ≡ t
 header_same t [] = refl
 header_same t (header.Script version ∷ h) = header_same t h
 header_same t (header.Factor factor ∷ h) = header_same t h
@@ -229,7 +231,7 @@ header_same t (header.Policy policy ∷ h) = header_same t h
 none_some : {A B : Type 0} (a : A) → None ≡ Some a → B
 none_some a e = absurd (grind arith)
 
-no_stamp : (t : Traced) (by : Policy) (p : ℕ) (x : Stamp) → finite.get (empty_store by).stamps p ≡ Some x → Known t x.0
+no_stamp : (t : Traced) (by : Policy) (p : ℕ) (x : Stamp) → finite.get (empty_store by).stamps p ≡ Some x → IsPromisedKey t x.0
 no_stamp t by p x e = none_some x (sym (get-empty nat_cmp p) ∙ e)
 
 pub start : (h : Header) → Starts (untouched (opened h))
@@ -254,13 +256,13 @@ start h = record {
   entered = λ n k. refl;
 }
 
-pub run_ok : (n : ℕ) (s : Script) (j : List Line) → KeepsRanges s → (r : RunOf n s j) → Licensed (untouched (opened s.header)) (run_marks s.header r.played)
+pub run_ok : (n : ℕ) (s : Script) (j : List Line) → KeepsRanges s → (r : RunOf n s j) → LicensedMarks (untouched (opened s.header)) (run_marks s.header r.played)
 run_ok n s j p r =
     let t : Traced = untouched (opened s.header) in
     let due : AreDue n t.world r.played.steps = (commands_follow n s.commands (opened s.header) r.played r.plays).due in
     let begun : AllBegun r.played.steps = begun_commands n s.commands (opened s.header) r.played (declared_ids s.header p.header) p.commands r.plays in
     licensed_append t (writes (header_lines s.header)) (all_marks r.played.steps) (header_ok t s.header)
-    (subst (λ u. Licensed u (all_marks r.played.steps)) (sym (header_same t s.header)) (steps_ok n t r.played.steps (start s.header).sound begun due))
+    (subst (λ u. LicensedMarks u (all_marks r.played.steps)) (sym (header_same t s.header)) (steps_ok n t r.played.steps (start s.header).sound begun due))
 
 journal_is : (n : ℕ) (s : Script) (j : List Line) (r : RunOf n s j) → j ≡ lines_among (run_marks s.header r.played)
 journal_is n s j r = r.written ∙ sym (lines_of_run s.header r.played)

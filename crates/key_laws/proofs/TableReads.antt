@@ -20,14 +20,14 @@ use Rattle.wire_messages.specs.Numbers.{byte_field}
 use Rattle.wire_messages.specs.Proper.{IsProper}
 use Rattle.wire_messages.specs.Spelling.{spelling}
 use Rattle.wire_messages.proofs.DecodingLaws.{what_is_read, read_back}
-use Rattle.node_rules.specs.Exchange.{View, is_member, members_of, key_of}
-use Rattle.node_rules.specs.Facts.{Facts, view_key, members, list_at}
-use Rattle.node_rules.specs.Map.{master, state_at}
+use Rattle.node_rules.specs.Exchange.{View, is_member, members_of, exchange_key}
+use Rattle.node_rules.specs.Facts.{Facts, view_key, members_of_view, list_at}
+use Rattle.node_rules.specs.Map.{list_master, row_state_at}
 use Rattle.node_rules.specs.Messages.{map_table, named_from, moved_from}
 use Rattle.node_rules.specs.Standing.{named, named_by, has_moved, acting_at}
 use Rattle.node_rules.specs.Tables.{contains}
 use Rattle.key_laws.specs.Ends.{TableNames, Tells, TellsIf, AllNodes}
-use Rattle.key_laws.specs.Sound.{Entered, NodeKeys, Views, Listed, Sound}
+use Rattle.key_laws.specs.Sound.{Entered, NodeKeys, ViewStands, Listed, Sound}
 use Rattle.key_laws.specs.Traced.{Traced}
 use Rattle.key_laws.proofs.Addressed.{differ, or_cases, or_left, or_right, member_id, listed_member}
 use Rattle.key_laws.proofs.DueViews.{view_known}
@@ -116,7 +116,7 @@ member_listed ms p n e = (any_is_contained n (list ms p)).1 ((list_contains ms p
 pub each_listed : (P : ℕ → Type 0) (ms : List Member) (p : ℕ) → ((n : ℕ) → is_member ms n ≡ true → P n) → Each P (list ms p)
 each_listed P ms p h n e = h n (sym (member_id ms n) ∙ listed_member ms p n e)
 
-pub master_in : (P : ℕ → Type 0) (l : List ℕ) (n : ℕ) → contains l n ≡ true → Each P l → P (master l)
+pub master_in : (P : ℕ → Type 0) (l : List ℕ) (n : ℕ) → contains l n ≡ true → Each P l → P (list_master l)
 master_in P [] n e h = differ e refl
 master_in P (m ∷ l) n e h = h m (or_left (m == m) (contains l m) (num_eq m m refl))
 
@@ -129,7 +129,7 @@ found_in P test (n ∷ l) d h i = go (test n) (h n (or_left (n == n) (contains l
     go false x y = y
 
 pub acting_in : (P : ℕ → Type 0) (f : Facts) (l : List ℕ) (p n : ℕ) → contains l n ≡ true → Each P l → P (acting_at f l p)
-acting_in P f l p n e h = found_in P (is_wholest_by l (state_at f.exchange.rows p)) l (master l) h (master_in P l n e h)
+acting_in P f l p n e h = found_in P (is_wholest_by l (row_state_at f.exchange.rows p)) l (list_master l) h (master_in P l n e h)
 
 pub named_in : (P : ℕ → Type 0) (f : Facts) (l : List ℕ) (p n : ℕ) → contains l n ≡ true → Each P l → P (named f l p)
 named_in P f l p n e h = go (has_moved f p)
@@ -187,21 +187,22 @@ record InView (t : Traced) (f : Facts) (v : View) : Type 0 where
   entered : Entered t f.me f.agreement.last v
 
 in_view_of : (t : Traced) (f : Facts) → NodeKeys t f.me f → (v : View) → f.exchange.view ≡ Some v → InView t f v
-in_view_of t f keys v e = record { is = e; entered = entered (subst (Views t f.me f.agreement.last) e keys.view) }
+in_view_of t f keys v e = record { is = e; entered = entered (subst (ViewStands t f.me f.agreement.last) e keys.view) }
   where
-    entered : Views t f.me f.agreement.last (Some v) → Entered t f.me f.agreement.last v
+    entered : ViewStands t f.me f.agreement.last (Some v) → Entered t f.me f.agreement.last v
     entered x = x
 
-named_of : (P : ℕ → Type 0) (t : Traced) (f : Facts) (v : View) → InView t f v → ((n : ℕ) → is_member (members f) n ≡ true → P n) → (p : ℕ) → P (named f (list_at f p) p)
-named_of P t f v i h p = named_in P f (list_at f p) p f.me own (each_listed P (members f) p h)
+named_of : (P : ℕ → Type 0) (t : Traced) (f : Facts) (v : View) → InView t f v → ((n : ℕ) → is_member (members_of_view f) n ≡ true → P n) → (p : ℕ) → P (named f (list_at f p) p)
+named_of P t f v i h p = named_in P f (list_at f p) p f.me own
+    (each_listed P (members_of_view f) p h)
   where
     own : contains (list_at f p) f.me ≡ true
-    own = member_listed (members f) p f.me (member_id (members f) f.me ∙ ap (λ (o : Option View). is_member (members_of o) f.me) i.is ∙ i.entered.among)
+    own = member_listed (members_of_view f) p f.me (member_id (members_of_view f) f.me ∙ ap (λ (o : Option View). is_member (members_of o) f.me) i.is ∙ i.entered.among)
 
 -- the table of a view has a spelling
 pub table_proper : (t : Traced) (f : Facts) → Sound t → NodeKeys t f.me f → (v : View) → f.exchange.view ≡ Some v → IsProper (message.MapTable (map_table f))
 table_proper t f s keys v e = record {
-  key = subst (λ (k : ClusterKey). IsKeyField k) (sym (ap key_of e)) listed.key;
+  key = subst (λ (k : ClusterKey). IsKeyField k) (sym (ap exchange_key e)) listed.key;
   size = names_size f partition_count 0;
   ids = all_of IsId (map_table f).ids (names_all IsId f (named_of IsId t f v (in_view_of t f keys v e) ids) partition_count 0);
   moved = record { size = moves_size f partition_count 0 };
@@ -210,16 +211,16 @@ table_proper t f s keys v e = record {
     listed : Listed t v.key v.members
     listed = s.lists v.key v.members (in_view_of t f keys v e).entered.list
 
-    ids : (n : ℕ) → is_member (members f) n ≡ true → IsId n
+    ids : (n : ℕ) → is_member (members_of_view f) n ≡ true → IsId n
     ids n m = id_of v.members n listed.good.fit (sym (ap (λ (o : Option View). is_member (members_of o) n) e) ∙ m)
 
-pub table_tells : (P : ℕ → Type 0) (t : Traced) (f : Facts) → Sound t → NodeKeys t f.me f → ((n : ℕ) → is_member (members f) n ≡ true → P n) → TellsIf P (message_of (spelling (message.MapTable (map_table f))))
+pub table_tells : (P : ℕ → Type 0) (t : Traced) (f : Facts) → Sound t → NodeKeys t f.me f → ((n : ℕ) → is_member (members_of_view f) n ≡ true → P n) → TellsIf P (message_of (spelling (message.MapTable (map_table f))))
 table_tells P t f s keys h = read_tells P (message.MapTable (map_table f)) (λ u r. go f.exchange.view refl u r)
   where
     same_table : {x y : MapTable} → Some (message.MapTable x) ≡ Some (message.MapTable y) → x ≡ y
     same_table {x} {y} e = grind arith
 
     go : (o : Option View) → f.exchange.view ≡ o → (u : MapTable) → message_of (spelling (message.MapTable (map_table f))) ≡ Some (message.MapTable u) → TableNames P u
-    go None e u r = absurd (no_field u.key (read_key t f keys u r ∙ ap key_of e) (what_is_read (spelling (message.MapTable (map_table f))) (message.MapTable u) r).0.key)
+    go None e u r = absurd (no_field u.key (read_key t f keys u r ∙ ap exchange_key e) (what_is_read (spelling (message.MapTable (map_table f))) (message.MapTable u) r).0.key)
     go (Some v) e u r = subst (λ (x : MapTable). TableNames P x) (same_table (sym (read_back (message.MapTable (map_table f)) (table_proper t f s keys v e)) ∙ r))
         (λ p lt. at_place P (map_table f).ids p (names_all P f (named_of P t f v (in_view_of t f keys v e) h) partition_count 0) (subst (λ (x : ℕ). p < x) (sym (names_size f partition_count 0)) lt))

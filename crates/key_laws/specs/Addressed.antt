@@ -5,7 +5,7 @@ use Rattle.cluster_types.specs.declared.member.Member.{Member}
 use Rattle.wire_messages.specs.declared.message.Message.{Message}
 use Rattle.wire_messages.specs.declared.message.Message.TheVariants as message
 use Rattle.node_rules.specs.Exchange.{is_member}
-use Rattle.node_rules.specs.Facts.{Facts, members}
+use Rattle.node_rules.specs.Facts.{Facts, members_of_view}
 use Rattle.node_rules.specs.Notes.{in_view}
 use Rattle.key_laws.specs.Traced.{Traced}
 
@@ -35,7 +35,7 @@ GoesBetween t from to _ = Unit {0}
 
 -- the sender is another member of the node's view
 pub record IsOther (f : Facts) (from : ℕ) : Type 0 where
-  pub member : IsTrue (is_member (members f) from)
+  pub member : IsTrue (is_member (members_of_view f) from)
   pub other : from ≡ f.me → ⊥
 
 -- a message of the node's view comes from another member of it

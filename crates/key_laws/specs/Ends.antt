@@ -12,7 +12,7 @@ use Rattle.journal_lines.specs.declared.refusal.Refusal.TheVariants as refusal
 use Rattle.journal_lines.specs.declared.line.Line.{Line}
 use Rattle.journal_lines.specs.declared.line.Line.TheVariants as line
 use Rattle.journal_readings.specs.Lines.{has_node}
-use Rattle.cluster_rules.specs.Network.{client}
+use Rattle.node_rules.specs.Messages.{client}
 
 -- one of the declared nodes
 abbrev pub IsOneOf : List ℕ → ℕ → Type 0

@@ -11,7 +11,7 @@ use Rattle.cluster_rules.specs.Runs.{run_marks}
 use Rattle.journal_readings.specs.Shape.{EntersFalling, enters_once, names_entered}
 use Rattle.cluster_rules.specs.Steps.{Played}
 use Rattle.cluster_rules.specs.World.{opened}
-use Rattle.key_laws.specs.Traced.{Traced, untouched, after_all}
+use Rattle.key_laws.specs.Traced.{Traced, untouched, traced_after_all}
 
 -- each line of the script keeps its ranges; ids of nodes have 16 bits
 pub record KeepsRanges (s : Script) : Type 0 where
@@ -20,7 +20,7 @@ pub record KeepsRanges (s : Script) : Type 0 where
 
 -- the world at a place among the marks of a run, with its history of lists
 abbrev pub traced_at : Header → Played → ℕ → Traced
-traced_at h x i = after_all (untouched (opened h)) (take i (run_marks h x))
+traced_at h x i = traced_after_all (untouched (opened h)) (take i (run_marks h x))
 
 -- what the shape of a journal says of its entries: those of one key have one list, which falls; the node that
 -- enters is in it, and enters a key once; and a line of a node in its view names a view that the node has entered

@@ -17,19 +17,19 @@ use Rattle.node_rules.specs.Exchange.{is_member}
 use Rattle.journal_readings.specs.Messages.{Posting}
 use Rattle.cluster_rules.specs.Marks.{Mark, Begins, Writes}
 use Rattle.node_rules.specs.Facts.{view_key}
-use Rattle.key_laws.specs.Order.{AtMost}
-use Rattle.key_laws.specs.Traced.{Traced, facts_of, after}
+use Rattle.key_laws.specs.Order.{KeyAtMost}
+use Rattle.key_laws.specs.Traced.{Traced, facts_of, traced_after}
 
 -- ---- keys that stand somewhere
 
 -- the key is at most what its principal has promised
-pub record Known (t : Traced) (k : ClusterKey) : Type 0 where
-  pub bound : AtMost k (facts_of t k.principal).agreement.promised
+pub record IsPromisedKey (t : Traced) (k : ClusterKey) : Type 0 where
+  pub bound : KeyAtMost k (facts_of t k.principal).agreement.promised
   pub field : IsKeyOrNone k
 
 -- the node has entered the view of the key
 pub record Visited (t : Traced) (n : ℕ) (k : ClusterKey) : Type 0 where
-  pub known : Known t k
+  pub known : IsPromisedKey t k
   pub entered : IsTrue (t.entered n k)
 
 -- the key under which a copy is whole
@@ -47,24 +47,25 @@ RowOf P (e ∷ es) = CopyOf P e.1 × RowOf P es
 
 -- what a message of that sender says, in terms that can't become false
 abbrev pub Says : Traced → ℕ → Message → Type 0
-Says t a (message.Heartbeat view promised hears role) = IsId a × Known t view × Known t promised
+Says t a (message.Heartbeat view promised hears role) = IsId a × IsPromisedKey t view
+    × IsPromisedKey t promised
 Says t a (message.Propose k ms) = (k.principal ≡ a) × (t.lists k ≡ Some ms)
-Says t a (message.Accept k) = Known t k
-Says t a (message.Refuse k promised) = Known t k × Known t promised
+Says t a (message.Accept k) = IsPromisedKey t k
+Says t a (message.Refuse k promised) = IsPromisedKey t k × IsPromisedKey t promised
 Says t a (message.Commit k ms) = t.lists k ≡ Some ms
-Says t a (message.State k wants row) = Known t k × RowOf (λ q. Known t q) row
-Says t a (message.Batch b) = Known t b.key
-Says t a (message.BatchAck k number) = Known t k
-Says t a (message.Progress k wants done handed settled) = Known t k
-Says t a (message.Repl k number nth d v) = Known t k
-Says t a (message.ReplAck k number) = Known t k
-Says t a (message.Ask k number d) = Known t k
-Says t a (message.Answer k number v) = Known t k
-Says t a (message.MapTable table) = Known t table.key
-Says t a (message.Proxy k number d want) = Known t k
-Says t a (message.ProxyReply k number reply) = Known t k
-Says t a (message.Reply k number reply) = Known t k
-Says t a (message.ScanPage page) = Known t page.key
+Says t a (message.State k wants row) = IsPromisedKey t k × RowOf (λ q. IsPromisedKey t q) row
+Says t a (message.Batch b) = IsPromisedKey t b.key
+Says t a (message.BatchAck k number) = IsPromisedKey t k
+Says t a (message.Progress k wants done handed settled) = IsPromisedKey t k
+Says t a (message.Repl k number nth d v) = IsPromisedKey t k
+Says t a (message.ReplAck k number) = IsPromisedKey t k
+Says t a (message.Ask k number d) = IsPromisedKey t k
+Says t a (message.Answer k number v) = IsPromisedKey t k
+Says t a (message.MapTable table) = IsPromisedKey t table.key
+Says t a (message.Proxy k number d want) = IsPromisedKey t k
+Says t a (message.ProxyReply k number reply) = IsPromisedKey t k
+Says t a (message.Reply k number reply) = IsPromisedKey t k
+Says t a (message.ScanPage page) = IsPromisedKey t page.key
 Says t a _ = Unit {0}
 
 -- bytes that spell no message say nothing
@@ -78,16 +79,16 @@ pub record Proposes (t : Traced) (a : ℕ) (k : ClusterKey) : Type 0 where
   pub above : IsBelow (facts_of t a).agreement.last k
 
 -- what must be so as a message of that sender is sent, beside what it says
-abbrev pub MaySend : Traced → ℕ → Message → Type 0
-MaySend t a (message.Propose k ms) = Proposes t a k
-MaySend t a _ = Unit {0}
+abbrev pub MaySendKey : Traced → ℕ → Message → Type 0
+MaySendKey t a (message.Propose k ms) = Proposes t a k
+MaySendKey t a _ = Unit {0}
 
-abbrev pub MaySendIf : Traced → ℕ → Option Message → Type 0
-MaySendIf t a None = Unit {0}
-MaySendIf t a (Some m) = MaySend t a m
+abbrev pub MaySendKeyIf : Traced → ℕ → Option Message → Type 0
+MaySendKeyIf t a None = Unit {0}
+MaySendKeyIf t a (Some m) = MaySendKey t a m
 
 -- a message of this content was sent
-pub record WasSent (t : Traced) (m : Message) : Type 0 where
+pub record WasPosted (t : Traced) (m : Message) : Type 0 where
   pub number : ℕ
   pub posting : Posting
   pub stands : slice_get t.world.network.sent number ≡ Some posting
@@ -98,49 +99,50 @@ pub record WasSent (t : Traced) (m : Message) : Type 0 where
 -- a key of the node's own, or one that was proposed
 pub record MayPromise (t : Traced) (n : ℕ) (k : ClusterKey) : Type 0 where
   pub above : IsBelow (facts_of t n).agreement.promised k
-  pub source : (k.principal ≡ n) × IsKeyField k ⊎ ((ms : List Member) × WasSent t (message.Propose k ms))
+  pub source : (k.principal ≡ n) × IsKeyField k ⊎ ((ms : List Member) × WasPosted t (message.Propose k ms))
 
 -- the key that is promised, above the last one: of a view of the node's own, or of one that was committed
-pub record MayEnter (t : Traced) (n : ℕ) (k : ClusterKey) (ms : List Member) : Type 0 where
+pub record MayEnterKey (t : Traced) (n : ℕ) (k : ClusterKey) (ms : List Member) : Type 0 where
   pub promised : k ≡ (facts_of t n).agreement.promised
   pub above : IsBelow (facts_of t n).agreement.last k
   pub among : IsTrue (is_member ms n)
-  pub source : (t.lists k ≡ Some ms) ⊎ WasSent t (message.Commit k ms)
+  pub source : (t.lists k ≡ Some ms) ⊎ WasPosted t (message.Commit k ms)
 
 -- the exchange ends in the view that the node is in
-pub record MayFinish (t : Traced) (n : ℕ) (k : ClusterKey) : Type 0 where
+pub record MayFinishExchange (t : Traced) (n : ℕ) (k : ClusterKey) : Type 0 where
   pub visited : Visited t n k
   pub view : k ≡ view_key (facts_of t n)
 
 abbrev pub OkLine : Traced → Line → Type 0
 OkLine t (line.Promise n k) = MayPromise t n k
-OkLine t (line.Enter n k ms) = MayEnter t n k ms
-OkLine t (line.Sent i a b bytes) = SaysIf t a (message_of bytes) × MaySendIf t a (message_of bytes)
-OkLine t (line.Exchanged n k) = MayFinish t n k
+OkLine t (line.Enter n k ms) = MayEnterKey t n k ms
+OkLine t (line.Sent i a b bytes) = SaysIf t a (message_of bytes)
+    × MaySendKeyIf t a (message_of bytes)
+OkLine t (line.Exchanged n k) = MayFinishExchange t n k
 OkLine t (line.Opened n k number d a) = Visited t n k
 OkLine t (line.Value n k number d v) = Visited t n k
 OkLine t (line.Apply n k number d v) = Visited t n k
 OkLine t (line.Done n k number) = Visited t n k
-OkLine t (line.Aborted n k number) = Known t k
-OkLine t (line.Doubt n k number) = Known t k
+OkLine t (line.Aborted n k number) = IsPromisedKey t k
+OkLine t (line.Doubt n k number) = IsPromisedKey t k
 OkLine t (line.Merge n k d v) = Visited t n k
 OkLine t (line.Handed n k p) = Visited t n k
 OkLine t (line.Settled n k p) = Visited t n k
 OkLine t (line.Learn n k p) = Visited t n k
 OkLine t (line.Drop n k p) = Visited t n k
 OkLine t (line.Map n k p ms a) = Visited t n k
-OkLine t (line.Table k) = Known t k
-OkLine t (line.Proxy n k x d a acting) = Known t k
-OkLine t (line.Proxied n k x body) = Known t k
-OkLine t (line.Unproxied n k x) = Known t k
-OkLine t (line.Scanned s n k p size) = Known t k
+OkLine t (line.Table k) = IsPromisedKey t k
+OkLine t (line.Proxy n k x d a acting) = IsPromisedKey t k
+OkLine t (line.Proxied n k x body) = IsPromisedKey t k
+OkLine t (line.Unproxied n k x) = IsPromisedKey t k
+OkLine t (line.Scanned s n k p size) = IsPromisedKey t k
 OkLine t _ = Unit {0}
 
-abbrev pub Ok : Traced → Mark → Type 0
-Ok t (Begins e) = Unit {0}
-Ok t (Writes l) = OkLine t l
+abbrev pub OkMark : Traced → Mark → Type 0
+OkMark t (Begins e) = Unit {0}
+OkMark t (Writes l) = OkLine t l
 
 -- each mark has its licence where it stands
-abbrev pub Licensed : Traced → List Mark → Type 0
-Licensed t [] = Unit {0}
-Licensed t (m ∷ ms) = Ok t m × Licensed (after t m) ms
+abbrev pub LicensedMarks : Traced → List Mark → Type 0
+LicensedMarks t [] = Unit {0}
+LicensedMarks t (m ∷ ms) = OkMark t m × LicensedMarks (traced_after t m) ms

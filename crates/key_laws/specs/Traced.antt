@@ -48,14 +48,14 @@ lists_after t _ = t.lists
 abbrev pub entered_after : Traced → Line → ℕ → ClusterKey → Bool
 entered_after t l n k = is_enter k n l || t.entered n k
 
-abbrev pub after : Traced → Mark → Traced
-after t (Begins e) = record { world = marks.after t.world (Begins e); lists = t.lists; entered = t.entered }
-after t (Writes l) = record { world = marks.after t.world (Writes l); lists = lists_after t l; entered = entered_after t l }
+abbrev pub traced_after : Traced → Mark → Traced
+traced_after t (Begins e) = record { world = marks.after t.world (Begins e); lists = t.lists; entered = t.entered }
+traced_after t (Writes l) = record { world = marks.after t.world (Writes l); lists = lists_after t l; entered = entered_after t l }
 
 -- marks one after another
-abbrev pub after_all : Traced → List Mark → Traced
-after_all t [] = t
-after_all t (m ∷ ms) = after_all (after t m) ms
+abbrev pub traced_after_all : Traced → List Mark → Traced
+traced_after_all t [] = t
+traced_after_all t (m ∷ ms) = traced_after_all (traced_after t m) ms
 
 -- a world in which nothing was promised
 abbrev pub untouched : World → Traced

@@ -17,15 +17,15 @@ ghost use Rattle.cluster_rules.specs.Steps.{Step, all_lines, all_marks};
 ghost use Rattle.cluster_rules.specs.World.{opened};
 ghost use Rattle.key_laws.specs.Addressed.{GoesBetween, ComesFromOther};
 ghost use Rattle.key_laws.specs.Ends.{IsOneOf, AllName};
-ghost use Rattle.key_laws.specs.Traced.{Traced, facts_of, untouched, after_all};
-ghost use Rattle.key_laws.specs.Licences.{Says, Licensed};
+ghost use Rattle.key_laws.specs.Traced.{Traced, facts_of, untouched, traced_after_all};
+ghost use Rattle.key_laws.specs.Licences.{Says, LicensedMarks};
 ghost use Rattle.key_laws.specs.Laws.{KeepsRanges, traced_at, EntriesAgree};
 ghost use Rattle.key_laws.specs.Sound.{NodeKeys, Listed, Shown};
 
 /// Whatever is due of an event has its licence, line by line: every mark of every run, of so many
 /// partitions, has one where it stands.
 pub fn what_is_due_has_its_licence()
-    ensures { (n : ℕ) → (s : Script) → KeepsRanges s → (j : List Line) → (r : RunOf n s j) → Licensed (untouched (opened s.header)) (run_marks s.header r.played) }
+    ensures { (n : ℕ) → (s : Script) → KeepsRanges s → (j : List Line) → (r : RunOf n s j) → LicensedMarks (untouched (opened s.header)) (run_marks s.header r.played) }
 {}
 
 /// What holds at every mark of every run. A node's last key is at most its promised one; its view has
@@ -56,13 +56,13 @@ pub fn entries_agree_in_every_journal()
 /// A message of kinds State to Answer goes between two members of the list of its key, after whatever steps are
 /// allowed; and one of the view of its receiver comes from another member of that view.
 pub fn messages_of_a_view_go_between_its_members()
-    ensures between { (n : ℕ) → (h : Header) → (ss : List Step) → All IsProperHeaderLine h → AreAllowed n (opened h) ss → (i : ℕ) → (p : Posting) → (m : Message) → slice_get (after_all (untouched (opened h)) (all_marks ss)).world.network.sent i ≡ Some p → message_of p.bytes ≡ Some m → GoesBetween (after_all (untouched (opened h)) (all_marks ss)) p.from p.to m }
+    ensures between { (n : ℕ) → (h : Header) → (ss : List Step) → All IsProperHeaderLine h → AreAllowed n (opened h) ss → (i : ℕ) → (p : Posting) → (m : Message) → slice_get (traced_after_all (untouched (opened h)) (all_marks ss)).world.network.sent i ≡ Some p → message_of p.bytes ≡ Some m → GoesBetween (traced_after_all (untouched (opened h)) (all_marks ss)) p.from p.to m }
     ensures at_receiver { (n : ℕ) → (h : Header) → (ss : List Step) → All IsProperHeaderLine h → AreAllowed n (opened h) ss → (i : ℕ) → (p : Posting) → (m : Message) → slice_get (marks.after_all (opened h) (all_marks ss)).network.sent i ≡ Some p → message_of p.bytes ≡ Some m → ComesFromOther ((marks.after_all (opened h) (all_marks ss)).facts p.to) p.from m }
 {}
 
 /// What is due of steps that are allowed has its licence, mark by mark.
 pub fn allowed_steps_are_licensed()
-    ensures { (n : ℕ) → (h : Header) → (ss : List Step) → All IsProperHeaderLine h → AreAllowed n (opened h) ss → Licensed (untouched (opened h)) (all_marks ss) }
+    ensures { (n : ℕ) → (h : Header) → (ss : List Step) → All IsProperHeaderLine h → AreAllowed n (opened h) ss → LicensedMarks (untouched (opened h)) (all_marks ss) }
 {}
 
 /// Each line of steps that are allowed names declared nodes alone. Each message goes from a declared node to another

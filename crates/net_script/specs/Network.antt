@@ -9,7 +9,7 @@ use Rattle.net_script.specs.declared.net.Posted.TheVariants.{Kept, Full}
 abbrev pub flight_limit : ℕ
 flight_limit = 262144
 
-pub record Network : Type 0 where
+pub record NetworkState : Type 0 where
   -- the messages in flight, each behind its number, in rising number
   pub flying : List (ℕ × Flying)
   -- how many messages were sent so far
@@ -20,13 +20,13 @@ pub record Network : Type 0 where
   pub spare : ℕ
 
 -- a network on which nothing was sent, in one group
-pub record IsNewNetwork (n : Network) : Type 0 where
+pub record IsNewNetwork (n : NetworkState) : Type 0 where
   pub flying : n.flying ≡ []
   pub sent : n.sent ≡ 0
   pub groups : n.groups ≡ None
 
 -- all but the room is the same
-pub record IsSameNetwork (m n : Network) : Type 0 where
+pub record IsSameNetwork (m n : NetworkState) : Type 0 where
   pub flying : n.flying ≡ m.flying
   pub sent : n.sent ≡ m.sent
   pub groups : n.groups ≡ m.groups
@@ -38,29 +38,29 @@ pub record AreNumbers (last : ℕ) (ids : List ℕ) : Type 0 where
   pub to_last : All (λ i. i ≤ last) ids
 
 -- the numbers of the messages in flight
-abbrev pub ids_of : List (ℕ × Flying) → List ℕ
-ids_of es = map (λ e. e.0) es
+abbrev pub flying_ids : List (ℕ × Flying) → List ℕ
+flying_ids es = map (λ e. e.0) es
 
 -- the message of that number
-abbrev pub message_of : ℕ → List (ℕ × Flying) → Option Flying
-message_of id [] = None
-message_of id (e ∷ es) = if e.0 == id then Some e.1 else message_of id es
+abbrev pub flying_message : ℕ → List (ℕ × Flying) → Option Flying
+flying_message id [] = None
+flying_message id (e ∷ es) = if e.0 == id then Some e.1 else flying_message id es
 
 -- the messages less that of this number
-abbrev pub without : ℕ → List (ℕ × Flying) → List (ℕ × Flying)
-without id es = filter (λ e. not (e.0 == id)) es
+abbrev pub flying_without : ℕ → List (ℕ × Flying) → List (ℕ × Flying)
+flying_without id es = filter (λ e. not (e.0 == id)) es
 
 -- whether one more message may be in flight
-abbrev pub has_place : List (ℕ × Flying) → Bool
-has_place es = nat_lt (length es) flight_limit
+abbrev pub has_flight_place : List (ℕ × Flying) → Bool
+has_flight_place es = nat_lt (length es) flight_limit
 
 -- what is said of the next message: it is kept where it has a place, and else lost at once
-abbrev pub posted : Network → Posted
-posted n = if has_place n.flying then Kept (n.sent + 1) else Full (n.sent + 1)
+abbrev pub next_posted : NetworkState → Posted
+next_posted n = if has_flight_place n.flying then Kept (n.sent + 1) else Full (n.sent + 1)
 
 -- what is in flight after the next message is sent
-abbrev pub with_next : Network → Flying → List (ℕ × Flying)
-with_next n m = if has_place n.flying then n.flying ++ (n.sent + 1, m) ∷ [] else n.flying
+abbrev pub with_next : NetworkState → Flying → List (ℕ × Flying)
+with_next n m = if has_flight_place n.flying then n.flying ++ (n.sent + 1, m) ∷ [] else n.flying
 
 -- whether two endpoints are nodes of different groups. Endpoint 0, the client, stands in none
 abbrev pub ends_apart : Option (List (List ℕ)) → ℕ → ℕ → Bool

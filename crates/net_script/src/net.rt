@@ -1,7 +1,7 @@
 //! The messages in flight.
 ghost use Rattle.std.specs.Prelude.{◌≡◌, ◌<◌, ◌≤◌, ◌+◌, ◌-◌, ◌^◌, ℕ, length, Some, IsOk, IsTrue, IfOk, OnOk, OnErr};
 ghost use Rattle.std.specs.Option.{option_copied};
-ghost use Rattle.net_script.specs.Network.{AreNumbers, IsNewNetwork, IsSameNetwork, ends_apart, flight_limit, ids_of, message_of, posted, with_next, without};
+ghost use Rattle.net_script.specs.Network.{AreNumbers, IsNewNetwork, IsSameNetwork, ends_apart, flight_limit, flying_ids, flying_message, next_posted, with_next, flying_without};
 
 use crate::slots::{drop_taken, numbers, place_of, take_at};
 use cluster_types::{Bytes, Groups, IdList, NoMemory, NodeId};
@@ -45,10 +45,10 @@ pub struct Net {
 impl Model for Net {
     ghost use Rattle.std.specs.Prelude.{◌≡◌, ◌≤◌, ◌-◌, length, IsTrue};
     ghost use Rattle.std.specs.VecDeque.{deque_len, deque_capacity};
-    ghost use Rattle.net_script.specs.Network.{Network, flight_limit};
+    ghost use Rattle.net_script.specs.Network.{NetworkState, flight_limit};
     ghost use Rattle.net_script.specs.Flights.{numbered, starts_full};
 
-    ghost Value = { Network };
+    ghost Value = { NetworkState };
 
     ghost view = { λ n. record { flying = numbered (n.sent - deque_len n.slots) n.slots.items; sent = n.sent; groups = n.groups; spare = deque_capacity n.slots - deque_len n.slots } };
 
@@ -72,7 +72,7 @@ impl Net {
     pub fn len(&self) -> usize
         ensures value { result ≡ length self.now.flying }
         ensures limit { result ≤ flight_limit }
-        ensures numbers { AreNumbers self.now.sent (ids_of self.now.flying) }
+        ensures numbers { AreNumbers self.now.sent (flying_ids self.now.flying) }
     {
         self.count
     }
@@ -98,7 +98,7 @@ impl Net {
     /// at once where as many as may be are in flight.
     pub fn send(&mut self, from: u16, to: u16, bytes: Bytes) -> Result<Posted, NoMemory>
         requires { self.old.sent < 2 ^ 64 - 1 }
-        ensures posted { IfOk result (λ p. p ≡ posted self.old) }
+        ensures posted { IfOk result (λ p. p ≡ next_posted self.old) }
         ensures flying { OnOk result (self.new.flying ≡ with_next self.old (record { from = from; to = to; bytes = bytes })) }
         ensures sent { OnOk result (self.new.sent ≡ self.old.sent + 1) }
         ensures groups { self.new.groups ≡ self.old.groups }
@@ -121,7 +121,7 @@ impl Net {
 
     /// The message of that number, and `None` where it isn't in flight.
     pub fn get(&self, id: u64) -> Option<&Flying>
-        ensures { option_copied result ≡ message_of id self.now.flying }
+        ensures { option_copied result ≡ flying_message id self.now.flying }
     {
         let place = place_of(id, self.sent, self.slots.len())?;
         self.slots[place].as_ref()
@@ -129,8 +129,8 @@ impl Net {
 
     /// Takes the message of that number out of flight, and `None` where it isn't in flight.
     pub fn take(&mut self, id: u64) -> Option<Flying>
-        ensures message { result ≡ message_of id self.old.flying }
-        ensures flying { self.new.flying ≡ without id self.old.flying }
+        ensures message { result ≡ flying_message id self.old.flying }
+        ensures flying { self.new.flying ≡ flying_without id self.old.flying }
         ensures sent { self.new.sent ≡ self.old.sent }
         ensures groups { self.new.groups ≡ self.old.groups }
         ensures spare { self.old.spare ≤ self.new.spare }
@@ -144,7 +144,7 @@ impl Net {
 
     /// The numbers of the messages in flight, in rising order.
     pub fn ids(&self, alloc: Global) -> Result<IdList, NoMemory>
-        ensures ids { IfOk result (λ ids. ids ≡ ids_of self.now.flying) }
+        ensures ids { IfOk result (λ ids. ids ≡ flying_ids self.now.flying) }
         ensures numbers { IfOk result (AreNumbers self.now.sent) }
     {
         let before = self.sent - self.slots.len() as u64;

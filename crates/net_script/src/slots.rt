@@ -1,7 +1,7 @@
 //! The slots in which messages are kept, one for each number from the first in flight on.
 ghost use Rattle.std.specs.Prelude.{◌≡◌, ◌≢◌, ◌<◌, ◌≤◌, ◌+◌, ◌-◌, ◌^◌, ◌⊎◌, ℕ, length, None, IsTrue, IfOk, MatchOption, slice_index_or, slice_set};
 ghost use Rattle.std.specs.VecDeque.{deque_len, deque_capacity};
-ghost use Rattle.net_script.specs.Network.{ids_of};
+ghost use Rattle.net_script.specs.Network.{flying_ids};
 ghost use Rattle.net_script.specs.Flights.{numbered, starts_full};
 
 use crate::net::Flying;
@@ -51,7 +51,7 @@ pub(crate) fn numbers(
     slots: &VecDeque<Option<Flying>>,
 ) -> Result<IdList, NoMemory>
     requires { before + deque_len slots.now < 2 ^ 64 }
-    ensures { IfOk result (λ ids. ids ≡ ids_of (numbered before slots.now.items)) }
+    ensures { IfOk result (λ ids. ids ≡ flying_ids (numbered before slots.now.items)) }
 {
     let mut ids = IdList::new(alloc);
     let mut id = before;

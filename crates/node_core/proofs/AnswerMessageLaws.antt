@@ -44,7 +44,7 @@ unresolved_after f clock from key number v t of_view found open_still =
 
 pub answer_due : (f : Facts) (clock from : ℕ) (key : ClusterKey) (number : ℕ) (v : Option Version) → in_view f key ≡ true
     → due.due_answer f clock from key number v ≡ due.answer_of f clock from v (transaction f.transactions number)
-answer_due f clock from key number v of_view = ap (λ (b : Bool). due.answer_came f clock from number v b) of_view
+answer_due f clock from key number v of_view = ap (λ (b : Bool). due.answer_effects_if f clock from number v b) of_view
 
 pub unknown_due : (f : Facts) (clock from : ℕ) (key : ClusterKey) (number : ℕ) (v : Option Version) → in_view f key ≡ true → transaction f.transactions number ≡ None
     → due.due_answer f clock from key number v ≡ due.spent f

@@ -16,7 +16,7 @@ use Rattle.node_rules.specs.Agreement.{agreement_of, seeing}
 use Rattle.node_rules.specs.Batches.{Target, Targets, sending}
 use Rattle.node_rules.specs.ByParts.{sending_all}
 use Rattle.node_rules.specs.Copies.{Content, Store}
-use Rattle.node_rules.specs.Exchange.{Exchange, key_of, outside}
+use Rattle.node_rules.specs.Exchange.{Exchange, exchange_key, outside}
 use Rattle.node_rules.specs.Facts.{Facts, fresh, view_key}
 use Rattle.node_rules.specs.Hearing.{beat_heard, deaf, heard_ids, ticked, without_quiet}
 use Rattle.node_rules.specs.Steps.{Planning, unplanned}
@@ -32,13 +32,13 @@ use Rattle.node_view.specs.Plans as view
 use Rattle.node_view.specs.Plans.{settled_by, with_count, with_newer, with_outcome, with_outcome_if, with_stamps}
 use Rattle.node_view.specs.Fits.{AreNext, AreSettlings, FitsStep, IsReady, IsReadyToSend, IsReadyToSettle}
 use Rattle.node_view.specs.Rooms.{HasRoomIn}
-use Rattle.node_view.specs.Views.{IsNodeOf, Viewed, IsQuiet, facts_in, store_of, with_view}
+use Rattle.node_view.specs.Views.{IsNodeInView, Viewed, IsQuiet, facts_in, store_of, with_view}
 use Rattle.node_core.specs.declared.node.Node.TheInside.{Inside}
 use Rattle.node_steps.specs.declared.planned.Planned.{Planned}
 use Rattle.node_steps.specs.declared.planned.Planned.TheVariants as planned
 use Rattle.node_steps.specs.Fits.{FitsAgreed, FitsTick, HasStepped, IsNewView, ticked_facts}
 use Rattle.node_steps.specs.declared.planned.Ticked.{Ticked}
-use Rattle.node_core.specs.Nodes.{Agrees, IsPlannedFrom, facts_of, planning_of}
+use Rattle.node_core.specs.Nodes.{PartsAgree, IsPlannedFrom, node_facts, planning_of}
 use Rattle.node_steps.specs.Plans.{agreed, next_of, taken, with_sent}
 use Rattle.node_steps.specs.Ranges.{HasRanges}
 use Rattle.node_core.proofs.HeardLaws.{heard_put, heard_still}
@@ -47,7 +47,7 @@ use Rattle.node_steps.proofs.SeenLaws.{node_is_seen, node_seen, node_unseen, sam
 use Rattle.node_steps.proofs.RangeLaws.{keys_of, ranges_agreed, stopped_ranges}
 use Rattle.node_steps.proofs.SettledLaws.{kept_all, settled_keeps, settled_batches, settled_view}
 
-pub nothing_planned : (n : Inside) → Agrees n → n.planned ≡ None → IsNode n
+pub nothing_planned : (n : Inside) → PartsAgree n → n.planned ≡ None → IsNode n
 nothing_planned n h none = (h, λ p e. cc, λ p e. cc)
 
 -- ---- a stop
@@ -60,7 +60,7 @@ stopped_node n = record n {
   view = None;
 }
 
-pub that_stopped : (n : Inside) → Agrees n → n.planned ≡ None → IsNode (stopped_node n)
+pub that_stopped : (n : Inside) → PartsAgree n → n.planned ≡ None → IsNode (stopped_node n)
 that_stopped n h none =
     nothing_planned (stopped_node n)
     (record {
@@ -73,7 +73,7 @@ that_stopped n h none =
       by = h.by;
       view = λ v e. cc;
       in_one = λ v e. cc;
-      ranges = stopped_ranges (facts_of n) h.ranges;
+      ranges = stopped_ranges (node_facts n) h.ranges;
     }) none
 
 -- ---- a heartbeat
@@ -84,7 +84,7 @@ heard_node n from beat = record n {
   agree = with_agreement n.agree (seeing n.agree.agreement beat.promised);
 }
 
-pub that_heard : (n : Inside) (from : ℕ) (beat : Beat) → Agrees n → n.planned ≡ None → Contains n.peers from → HasRanges (taken (facts_of n) (planned.Heard from beat))
+pub that_heard : (n : Inside) (from : ℕ) (beat : Beat) → PartsAgree n → n.planned ≡ None → Contains n.peers from → HasRanges (taken (node_facts n) (planned.Heard from beat))
     → IsNode (heard_node n from beat)
 that_heard n from beat h none peer ranges =
     nothing_planned (heard_node n from beat)
@@ -96,7 +96,7 @@ that_heard n from beat h none peer ranges =
       role = h.role;
       agree = h.agree;
       by = h.by;
-      view = λ v e. node_unseen (facts_of n) (taken (facts_of n) (planned.Heard from beat)) v.value n.store (h.view v e);
+      view = λ v e. node_unseen (node_facts n) (taken (node_facts n) (planned.Heard from beat)) v.value n.store (h.view v e);
       in_one = h.in_one;
       ranges = ranges;
     }) none
@@ -133,7 +133,7 @@ maybe_rest : (f : Facts) (number : ℕ) (digest : List ℕ) (o : Option Outcome)
 maybe_rest f number digest None = refl
 maybe_rest f number digest (Some o) = outcome_rest f number digest o
 
-pub step_rest : (f : Facts) (p : ViewStep) → rest_of (view.taken f p) ≡ rest_of f
+pub step_rest : (f : Facts) (p : ViewStep) → rest_of (view.view_taken f p) ≡ rest_of f
 step_rest f (step.Row from row) = refl
 step_rest f (step.LastRow l) = refl
 step_rest f (step.Merged m) = refl
@@ -147,31 +147,32 @@ step_rest f (step.Resolved from number v o) = outcome_rest _ number _ o
 step_rest f (step.Opened digest w best asked o) = maybe_rest _ _ digest o
 
 -- the facts with that view and that store
-abbrev joined : Facts → Viewed → held.Store → Facts
+abbrev joined : Facts → Viewed → held.StoreWithRoom → Facts
 joined f v s = with_view (record f { store = store_of s }) (Some v)
 
-joined_is : (f : Facts) (v : Viewed) (s : held.Store) → IsNodeOf f v s → f ≡ joined f v s
+joined_is : (f : Facts) (v : Viewed) (s : held.StoreWithRoom) → IsNodeInView f v s
+    → f ≡ joined f v s
 joined_is f v s h =
     sym h.view.viewed.view
     ∙ ap (λ (x : Store). with_view (record f { store = x }) (Some v)) (same_store f.store s.versions s.stamps s.by h.stored.content h.stored.stamps h.stored.by)
 
 -- these are a view and a store of the facts afterwards, and what no step changes is as before
-pub record IsAfter (f after : Facts) (v : Viewed) (s : held.Store) : Type 0 where
-  pub node : IsNodeOf after v s
+pub record IsAfter (f after : Facts) (v : Viewed) (s : held.StoreWithRoom) : Type 0 where
+  pub node : IsNodeInView after v s
   pub rest : rest_of after ≡ rest_of f
 
-pub after_is : (n : Inside) (after : Facts) (v : Box View) (s : held.Store) → IsAfter (facts_of n) after v.value s → facts_of (record n { view = Some v; store = s }) ≡ after
+pub after_is : (n : Inside) (after : Facts) (v : Box View) (s : held.StoreWithRoom) → IsAfter (node_facts n) after v.value s → node_facts (record n { view = Some v; store = s }) ≡ after
 after_is n after v s h = ap (λ (r : Facts). joined r v.value s) (sym h.rest) ∙ sym (joined_is after v.value s h.node)
 
-pub view_in_one : (n : Inside) (v : Box View) → Agrees n → n.view ≡ Some v → IsSome (facts_of n).exchange.view
-view_in_one n v h e = subst (λ (o : Option (Box View)). IsSome (facts_of (record n { view = o })).exchange.view) (sym e) (h.in_one v e)
+pub view_in_one : (n : Inside) (v : Box View) → PartsAgree n → n.view ≡ Some v → IsSome (node_facts n).exchange.view
+view_in_one n v h e = subst (λ (o : Option (Box View)). IsSome (node_facts (record n { view = o })).exchange.view) (sym e) (h.in_one v e)
 
-pub that_took : (n : Inside) (after : Facts) (v : Box View) (s : held.Store) → Agrees n → n.planned ≡ None → IsSome (facts_of n).exchange.view
-    → IsAfter (facts_of n) after v.value s → HasRanges after → IsNode (record n { view = Some v; store = s })
+pub that_took : (n : Inside) (after : Facts) (v : Box View) (s : held.StoreWithRoom) → PartsAgree n → n.planned ≡ None → IsSome (node_facts n).exchange.view
+    → IsAfter (node_facts n) after v.value s → HasRanges after → IsNode (record n { view = Some v; store = s })
 that_took n after v s h none in_one a ranges =
     let m : Inside = record n { view = Some v; store = s } in
-    let same : facts_of m ≡ after = after_is n after v s a in
-    let seen : v.value.exchange.view ≡ (facts_of n).exchange.view = ap (λ (g : Facts). g.exchange.view) a.node.view.viewed.view ∙ ap (λ (g : Facts). g.exchange.view) a.rest in
+    let same : node_facts m ≡ after = after_is n after v s a in
+    let seen : v.value.exchange.view ≡ (node_facts n).exchange.view = ap (λ (g : Facts). g.exchange.view) a.node.view.viewed.view ∙ ap (λ (g : Facts). g.exchange.view) a.rest in
     nothing_planned m
     (record {
       peers = h.peers;
@@ -181,7 +182,7 @@ that_took n after v s h none in_one a ranges =
       role = h.role;
       agree = h.agree;
       by = sym a.node.stored.by ∙ ap (λ (g : Facts). g.store.by) a.rest ∙ h.by;
-      view = λ w e. let is : v ≡ w = cc in subst (λ (x : Box View). IsNodeOf (facts_of m) x.value s) is (subst (λ (g : Facts). IsNodeOf g v.value s) (sym same) a.node);
+      view = λ w e. let is : v ≡ w = cc in subst (λ (x : Box View). IsNodeInView (node_facts m) x.value s) is (subst (λ (g : Facts). IsNodeInView g v.value s) (sym same) a.node);
       in_one = λ w e. let is : v ≡ w = cc in subst (λ (x : Box View). IsSome x.value.exchange.view) is (subst (λ o. IsSome o) (sym seen) in_one);
       ranges = subst HasRanges (sym same) ranges;
     }) none
@@ -191,7 +192,7 @@ that_took n after v s h none in_one a ranges =
 abbrev pub agreed_node : Inside → Agreeing → Inside
 agreed_node n agree = record n { agree = agree }
 
-pub that_agreed : (n : Inside) (agree : Agreeing) → Agrees n → n.planned ≡ None → agree.me ≡ n.me → HasRanges (agreed (facts_of n) agree.agreement None) → IsNode (agreed_node n agree)
+pub that_agreed : (n : Inside) (agree : Agreeing) → PartsAgree n → n.planned ≡ None → agree.me ≡ n.me → HasRanges (agreed (node_facts n) agree.agreement None) → IsNode (agreed_node n agree)
 that_agreed n agree h none me ranges =
     nothing_planned (agreed_node n agree)
     (record {
@@ -202,7 +203,7 @@ that_agreed n agree h none me ranges =
       role = h.role;
       agree = me;
       by = h.by;
-      view = λ v e. node_unseen (facts_of n) (agreed (facts_of n) agree.agreement None) v.value n.store (h.view v e);
+      view = λ v e. node_unseen (node_facts n) (agreed (node_facts n) agree.agreement None) v.value n.store (h.view v e);
       in_one = h.in_one;
       ranges = ranges;
     }) none
@@ -211,16 +212,16 @@ that_agreed n agree h none me ranges =
 abbrev pub entering_facts : Facts → Agreeing → Viewed → Facts
 entering_facts f agree v = with_view (record f { agreement = agree.agreement; hearing = without_quiet f.hearing }) (Some v)
 
-abbrev pub entered_node : Inside → Agreeing → Box View → held.Store → Inside
+abbrev pub entered_node : Inside → Agreeing → Box View → held.StoreWithRoom → Inside
 entered_node n agree v s = record n { hearing = record n.hearing { hearing = without_quiet n.hearing.hearing }; agree = agree; store = s; view = Some v }
 
-pub node_entering : (n : Inside) (agree : Agreeing) (v : Viewed) → IsNewView (facts_of n) v → IsNodeOf (entering_facts (facts_of n) agree v) v n.store
+pub node_entering : (n : Inside) (agree : Agreeing) (v : Viewed) → IsNewView (node_facts n) v → IsNodeInView (entering_facts (node_facts n) agree v) v n.store
 node_entering n agree v h = record {
-  view = view_unseen (with_view (facts_of n) (Some v)) (entering_facts (facts_of n) agree v) v h.view;
+  view = view_unseen (with_view (node_facts n) (Some v)) (entering_facts (node_facts n) agree v) v h.view;
   stored = record { content = refl; stamps = refl; by = refl };
 }
 
-stamped_joined : (g : Facts) (b : Bool) (v : Viewed) (s : held.Store) → joined (with_stamps g b) v s ≡ joined g v s
+stamped_joined : (g : Facts) (b : Bool) (v : Viewed) (s : held.StoreWithRoom) → joined (with_stamps g b) v s ≡ joined g v s
 stamped_joined g true v s = refl
 stamped_joined g false v s = refl
 
@@ -228,18 +229,18 @@ stamped_by : (g : Facts) (b : Bool) → (with_stamps g b).store.by ≡ g.store.b
 stamped_by g true = refl
 stamped_by g false = refl
 
-pub entered_is : (n : Inside) (agree : Agreeing) (v : Box View) (s : held.Store) → IsNodeOf (agreed (facts_of n) agree.agreement (Some v.value)) v.value s
-    → facts_of (entered_node n agree v s) ≡ agreed (facts_of n) agree.agreement (Some v.value)
+pub entered_is : (n : Inside) (agree : Agreeing) (v : Box View) (s : held.StoreWithRoom) → IsNodeInView (agreed (node_facts n) agree.agreement (Some v.value)) v.value s
+    → node_facts (entered_node n agree v s) ≡ agreed (node_facts n) agree.agreement (Some v.value)
 entered_is n agree v s h =
-    sym (stamped_joined (entering_facts (facts_of n) agree v.value) v.value.exchange.exchanged v.value s)
-    ∙ sym (joined_is (agreed (facts_of n) agree.agreement (Some v.value)) v.value s h)
+    sym (stamped_joined (entering_facts (node_facts n) agree v.value) v.value.exchange.exchanged v.value s)
+    ∙ sym (joined_is (agreed (node_facts n) agree.agreement (Some v.value)) v.value s h)
 
-pub that_entered : (n : Inside) (agree : Agreeing) (v : Box View) (s : held.Store) → Agrees n → n.planned ≡ None → agree.me ≡ n.me → IsSome v.value.exchange.view
-    → IsNodeOf (agreed (facts_of n) agree.agreement (Some v.value)) v.value s → HasRanges (agreed (facts_of n) agree.agreement (Some v.value)) → IsNode (entered_node n agree v s)
+pub that_entered : (n : Inside) (agree : Agreeing) (v : Box View) (s : held.StoreWithRoom) → PartsAgree n → n.planned ≡ None → agree.me ≡ n.me → IsSome v.value.exchange.view
+    → IsNodeInView (agreed (node_facts n) agree.agreement (Some v.value)) v.value s → HasRanges (agreed (node_facts n) agree.agreement (Some v.value)) → IsNode (entered_node n agree v s)
 that_entered n agree v s h none me in_one node ranges =
     let m : Inside = entered_node n agree v s in
-    let after : Facts = agreed (facts_of n) agree.agreement (Some v.value) in
-    let same : facts_of m ≡ after = entered_is n agree v s node in
+    let after : Facts = agreed (node_facts n) agree.agreement (Some v.value) in
+    let same : node_facts m ≡ after = entered_is n agree v s node in
     nothing_planned m
     (record {
       peers = h.peers;
@@ -248,8 +249,8 @@ that_entered n agree v s h none me in_one node ranges =
       heard = h.heard;
       role = h.role;
       agree = me;
-      by = sym node.stored.by ∙ stamped_by (entering_facts (facts_of n) agree v.value) v.value.exchange.exchanged ∙ h.by;
-      view = λ w e. let is : v ≡ w = cc in subst (λ (x : Box View). IsNodeOf (facts_of m) x.value s) is (subst (λ (g : Facts). IsNodeOf g v.value s) (sym same) node);
+      by = sym node.stored.by ∙ stamped_by (entering_facts (node_facts n) agree v.value) v.value.exchange.exchanged ∙ h.by;
+      view = λ w e. let is : v ≡ w = cc in subst (λ (x : Box View). IsNodeInView (node_facts m) x.value s) is (subst (λ (g : Facts). IsNodeInView g v.value s) (sym same) node);
       in_one = λ w e. let is : v ≡ w = cc in subst (λ (x : Box View). IsSome x.value.exchange.view) is in_one;
       ranges = subst HasRanges (sym same) ranges;
     }) none
@@ -259,7 +260,7 @@ that_entered n agree v s h none me in_one node ranges =
 abbrev pub aged_node : Inside → Adjacent → Inside
 aged_node n hearing = record n { hearing = hearing }
 
-pub that_aged : (n : Inside) (hearing : Adjacent) → Agrees n → n.planned ≡ None → hearing.me ≡ n.me → hearing.role ≡ n.role → All (λ m. Contains n.peers m) (heard_ids hearing.hearing.heard)
+pub that_aged : (n : Inside) (hearing : Adjacent) → PartsAgree n → n.planned ≡ None → hearing.me ≡ n.me → hearing.role ≡ n.role → All (λ m. Contains n.peers m) (heard_ids hearing.hearing.heard)
     → IsNode (aged_node n hearing)
 that_aged n hearing h none me role heard =
     nothing_planned (aged_node n hearing)
@@ -271,9 +272,9 @@ that_aged n hearing h none me role heard =
       role = role;
       agree = h.agree;
       by = h.by;
-      view = λ v e. node_unseen (facts_of n) (record (facts_of n) { hearing = hearing.hearing }) v.value n.store (h.view v e);
+      view = λ v e. node_unseen (node_facts n) (record (node_facts n) { hearing = hearing.hearing }) v.value n.store (h.view v e);
       in_one = h.in_one;
-      ranges = ranges_agreed (facts_of n) hearing.hearing n.agree.agreement h.ranges (keys_of (facts_of n) h.ranges);
+      ranges = ranges_agreed (node_facts n) hearing.hearing n.agree.agreement h.ranges (keys_of (node_facts n) h.ranges);
     }) none
 
 -- whom the node hears doesn't bear on the view that is entered
@@ -287,16 +288,16 @@ settlings_seen : (f g : Facts) (ss : List Settling) → AreSettlings (with_unsee
 settlings_seen f g ss h = record { exchanged = h.exchanged; each = h.each; rise = h.rise }
 
 -- what is settled is what is due as the view and the store see it
-pub settlings_in : (f : Facts) (v : Viewed) (s : held.Store) (ss : List Settling) → IsNodeOf f v s → AreSettlings f ss → AreSettlings (facts_in v s) ss
+pub settlings_in : (f : Facts) (v : Viewed) (s : held.StoreWithRoom) (ss : List Settling) → IsNodeInView f v s → AreSettlings f ss → AreSettlings (facts_in v s) ss
 settlings_in f v s ss node h = settlings_seen f (facts_in v s) ss (subst (λ (g : Facts). AreSettlings g ss) (node_is_seen f v s node) h)
 
 -- the batches may go out after the partitions were settled
-pub next_settled : (f : Facts) (v : Viewed) (s : held.Store) (ss : List Settling) (bs : List (ℕ × Batch)) → IsNodeOf (settled_by f ss) v s
+pub next_settled : (f : Facts) (v : Viewed) (s : held.StoreWithRoom) (ss : List Settling) (bs : List (ℕ × Batch)) → IsNodeInView (settled_by f ss) v s
     → AreNext f.exchange.exchanged (view_key f) f.batches bs → IsReadyToSend v bs
 next_settled f v s ss bs node h =
     let x : v.exchange ≡ f.exchange = ap (λ (g : Facts). g.exchange) node.view.viewed.view ∙ settled_view f ss in
     let ts : v.batches ≡ f.batches = ap (λ (g : Facts). g.batches) node.view.viewed.view ∙ settled_batches f ss in
-    subst (λ (y : Exchange). AreNext y.exchanged (key_of y.view) v.batches bs) (sym x) (subst (λ (us : Targets). AreNext f.exchange.exchanged (view_key f) us bs) (sym ts) h)
+    subst (λ (y : Exchange). AreNext y.exchanged (exchange_key y.view) v.batches bs) (sym x) (subst (λ (us : Targets). AreNext f.exchange.exchanged (view_key f) us bs) (sym ts) h)
 
 abbrev AreHeldAt : Content → Target → Type 0
 AreHeldAt c t = All (λ d. IsSome (finite.get c d)) t.pending
@@ -321,7 +322,7 @@ quiet_sent : (f : Facts) (ts : Targets) (p : ℕ) → IsQuiet f p → IsQuiet (r
 quiet_sent f ts p (IsQuiet.asleep a) = IsQuiet.asleep (record { unsettled = a.unsettled; kept = a.kept; quiet = a.quiet })
 quiet_sent f ts p (IsQuiet.over o) = IsQuiet.over (record { settled = o.settled; kept = o.kept; learnt = o.learnt; dropped = o.dropped })
 
-with_targets : (f : Facts) (v : Viewed) (s : held.Store) (ts : Targets) → All (AreHeldAt f.store.content) ts → IsNodeOf f v s → IsNodeOf (record f { batches = ts }) (record v { batches = ts }) s
+with_targets : (f : Facts) (v : Viewed) (s : held.StoreWithRoom) (ts : Targets) → All (AreHeldAt f.store.content) ts → IsNodeInView f v s → IsNodeInView (record f { batches = ts }) (record v { batches = ts }) s
 with_targets f v s ts held h = record {
   view = record {
     viewed = record { me = h.view.viewed.me; factor = h.view.viewed.factor; view = ap (λ (g : Facts). record g { batches = ts }) h.view.viewed.view };
@@ -335,15 +336,15 @@ with_targets f v s ts held h = record {
   stored = record { content = h.stored.content; stamps = h.stored.stamps; by = h.stored.by };
 }
 
-node_sent : (f : Facts) (v : Viewed) (s : held.Store) (bs : List (ℕ × Batch)) → IsNodeOf f v s → IsNodeOf (with_sent f bs) (sent_view v bs) s
+node_sent : (f : Facts) (v : Viewed) (s : held.StoreWithRoom) (bs : List (ℕ × Batch)) → IsNodeInView f v s → IsNodeInView (with_sent f bs) (sent_view v bs) s
 node_sent f v s bs h =
     let ts : v.batches ≡ f.batches = ap (λ (g : Facts). g.batches) h.view.viewed.view in
     let pending : All (AreHeldAt f.store.content) f.batches = subst (λ (us : Targets). All (AreHeldAt f.store.content) us) ts h.view.pending.held in
-    subst (λ (us : Targets). IsNodeOf (with_sent f bs) (record v { batches = sending_all us bs }) s) (sym ts)
+    subst (λ (us : Targets). IsNodeInView (with_sent f bs) (record v { batches = sending_all us bs }) s) (sym ts)
     (with_targets f v s (sending_all f.batches bs) (held_all f.store.content bs f.batches pending) h)
 
 -- the view and the store after a tick
-pub after_ticking : (f : Facts) (v : Viewed) (s : held.Store) (ss : List Settling) (bs : List (ℕ × Batch)) → IsNodeOf (settled_by f ss) v s
+pub after_ticking : (f : Facts) (v : Viewed) (s : held.StoreWithRoom) (ss : List Settling) (bs : List (ℕ × Batch)) → IsNodeInView (settled_by f ss) v s
     → IsAfter f (with_sent (settled_by f ss) bs) (sent_view v bs) s
 after_ticking f v s ss bs h = record { node = node_sent (settled_by f ss) v s bs h; rest = settled_rest f ss }
 
@@ -359,8 +360,8 @@ nothing_due f ss bs settle send e =
     let unsent : bs ≡ [] = none_if bs f.exchange.exchanged send.finished e in
     ap₂ (λ (xs : List Settling) (ys : List (ℕ × Batch)). with_sent (settled_by f xs) ys) none unsent
 
-pub outside_view : (n : Inside) → n.view ≡ None → (facts_of n).exchange.exchanged ≡ false
-outside_view n e = ap (λ (o : Option (Box View)). (facts_of (record n { view = o })).exchange.exchanged) e
+pub outside_view : (n : Inside) → n.view ≡ None → (node_facts n).exchange.exchanged ≡ false
+outside_view n e = ap (λ (o : Option (Box View)). (node_facts (record n { view = o })).exchange.exchanged) e
 
 -- ---- what functions say
 
@@ -373,58 +374,61 @@ pub still_unplanned : (f : Facts) (o : Option Planned) → o ≡ None → next_o
 still_unplanned f o e = ap (λ (p : Option Planned). next_of f p) e
 
 pub none_before : (n : Inside) (old : Planning) → planning_of n ≡ old → old.next ≡ None → n.planned ≡ None
-none_before n old seen e = none_planned (facts_of n) n.planned (ap (λ (p : Planning). p.next) seen ∙ e)
+none_before n old seen e = none_planned (node_facts n) n.planned (ap (λ (p : Planning). p.next) seen ∙ e)
 
 -- the facts after the agreement went on
 abbrev pub agreed_after : Facts → Agreeing → Option (Box View) → Facts
 agreed_after f agree entered = agreed f agree.agreement (option_map (λ v. v.value) entered)
 
-abbrev pub with_parts : Inside → Adjacent → Agreeing → Box View → held.Store → Inside
+abbrev pub with_parts : Inside → Adjacent → Agreeing → Box View → held.StoreWithRoom → Inside
 with_parts n hearing agree v s = record n { hearing = hearing; agree = agree; store = s; view = Some v }
 
-entering_now : (n : Inside) (agree : Agreeing) (v : Box View) (w : Viewed) (s : held.Store) → Agrees n → n.planned ≡ None
-    → FitsAgreed (facts_of n) agree (Some v) → HasRanges (agreed_after (facts_of n) agree (Some v)) → w ≡ v.value
-    → ((f : Facts) → IsNodeOf f w n.store → IsNodeOf (with_stamps f f.exchange.exchanged) w s)
-    → Becomes (entered_node n agree v s) (agreed_after (facts_of n) agree (Some v))
+entering_now : (n : Inside) (agree : Agreeing) (v : Box View) (w : Viewed) (s : held.StoreWithRoom) → PartsAgree n → n.planned ≡ None
+    → FitsAgreed (node_facts n) agree (Some v) → HasRanges (agreed_after (node_facts n) agree (Some v)) → w ≡ v.value
+    → ((f : Facts) → IsNodeInView f w n.store
+    → IsNodeInView (with_stamps f f.exchange.exchanged) w s)
+    → Becomes (entered_node n agree v s) (agreed_after (node_facts n) agree (Some v))
 entering_now n agree v w s h none fits ranges same stamp =
-    let new : IsNewView (facts_of n) v.value = fits.view v refl in
-    let g : Facts = entering_facts (facts_of n) agree v.value in
-    let node : IsNodeOf (agreed (facts_of n) agree.agreement (Some v.value)) v.value s =
-    subst (λ (x : Viewed). IsNodeOf (agreed (facts_of n) agree.agreement (Some v.value)) x s) same
-    (stamp g (subst (λ (x : Viewed). IsNodeOf g x n.store) (sym same) (node_entering n agree v.value new))) in
+    let new : IsNewView (node_facts n) v.value = fits.view v refl in
+    let g : Facts = entering_facts (node_facts n) agree v.value in
+    let node : IsNodeInView (agreed (node_facts n) agree.agreement (Some v.value)) v.value s =
+    subst (λ (x : Viewed). IsNodeInView
+    (agreed (node_facts n) agree.agreement (Some v.value)) x s) same
+    (stamp g (subst (λ (x : Viewed). IsNodeInView g x n.store) (sym same) (node_entering n agree v.value new))) in
     record {
       node = that_entered n agree v s h none fits.agree_of new.in_one node ranges;
-      seen = unplanned_view (entered_node n agree v s) (agreed_after (facts_of n) agree (Some v)) none (entered_is n agree v s node);
+      seen = unplanned_view (entered_node n agree v s) (agreed_after (node_facts n) agree (Some v)) none (entered_is n agree v s node);
     }
 
-pub entering : (n : Inside) (old : Planning) (hearing : Adjacent) (agree : Agreeing) (entered : Option (Box View)) (v : Box View) (w : Viewed) (s : held.Store)
-    → Agrees n → planning_of n ≡ old → old.next ≡ None → FitsAgreed old.now agree entered → HasRanges (agreed_after old.now agree entered)
+pub entering : (n : Inside) (old : Planning) (hearing : Adjacent) (agree : Agreeing) (entered : Option (Box View)) (v : Box View) (w : Viewed) (s : held.StoreWithRoom)
+    → PartsAgree n → planning_of n ≡ old → old.next ≡ None → FitsAgreed old.now agree entered → HasRanges (agreed_after old.now agree entered)
     → entered ≡ Some v → w ≡ v.value → hearing ≡ record n.hearing { hearing = without_quiet n.hearing.hearing }
-    → ((f : Facts) → IsNodeOf f w n.store → IsNodeOf (with_stamps f f.exchange.exchanged) w s)
+    → ((f : Facts) → IsNodeInView f w n.store
+    → IsNodeInView (with_stamps f f.exchange.exchanged) w s)
     → Becomes (with_parts n hearing agree v s) (agreed_after old.now agree entered)
 entering n old hearing agree entered v w s h seen none fits ranges is same heard stamp =
-    let fits1 : FitsAgreed (facts_of n) agree (Some v) = subst (λ (p : Planning). FitsAgreed p.now agree (Some v)) (sym seen) (subst (λ (o : Option (Box View)). FitsAgreed old.now agree o) is fits) in
-    let ranges1 : HasRanges (agreed_after (facts_of n) agree (Some v)) = subst (λ (p : Planning). HasRanges (agreed_after p.now agree (Some v))) (sym seen) (subst (λ (o : Option (Box View)). HasRanges (agreed_after old.now agree o)) is ranges) in
-    let b : Becomes (entered_node n agree v s) (agreed_after (facts_of n) agree (Some v)) = entering_now n agree v w s h (none_before n old seen none) fits1 ranges1 same stamp in
+    let fits1 : FitsAgreed (node_facts n) agree (Some v) = subst (λ (p : Planning). FitsAgreed p.now agree (Some v)) (sym seen) (subst (λ (o : Option (Box View)). FitsAgreed old.now agree o) is fits) in
+    let ranges1 : HasRanges (agreed_after (node_facts n) agree (Some v)) = subst (λ (p : Planning). HasRanges (agreed_after p.now agree (Some v))) (sym seen) (subst (λ (o : Option (Box View)). HasRanges (agreed_after old.now agree o)) is ranges) in
+    let b : Becomes (entered_node n agree v s) (agreed_after (node_facts n) agree (Some v)) = entering_now n agree v w s h (none_before n old seen none) fits1 ranges1 same stamp in
     subst (λ (x : Adjacent). Becomes (with_parts n x agree v s) (agreed_after old.now agree entered)) (sym heard)
     (subst (λ (o : Option (Box View)). Becomes (entered_node n agree v s) (agreed_after old.now agree o)) (sym is)
     (subst (λ (p : Planning). Becomes (entered_node n agree v s) (agreed_after p.now agree (Some v))) seen b))
 
-pub agreeing : (n : Inside) (old : Planning) (agree : Agreeing) (entered : Option (Box View)) → Agrees n → planning_of n ≡ old → old.next ≡ None
+pub agreeing : (n : Inside) (old : Planning) (agree : Agreeing) (entered : Option (Box View)) → PartsAgree n → planning_of n ≡ old → old.next ≡ None
     → FitsAgreed old.now agree entered → HasRanges (agreed_after old.now agree entered) → entered ≡ None → Becomes (agreed_node n agree) (agreed_after old.now agree entered)
 agreeing n old agree entered h seen none fits ranges is =
     let unplanned_now : n.planned ≡ None = none_before n old seen none in
-    let ranges1 : HasRanges (agreed_after (facts_of n) agree None) = subst (λ (p : Planning). HasRanges (agreed_after p.now agree None)) (sym seen) (subst (λ (o : Option (Box View)). HasRanges (agreed_after old.now agree o)) is ranges) in
+    let ranges1 : HasRanges (agreed_after (node_facts n) agree None) = subst (λ (p : Planning). HasRanges (agreed_after p.now agree None)) (sym seen) (subst (λ (o : Option (Box View)). HasRanges (agreed_after old.now agree o)) is ranges) in
     let me : agree.me ≡ n.me = fits.agree_of ∙ sym (ap (λ (p : Planning). p.now.me) seen) in
-    let b : Becomes (agreed_node n agree) (agreed_after (facts_of n) agree None) = record {
+    let b : Becomes (agreed_node n agree) (agreed_after (node_facts n) agree None) = record {
       node = that_agreed n agree h unplanned_now me ranges1;
-      seen = unplanned_view (agreed_node n agree) (agreed_after (facts_of n) agree None) unplanned_now refl;
+      seen = unplanned_view (agreed_node n agree) (agreed_after (node_facts n) agree None) unplanned_now refl;
     } in
     subst (λ (o : Option (Box View)). Becomes (agreed_node n agree) (agreed_after old.now agree o)) (sym is)
     (subst (λ (p : Planning). Becomes (agreed_node n agree) (agreed_after p.now agree None)) seen b)
 
 -- the view and the store are these after a step that was planned
-pub taking : (n : Inside) (v u : Box View) (s : held.Store) (after : Facts) → Agrees n → n.planned ≡ None → n.view ≡ Some v → IsAfter (facts_of n) after u.value s → HasRanges after
+pub taking : (n : Inside) (v u : Box View) (s : held.StoreWithRoom) (after : Facts) → PartsAgree n → n.planned ≡ None → n.view ≡ Some v → IsAfter (node_facts n) after u.value s → HasRanges after
     → Becomes (record n { view = Some u; store = s }) after
 taking n v u s after h none is a ranges = record {
   node = that_took n after u s h none (view_in_one n v h is) a ranges;
@@ -437,51 +441,52 @@ taking n v u s after h none is a ranges = record {
 abbrev pub IsOlder : Inside → Adjacent → Type 0
 IsOlder n hearing = hearing ≡ record n.hearing { hearing = ticked n.hearing.me n.hearing.role n.hearing.hearing }
 
-older_so : (n : Inside) (hearing : Adjacent) → Agrees n → IsOlder n hearing → hearing ≡ record { me = n.me; role = n.role; hearing = ticked n.me n.role n.hearing.hearing }
+older_so : (n : Inside) (hearing : Adjacent) → PartsAgree n → IsOlder n hearing → hearing ≡ record { me = n.me; role = n.role; hearing = ticked n.me n.role n.hearing.hearing }
 older_so n hearing h older = older ∙ ap₂ (λ (m : ℕ) (r : Role). record { me = m; role = r; hearing = ticked m r n.hearing.hearing }) h.hearing h.role
 
 -- the node fits the agreement as before
-pub fits_aged : (n : Inside) (old : Planning) (hearing : Adjacent) (t : Ticked) → planning_of n ≡ old → FitsTick old.now t → FitsAgreed (facts_of (aged_node n hearing)) t.agree t.entered
+pub fits_aged : (n : Inside) (old : Planning) (hearing : Adjacent) (t : Ticked) → planning_of n ≡ old → FitsTick old.now t → FitsAgreed (node_facts (aged_node n hearing)) t.agree t.entered
 fits_aged n old hearing t seen fits = record {
   agree_of = fits.agree ∙ sym (ap (λ (p : Planning). p.now.me) seen);
-  view = λ v e. new_view_aged (facts_of n) hearing v.value (subst (λ (p : Planning). IsNewView p.now v.value) (sym seen) (fits.entered v e));
+  view = λ v e. new_view_aged (node_facts n) hearing v.value (subst (λ (p : Planning). IsNewView p.now v.value) (sym seen) (fits.entered v e));
 }
 
-pub aged_is : (n : Inside) (old : Planning) (hearing : Adjacent) (t : Ticked) → Agrees n → IsOlder n hearing → planning_of n ≡ old
-    → agreed_after (facts_of (aged_node n hearing)) t.agree t.entered ≡ ticked_facts old.now t
+pub aged_is : (n : Inside) (old : Planning) (hearing : Adjacent) (t : Ticked) → PartsAgree n → IsOlder n hearing → planning_of n ≡ old
+    → agreed_after (node_facts (aged_node n hearing)) t.agree t.entered ≡ ticked_facts old.now t
 aged_is n old hearing t h older seen =
-    ap (λ (x : Adjacent). agreed_after (facts_of (aged_node n x)) t.agree t.entered) (older_so n hearing h older)
+    ap (λ (x : Adjacent). agreed_after (node_facts (aged_node n x)) t.agree t.entered) (older_so n hearing h older)
     ∙ ap (λ (p : Planning). ticked_facts p.now t) seen
 
-pub aging : (n : Inside) (old : Planning) (hearing : Adjacent) → Agrees n → IsOlder n hearing → planning_of n ≡ old → old.next ≡ None → IsNode (aged_node n hearing)
+pub aging : (n : Inside) (old : Planning) (hearing : Adjacent) → PartsAgree n → IsOlder n hearing → planning_of n ≡ old → old.next ≡ None → IsNode (aged_node n hearing)
 aging n old hearing h older seen none =
     that_aged n hearing h (none_before n old seen none) (ap (λ (x : Adjacent). x.me) older ∙ h.hearing) (ap (λ (x : Adjacent). x.role) older ∙ h.role)
     (subst (λ (x : Adjacent). All (λ m. Contains n.peers m) (heard_ids x.hearing.heard)) (sym older) (heard_still (λ m. Contains n.peers m) n.hearing.hearing.heard h.heard))
 
-pub ready_to_settle : (m : Inside) (f : Facts) (v : Box View) (ss : List Settling) → Agrees m → planning_of m ≡ unplanned f → m.view ≡ Some v → AreSettlings f ss → IsReadyToSettle v.value m.store ss
+pub ready_to_settle : (m : Inside) (f : Facts) (v : Box View) (ss : List Settling) → PartsAgree m → planning_of m ≡ unplanned f → m.view ≡ Some v → AreSettlings f ss → IsReadyToSettle v.value m.store ss
 ready_to_settle m f v ss h seen is due =
-    let node : IsNodeOf (facts_of m) v.value m.store = h.view v is in
+    let node : IsNodeInView (node_facts m) v.value m.store = h.view v is in
     record {
-      node = node_seen (facts_of m) v.value m.store node;
-      settlings = settlings_in (facts_of m) v.value m.store ss node (subst (λ (p : Planning). AreSettlings p.now ss) (sym seen) due);
+      node = node_seen (node_facts m) v.value m.store node;
+      settlings = settlings_in (node_facts m) v.value m.store ss node (subst (λ (p : Planning). AreSettlings p.now ss) (sym seen) due);
     }
 
 -- the partitions are settled as planned
-pub settled_node : (m : Inside) (f : Facts) (v : Box View) (x w : Viewed) (s : held.Store) (ss xs : List Settling) → Agrees m → planning_of m ≡ unplanned f → m.view ≡ Some v
-    → x ≡ v.value → xs ≡ ss → ((g : Facts) → IsNodeOf g x m.store → IsNodeOf (settled_by g xs) w s) → IsNodeOf (settled_by f ss) w s
+pub settled_node : (m : Inside) (f : Facts) (v : Box View) (x w : Viewed) (s : held.StoreWithRoom) (ss xs : List Settling) → PartsAgree m → planning_of m ≡ unplanned f → m.view ≡ Some v
+    → x ≡ v.value → xs ≡ ss → ((g : Facts) → IsNodeInView g x m.store → IsNodeInView (settled_by g xs) w s) → IsNodeInView (settled_by f ss) w s
 settled_node m f v x w s ss xs h seen is same list step =
-    let node : IsNodeOf (facts_of m) x m.store = subst (λ (y : Viewed). IsNodeOf (facts_of m) y m.store) (sym same) (h.view v is) in
-    subst (λ (ys : List Settling). IsNodeOf (settled_by f ys) w s) list
-    (subst (λ (p : Planning). IsNodeOf (settled_by p.now xs) w s) seen (step (facts_of m) node))
+    let node : IsNodeInView (node_facts m) x m.store = subst (λ (y : Viewed). IsNodeInView (node_facts m) y m.store) (sym same) (h.view v is) in
+    subst (λ (ys : List Settling). IsNodeInView (settled_by f ys) w s) list
+    (subst (λ (p : Planning). IsNodeInView (settled_by p.now xs) w s) seen
+    (step (node_facts m) node))
 
-pub ticking : (m : Inside) (f : Facts) (v u : Box View) (w : Viewed) (s : held.Store) (ss : List Settling) (bs : List (ℕ × Batch))
-    → Agrees m → planning_of m ≡ unplanned f → m.view ≡ Some v → IsNodeOf (settled_by f ss) w s → u.value ≡ sent_view w bs → HasRanges (with_sent (settled_by f ss) bs)
+pub ticking : (m : Inside) (f : Facts) (v u : Box View) (w : Viewed) (s : held.StoreWithRoom) (ss : List Settling) (bs : List (ℕ × Batch))
+    → PartsAgree m → planning_of m ≡ unplanned f → m.view ≡ Some v → IsNodeInView (settled_by f ss) w s → u.value ≡ sent_view w bs → HasRanges (with_sent (settled_by f ss) bs)
     → Becomes (record m { view = Some u; store = s }) (with_sent (settled_by f ss) bs)
 ticking m f v u w s ss bs h seen is node sent ranges =
     let none : m.planned ≡ None = none_before m (unplanned f) seen refl in
-    let now : facts_of m ≡ f = ap (λ (p : Planning). p.now) seen in
+    let now : node_facts m ≡ f = ap (λ (p : Planning). p.now) seen in
     let a : IsAfter f (with_sent (settled_by f ss) bs) (sent_view w bs) s = after_ticking f w s ss bs node in
-    let a1 : IsAfter (facts_of m) (with_sent (settled_by f ss) bs) u.value s =
+    let a1 : IsAfter (node_facts m) (with_sent (settled_by f ss) bs) u.value s =
     subst (λ (g : Facts). IsAfter g (with_sent (settled_by f ss) bs) u.value s) (sym now) (subst (λ (x : Viewed). IsAfter f (with_sent (settled_by f ss) bs) x s) (sym sent) a) in
     taking m v u s (with_sent (settled_by f ss) bs) h none is a1 ranges
 
@@ -493,22 +498,22 @@ ticking_outside m f ss bs seen is settle send =
 
 -- ---- steps of the view, as planned
 
-pub ready_to_step : (n : Inside) (p : ViewStep) → Agrees n → FitsStep (facts_of n) p → ForSome n.view (λ v. HasRoomIn v.value n.store.spare p)
+pub ready_to_step : (n : Inside) (p : ViewStep) → PartsAgree n → FitsStep (node_facts n) p → ForSome n.view (λ v. HasRoomIn v.value n.store.spare p)
     → ForSome n.view (λ v. IsReady v.value n.store p)
 ready_to_step n p h fits room =
     λ v is.
-    let node : IsNodeOf (facts_of n) v.value n.store = h.view v is in
+    let node : IsNodeInView (node_facts n) v.value n.store = h.view v is in
     record {
-      node = node_seen (facts_of n) v.value n.store node;
-      fits = step_fits_seen (facts_of n) v.value n.store p node fits;
+      node = node_seen (node_facts n) v.value n.store node;
+      fits = step_fits_seen (node_facts n) v.value n.store p node fits;
       room = room v is;
     }
 
 -- a node whose facts are in a view has one
-pub has_view : (n : Inside) → IsSome (facts_of n).exchange.view → IsSome n.view
+pub has_view : (n : Inside) → IsSome (node_facts n).exchange.view → IsSome n.view
 has_view n h = go n.view h
   where
-    go : (o : Option (Box View)) → IsSome (facts_of (record n { view = o })).exchange.view → IsSome o
+    go : (o : Option (Box View)) → IsSome (node_facts (record n { view = o })).exchange.view → IsSome o
     go None e = e
     go (Some v) e = refl
 
@@ -517,36 +522,36 @@ by_some P None h k = cc
 by_some P (Some x) h k = k x refl
 
 -- the step is taken from what the node knew
-pub stepping : (n : Inside) (u : Option (Box View)) (s : held.Store) (p : ViewStep) → Agrees n → n.planned ≡ None → IsSome n.view → HasStepped n.view n.store p u s
-    → HasRanges (view.taken (facts_of n) p) → Becomes (record n { view = u; store = s }) (view.taken (facts_of n) p)
+pub stepping : (n : Inside) (u : Option (Box View)) (s : held.StoreWithRoom) (p : ViewStep) → PartsAgree n → n.planned ≡ None → IsSome n.view → HasStepped n.view n.store p u s
+    → HasRanges (view.view_taken (node_facts n) p) → Becomes (record n { view = u; store = s }) (view.view_taken (node_facts n) p)
 stepping n u s p h none in_one stepped ranges =
-    by_some (λ (o : Option (Box View)). Becomes (record n { view = o; store = s }) (view.taken (facts_of n) p)) u stepped.in_one
-    (λ w new. by_some (λ (o : Option (Box View)). Becomes (record n { view = Some w; store = s }) (view.taken (facts_of n) p)) n.view in_one
-    (λ v is. taking n v w s (view.taken (facts_of n) p) h none is
-    (record { node = stepped.becomes v w is new (facts_of n) (h.view v is); rest = step_rest (facts_of n) p }) ranges))
+    by_some (λ (o : Option (Box View)). Becomes (record n { view = o; store = s }) (view.view_taken (node_facts n) p)) u stepped.in_one
+    (λ w new. by_some (λ (o : Option (Box View)). Becomes (record n { view = Some w; store = s }) (view.view_taken (node_facts n) p)) n.view in_one
+    (λ v is. taking n v w s (view.view_taken (node_facts n) p) h none is
+    (record { node = stepped.becomes v w is new (node_facts n) (h.view v is); rest = step_rest (node_facts n) p }) ranges))
 
-pub has_stepped : (old : Option (Box View)) (before : held.Store) (p : ViewStep) (v u : Box View) (x : Viewed) (after : held.Store) → old ≡ Some v → x ≡ v.value
-    → ((f : Facts) → IsNodeOf f x before → IsNodeOf (view.taken f p) u.value after) → HasStepped old before p (Some u) after
+pub has_stepped : (old : Option (Box View)) (before : held.StoreWithRoom) (p : ViewStep) (v u : Box View) (x : Viewed) (after : held.StoreWithRoom) → old ≡ Some v → x ≡ v.value
+    → ((f : Facts) → IsNodeInView f x before → IsNodeInView (view.view_taken f p) u.value after) → HasStepped old before p (Some u) after
 has_stepped old before p v u x after is same step = record {
   in_one = refl;
   becomes = λ v1 w1 is1 new f node.
       let vs : v ≡ v1 = cc in
       let ws : u ≡ w1 = cc in
-      subst (λ (b : Box View). IsNodeOf (view.taken f p) b.value after) ws
-      (step f (subst (λ (y : Viewed). IsNodeOf f y before) (ap (λ (b : Box View). b.value) (sym vs) ∙ sym same) node));
+      subst (λ (b : Box View). IsNodeInView (view.view_taken f p) b.value after) ws
+      (step f (subst (λ (y : Viewed). IsNodeInView f y before) (ap (λ (b : Box View). b.value) (sym vs) ∙ sym same) node));
 }
 
 -- ---- a planned step
 
-pub stepping_from : (n : Inside) (left : Option Planned) (u : Option (Box View)) (s : held.Store) (p : ViewStep) → IsNode n → n.planned ≡ Some (planned.View p) → left ≡ None
-    → HasStepped n.view n.store p u s → Becomes (record n { view = u; store = s; planned = left }) (view.taken (facts_of n) p)
+pub stepping_from : (n : Inside) (left : Option Planned) (u : Option (Box View)) (s : held.StoreWithRoom) (p : ViewStep) → IsNode n → n.planned ≡ Some (planned.View p) → left ≡ None
+    → HasStepped n.view n.store p u s → Becomes (record n { view = u; store = s; planned = left }) (view.view_taken (node_facts n) p)
 stepping_from n left u s p h is none stepped =
-    let from : IsPlannedFrom (facts_of n) (planned.View p) = h.1 (planned.View p) is in
-    subst (λ (o : Option Planned). Becomes (record n { view = u; store = s; planned = o }) (view.taken (facts_of n) p)) (sym none)
+    let from : IsPlannedFrom (node_facts n) (planned.View p) = h.1 (planned.View p) is in
+    subst (λ (o : Option Planned). Becomes (record n { view = u; store = s; planned = o }) (view.view_taken (node_facts n) p)) (sym none)
     (stepping (record n { planned = None }) u s p (given_up n h.0).0 refl (has_view n from.fits.in_one) stepped from.ranges)
 
-pub next_is : (n : Inside) (old : Planning) (p : Planned) → planning_of n ≡ old → n.planned ≡ Some p → old.next ≡ Some (taken (facts_of n) p)
-next_is n old p seen is = sym (ap (λ (x : Planning). x.next) seen) ∙ ap (λ (o : Option Planned). next_of (facts_of n) o) is
+pub next_is : (n : Inside) (old : Planning) (p : Planned) → planning_of n ≡ old → n.planned ≡ Some p → old.next ≡ Some (taken (node_facts n) p)
+next_is n old p seen is = sym (ap (λ (x : Planning). x.next) seen) ∙ ap (λ (o : Option Planned). next_of (node_facts n) o) is
 
 pub if_next : (x : Planning) (o : Option Facts) (g : Facts) → o ≡ Some g → x ≡ unplanned g → IfSome o (λ f. x ≡ unplanned f)
 if_next x o g is h = subst (λ (y : Option Facts). IfSome y (λ f. x ≡ unplanned f)) (sym is) h

@@ -7,7 +7,7 @@ use Rattle.node_rules.specs.Agreement.{Agreement}
 use Rattle.node_rules.specs.Hearing.{ticked}
 use Rattle.node_rules.specs.Steps.{Planning}
 use Rattle.node_core.specs.declared.node.Node.TheInside.{Inside}
-use Rattle.node_core.specs.Nodes.{planning_of, facts_of}
+use Rattle.node_core.specs.Nodes.{planning_of, node_facts}
 use Rattle.node_steps.specs.Ranges.{HasRanges}
 use Rattle.node_steps.proofs.RangeLaws.{HasKeys, keys_of, ranges_agreed}
 use Rattle.node_core.proofs.PlannedTickLaws.{heard_as}
@@ -36,7 +36,7 @@ agreement_is n p x y onward seen copied went =
     answer_is n p x y.agreement onward seen copied (ap (λ (z : Agreeing). z.agreement) went)
 
 pub ranges_after : (n : Inside) (p : Planning) (a : Agreement) (onward : Agreement → Agreement)
-    → planning_of n ≡ p → HasRanges (facts_of n) → a ≡ onward p.now.agreement → (HasKeys p.now.agreement → HasKeys (onward p.now.agreement))
+    → planning_of n ≡ p → HasRanges (node_facts n) → a ≡ onward p.now.agreement → (HasKeys p.now.agreement → HasKeys (onward p.now.agreement))
     → HasRanges (record p.now { agreement = a })
 ranges_after n p a onward seen r is kept =
     let now : HasRanges p.now = subst (λ (q : Planning). HasRanges q.now) seen r in

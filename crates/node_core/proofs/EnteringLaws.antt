@@ -13,12 +13,12 @@ use Rattle.cluster_types.specs.Partitions.{partition_count}
 use Rattle.wire_messages.specs.Keys.{IsKeyField}
 use Rattle.wire_messages.specs.Rows.{FitsState, IsStateRowField}
 use Rattle.node_rules.specs.Agreement as agreement
-use Rattle.node_rules.specs.Agreement.{Agreement, others}
+use Rattle.node_rules.specs.Agreement.{Agreement, others_among}
 use Rattle.node_rules.specs.Batches.{Targets, targets_of}
 use Rattle.node_rules.specs.Bits.{clear_row}
 use Rattle.node_rules.specs.ByParts as parts
 use Rattle.node_rules.specs.ByParts.{exchanged_if}
-use Rattle.node_rules.specs.Copies.{Row, Stamp, Stamps, Store, copy_state, digests_of, row_from, state_with, with_state}
+use Rattle.node_rules.specs.Copies.{Row, Stamp, Stamps, Store, store_state, digests_of, row_from, state_with, with_state}
 use Rattle.node_rules.specs.Exchange.{Exchange, View, begun, finished, is_member, is_single}
 use Rattle.node_rules.specs.Facts.{Facts, list_at}
 use Rattle.node_rules.specs.Hearing.{without_quiet}
@@ -31,7 +31,7 @@ use Rattle.journal_lines.specs.declared.line.Line.TheVariants as line
 use Rattle.node_view.specs.Transactions.{kept_of}
 use Rattle.node_steps.specs.Viewing.{ending_of}
 use Rattle.node_view.specs.Plans.{with_stamps}
-use Rattle.node_view.specs.Views.{IsEntered, IsLike, IsViewOf, Viewed, view_entered, with_view}
+use Rattle.node_view.specs.Views.{IsEntered, IsLike, IsViewOf, Viewed, view_at_entry, with_view}
 use Rattle.node_steps.specs.Fits.{IsNewView}
 use Rattle.node_steps.specs.Plans.{agreed}
 use Rattle.node_steps.specs.Ranges.{HasRanges, IsStampField, IsStoreField}
@@ -61,7 +61,7 @@ entered_view f key ms v h = record { view = seen f key ms v h; in_one = ap (λ (
 pub agreed_alike : (f : Facts) (a : Agreement) (w v : Viewed) → IsLike w v → agreed f a (Some v) ≡ agreed f a (Some w)
 agreed_alike f a w v h = rw (h.exchange, h.writes, h.transactions, h.batches, h.bits) refl
 
-single_others : (me : ℕ) (ms : List Member) → is_single ms ≡ true → is_member ms me ≡ true → others me ms ≡ []
+single_others : (me : ℕ) (ms : List Member) → is_single ms ≡ true → is_member ms me ≡ true → others_among me ms ≡ []
 single_others me [] single member = cc
 single_others me (m ∷ []) single member = go (m.id == me) member
   where
@@ -72,18 +72,18 @@ single_others me (m ∷ n ∷ ms) single member = absurd (omega (arith, from_equ
 
 -- a view as it is entered, whose exchange is finished or isn't
 abbrev at_entry : Facts → ClusterKey → List Member → Bool → Viewed
-at_entry f key ms b = record (view_entered f key ms) { exchange = record (begun f.me key ms (own_row f)) { exchanged = b } }
+at_entry f key ms b = record (view_at_entry f key ms) { exchange = record (begun f.me key ms (own_row f)) { exchanged = b } }
 
 -- the facts of a node that is in it
 abbrev in_it : Facts → Agreement → ClusterKey → List Member → Bool → Facts
 in_it f a key ms b = with_view (record f { hearing = without_quiet f.hearing; agreement = a }) (Some (at_entry f key ms b))
 
 stamps_alike : (f : Facts) (key : ClusterKey) (ms : List Member) (b : Bool) (n p : ℕ) (stamps : Stamps)
-    → stamped_from (in_it f (agreement.entering f.agreement key) key ms b) key stamps n p ≡ stamped_from (entered f key ms (own_row f)) key stamps n p
+    → stamped_from (in_it f (agreement.agreement_entered f.agreement key) key ms b) key stamps n p ≡ stamped_from (entered f key ms (own_row f)) key stamps n p
 unfolding stamped_from
 stamps_alike f key ms b zero p stamps = refl
 stamps_alike f key ms b (suc n) p stamps =
-    let g : Facts = in_it f (agreement.entering f.agreement key) key ms b in
+    let g : Facts = in_it f (agreement.agreement_entered f.agreement key) key ms b in
     stamps_alike f key ms b n (p + 1) (stamped_at g key (list_at g p) p stamps)
 
 -- those whose exchange is finished, with these stamps and targets
@@ -92,10 +92,10 @@ finished_with f key ms s ts = record (entered f key ms (own_row f)) { exchange =
 
 -- entering is what the rules say
 pub entered_is : (f : Facts) (key : ClusterKey) (ms : List Member) → is_member ms f.me ≡ true
-    → agreed f (agreement.entering f.agreement key) (Some (view_entered f key ms)) ≡ parts.view_entered f key ms
+    → agreed f (agreement.agreement_entered f.agreement key) (Some (view_at_entry f key ms)) ≡ parts.view_entered f key ms
 entered_is f key ms member = go (is_single ms) refl
   where
-    go : (b : Bool) → is_single ms ≡ b → with_stamps (in_it f (agreement.entering f.agreement key) key ms b) b ≡ exchanged_if (entered f key ms (own_row f)) key b
+    go : (b : Bool) → is_single ms ≡ b → with_stamps (in_it f (agreement.agreement_entered f.agreement key) key ms b) b ≡ exchanged_if (entered f key ms (own_row f)) key b
     go false is = refl
     go true is =
         ap (λ (s : Stamps). finished_with f key ms s []) (stamps_alike f key ms true partition_count 0 f.store.stamps)
@@ -117,7 +117,7 @@ row_fits : (s : Store) (n p : ℕ) → ((q : ℕ) → ForSome (finite.get s.stam
 unfolding row_from
 row_fits s zero p h = λ k d within. absurd (omega (arith, within))
 row_fits s (suc n) p h =
-    with_state_fits p (copy_state s p) (row_from s n (p + 1)) (state_fits (digests_of s.content p) (finite.get s.stamps p) (h p)) (row_fits s n (p + 1) h)
+    with_state_fits p (store_state s p) (row_from s n (p + 1)) (state_fits (digests_of s.content p) (finite.get s.stamps p) (h p)) (row_fits s n (p + 1) h)
 
 pub own_row_fits : (f : Facts) → IsStoreField f.store → IsStateRowField (own_row f)
 own_row_fits f h = record { states = row_is_row f.store partition_count (omega arith); fit = row_fits f.store partition_count 0 h.stamps }
@@ -148,7 +148,7 @@ ranges_in_it f a key ms b s r keys k kept = record {
 
 -- what a node sends that entered a view has a spelling
 pub ranges_entered : (f : Facts) (a : Agreement) (key : ClusterKey) (ms : List Member) → HasRanges f → HasKeys a → IsKeyField key
-    → HasRanges (agreed f a (Some (view_entered f key ms)))
+    → HasRanges (agreed f a (Some (view_at_entry f key ms)))
 ranges_entered f a key ms r keys k = go (is_single ms)
   where
     go : (b : Bool) → HasRanges (with_stamps (in_it f a key ms b) b)

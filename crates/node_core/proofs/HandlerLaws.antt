@@ -22,18 +22,18 @@ use Rattle.node_rules.specs.Keys.{same_key}
 use Rattle.node_rules.specs.Messages as due
 use Rattle.node_rules.specs.Notes.{in_view}
 use Rattle.node_rules.specs.Steps.{Planning, unplanned}
-use Rattle.node_view.specs.Views.{IsInView, Viewed, key_of}
+use Rattle.node_view.specs.Views.{IsInView, Viewed, viewed_key}
 use Rattle.node_steps.specs.declared.effects.Effects.{Effects}
 use Rattle.node_steps.specs.Plans.{only_if}
-use Rattle.node_steps.specs.Spelled.{message_of, spelled, with_sends}
+use Rattle.node_steps.specs.Spelled.{vote_message, spelled, with_sends}
 
 -- a message is of the view that has its key
-pub in_view_is : (f : Facts) (v : Viewed) (key : ClusterKey) → IsInView f v → is_some f.exchange.view ≡ true → in_view f key ≡ same_key (key_of v) key
+pub in_view_is : (f : Facts) (v : Viewed) (key : ClusterKey) → IsInView f v → is_some f.exchange.view ≡ true → in_view f key ≡ same_key (viewed_key v) key
 in_view_is f v key h there =
     go f.exchange.view there
-    ∙ ap (λ (g : Facts). same_key (exchange.key_of g.exchange.view) key) (sym h.view)
+    ∙ ap (λ (g : Facts). same_key (exchange.exchange_key g.exchange.view) key) (sym h.view)
   where
-    go : (o : Option View) → is_some o ≡ true → exchange.is_view o key ≡ same_key (exchange.key_of o) key
+    go : (o : Option View) → is_some o ≡ true → exchange.is_view o key ≡ same_key (exchange.exchange_key o) key
     go None no_way = cc
     go (Some w) some = refl
 
@@ -63,16 +63,17 @@ same_itself a = grind (arith, nat_tests)
 -- a vote is told with the line of a promise, where the key is another one
 pub told_vote : (f : Facts) (from : ℕ) (key : ClusterKey)
     → with_sends (spelled (lines_only (only_if (line.Promise f.me (voting f.agreement key).promised) (not (same_key (voting f.agreement key).promised f.agreement.promised)))))
-    ((from, spelling (message_of (vote_of f.agreement key))) ∷ [])
+    ((from, spelling (vote_message (vote_of f.agreement key))) ∷ [])
     ≡ spelled (due.due_propose f from key)
 told_vote f from key = go (key_lt f.agreement.promised key) (key_lt key f.agreement.promised) refl refl
   where
     told : Agreement → Bool → Effects
     told a refused = with_sends (spelled (lines_only (only_if (line.Promise f.me a.promised) (not (same_key a.promised f.agreement.promised)))))
-        ((from, spelling (message_of (vote_if refused key f.agreement.promised))) ∷ [])
+        ((from, spelling (vote_message (vote_if refused key f.agreement.promised))) ∷ [])
 
     go : (above below : Bool) → key_lt f.agreement.promised key ≡ above → key_lt key f.agreement.promised ≡ below
-        → told (promising_if f.agreement key above) below ≡ spelled (due.voting f from key below)
+        → told (promising_if f.agreement key above) below ≡ spelled
+        (due.vote_effects f from key below)
     go true true is_above is_below = let wrong : true ≡ false = sym is_below ∙ never_both f.agreement.promised key is_above in cc
     go true false is_above is_below = rw (is_above, never_same key f.agreement.promised is_above) refl
     go false true is_above is_below = rw (same_itself f.agreement.promised) refl
@@ -87,10 +88,10 @@ some_key a b h (inl same) = let wrong : true ≡ false = sym h ∙ rw same (none
 some_key a b h (inr k) = k
 
 -- a vote has a spelling
-pub vote_proper : (a : Agreement) (key : ClusterKey) → IsKeyField key → IsKeyOrNone a.promised → IsProper (message_of (vote_of a key))
+pub vote_proper : (a : Agreement) (key : ClusterKey) → IsKeyField key → IsKeyOrNone a.promised → IsProper (vote_message (vote_of a key))
 vote_proper a key k promised = go (key_lt key a.promised) refl
   where
-    go : (b : Bool) → key_lt key a.promised ≡ b → IsProper (message_of (vote_if b key a.promised))
+    go : (b : Bool) → key_lt key a.promised ≡ b → IsProper (vote_message (vote_if b key a.promised))
     go true is = (k, some_key a.promised key is promised)
     go false is = k
 

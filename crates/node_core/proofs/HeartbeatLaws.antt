@@ -9,7 +9,7 @@ use Rattle.partition_lists.proofs.InOrderLaws.{Has, from_equal, index_of}
 use Rattle.node_rules.specs.declared.member_row.MemberRow.{MemberRow}
 use Rattle.node_rules.specs.Facts.{Facts}
 use Rattle.node_rules.specs.Hearing.{heard_ids}
-use Rattle.exchange.specs.Rows.{nodes_of}
+use Rattle.exchange.specs.Rows.{row_nodes}
 use Rattle.exchange.proofs.RowsLaws.{has_of_contains, rows_fit}
 use Rattle.node_steps.specs.Fits.{FitsBeat}
 use Rattle.node_core.specs.Peers.{ArePeers}
@@ -20,7 +20,7 @@ use Rattle.node_steps.proofs.CandidateLaws.{unlike}
 abbrev row_for : ℕ → MemberRow
 row_for n = record { node = n; row = [] }
 
-nodes_back : (ns : List ℕ) → nodes_of (map row_for ns) ≡ ns
+nodes_back : (ns : List ℕ) → row_nodes (map row_for ns) ≡ ns
 nodes_back [] = refl
 nodes_back (n ∷ ns) = ap (λ (rest : List ℕ). n ∷ rest) (nodes_back ns)
 

@@ -26,9 +26,9 @@ use Rattle.record_store.specs.Store as held
 use Rattle.node_view.specs.declared.list_cache.ListCache.{ListCache}
 use Rattle.node_view.specs.Views.{store_of}
 use Rattle.node_core.specs.declared.node.Node.TheInside.{Inside}
-use Rattle.node_core.specs.Nodes.{facts_of}
+use Rattle.node_core.specs.Nodes.{node_facts}
 use Rattle.node_core.specs.Peers.{ArePeers, IsFactor}
-use Rattle.node_steps.specs.Ranges.{HasRanges, IsSpelled, IsStampField, IsStoreField, IsTargetField}
+use Rattle.node_steps.specs.Ranges.{HasRanges, HasSpelling, IsStampField, IsStoreField, IsTargetField}
 use Rattle.node_rules.proofs.Empty.{no_digests}
 use Rattle.node_core.proofs.NodeLaws.{IsNode}
 use Rattle.node_steps.proofs.SeenLaws.{none_for, same_store}
@@ -55,7 +55,7 @@ fresh_ranges me role peers factor by id ids rack = record {
   rows = All-nil (λ r. IsStateRowField r.row);
   store = nothing_held by;
   writes = no_writes_counted;
-  transactions = All-nil IsSpelled;
+  transactions = All-nil HasSpelling;
   batches = All-nil IsTargetField;
   bits = record { handed = length-replicate partition_count false; settled = length-replicate partition_count false };
 }
@@ -63,7 +63,7 @@ fresh_ranges me role peers factor by id ids rack = record {
 -- ---- the node
 
 -- a node that is made with that store
-abbrev pub made : ℕ → Role → List ℕ → ℕ → Policy → held.Store → ListCache → Inside
+abbrev pub made : ℕ → Role → List ℕ → ℕ → Policy → held.StoreWithRoom → ListCache → Inside
 made me role peers factor by store lists = record {
   me = me;
   peers = in_order nat_lt peers;
@@ -79,14 +79,14 @@ made me role peers factor by store lists = record {
   planned = None;
 }
 
-made_facts : (me : ℕ) (role : Role) (peers : List ℕ) (factor : ℕ) (by : Policy) (store : held.Store) (lists : ListCache) → held.IsNewStore by store
-    → facts_of (made me role peers factor by store lists) ≡ fresh me role peers factor by
+made_facts : (me : ℕ) (role : Role) (peers : List ℕ) (factor : ℕ) (by : Policy) (store : held.StoreWithRoom) (lists : ListCache) → held.IsNewStore by store
+    → node_facts (made me role peers factor by store lists) ≡ fresh me role peers factor by
 made_facts me role peers factor by store lists new =
     ap (λ (s : Store). record (fresh me role peers factor by) { store = s })
     (same_store (store_of store) finite.empty finite.empty by new.versions new.stamps new.policy)
 
 -- it is a node to which nothing has happened
-pub that_is_new : (me : ℕ) (role : Role) (peers : List ℕ) (factor : ℕ) (by : Policy) (store : held.Store) (lists : ListCache)
+pub that_is_new : (me : ℕ) (role : Role) (peers : List ℕ) (factor : ℕ) (by : Policy) (store : held.StoreWithRoom) (lists : ListCache)
     → ArePeers me peers → IsFactor factor → IsId me → All IsId peers → role.rack < 2 ^ 8 → held.IsNewStore by store
     → IsNode (made me role peers factor by store lists)
 that_is_new me role peers factor by store lists others replicas id ids rack new =

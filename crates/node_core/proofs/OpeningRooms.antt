@@ -13,14 +13,14 @@ use Rattle.node_view.specs.declared.view.View.{View}
 use Rattle.node_view.specs.Fits.{FitsStep}
 use Rattle.node_view.specs.Plans as plans
 use Rattle.node_view.specs.Rooms as view_rooms
-use Rattle.node_view.specs.Views.{IsNodeOf, IsSame, Viewed, store_of}
+use Rattle.node_view.specs.Views.{IsNodeInView, IsSame, Viewed, store_of}
 use Rattle.node_core.specs.declared.node.Node.TheInside.{Inside}
 use Rattle.node_steps.specs.declared.planned.Planned.{Planned}
 use Rattle.node_steps.specs.declared.planned.Planned.TheVariants as planned
-use Rattle.node_core.specs.Nodes.{Agrees, IsPlannedFrom, facts_of, planning_of}
+use Rattle.node_core.specs.Nodes.{PartsAgree, IsPlannedFrom, node_facts, planning_of}
 use Rattle.node_steps.specs.Grounds.{facts_with}
 use Rattle.node_steps.specs.Ranges.{HasRanges}
-use Rattle.node_steps.specs.Rooms.{HasRoomIn}
+use Rattle.node_steps.specs.Rooms.{HasRoomForStep}
 use Rattle.node_core.proofs.NodeLaws.{IsNode, in_view}
 use Rattle.node_steps.proofs.SeenLaws.{some_for}
 use Rattle.node_steps.proofs.ViewLaws.{exchange_is}
@@ -29,18 +29,18 @@ use Rattle.node_steps.proofs.WritingLaws.{node_alike}
 -- ---- room is made
 
 -- the node with other room in its store and its view, and with that plan
-abbrev pub with_room : Inside → held.Store → Box View → Option Planned → Inside
+abbrev pub with_room : Inside → held.StoreWithRoom → Box View → Option Planned → Inside
 with_room n s w p = record n { store = s; view = Some w; planned = p }
 
-pub facts_with_room : (n : Inside) (v w : Box View) (s : held.Store) (p : Option Planned) → n.view ≡ Some v → IsSame v.value w.value → HoldsTheSame n.store s
-    → facts_of (with_room n s w p) ≡ facts_of n
+pub facts_with_room : (n : Inside) (v w : Box View) (s : held.StoreWithRoom) (p : Option Planned) → n.view ≡ Some v → IsSame v.value w.value → HoldsTheSame n.store s
+    → node_facts (with_room n s w p) ≡ node_facts n
 facts_with_room n v w s p e same holds =
     let with_parts : Option Viewed → Facts = λ o. facts_with n.me n.peers n.factor n.role n.up n.hearing.hearing n.agree.agreement (store_of n.store) o in
-    let alike : facts_of (with_room n s w p) ≡ with_parts (Some v.value) =
+    let alike : node_facts (with_room n s w p) ≡ with_parts (Some v.value) =
     rw (same.alike.exchange, same.alike.writes, same.alike.transactions, same.alike.batches, same.alike.bits, holds.versions, holds.stamps, holds.policy) refl in
     alike ∙ ap (λ (o : Option (Box View)). with_parts (option_map (λ (x : Box View). x.value) o)) (sym e)
 
-agrees_with_room : (n : Inside) (v w : Box View) (s : held.Store) (p : Option Planned) → Agrees n → n.view ≡ Some v → IsSame v.value w.value → HoldsTheSame n.store s → Agrees (with_room n s w p)
+agrees_with_room : (n : Inside) (v w : Box View) (s : held.StoreWithRoom) (p : Option Planned) → PartsAgree n → n.view ≡ Some v → IsSame v.value w.value → HoldsTheSame n.store s → PartsAgree (with_room n s w p)
 agrees_with_room n v w s p h e same holds =
     let facts = facts_with_room n v w s p e same holds in
     let m : Inside = with_room n s w p in
@@ -52,14 +52,14 @@ agrees_with_room n v w s p h e same holds =
       role = h.role;
       agree = h.agree;
       by = holds.policy ∙ h.by;
-      view = some_for (λ (x : Box View). IsNodeOf (facts_of m) x.value s) w
-          (subst (λ (f : Facts). IsNodeOf f w.value s) (sym facts) (node_alike (facts_of n) v.value w.value n.store s same holds (h.view v e)));
+      view = some_for (λ (x : Box View). IsNodeInView (node_facts m) x.value s) w
+          (subst (λ (f : Facts). IsNodeInView f w.value s) (sym facts) (node_alike (node_facts n) v.value w.value n.store s same holds (h.view v e)));
       in_one = some_for (λ (x : Box View). IsSome x.value.exchange.view) w (subst (λ (x : Exchange). IsSome x.view) (sym same.alike.exchange) (h.in_one v e));
       ranges = subst HasRanges (sym facts) h.ranges;
     }
 
 -- nothing is planned yet
-pub room_alone : (n : Inside) (v w : Box View) (s : held.Store) → Agrees n → n.planned ≡ None → n.view ≡ Some v → IsSame v.value w.value → HoldsTheSame n.store s
+pub room_alone : (n : Inside) (v w : Box View) (s : held.StoreWithRoom) → PartsAgree n → n.planned ≡ None → n.view ≡ Some v → IsSame v.value w.value → HoldsTheSame n.store s
     → IsNode (with_room n s w n.planned)
 room_alone n v w s h unplanned e same holds = (
   agrees_with_room n v w s n.planned h e same holds,
@@ -68,24 +68,24 @@ room_alone n v w s h unplanned e same holds = (
 )
 
 -- the node is in the view that it has
-pub in_its_view : (n : Inside) (v : Box View) → Agrees n → n.view ≡ Some v → IsSome (facts_of n).exchange.view
-in_its_view n v h e = subst (λ (x : Exchange). IsSome x.view) (exchange_is (facts_of n) v.value (in_view n v h e).viewed) (h.in_one v e)
+pub in_its_view : (n : Inside) (v : Box View) → PartsAgree n → n.view ≡ Some v → IsSome (node_facts n).exchange.view
+in_its_view n v h e = subst (λ (x : Exchange). IsSome x.view) (exchange_is (node_facts n) v.value (in_view n v h e).viewed) (h.in_one v e)
 
 -- a step is planned for which there is room
-pub room_and_step : (n : Inside) (v w : Box View) (s : held.Store) (p : ViewStep) → Agrees n → n.view ≡ Some v → IsSame v.value w.value → HoldsTheSame n.store s
-    → FitsStep (facts_of n) p → HasRanges (plans.taken (facts_of n) p) → view_rooms.HasRoomIn w.value s.spare p → IsNode (with_room n s w (Some (planned.View p)))
+pub room_and_step : (n : Inside) (v w : Box View) (s : held.StoreWithRoom) (p : ViewStep) → PartsAgree n → n.view ≡ Some v → IsSame v.value w.value → HoldsTheSame n.store s
+    → FitsStep (node_facts n) p → HasRanges (plans.view_taken (node_facts n) p) → view_rooms.HasRoomIn w.value s.spare p → IsNode (with_room n s w (Some (planned.View p)))
 room_and_step n v w s p h e same holds fits ranges room =
     let m : Inside = with_room n s w (Some (planned.View p)) in
     let facts = facts_with_room n v w s (Some (planned.View p)) e same holds in
-    let made : IsPlannedFrom (facts_of n) (planned.View p) = record { fits = record { step = fits; in_one = in_its_view n v h e }; ranges = ranges } in (
+    let made : IsPlannedFrom (node_facts n) (planned.View p) = record { fits = record { step = fits; in_one = in_its_view n v h e }; ranges = ranges } in (
       agrees_with_room n v w s (Some (planned.View p)) h e same holds,
-      some_for (IsPlannedFrom (facts_of m)) (planned.View p) (subst (λ (f : Facts). IsPlannedFrom f (planned.View p)) (sym facts) made),
-      some_for (λ (q : Planned). ForSome (Some w) (λ (x : Box View). HasRoomIn x.value s.spare q)) (planned.View p)
-          (some_for (λ (x : Box View). HasRoomIn x.value s.spare (planned.View p)) w room),
+      some_for (IsPlannedFrom (node_facts m)) (planned.View p) (subst (λ (f : Facts). IsPlannedFrom f (planned.View p)) (sym facts) made),
+      some_for (λ (q : Planned). ForSome (Some w) (λ (x : Box View). HasRoomForStep x.value s.spare q)) (planned.View p)
+          (some_for (λ (x : Box View). HasRoomForStep x.value s.spare (planned.View p)) w room),
     )
 
-pub step_planned : (n : Inside) (v w : Box View) (s : held.Store) (p : ViewStep) (f g : Facts) → n.view ≡ Some v → IsSame v.value w.value → HoldsTheSame n.store s
-    → facts_of n ≡ f → plans.taken f p ≡ g → planning_of (with_room n s w (Some (planned.View p))) ≡ planning f g
+pub step_planned : (n : Inside) (v w : Box View) (s : held.StoreWithRoom) (p : ViewStep) (f g : Facts) → n.view ≡ Some v → IsSame v.value w.value → HoldsTheSame n.store s
+    → node_facts n ≡ f → plans.view_taken f p ≡ g → planning_of (with_room n s w (Some (planned.View p))) ≡ planning f g
 step_planned n v w s p f g e same holds is taken =
     ap₂ planning (facts_with_room n v w s (Some (planned.View p)) e same holds ∙ is)
-    (ap (λ (x : Facts). plans.taken x p) (facts_with_room n v w s (Some (planned.View p)) e same holds ∙ is) ∙ taken)
+    (ap (λ (x : Facts). plans.view_taken x p) (facts_with_room n v w s (Some (planned.View p)) e same holds ∙ is) ∙ taken)

@@ -16,14 +16,14 @@ use Rattle.node_view.specs.declared.view_step.ViewStep.TheVariants as step
 use Rattle.node_steps.specs.declared.effects.Effects.{Effects}
 use Rattle.node_core.specs.declared.node.Node.TheInside.{Inside}
 use Rattle.node_steps.specs.declared.planned.Planned.TheVariants as planned
-use Rattle.node_core.specs.Nodes.{planning_of, Agrees, facts_of}
+use Rattle.node_core.specs.Nodes.{planning_of, PartsAgree, node_facts}
 use Rattle.node_steps.specs.Plans.{taken, only_if}
-use Rattle.node_steps.specs.Spelled.{spelled, followed_by}
+use Rattle.node_steps.specs.Spelled.{spelled, then_effects}
 use Rattle.std.specs.FinMap as finite
 use Rattle.conflict_order.specs.declared.version.Version.{Version}
 use Rattle.conflict_order.specs.Order.{is_newer}
 use Rattle.journal_lines.specs.declared.line.Line.TheVariants as line
-use Rattle.node_rules.specs.Map.{master}
+use Rattle.node_rules.specs.Map.{list_master}
 use Rattle.node_view.specs.declared.view_step.Counted.{Counted}
 use Rattle.node_view.specs.Plans.{some_if}
 use Rattle.std.specs.Global.{Box}
@@ -61,16 +61,16 @@ pub version_seen : (n : Inside) (seen : Planning) (digest : List ℕ) (v : Versi
     → newer ≡ some_if (is_newer n.store.by v (finite.get n.store.versions digest)) v → newer ≡ some_if (is_newer seen.now.store.by v (finite.get seen.now.store.content digest)) v
 version_seen n seen digest v newer is e = e ∙ ap (λ (p : Planning). some_if (is_newer p.now.store.by v (finite.get p.now.store.content digest)) v) is
 
-pub count_seen : (n : Inside) (v : Box View) (old : Viewed) (p q from nth : ℕ) (c : Option Counted) → Agrees n → n.view ≡ Some v → old ≡ v.value → p ≡ q
-    → option_map (λ x. x.nth) c ≡ some_if (from == master (list (members_of old.exchange.view) p)) nth → option_map (λ x. x.nth) c ≡ some_if (from == master (list_at (facts_of n) q)) nth
+pub count_seen : (n : Inside) (v : Box View) (old : Viewed) (p q from nth : ℕ) (c : Option Counted) → PartsAgree n → n.view ≡ Some v → old ≡ v.value → p ≡ q
+    → option_map (λ x. x.nth) c ≡ some_if (from == list_master (list (members_of old.exchange.view) p)) nth → option_map (λ x. x.nth) c ≡ some_if (from == list_master (list_at (node_facts n) q)) nth
 count_seen n v old p q from nth c h is old_is same e =
     e
-    ∙ ap₂ (λ (w : Viewed) (k : ℕ). some_if (from == master (list (members_of w.exchange.view) k)) nth) old_is same
-    ∙ ap (λ (x : Exchange). some_if (from == master (list (members_of x.view) q)) nth) (exchange_is (facts_of n) v.value (nodes.in_view n v h is).viewed)
+    ∙ ap₂ (λ (w : Viewed) (k : ℕ). some_if (from == list_master (list (members_of w.exchange.view) k)) nth) old_is same
+    ∙ ap (λ (x : Exchange). some_if (from == list_master (list (members_of x.view) q)) nth) (exchange_is (node_facts n) v.value (nodes.in_view n v h is).viewed)
 
 pub repl_effects_due : (n : Inside) (seen : Planning) (from : ℕ) (key : ClusterKey) (t : ℕ) (digest : List ℕ) (v : Version) (newer : Option Version) (b : Bool) → planning_of n ≡ seen
     → in_view seen.now key ≡ true → newer ≡ some_if (is_newer n.store.by v (finite.get n.store.versions digest)) v → b ≡ is_some newer
-    → followed_by (spelled (lines_only (only_if (line.Merge n.me key digest v) b))) (sends_only (to_one from (message.ReplAck key t))) ≡ spelled (due.due_repl seen.now from key t digest v)
+    → then_effects (spelled (lines_only (only_if (line.Merge n.me key digest v) b))) (sends_only (to_one from (message.ReplAck key t))) ≡ spelled (due.due_repl seen.now from key t digest v)
 repl_effects_due n seen from key t digest v newer b is of_view e told =
     let x : Bool = is_newer seen.now.store.by v (finite.get seen.now.store.content digest) in
     let same : b ≡ x = told ∙ some_only_if v newer x (version_seen n seen digest v newer is e) in

@@ -30,17 +30,17 @@ use Rattle.node_rules.specs.Exchange.{is_member, is_single}
 use Rattle.node_rules.specs.Facts.{Facts, view_key}
 use Rattle.node_rules.specs.Hearing.{Hearing, ticked, without_quiet}
 use Rattle.node_rules.specs.Notes.{after_ages, neighbours, noted}
-use Rattle.node_rules.specs.Settling.{settling}
+use Rattle.node_rules.specs.Settling.{settling_due}
 use Rattle.node_rules.specs.Steps.{after_tick}
 use Rattle.node_rules.specs.Tick as tick
-use Rattle.node_rules.specs.Tick.{due_tick, in_order, is_candidate, propose}
+use Rattle.node_rules.specs.Tick.{due_tick, parts_in_order, is_candidate, propose}
 use Rattle.node_rules.proofs.TickParts.{alone_is, among_others_is, up_is}
 use Rattle.node_view.specs.declared.here.Settling.{Settling}
 use Rattle.node_view.specs.declared.view.View.{View}
-use Rattle.node_view.specs.Counts.{last_count}
+use Rattle.node_view.specs.Counts.{greatest_count}
 use Rattle.node_view.specs.Fits.{AreNext, AreSettlings}
 use Rattle.node_view.specs.Plans.{settled_at, settled_by, with_stamps}
-use Rattle.node_view.specs.Views.{IsEntered, IsViewOf, Viewed, view_entered, with_view}
+use Rattle.node_view.specs.Views.{IsEntered, IsViewOf, Viewed, view_at_entry, with_view}
 use Rattle.node_steps.specs.declared.effects.Effects.{Effects}
 use Rattle.node_steps.specs.declared.planned.Ticked.{Ticked}
 use Rattle.node_steps.specs.Counts.{HaveNumbers}
@@ -48,7 +48,7 @@ use Rattle.node_steps.specs.Fits.{FitsAgreed, FitsEntered, FitsTick, IsNewView, 
 use Rattle.node_steps.specs.Plans as plans
 use Rattle.node_steps.specs.Plans.{with_sent}
 use Rattle.node_steps.specs.Ranges.{HasRanges}
-use Rattle.node_steps.specs.Spelled.{followed_by, spelled}
+use Rattle.node_steps.specs.Spelled.{then_effects, spelled}
 use Rattle.node_steps.specs.Ticks.{EntersBy, IsProposed, TicksFrom, agreed, later_parts}
 use Rattle.node_core.proofs.EnteringLaws.{agreed_alike, entered_is, entered_view, ranges_entered}
 use Rattle.node_steps.proofs.MemberLaws.{is_listed}
@@ -77,12 +77,13 @@ alone f = enters_alone f.me f.agreement (neighbours f) (is_candidate f)
 -- what the node proposes, and whether it enters that alone
 pub data Enters (f : Facts) (a : Agreement) (entered : Option (Box View)) : Type 0 where
   nobody : alone f ≡ false → entered ≡ None → Enters f a entered
-  one : (v : Box View) → alone f ≡ true → entered ≡ Some v → a ≡ agreement.entering (promising f.agreement (next_key f.me f.agreement)) (next_key f.me f.agreement)
+  one : (v : Box View) → alone f ≡ true → entered ≡ Some v → a ≡ agreement.agreement_entered (promising f.agreement (next_key f.me f.agreement)) (next_key f.me f.agreement)
       → IsEntered f (next_key f.me f.agreement) (neighbours f) v.value → Enters f a entered
 
 -- the agreement of a node that enters a view alone
-entering_alone : (me : ℕ) (a : Agreement) (set : List Member) (anew : Bool) (ns : List ℕ) → ns ≡ agreement.others me set → (anew && is_nil ns) ≡ true
-    → proposing_if me a set anew ≡ agreement.entering (promising a (next_key me a)) (next_key me a)
+entering_alone : (me : ℕ) (a : Agreement) (set : List Member) (anew : Bool) (ns : List ℕ) → ns ≡ agreement.others_among me set → (anew && is_nil ns) ≡ true
+    → proposing_if me a set anew ≡ agreement.agreement_entered (promising a (next_key me a))
+    (next_key me a)
 entering_alone me a set false ns same e = cc
 entering_alone me a set true (n ∷ ns) same e = cc
 entering_alone me a set true [] same e = ap (λ (to : List ℕ). agreement.proposing_to me a (next_key me a) set to) (sym same)
@@ -92,7 +93,7 @@ sent_none f None entered h = h
 sent_none f (Some p) entered h = h
 
 by_some : (a : Agreement) (f : Facts) (entered o : Option (Box View)) → entered ≡ o → IsSome o → alone f ≡ true
-    → a ≡ agreement.entering (promising f.agreement (next_key f.me f.agreement)) (next_key f.me f.agreement)
+    → a ≡ agreement.agreement_entered (promising f.agreement (next_key f.me f.agreement)) (next_key f.me f.agreement)
     → ForSome o (λ v. IsEntered f (next_key f.me f.agreement) (neighbours f) v.value) → Enters f a entered
 by_some a f entered None same some is onward view = cc
 by_some a f entered (Some v) same some is onward view = Enters.one v is same onward (view v refl)
@@ -103,7 +104,7 @@ enters_by : (f : Facts) (a : Agreement) (entered : Option (Box View)) (b : Bool)
 enters_by f a entered false o is onward h = Enters.nobody is (sent_none f o entered h)
 enters_by f a entered true o is onward h =
     by_some a f entered entered refl h.some is
-    (onward ∙ entering_alone f.me f.agreement (neighbours f) (proposes_anew f.agreement (is_candidate f)) (agreement.others f.me (neighbours f)) refl is) h.view
+    (onward ∙ entering_alone f.me f.agreement (neighbours f) (proposes_anew f.agreement (is_candidate f)) (agreement.others_among f.me (neighbours f)) refl is) h.view
 
 -- a proposal of the neighbours is as it was
 still : (f : Facts) → still_proposing (after_ages f).agreement (neighbours (after_ages f)) ≡ (after_ages f).agreement
@@ -132,7 +133,7 @@ among_itself f = is_listed (neighbours f) f.me (itself_among f.me f.role f.heari
 
 -- the facts in the view that is entered
 pub entered_facts : (f : Facts) (hearing : Adjacent) (agree : Agreeing) (v : Box View) → hearing.hearing ≡ (after_ages f).hearing
-    → agree.agreement ≡ agreement.entering (promising (after_ages f).agreement (next_key f.me (after_ages f).agreement)) (next_key f.me (after_ages f).agreement)
+    → agree.agreement ≡ agreement.agreement_entered (promising (after_ages f).agreement (next_key f.me (after_ages f).agreement)) (next_key f.me (after_ages f).agreement)
     → IsEntered (after_ages f) (next_key f.me (after_ages f).agreement) (neighbours (after_ages f)) v.value
     → agreed f hearing agree (Some v) ≡ entered_alone (after_ages f) (next_key f.me (after_ages f).agreement) (neighbours (after_ages f))
 entered_facts f hearing agree v heard onward view =
@@ -140,7 +141,7 @@ entered_facts f hearing agree v heard onward view =
     let key : ClusterKey = next_key f.me g.agreement in
     let h : Facts = record g { agreement = promising g.agreement key } in
     ap₂ (λ (x : Hearing) (a : Agreement). plans.agreed (record f { hearing = x }) a (Some v.value)) heard onward
-    ∙ agreed_alike h (agreement.entering h.agreement key) (view_entered g key (neighbours g)) v.value view.alike
+    ∙ agreed_alike h (agreement.agreement_entered h.agreement key) (view_at_entry g key (neighbours g)) v.value view.alike
     ∙ entered_is h key (neighbours g) (among_itself g)
 
 pub later_are : (f : Facts) (hearing : Adjacent) (agree : Agreeing) (answer : answers.Proposal) (entered : Option (Box View))
@@ -189,7 +190,7 @@ proposing_keys me a key set (n ∷ ns) k h = go (agreement.proposes (promising a
     }
 
 anew_keys : (me : ℕ) (a : Agreement) (set : List Member) (x y z : Bool) → has_round a ≡ z → IsId me → HasKeys a → HasKeys (proposing_if me a set (x && (y && z)))
-anew_keys me a set true true true room id h = proposing_keys me a (next_key me a) set (agreement.others me set) (next_fits me a id room) h
+anew_keys me a set true true true room id h = proposing_keys me a (next_key me a) set (agreement.others_among me set) (next_fits me a id room) h
 anew_keys me a set true true false room id h = h
 anew_keys me a set true false z room id h = h
 anew_keys me a set false y z room id h = h
@@ -222,18 +223,18 @@ later_fit f hearing agree answer entered h r = go (how_enters f hearing agree an
         let heard : Facts = record f { hearing = hearing.hearing } in
         let key : ClusterKey = next_key f.me (after_ages f).agreement in
         let set : List Member = neighbours (after_ages f) in
-        let k : IsKeyField key = next_fits f.me (after_ages f).agreement r.me (round_for (is_none (after_ages f).agreement.proposal) (is_candidate (after_ages f)) (has_round f.agreement) (is_nil (agreement.others f.me set)) is) in
+        let k : IsKeyField key = next_fits f.me (after_ages f).agreement r.me (round_for (is_none (after_ages f).agreement.proposal) (is_candidate (after_ages f)) (has_round f.agreement) (is_nil (agreement.others_among f.me set)) is) in
         subst (λ (o : Option (Box View)). HasRanges (agreed f hearing agree o)) (sym some)
-        (subst HasRanges (sym (agreed_alike heard agree.agreement (view_entered heard key set) v.value view.alike))
+        (subst HasRanges (sym (agreed_alike heard agree.agreement (view_at_entry heard key set) v.value view.alike))
         (ranges_entered heard agree.agreement key set (ranges_agreed f hearing.hearing f.agreement r (keys_of f r)) keys k))
 
 pub later_count : (f : Facts) (hearing : Adjacent) (agree : Agreeing) (answer : answers.Proposal) (entered : Option (Box View))
     → IsTicking f hearing agree answer entered → HaveNumbers f → HaveNumbers (agreed f hearing agree entered)
 later_count f hearing agree answer entered h n = go (how_enters f hearing agree answer entered h)
   where
-    first : (heard : Facts) (key : ClusterKey) (set : List Member) (b : Bool) → HaveNumbers (with_stamps (with_view (record heard { hearing = without_quiet heard.hearing; agreement = agree.agreement }) (Some (view_entered heard key set))) b)
-    first heard key set true = record { transactions = omega arith; batches = All-nil (λ t. t.batches < last_count); applies = λ p. omega arith }
-    first heard key set false = record { transactions = omega arith; batches = All-nil (λ t. t.batches < last_count); applies = λ p. omega arith }
+    first : (heard : Facts) (key : ClusterKey) (set : List Member) (b : Bool) → HaveNumbers (with_stamps (with_view (record heard { hearing = without_quiet heard.hearing; agreement = agree.agreement }) (Some (view_at_entry heard key set))) b)
+    first heard key set true = record { transactions = omega arith; batches = All-nil (λ t. t.batches < greatest_count); applies = λ p. omega arith }
+    first heard key set false = record { transactions = omega arith; batches = All-nil (λ t. t.batches < greatest_count); applies = λ p. omega arith }
 
     go : Enters (after_ages f) agree.agreement entered → HaveNumbers (agreed f hearing agree entered)
     go (Enters.nobody is none) =
@@ -243,7 +244,7 @@ later_count f hearing agree answer entered h n = go (how_enters f hearing agree 
         let key : ClusterKey = next_key f.me (after_ages f).agreement in
         let set : List Member = neighbours (after_ages f) in
         subst (λ (o : Option (Box View)). HaveNumbers (agreed f hearing agree o)) (sym some)
-        (subst HaveNumbers (sym (agreed_alike heard agree.agreement (view_entered heard key set) v.value view.alike)) (first heard key set (is_single set)))
+        (subst HaveNumbers (sym (agreed_alike heard agree.agreement (view_at_entry heard key set) v.value view.alike)) (first heard key set (is_single set)))
 
 -- the facts are of a node in a view, or of one in none
 pub data StandsIn (f : Facts) : Type 0 where
@@ -257,7 +258,7 @@ later_held : (f : Facts) (hearing : Adjacent) (agree : Agreeing) (answer : answe
     → IsTicking f hearing agree answer entered → HoldsPending f → HoldsPending (agreed f hearing agree entered)
 later_held f hearing agree answer entered h held = go (how_enters f hearing agree answer entered h)
   where
-    first : (heard : Facts) (key : ClusterKey) (set : List Member) (b : Bool) → HoldsPending (with_stamps (with_view (record heard { hearing = without_quiet heard.hearing; agreement = agree.agreement }) (Some (view_entered heard key set))) b)
+    first : (heard : Facts) (key : ClusterKey) (set : List Member) (b : Bool) → HoldsPending (with_stamps (with_view (record heard { hearing = without_quiet heard.hearing; agreement = agree.agreement }) (Some (view_at_entry heard key set))) b)
     first heard key set true = record { held = λ k d within. absurd (omega (arith, within)) }
     first heard key set false = record { held = λ k d within. absurd (omega (arith, within)) }
 
@@ -268,7 +269,7 @@ later_held f hearing agree answer entered h held = go (how_enters f hearing agre
         let key : ClusterKey = next_key f.me (after_ages f).agreement in
         let set : List Member = neighbours (after_ages f) in
         subst (λ (o : Option (Box View)). HoldsPending (agreed f hearing agree o)) (sym some)
-        (subst HoldsPending (sym (agreed_alike heard agree.agreement (view_entered heard key set) v.value view.alike)) (first heard key set (is_single set)))
+        (subst HoldsPending (sym (agreed_alike heard agree.agreement (view_at_entry heard key set) v.value view.alike)) (first heard key set (is_single set)))
 
 later_stands : (f : Facts) (hearing : Adjacent) (agree : Agreeing) (answer : answers.Proposal) (entered : Option (Box View))
     → IsTicking f hearing agree answer entered → StandsIn f → StandsIn (agreed f hearing agree entered)
@@ -351,7 +352,7 @@ settled_agreement f (s ∷ ss) =
 -- what the plan changes is what the tick does
 pub ticked_is : (f : Facts) (hearing : Adjacent) (agree : Agreeing) (answer : answers.Proposal) (entered : Option (Box View)) (t : Ticked)
     → f.up ≡ true → IsTicking f hearing agree answer entered → TicksFrom f hearing agree entered t → HasRanges f
-    → plans.ticked f t ≡ after_tick f
+    → plans.tick_taken f t ≡ after_tick f
 ticked_is f hearing agree answer entered t up h from r =
     let g : Facts = agreed f hearing agree entered in
     let s : Facts = settled_by g t.settlings.items in
@@ -360,7 +361,7 @@ ticked_is f hearing agree answer entered t up h from r =
     let fit : HasRanges g = later_fit f hearing agree answer entered h r in
     let later : proposed_facts f ≡ record g { agreement = a } = later_are f hearing agree answer entered h in
     let settled : settled_facts partition_count f ≡ record s { agreement = a } =
-    ap (λ (x : Facts). noted None x (settling partition_count x)) later
+    ap (λ (x : Facts). noted None x (settling_due partition_count x)) later
     ∙ settled_apart_from g a (record { handed = fit.bits.handed; settled = fit.bits.settled })
     ∙ ap (λ (x : Facts). record x { agreement = a }) (sym from.settled) in
     let sent : batches_due (view_key g) g.store.content g.batches ≡ t.batches.items =
@@ -377,7 +378,7 @@ ticked_is f hearing agree answer entered t up h from r =
 
 pub tick_told : (f : Facts) (hearing : Adjacent) (agree : Agreeing) (answer : answers.Proposal) (entered : Option (Box View))
     → f.up ≡ true → IsTicking f hearing agree answer entered → HasRanges f
-    → followed_by (followed_by (followed_by (record { lines = line.Tick f.me ∷ []; sends = [] }) (tick.beat (after_ages f))) (propose (after_ages f))) (in_order (later_parts partition_count) (agreed f hearing agree entered))
+    → then_effects (then_effects (then_effects (record { lines = line.Tick f.me ∷ []; sends = [] }) (tick.beat (after_ages f))) (propose (after_ages f))) (parts_in_order (later_parts partition_count) (agreed f hearing agree entered))
     ≡ spelled (due_tick f)
 tick_told f hearing agree answer entered up h r =
     let g : Facts = agreed f hearing agree entered in
@@ -385,11 +386,11 @@ tick_told f hearing agree answer entered up h r =
     let first : Effects = record { lines = line.Tick f.me ∷ []; sends = [] } in
     let beats : rules.Effects = tick.beat (after_ages f) in
     let proposes : rules.Effects = propose (after_ages f) in
-    let rest : rules.Effects = in_order (later_parts partition_count) g in
-    let same : in_order (later_parts partition_count) (proposed_facts f) ≡ rest =
-    ap (λ (x : Facts). in_order (later_parts partition_count) x) (later_are f hearing agree answer entered h)
+    let rest : rules.Effects = parts_in_order (later_parts partition_count) g in
+    let same : parts_in_order (later_parts partition_count) (proposed_facts f) ≡ rest =
+    ap (λ (x : Facts). parts_in_order (later_parts partition_count) x) (later_are f hearing agree answer entered h)
     ∙ parts_apart g (proposed_facts f).agreement (record { handed = fit.bits.handed; settled = fit.bits.settled }) in
-    told_twice (followed_by first beats) proposes rest
+    told_twice (then_effects first beats) proposes rest
     ∙ told_twice first beats (rules.followed_by proposes rest)
     ∙ ap (λ (e : rules.Effects). spelled (rules.followed_by (tick.tick f) (rules.followed_by beats (rules.followed_by proposes e)))) (sym same)
     ∙ ap (λ (b : Bool). spelled (tick.tick_if partition_count f b)) (sym up)
@@ -414,7 +415,7 @@ batches_fit f (StandsIn.outside is) held numbers r =
 
 pub taken_fits : (f : Facts) (hearing : Adjacent) (agree : Agreeing) (answer : answers.Proposal) (entered : Option (Box View)) (t : Ticked)
     → IsTicking f hearing agree answer entered → TicksFrom f hearing agree entered t → StandsIn f → HoldsPending f → HaveNumbers f → HasRanges f
-    → HasRanges (plans.ticked f t)
+    → HasRanges (plans.tick_taken f t)
 taken_fits f hearing agree answer entered t h from stands held numbers r =
     let g : Facts = agreed f hearing agree entered in
     let fit : HasRanges g = later_fit f hearing agree answer entered h r in

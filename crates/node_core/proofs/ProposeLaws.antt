@@ -19,12 +19,12 @@ use Rattle.node_rules.specs.Entering.{entering}
 use Rattle.node_rules.specs.Facts.{Facts}
 use Rattle.node_rules.specs.Keys.{same_key}
 use Rattle.node_rules.specs.Notes.{neighbours}
-use Rattle.node_rules.specs.Tick.{is_candidate, propose, propose_new, proposing_to}
+use Rattle.node_rules.specs.Tick.{is_candidate, propose, propose_new, proposal_effects}
 use Rattle.node_rules.proofs.Agreeing.{same_itself}
 use Rattle.wire_messages.specs.Keys.{IsKeyField}
 use Rattle.node_steps.specs.declared.effects.Effects.{Effects}
 use Rattle.node_steps.specs.Plans.{only_if}
-use Rattle.node_steps.specs.Spelled.{followed_by}
+use Rattle.node_steps.specs.Spelled.{then_effects}
 use Rattle.node_steps.proofs.SpelledLaws.{told_twice}
 
 -- ---- the agreement
@@ -77,8 +77,8 @@ abbrev with_proposal : Facts → Option Proposal → Facts
 with_proposal f o = record f { agreement = record f.agreement { proposal = o } }
 
 -- what is promised as a view is proposed
-said_anew : (f : Facts) (key : ClusterKey) (set : List Member) (ns : List ℕ) → f.agreement.proposal ≡ None → ns ≡ agreement.others f.me set → same_key key f.agreement.promised ≡ false
-    → proposing_to f key set ns ≡ told_by f (agreement.proposing_to f.me f.agreement key set ns) (entered_or_sent (is_nil ns) key set (agreement.proposing_to f.me f.agreement key set ns).proposal)
+said_anew : (f : Facts) (key : ClusterKey) (set : List Member) (ns : List ℕ) → f.agreement.proposal ≡ None → ns ≡ agreement.others_among f.me set → same_key key f.agreement.promised ≡ false
+    → proposal_effects f key set ns ≡ told_by f (agreement.proposing_to f.me f.agreement key set ns) (entered_or_sent (is_nil ns) key set (agreement.proposing_to f.me f.agreement key set ns).proposal)
 said_anew f key set [] none same new = rw new refl
 said_anew f key set (n ∷ ns) none same new =
     let anew : Option Proposal → Agreement = λ (o : Option Proposal). agreement.proposing (agreement.promising (record f.agreement { proposal = o }) key) f.me key set in
@@ -88,9 +88,9 @@ said_anew f key set (n ∷ ns) none same new =
 
 said_none : (f : Facts) (b : Bool) → f.agreement.proposal ≡ None
     → propose_new f b
-    ≡ told_by f (proposing_if f.me f.agreement (neighbours f) b) (entered_or_sent (b && is_nil (agreement.others f.me (neighbours f))) (next_key f.me f.agreement) (neighbours f) (proposing_if f.me f.agreement (neighbours f) b).proposal)
+    ≡ told_by f (proposing_if f.me f.agreement (neighbours f) b) (entered_or_sent (b && is_nil (agreement.others_among f.me (neighbours f))) (next_key f.me f.agreement) (neighbours f) (proposing_if f.me f.agreement (neighbours f) b).proposal)
 said_none f true none =
-    said_anew f (next_key f.me f.agreement) (neighbours f) (agreement.others f.me (neighbours f)) none refl (new_key f.me f.agreement)
+    said_anew f (next_key f.me f.agreement) (neighbours f) (agreement.others_among f.me (neighbours f)) none refl (new_key f.me f.agreement)
 said_none f false none = rw (same_itself f.agreement.promised, none) refl
 
 said : (f : Facts) (o : Option Proposal)
@@ -127,6 +127,6 @@ entered_set false k key set ms (Some p) e = cc
 
 -- what is told of an answer is what is due
 pub told_answer : (told : Effects) (f : Facts) (a : Agreement) (answer : answers.Proposal) → propose f ≡ told_by f a answer
-    → followed_by (followed_by told (lines_only (promise_lines f a.promised))) (due_answer f answer) ≡ followed_by told (propose f)
+    → then_effects (then_effects told (lines_only (promise_lines f a.promised))) (due_answer f answer) ≡ then_effects told (propose f)
 told_answer told f a answer is =
-    told_twice told (lines_only (promise_lines f a.promised)) (due_answer f answer) ∙ ap (λ (e : rules.Effects). followed_by told e) (sym is)
+    told_twice told (lines_only (promise_lines f a.promised)) (due_answer f answer) ∙ ap (λ (e : rules.Effects). then_effects told e) (sym is)

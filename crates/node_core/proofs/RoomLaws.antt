@@ -10,25 +10,25 @@ use Rattle.node_rules.specs.Steps.{Planning, planning}
 use Rattle.record_store.specs.Store as held
 use Rattle.record_store.specs.Store.{HoldsTheSame}
 use Rattle.node_view.specs.declared.view.View.{View}
-use Rattle.node_view.specs.Views.{IsNodeOf, IsSame, KeepsWatch, Viewed, Watch, store_of}
+use Rattle.node_view.specs.Views.{IsNodeInView, IsSame, KeepsWatch, Viewed, Watch, store_of}
 use Rattle.node_core.specs.declared.node.Node.TheInside.{Inside}
 use Rattle.node_steps.specs.declared.planned.Planned.{Planned}
-use Rattle.node_steps.specs.Fits.{Fits}
-use Rattle.node_core.specs.Nodes.{Agrees, IsPlannedFrom, facts_of, planning_of}
+use Rattle.node_steps.specs.Fits.{FitsPlanned}
+use Rattle.node_core.specs.Nodes.{PartsAgree, IsPlannedFrom, node_facts, planning_of}
 use Rattle.node_steps.specs.Grounds.{with_view_fields}
 use Rattle.node_steps.specs.Plans.{next_of, taken}
 use Rattle.node_steps.specs.Ranges.{HasRanges}
-use Rattle.node_steps.specs.Rooms.{HasRoomIn}
+use Rattle.node_steps.specs.Rooms.{HasRoomForStep}
 use Rattle.node_core.proofs.CommitLaws.{nothing_planned}
 use Rattle.node_core.proofs.NodeLaws.{IsNode}
 
 -- the node with that view and that store, which are the node's but for room
-pub record HasMoreRoom (n : Inside) (o : Option (Box View)) (s : held.Store) : Type 0 where
+pub record HasMoreRoom (n : Inside) (o : Option (Box View)) (s : held.StoreWithRoom) : Type 0 where
   pub store : HoldsTheSame n.store s
   pub there : is_some o ≡ is_some n.view
   pub view : (v w : Box View) → n.view ≡ Some v → o ≡ Some w → IsSame v.value w.value
 
-abbrev pub roomier : Inside → Option (Box View) → held.Store → Inside
+abbrev pub roomier : Inside → Option (Box View) → held.StoreWithRoom → Inside
 roomier n o s = record n { view = o; store = s }
 
 -- ---- the store alone
@@ -39,7 +39,8 @@ itself v = record {
   watch = refl;
 }
 
-pub more_in_store : (n : Inside) (s : held.Store) → HoldsTheSame n.store s → HasMoreRoom n n.view s
+pub more_in_store : (n : Inside) (s : held.StoreWithRoom) → HoldsTheSame n.store s
+    → HasMoreRoom n n.view s
 more_in_store n s h = record {
   store = h;
   there = refl;
@@ -48,14 +49,14 @@ more_in_store n s h = record {
 
 -- ---- the view and the store
 
-pub holds_itself : (s : held.Store) → HoldsTheSame s s
+pub holds_itself : (s : held.StoreWithRoom) → HoldsTheSame s s
 holds_itself s = record { versions = refl; stamps = refl; policy = refl }
 
 -- a view that is as before is the same but for room
 pub same_view : (old new : Viewed) → new ≡ old → IsSame old new
 same_view old new e = subst (λ (w : Viewed). IsSame old w) (sym e) (itself old)
 
-pub more_in_both : (n : Inside) (v w : Box View) (s : held.Store) → n.view ≡ Some v → IsSame v.value w.value → HoldsTheSame n.store s → HasMoreRoom n (Some w) s
+pub more_in_both : (n : Inside) (v w : Box View) (s : held.StoreWithRoom) → n.view ≡ Some v → IsSame v.value w.value → HoldsTheSame n.store s → HasMoreRoom n (Some w) s
 more_in_both n v w s e same h = record {
   store = h;
   there = sym (ap is_some e);
@@ -74,18 +75,18 @@ view_same f None (Some w) there h = cc
 view_same f (Some v) None there h = cc
 view_same f (Some v) (Some w) there h = fields_same f v.value w.value (h v w refl refl)
 
-store_same : (a b : held.Store) → HoldsTheSame a b → store_of b ≡ store_of a
+store_same : (a b : held.StoreWithRoom) → HoldsTheSame a b → store_of b ≡ store_of a
 store_same a b h = rw (h.versions, h.stamps, h.policy) refl
 
-pub facts_roomier : (n : Inside) (o : Option (Box View)) (s : held.Store) → HasMoreRoom n o s → facts_of (roomier n o s) ≡ facts_of n
+pub facts_roomier : (n : Inside) (o : Option (Box View)) (s : held.StoreWithRoom) → HasMoreRoom n o s → node_facts (roomier n o s) ≡ node_facts n
 facts_roomier n o s h =
-    view_same (facts_of (roomier n n.view s)) n.view o h.there h.view
+    view_same (node_facts (roomier n n.view s)) n.view o h.there h.view
     ∙ ap (λ (x : Store). facts_of_store n x) (store_same n.store s h.store)
   where
     facts_of_store : Inside → Store → Facts
-    facts_of_store m x = record (facts_of m) { store = x }
+    facts_of_store m x = record (node_facts m) { store = x }
 
-node_roomier : (f : Facts) (v w : Viewed) (s t : held.Store) → IsSame v w → HoldsTheSame s t → IsNodeOf f v s → IsNodeOf f w t
+node_roomier : (f : Facts) (v w : Viewed) (s t : held.StoreWithRoom) → IsSame v w → HoldsTheSame s t → IsNodeInView f v s → IsNodeInView f w t
 node_roomier f v w s t same alike h = record {
   view = record {
     viewed = record {
@@ -109,9 +110,9 @@ before : {P : Type 0} (a o : Option (Box View)) (w : Box View) → is_some o ≡
 before None o w there e go = absurd (let wrong : true ≡ false = sym (ap is_some e) ∙ there in cc)
 before (Some v) o w there e go = go v refl
 
-pub agrees_roomier : (n : Inside) (o : Option (Box View)) (s : held.Store) → Agrees n → HasMoreRoom n o s → Agrees (roomier n o s)
+pub agrees_roomier : (n : Inside) (o : Option (Box View)) (s : held.StoreWithRoom) → PartsAgree n → HasMoreRoom n o s → PartsAgree (roomier n o s)
 agrees_roomier n o s h more =
-    let same : facts_of (roomier n o s) ≡ facts_of n = facts_roomier n o s more in record {
+    let same : node_facts (roomier n o s) ≡ node_facts n = facts_roomier n o s more in record {
       peers = h.peers;
       factor = h.factor;
       hearing = h.hearing;
@@ -120,7 +121,7 @@ agrees_roomier n o s h more =
       agree = h.agree;
       by = more.store.policy ∙ h.by;
       view = λ w e. before n.view o w more.there e
-          (λ v i. subst (λ (f : Facts). IsNodeOf f w.value s) (sym same) (node_roomier (facts_of n) v.value w.value n.store s (more.view v w i e) more.store (h.view v i)));
+          (λ v i. subst (λ (f : Facts). IsNodeInView f w.value s) (sym same) (node_roomier (node_facts n) v.value w.value n.store s (more.view v w i e) more.store (h.view v i)));
       in_one = λ w e. before n.view o w more.there e (λ v i. subst (λ (x : Exchange). IsSome x.view) (sym (more.view v w i e).alike.exchange) (h.in_one v i));
       ranges = subst HasRanges (sym same) h.ranges;
     }
@@ -128,10 +129,10 @@ agrees_roomier n o s h more =
 -- ---- plans
 
 -- nothing is planned yet
-pub node_roomier_still : (n : Inside) (o : Option (Box View)) (s : held.Store) → Agrees n → n.planned ≡ None → HasMoreRoom n o s → IsNode (roomier n o s)
+pub node_roomier_still : (n : Inside) (o : Option (Box View)) (s : held.StoreWithRoom) → PartsAgree n → n.planned ≡ None → HasMoreRoom n o s → IsNode (roomier n o s)
 node_roomier_still n o s h none more = nothing_planned (roomier n o s) (agrees_roomier n o s h more) none
 
-pub seen_still : (n : Inside) (o : Option (Box View)) (s : held.Store) (seen : Planning) → planning_of n ≡ seen → HasMoreRoom n o s → planning_of (roomier n o s) ≡ seen
+pub seen_still : (n : Inside) (o : Option (Box View)) (s : held.StoreWithRoom) (seen : Planning) → planning_of n ≡ seen → HasMoreRoom n o s → planning_of (roomier n o s) ≡ seen
 seen_still n o s seen is more =
     ap (λ (f : Facts). let p : Planning = record { now = f; next = next_of f n.planned } in p) (facts_roomier n o s more) ∙ is
 
@@ -139,12 +140,12 @@ pub planned_for : {X : Type 0} (P : X → Type 0) (x : X) → P x → ForSome (S
 planned_for P x h = λ y e. let same : x ≡ y = cc in subst P same h
 
 -- a step is planned for which there is room now
-pub node_roomier_planned : (n : Inside) (o : Option (Box View)) (s : held.Store) (p : Planned) → Agrees n → HasMoreRoom n o s
-    → Fits (facts_of n) p → HasRanges (taken (facts_of n) p) → ForSome o (λ v. HasRoomIn v.value s.spare p) → IsNode (record (roomier n o s) { planned = Some p })
+pub node_roomier_planned : (n : Inside) (o : Option (Box View)) (s : held.StoreWithRoom) (p : Planned) → PartsAgree n → HasMoreRoom n o s
+    → FitsPlanned (node_facts n) p → HasRanges (taken (node_facts n) p) → ForSome o (λ v. HasRoomForStep v.value s.spare p) → IsNode (record (roomier n o s) { planned = Some p })
 node_roomier_planned n o s p h more fits ranges room =
-    let same : facts_of (roomier n o s) ≡ facts_of n = facts_roomier n o s more in
-    let made : IsPlannedFrom (facts_of (roomier n o s)) p = subst (λ (f : Facts). IsPlannedFrom f p) (sym same) (record { fits = fits; ranges = ranges }) in
-    let agrees : Agrees (roomier n o s) = agrees_roomier n o s h more in (
+    let same : node_facts (roomier n o s) ≡ node_facts n = facts_roomier n o s more in
+    let made : IsPlannedFrom (node_facts (roomier n o s)) p = subst (λ (f : Facts). IsPlannedFrom f p) (sym same) (record { fits = fits; ranges = ranges }) in
+    let agrees : PartsAgree (roomier n o s) = agrees_roomier n o s h more in (
       record {
         peers = agrees.peers;
         factor = agrees.factor;
@@ -157,11 +158,11 @@ node_roomier_planned n o s p h more fits ranges room =
         in_one = agrees.in_one;
         ranges = agrees.ranges;
       },
-      planned_for (IsPlannedFrom (facts_of (roomier n o s))) p made,
-      planned_for (λ q. ForSome o (λ v. HasRoomIn v.value s.spare q)) p room,
+      planned_for (IsPlannedFrom (node_facts (roomier n o s))) p made,
+      planned_for (λ q. ForSome o (λ v. HasRoomForStep v.value s.spare q)) p room,
     )
 
-pub seen_planned : (n : Inside) (o : Option (Box View)) (s : held.Store) (p : Planned) (seen : Planning) → planning_of n ≡ seen → HasMoreRoom n o s
+pub seen_planned : (n : Inside) (o : Option (Box View)) (s : held.StoreWithRoom) (p : Planned) (seen : Planning) → planning_of n ≡ seen → HasMoreRoom n o s
     → planning_of (record (roomier n o s) { planned = Some p }) ≡ planning seen.now (taken seen.now p)
 seen_planned n o s p seen is more =
     ap (λ (f : Facts). planning f (taken f p)) (facts_roomier n o s more) ∙ ap (λ (q : Planning). planning q.now (taken q.now p)) is
@@ -171,6 +172,6 @@ on_err_if (Ok x) P h = tt
 on_err_if (Err e) P h = h
 
 -- the view that is lent is of what is seen of the node
-pub node_lent : (n : Inside) (seen : Planning) (v : Box View) (lent : Viewed) → Agrees n → planning_of n ≡ seen → n.view ≡ Some v → lent ≡ v.value → IsNodeOf seen.now lent n.store
+pub node_lent : (n : Inside) (seen : Planning) (v : Box View) (lent : Viewed) → PartsAgree n → planning_of n ≡ seen → n.view ≡ Some v → lent ≡ v.value → IsNodeInView seen.now lent n.store
 node_lent n seen v lent h is e same =
-    subst (λ (w : Viewed). IsNodeOf seen.now w n.store) (sym same) (subst (λ (p : Planning). IsNodeOf p.now v.value n.store) is (h.view v e))
+    subst (λ (w : Viewed). IsNodeInView seen.now w n.store) (sym same) (subst (λ (p : Planning). IsNodeInView p.now v.value n.store) is (h.view v e))

@@ -3,7 +3,7 @@ use Rattle.std.specs.Prelude.{ℕ, ◌+◌, List, Option, Some, None}
 use Rattle.cluster_types.specs.Partitions.{partition_of}
 use Rattle.journal_lines.specs.declared.refusal.Refusal.{Refusal}
 use Rattle.node_rules.specs.Facts.{Facts, list_at}
-use Rattle.node_rules.specs.Requests.{refusal_of}
+use Rattle.node_rules.specs.Requests.{request_refusal}
 use Rattle.node_core.specs.declared.answered.Answered.{Answered}
 use Rattle.node_core.specs.declared.answered.Answered.TheVariants as answered
 
@@ -15,5 +15,5 @@ answer_with f None = answered.Opened (f.transactions.opened + 1)
 answer_with f (Some cause) = answered.Refused cause
 
 -- what becomes of a request on the record
-abbrev pub answer_of : Facts → List ℕ → Answered
-answer_of f digest = answer_with f (refusal_of f (list_at f (partition_of digest)) digest)
+abbrev pub request_answer : Facts → List ℕ → Answered
+request_answer f digest = answer_with f (request_refusal f (list_at f (partition_of digest)) digest)

@@ -6,7 +6,7 @@ ghost use Rattle.node_rules.specs.Steps.{unplanned};
 ghost use Rattle.node_steps.specs.declared.planned.Planned.TheVariants as planned;
 ghost use Rattle.node_steps.specs.Fits.{FitsAgreed, FitsBeat, FitsTick, HasStepped};
 ghost use Rattle.node_view.specs.Fits.{IsReady};
-ghost use Rattle.node_steps.specs.Plans.{agreed, taken, ticked};
+ghost use Rattle.node_steps.specs.Plans.{agreed, taken, tick_taken};
 ghost use Rattle.node_steps.specs.Ranges.{HasRanges};
 
 use crate::node::Node;
@@ -39,8 +39,8 @@ impl Node {
     fn take_tick(&mut self, tick: Ticked)
         requires unplanned { self.old.next ≡ None }
         requires fits { FitsTick self.old.now tick }
-        requires ranges { HasRanges (ticked self.old.now tick) }
-        ensures { self.new ≡ unplanned (ticked self.old.now tick) }
+        requires ranges { HasRanges (tick_taken self.old.now tick) }
+        ensures { self.new ≡ unplanned (tick_taken self.old.now tick) }
     {
         let Ticked {
             agree,

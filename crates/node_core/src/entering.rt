@@ -3,7 +3,7 @@ ghost use Rattle.std.specs.Prelude.{◌≡◌, true, IfOk, OnOk};
 ghost use Rattle.node_rules.specs.Effects.{lines_only};
 ghost use Rattle.node_rules.specs.Entering.{closing, entering};
 ghost use Rattle.node_rules.specs.Exchange.{is_member};
-ghost use Rattle.node_steps.specs.Spelled.{followed_by};
+ghost use Rattle.node_steps.specs.Spelled.{then_effects};
 ghost use Rattle.node_steps.specs.Viewing.{ending_of};
 ghost use Rattle.node_view.specs.Views.{IsEntered};
 
@@ -25,7 +25,7 @@ impl Node {
         out: &mut Effects,
     ) -> Result<Box<View>, NoMemory>
         requires member { is_member members.now self.old.now.me ≡ true }
-        ensures lines { OnOk result (out.new ≡ followed_by out.old (lines_only (entering self.old.now key members.now))) }
+        ensures lines { OnOk result (out.new ≡ then_effects out.old (lines_only (entering self.old.now key members.now))) }
         ensures view { IfOk result (λ v. IsEntered self.old.now key members.now v.value) }
         ensures same { self.new ≡ self.old }
     {
@@ -51,7 +51,7 @@ impl Node {
 
     /// The lines of all open transactions that end, in rising order of their numbers.
     pub(crate) fn close_transactions(&self, out: &mut Effects) -> Result<(), NoMemory>
-        ensures { OnOk result (out.new ≡ followed_by out.old (lines_only (closing self.now.now))) }
+        ensures { OnOk result (out.new ≡ then_effects out.old (lines_only (closing self.now.now))) }
     {
         if let Some(view) = &self.view {
             for txn in view.txns().iter() {

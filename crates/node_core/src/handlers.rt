@@ -163,10 +163,10 @@ impl Node {
     pub(crate) fn spent(&mut self, alloc: Global, step: ViewStep) -> Result<Effects, NoMemory>
         requires unplanned { self.old.next ≡ None }
         requires fits { FitsView self.old.now step }
-        requires ranges { HasRanges self.old.now → HasRanges (view.taken self.old.now step) }
+        requires ranges { HasRanges self.old.now → HasRanges (view.view_taken self.old.now step) }
         requires room { viewing.NeedsNoRoom step }
         ensures effects { IfOk result (λ e. e ≡ spelled (spent self.old.now)) }
-        ensures planned { OnOk result (self.new ≡ planning self.old.now (view.taken self.old.now step)) }
+        ensures planned { OnOk result (self.new ≡ planning self.old.now (view.view_taken self.old.now step)) }
         ensures err { OnErr result (self.new ≡ self.old) }
     {
         let endpoint = self.me.number();
@@ -183,10 +183,10 @@ impl Node {
     ) -> Result<Effects, NoMemory>
         requires unplanned { self.old.next ≡ None }
         requires fits { FitsView self.old.now step }
-        requires ranges { HasRanges self.old.now → HasRanges (view.taken self.old.now step) }
+        requires ranges { HasRanges self.old.now → HasRanges (view.view_taken self.old.now step) }
         requires room { viewing.NeedsNoRoom step }
         ensures effects { IfOk result (λ e. e ≡ spelled (unless_spent self.old.now is_awaited)) }
-        ensures planned { OnOk result (self.new ≡ planning self.old.now (view.taken self.old.now step)) }
+        ensures planned { OnOk result (self.new ≡ planning self.old.now (view.view_taken self.old.now step)) }
         ensures err { OnErr result (self.new ≡ self.old) }
     {
         let endpoint = self.me.number();

@@ -6,7 +6,7 @@ ghost use Rattle.partition_lists.specs.Lists.{in_order};
 ghost use Rattle.node_rules.specs.Facts.{fresh};
 ghost use Rattle.node_rules.specs.Notes.{with_role};
 ghost use Rattle.node_rules.specs.Steps.{planning, unplanned};
-ghost use Rattle.node_steps.specs.Fits.{Fits};
+ghost use Rattle.node_steps.specs.Fits.{FitsPlanned};
 ghost use Rattle.node_core.specs.Peers.{ArePeers, IsFactor};
 ghost use Rattle.node_steps.specs.Plans.{taken};
 ghost use Rattle.node_steps.specs.Ranges.{HasRanges};
@@ -49,12 +49,12 @@ impl Model for Node {
 
     ghost coded = { Prim.hlevel facts_codes };
 
-    ghost use Rattle.node_core.specs.Nodes.{Agrees, FitsPlan, planning_of};
-    ghost use Rattle.node_core.specs.Rooms.{HasRoom};
+    ghost use Rattle.node_core.specs.Nodes.{PartsAgree, FitsPlan, planning_of};
+    ghost use Rattle.node_core.specs.Rooms.{HasRoomForPlan};
 
     ghost view = { planning_of };
 
-    ghost invariant = { λ n. Agrees n × FitsPlan n × HasRoom n };
+    ghost invariant = { λ n. PartsAgree n × FitsPlan n × HasRoomForPlan n };
 }
 
 impl Node {
@@ -118,7 +118,7 @@ impl Node {
 
     /// Plans the step that has these effects, and needs no room.
     pub(crate) fn plan(&mut self, effects: Effects, planned: Planned) -> Effects
-        requires fits { Fits self.old.now planned }
+        requires fits { FitsPlanned self.old.now planned }
         requires ranges { HasRanges (taken self.old.now planned) }
         requires room { NeedsNoRoom planned }
         ensures same { result ≡ effects }

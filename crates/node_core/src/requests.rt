@@ -6,11 +6,11 @@ ghost use Rattle.wire_messages.specs.Requests.{IsWant};
 ghost use Rattle.wire_messages.specs.Versions.{AreBytes, IsDigest};
 ghost use Rattle.node_rules.specs.Effects.{lines_only};
 ghost use Rattle.node_rules.specs.Facts.{list_at};
-ghost use Rattle.node_rules.specs.Requests.{due_request, refusal_of};
+ghost use Rattle.node_rules.specs.Requests.{due_request, request_refusal};
 ghost use Rattle.node_rules.specs.Steps.{after_request, planning, unplanned};
 ghost use Rattle.node_core.specs.declared.answered.Answered.TheVariants as answered;
 ghost use Rattle.node_steps.specs.Counts.{HaveNumbers};
-ghost use Rattle.node_core.specs.Requests.{answer_of};
+ghost use Rattle.node_core.specs.Requests.{request_answer};
 ghost use Rattle.node_steps.specs.Spelled.{spelled};
 
 use crate::answered::Answered;
@@ -32,7 +32,7 @@ impl Node {
         clock: u64,
     ) -> Result<(Answered, Effects), NoMemory>
         requires counts { HaveNumbers self.old.now }
-        ensures answer { IfOk result (λ r. r.0 ≡ answer_of self.old.now d) }
+        ensures answer { IfOk result (λ r. r.0 ≡ request_answer self.old.now d) }
         ensures effects { IfOk result (λ r. r.1 ≡ spelled (due_request self.old.now clock d want)) }
         ensures planned { OnOk result (self.new ≡ planning self.old.now (after_request self.old.now clock d want)) }
         ensures err { OnErr result (self.new ≡ unplanned self.old.now) }
@@ -75,7 +75,7 @@ impl Node {
     ) -> Result<(Answered, Effects), NoMemory>
         requires unplanned { self.old.next ≡ None }
         requires counts { HaveNumbers self.old.now }
-        requires accepted { refusal_of self.old.now (list_at self.old.now (partition_of digest)) digest ≡ None }
+        requires accepted { request_refusal self.old.now (list_at self.old.now (partition_of digest)) digest ≡ None }
         ensures answer { IfOk result (λ r. r.0 ≡ answered.Opened (self.old.now.transactions.opened + 1)) }
         ensures effects { IfOk result (λ r. r.1 ≡ spelled (due_request self.old.now clock digest want)) }
         ensures planned { OnOk result (self.new ≡ planning self.old.now (after_request self.old.now clock digest want)) }
@@ -100,7 +100,7 @@ impl Node {
     /// Why the node refuses a request on the record: first what keeps it from having a map, then
     /// that it doesn't act on the partition, then that a transaction is open on the record.
     fn refusal_of(&self, digest: &Digest) -> Option<Refusal>
-        ensures { result ≡ refusal_of self.now.now (list_at self.now.now (partition_of digest.now)) digest.now }
+        ensures { result ≡ request_refusal self.now.now (list_at self.now.now (partition_of digest.now)) digest.now }
     {
         match self.mapped() {
             Err(cause) => Some(cause),

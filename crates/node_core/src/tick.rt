@@ -3,13 +3,13 @@ ghost use Rattle.std.specs.Prelude.{◌≡◌, IsTrue, IfOk, OnErr, OnOk};
 ghost use Rattle.std.specs.Option.{option_map};
 ghost use Rattle.cluster_types.specs.Partitions.{partition_count};
 ghost use Rattle.node_rules.specs.Steps.{after_tick, planning, unplanned};
-ghost use Rattle.node_rules.specs.Tick.{due_tick, in_order};
+ghost use Rattle.node_rules.specs.Tick.{due_tick, parts_in_order};
 ghost use Rattle.node_steps.specs.Counts.{HaveNumbers};
 ghost use Rattle.node_steps.specs.Fits.{FitsAgreed};
-ghost use Rattle.node_steps.specs.Grounds.{IsGround, grounded, lent};
+ghost use Rattle.node_steps.specs.Grounds.{IsGroundOf, grounded, lent};
 ghost use Rattle.node_steps.specs.Plans.{either};
 ghost use Rattle.node_steps.specs.Ranges.{HasRanges};
-ghost use Rattle.node_steps.specs.Spelled.{followed_by, spelled};
+ghost use Rattle.node_steps.specs.Spelled.{then_effects, spelled};
 ghost use Rattle.node_steps.specs.Ticks.{TicksFrom, agreed, later_parts};
 
 mod propose;
@@ -67,7 +67,7 @@ impl Node {
         requires hearing { hearing.now.me ≡ self.now.now.me }
         requires view { FitsAgreed self.now.now agree entered }
         requires ranges { HasRanges (agreed self.now.now hearing.now agree entered) }
-        ensures lines { OnOk result (out.new ≡ followed_by out.old (in_order (later_parts partition_count) (agreed self.now.now hearing.now agree entered))) }
+        ensures lines { OnOk result (out.new ≡ then_effects out.old (parts_in_order (later_parts partition_count) (agreed self.now.now hearing.now agree entered))) }
         ensures ticked { IfOk result (λ t. TicksFrom self.now.now hearing.now agree entered t) }
     {
         let _ = &self.me;
@@ -95,7 +95,7 @@ impl Node {
         agree: &'a Agree,
         view: Option<&'a View>,
     ) -> Ground<'a>
-        requires { IsGround self.now.now hearing.now agree.now view }
+        requires { IsGroundOf self.now.now hearing.now agree.now view }
         ensures { result ≡ grounded self.now.now hearing.now agree.now view.entry }
     {
         Ground {

@@ -20,7 +20,7 @@ use Rattle.node_rules.specs.Messages as due
 use Rattle.node_rules.specs.Notes.{note, noted, all_sent, reached}
 use Rattle.node_rules.specs.Requests.{stop_if}
 use Rattle.node_rules.specs.Settling.{line_if}
-use Rattle.node_rules.specs.Steps.{after, after_message, after_stop}
+use Rattle.node_rules.specs.Steps.{facts_after, after_message, after_stop}
 use Rattle.node_rules.specs.Transactions.{Transaction, Write}
 use Rattle.node_rules.proofs.NoteLaws.{noted-append}
 
@@ -67,15 +67,15 @@ closing_keeps g me key [] = refl
 closing_keeps g me key (t ∷ ts) = closing_keeps (note None g (ending me key t.number t.applied)) me key ts ∙ ending_keeps g me key t.number t.applied
 
 enter_agrees : (g : Facts) (me : ℕ) (key : ClusterKey) (ms : List Member) (b : Bool)
-    → (noted None g (line.Enter me key ms ∷ exchanging me key b)).agreement ≡ agreement.entering g.agreement key
+    → (noted None g (line.Enter me key ms ∷ exchanging me key b)).agreement ≡ agreement.agreement_entered g.agreement key
 enter_agrees g me key ms true = refl
 enter_agrees g me key ms false = refl
 
-pub entering_agrees : (f g : Facts) (key : ClusterKey) (ms : List Member) → (noted None g (entering f key ms)).agreement ≡ agreement.entering g.agreement key
+pub entering_agrees : (f g : Facts) (key : ClusterKey) (ms : List Member) → (noted None g (entering f key ms)).agreement ≡ agreement.agreement_entered g.agreement key
 entering_agrees f g key ms =
     ap (λ (h : Facts). h.agreement) (noted-append None g (closing f) (line.Enter f.me key ms ∷ exchanging f.me key (is_single ms)))
     ∙ enter_agrees (noted None g (closing f)) f.me key ms (is_single ms)
-    ∙ ap (λ (a : Agreement). agreement.entering a key) (closing_keeps g f.me (view_key f) f.transactions.running)
+    ∙ ap (λ (a : Agreement). agreement.agreement_entered a key) (closing_keeps g f.me (view_key f) f.transactions.running)
 
 commits_keep : (g : Facts) (ns : List ℕ) (key : ClusterKey) (ms : List Member) → all_sent g (to_each ns (message.Commit key ms)) ≡ g
 commits_keep g [] key ms = refl
@@ -84,7 +84,8 @@ commits_keep g (n ∷ ns) key ms = commits_keep g ns key ms
 -- ---- messages
 
 voted : (f : Facts) (from : ℕ) (key : ClusterKey) (b : Bool) → key_lt key f.agreement.promised ≡ b
-    → (after None f (due.voting f from key b)).agreement ≡ agreement.voting f.agreement key
+    → (facts_after None f (due.vote_effects f from key b)).agreement
+    ≡ agreement.voting f.agreement key
 voted f from key true e = sym (ap (agreement.promising_if f.agreement key) (not_above key f.agreement.promised e))
 voted f from key false e = go (key_lt f.agreement.promised key)
   where
@@ -97,15 +98,16 @@ pub propose_agrees : (f : Facts) (clock from : ℕ) (key : ClusterKey) (ms : Lis
 propose_agrees f clock from key ms = voted f from key (key_lt key f.agreement.promised) refl
 
 committed : (f g : Facts) (p : Proposal) (key : ClusterKey) (b : Bool) → p.key ≡ key
-    → (after None g (due.committing f p b)).agreement ≡ agreement.entering_if g.agreement key b
+    → (facts_after None g (due.commit_effects f p b)).agreement
+    ≡ agreement.entering_if g.agreement key b
 committed f g p key false same = refl
 committed f g p key true same =
-    ap (λ (h : Facts). h.agreement) (commits_keep (noted None g (entering f p.key p.members)) (agreement.others f.me p.members) p.key p.members)
+    ap (λ (h : Facts). h.agreement) (commits_keep (noted None g (entering f p.key p.members)) (agreement.others_among f.me p.members) p.key p.members)
     ∙ entering_agrees f g p.key p.members
-    ∙ ap (λ (k : ClusterKey). agreement.entering g.agreement k) same
+    ∙ ap (λ (k : ClusterKey). agreement.agreement_entered g.agreement k) same
 
 counted : (f g : Facts) (from : ℕ) (key : ClusterKey) (o : Option Proposal) (b : Bool) → proposes o key ≡ b
-    → (after None g (due.counting f from key o b)).agreement ≡ agreement.entering_if g.agreement key (b && agreement.is_accepted_with o from)
+    → (facts_after None g (due.accept_effects f from key o b)).agreement ≡ agreement.entering_if g.agreement key (b && agreement.is_accepted_with o from)
 counted f g from key None true e = cc
 counted f g from key None false e = refl
 counted f g from key (Some p) false e = refl
@@ -119,7 +121,7 @@ pub refuse_agrees : (f : Facts) (clock from : ℕ) (key promised : ClusterKey)
     → (after_message f clock from (message.Refuse key promised)).agreement ≡ agreement.refusing f.agreement key promised
 refuse_agrees f clock from key promised = go (proposes f.agreement.proposal key)
   where
-    go : (b : Bool) → (after None (reached f from (message.Refuse key promised)) (due.unless_stale f b)).agreement ≡ agreement.refusing f.agreement key promised
+    go : (b : Bool) → (facts_after None (reached f from (message.Refuse key promised)) (due.unless_stale f b)).agreement ≡ agreement.refusing f.agreement key promised
     go true = refl
     go false = refl
 
@@ -127,13 +129,13 @@ pub commit_agrees : (f : Facts) (clock from : ℕ) (key : ClusterKey) (ms : List
     → (after_message f clock from (message.Commit key ms)).agreement ≡ agreement.committing f.me f.agreement key ms
 commit_agrees f clock from key ms = go (agreement.may_enter f.me f.agreement key ms)
   where
-    go : (b : Bool) → (after None f (due.entering_if f key ms b)).agreement ≡ agreement.entering_if f.agreement key b
+    go : (b : Bool) → (facts_after None f (due.entry_effects_if f key ms b)).agreement ≡ agreement.entering_if f.agreement key b
     go true = entering_agrees f f key ms
     go false = refl
 
 -- ---- a stop
 
-stop_agrees_if : (f : Facts) (b : Bool) → b ≡ true → (after None f (stop_if f b)).agreement ≡ agreement.stopping f.agreement
+stop_agrees_if : (f : Facts) (b : Bool) → b ≡ true → (facts_after None f (stop_if f b)).agreement ≡ agreement.stopping f.agreement
 stop_agrees_if f false e = cc
 stop_agrees_if f true e =
     ap (λ (h : Facts). h.agreement) (noted-append None f (closing f) (line.Stop f.me ∷ []))

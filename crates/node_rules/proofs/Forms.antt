@@ -7,7 +7,7 @@ use Rattle.node_rules.specs.Facts.{Facts, list_at}
 use Rattle.node_rules.specs.Messages.{moved_from}
 use Rattle.node_rules.specs.Notes.{stamped_from, stamped_at, count_in}
 use Rattle.node_rules.specs.Stamps.{stamped_by}
-use Rattle.node_rules.specs.Standing.{knows_settled, knows_all_settled, has_nothing_to_learn_or_drop, is_to_learn, is_to_drop, is_done, has_moved, is_all_empty, is_replica}
+use Rattle.node_rules.specs.Standing.{knows_settled, knows_all_settled, has_nothing_to_learn_or_drop, is_to_learn, is_to_drop, is_done, has_moved, is_all_empty, is_own_replica}
 use Rattle.node_rules.specs.Tables.{all_from, bits_from}
 use Rattle.node_rules.specs.Tick.{done_from}
 
@@ -35,7 +35,7 @@ moved_by f zero p = refl
 moved_by f (suc n) p = ap (λ bs. has_moved f p ∷ bs) (moved_by f n (p + 1))
 
 pub stamps_by : (f : Facts) (key : ClusterKey) (stamps : Stamps) (n p : ℕ)
-    → stamped_from f key stamps n p ≡ stamped_by (λ q. is_all_empty f q && is_replica f (list_at f q)) (λ q. count_in f (list_at f q) q) key stamps n p
+    → stamped_from f key stamps n p ≡ stamped_by (λ q. is_all_empty f q && is_own_replica f (list_at f q)) (λ q. count_in f (list_at f q) q) key stamps n p
 unfolding stamped_from stamped_by
 stamps_by f key stamps zero p = refl
 stamps_by f key stamps (suc n) p = stamps_by f key (stamped_at f key (list_at f p) p stamps) n (p + 1)

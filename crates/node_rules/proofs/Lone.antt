@@ -23,21 +23,21 @@ use Rattle.node_rules.specs.Examples.{key, lone, itself, ticked_twice, in_its_vi
 use Rattle.node_rules.specs.Facts.{Facts, list_at}
 use Rattle.node_rules.specs.Notes.{note, noted, entered}
 use Rattle.node_rules.specs.Requests.{due_request}
-use Rattle.node_rules.specs.Settling.{hand, settle, learn, drop, line_if, and_then, settling_at, settling_from}
-use Rattle.node_rules.specs.Standing.{knows_settled, knows_all_settled, is_replica, is_done}
-use Rattle.node_rules.specs.Steps.{after, after_tick}
-use Rattle.node_rules.specs.Tick.{Part, in_order, rows, transactions, batches, settlings, progress, progress_if, due_tick}
+use Rattle.node_rules.specs.Settling.{hand, settle, learn, drop, line_if, lines_then, settling_at, settling_from}
+use Rattle.node_rules.specs.Standing.{knows_settled, knows_all_settled, is_own_replica, is_done}
+use Rattle.node_rules.specs.Steps.{facts_after, after_tick}
+use Rattle.node_rules.specs.Tick.{Part, parts_in_order, rows, transactions, batches, settlings, progress, progress_if, due_tick}
 use Rattle.node_rules.proofs.Empty.{empty_row, clear_bit}
 
 -- ---- where nothing is due
 
-no_lines : (first second : Facts → List Line) (f : Facts) → first f ≡ [] → second f ≡ [] → and_then first second f ≡ []
+no_lines : (first second : Facts → List Line) (f : Facts) → first f ≡ [] → second f ≡ [] → lines_then first second f ≡ []
 no_lines first second f a b = ap (λ ls. ls ++ second (noted None f ls)) a ∙ b
 
 none_at : (l : List ℕ) (p : ℕ) (f : Facts) → hand f l p ≡ [] → settle f l p ≡ [] → learn f l p ≡ [] → drop f l p ≡ [] → settling_at l p f ≡ []
 none_at l p f a b c d =
-    no_lines (λ g. hand g l p) (and_then (λ g. settle g l p) (and_then (λ g. learn g l p) (λ g. drop g l p))) f a
-    (no_lines (λ g. settle g l p) (and_then (λ g. learn g l p) (λ g. drop g l p)) f b (no_lines (λ g. learn g l p) (λ g. drop g l p) f c d))
+    no_lines (λ g. hand g l p) (lines_then (λ g. settle g l p) (lines_then (λ g. learn g l p) (λ g. drop g l p))) f a
+    (no_lines (λ g. settle g l p) (lines_then (λ g. learn g l p) (λ g. drop g l p)) f b (no_lines (λ g. learn g l p) (λ g. drop g l p) f c d))
 
 none_from : (f : Facts) → ((p : ℕ) → settling_at (list_at f p) p f ≡ []) → (n p : ℕ) → settling_from n p f ≡ []
 unfolding settling_from
@@ -49,8 +49,8 @@ unfolding knows_all_settled
 all_from f each zero p = refl
 all_from f each (suc n) p = ap₂ (λ a b. a && b) (each p) (all_from f each n (p + 1))
 
-nothing_more : (part : Part) (parts : List Part) (f : Facts) → part f ≡ nothing → in_order parts f ≡ nothing → in_order (part ∷ parts) f ≡ nothing
-nothing_more part parts f a b = ap (λ e. followed_by e (in_order parts (noted None f e.lines))) a ∙ b
+nothing_more : (part : Part) (parts : List Part) (f : Facts) → part f ≡ nothing → parts_in_order parts f ≡ nothing → parts_in_order (part ∷ parts) f ≡ nothing
+nothing_more part parts f a b = ap (λ e. followed_by e (parts_in_order parts (noted None f e.lines))) a ∙ b
 
 -- ---- the node in its view
 
@@ -74,8 +74,8 @@ only_one p = refl
 none_due : (p : ℕ) → settling_at (1 ∷ []) p alone ≡ []
 none_due p =
     none_at (1 ∷ []) p alone refl refl
-    (ap (λ b. line_if (line.Learn 1 (key 1 1) p) (b && (is_replica alone (1 ∷ []) && not (bit alone.bits.learnt p)))) (clear_bit p))
-    (ap (λ b. line_if (line.Drop 1 (key 1 1) p) (b && (is_done alone p && (not (is_replica alone (1 ∷ [])) && holds_of alone.store.content p)))) (clear_bit p))
+    (ap (λ b. line_if (line.Learn 1 (key 1 1) p) (b && (is_own_replica alone (1 ∷ []) && not (bit alone.bits.learnt p)))) (clear_bit p))
+    (ap (λ b. line_if (line.Drop 1 (key 1 1) p) (b && (is_done alone p && (not (is_own_replica alone (1 ∷ [])) && holds_of alone.store.content p)))) (clear_bit p))
 
 none_due_at : (p : ℕ) → settling_at (list_at alone p) p alone ≡ []
 none_due_at p = ap (λ l. settling_at l p alone) (only_one p) ∙ none_due p
@@ -102,7 +102,7 @@ from_transactions = transactions ∷ from_batches
 abbrev from_rows : List Part
 from_rows = rows ∷ from_transactions
 
-rest : in_order from_rows alone ≡ nothing
+rest : parts_in_order from_rows alone ≡ nothing
 rest =
     nothing_more rows from_transactions alone refl
     (nothing_more transactions from_batches alone refl
@@ -118,7 +118,7 @@ abbrev with_rest : Effects → Effects
 with_rest e = followed_by (lines_only (line.Tick 1 ∷ [])) (followed_by nothing (followed_by (lines_only entering_lines) e))
 
 abbrev rest_with_row : Row → Effects
-rest_with_row row = in_order from_rows (with_own_row row)
+rest_with_row row = parts_in_order from_rows (with_own_row row)
 
 pub first_tick : due_tick lone ≡ lines_only (line.Tick 1 ∷ [])
 first_tick = refl
@@ -133,7 +133,8 @@ pub third_tick : due_tick ticked_twice ≡ lines_only (line.Tick 1 ∷ entering_
 third_tick = third_with_row ∙ ap (λ row. with_rest (rest_with_row row)) its_row_is_empty ∙ ap with_rest rest
 
 pub entered_view : in_its_view ≡ alone
-entered_view = ap (λ e. after None ticked_twice e) third_tick ∙ ap with_own_row its_row_is_empty
+entered_view = ap (λ e. facts_after None ticked_twice e) third_tick
+    ∙ ap with_own_row its_row_is_empty
 
 -- ---- a put and a get
 
@@ -166,8 +167,8 @@ with_hi = noted (Some (want.Put hi)) alone put_lines
 
 pub after_put : having_hi ≡ with_hi
 after_put =
-    ap (λ f. after (Some (want.Put hi)) f (due_request f 0 zeros (want.Put hi))) entered_view
-    ∙ ap (λ e. after (Some (want.Put hi)) alone e) put_alone
+    ap (λ f. facts_after (Some (want.Put hi)) f (due_request f 0 zeros (want.Put hi))) entered_view
+    ∙ ap (λ e. facts_after (Some (want.Put hi)) alone e) put_alone
 
 abbrev get_of : Option Version → Effects
 get_of best = lines_only (line.Opened 1 (key 1 1) 2 zeros action.Get ∷ line.Value 1 (key 1 1) 2 zeros best ∷ [])

@@ -27,15 +27,15 @@ use Rattle.node_rules.specs.Effects.{to_each}
 use Rattle.node_rules.specs.Entering.{ending, exchanging, closing, entering}
 use Rattle.node_rules.specs.Exchange.{is_single}
 use Rattle.node_rules.specs.Facts.{Facts, view_key, list_at}
-use Rattle.node_rules.specs.Map.{master}
+use Rattle.node_rules.specs.Map.{list_master}
 use Rattle.node_rules.specs.Merging.{newer_records, store_merged_all}
 use Rattle.node_rules.specs.Messages as due
-use Rattle.node_rules.specs.Notes.{note, noted, sent, all_sent, reached, entered, own_row, closed, in_view, if_view, row_came, batch_acked, progress_came, counted_if, write_came, write_acked, answer_came, new_transaction, opened, stopped, started, next_nth}
-use Rattle.node_rules.specs.Requests.{request_if, asking, refusal_of, stop_if, start_if}
+use Rattle.node_rules.specs.Notes.{note, noted, sent, all_sent, reached, entered, own_row, closed, in_view, if_view, row_came, batch_acked, progress_came, write_counted_if, write_came, write_acked, answer_came, opening_transaction, transaction_opened, stopped, started, next_nth}
+use Rattle.node_rules.specs.Requests.{request_if, asking, request_refusal, stop_if, start_if}
 use Rattle.node_rules.specs.Resolving.{repl, resolving_want, writing, done_if}
 use Rattle.node_rules.specs.Settling.{line_if}
 use Rattle.node_rules.specs.Standing.{knows_all_settled, other_replicas}
-use Rattle.node_rules.specs.Steps.{after, after_message, after_request, after_stop, after_start}
+use Rattle.node_rules.specs.Steps.{facts_after, after_message, after_request, after_stop, after_start}
 use Rattle.node_rules.specs.Transactions as transactions
 use Rattle.node_rules.specs.Transactions.{Transaction, Transactions, Write, transaction, ends_by_ack, closing_if, awaits_ack, awaits_answer, is_last_awaited, acknowledging, answered}
 use Rattle.node_rules.proofs.Agreeing.{propose_agrees}
@@ -71,7 +71,7 @@ entering_is f g key ms =
 
 -- ---- agreement
 
-voted_is : (f : Facts) (from : ℕ) (key : ClusterKey) (b : Bool) → after None f (due.voting f from key b) ≡ record f { agreement = (after None f (due.voting f from key b)).agreement }
+voted_is : (f : Facts) (from : ℕ) (key : ClusterKey) (b : Bool) → facts_after None f (due.vote_effects f from key b) ≡ record f { agreement = (facts_after None f (due.vote_effects f from key b)).agreement }
 voted_is f from key true = refl
 voted_is f from key false = go (key_lt f.agreement.promised key)
   where
@@ -89,7 +89,7 @@ pub refuse_is : (f : Facts) (clock from : ℕ) (key promised : ClusterKey)
     → after_message f clock from (message.Refuse key promised) ≡ record f { agreement = agreement.refusing f.agreement key promised }
 refuse_is f clock from key promised = go (proposes f.agreement.proposal key)
   where
-    go : (b : Bool) → after None (reached f from (message.Refuse key promised)) (due.unless_stale f b) ≡ record f { agreement = agreement.refusing f.agreement key promised }
+    go : (b : Bool) → facts_after None (reached f from (message.Refuse key promised)) (due.unless_stale f b) ≡ record f { agreement = agreement.refusing f.agreement key promised }
     go true = refl
     go false = refl
 
@@ -99,12 +99,13 @@ commits_go g (n ∷ ns) key ms = commits_go g ns key ms
 
 -- nobody enters
 counted_is : (f g : Facts) (from : ℕ) (key : ClusterKey) (o : Option Proposal) (b : Bool)
-    → (b && is_accepted_with o from) ≡ false → after None g (due.counting f from key o b) ≡ g
+    → (b && is_accepted_with o from) ≡ false
+    → facts_after None g (due.accept_effects f from key o b) ≡ g
 counted_is f g from key None b e = refl
 counted_is f g from key (Some p) false e = refl
 counted_is f g from key (Some p) true e = go (is_nil (without_missing p from).missing) e
   where
-    go : (b : Bool) → b ≡ false → after None g (due.committing f p b) ≡ g
+    go : (b : Bool) → b ≡ false → facts_after None g (due.commit_effects f p b) ≡ g
     go false e = refl
     go true e = cc
 
@@ -132,16 +133,16 @@ entered_same : (f : Facts) (from : ℕ) (k key : ClusterKey) (ms : List Member) 
 entered_same f from k key ms =
     ap (λ (a : Agreement). exchanged_if (record (entered f key ms (own_row f)) { agreement = a }) key (is_single ms)) (go (proposes f.agreement.proposal k))
   where
-    go : (b : Bool) → agreement.entering (agreement.accepting_if f.agreement from b) key ≡ agreement.entering f.agreement key
+    go : (b : Bool) → agreement.agreement_entered (agreement.accepting_if f.agreement from b) key ≡ agreement.agreement_entered f.agreement key
     go true = refl
     go false = refl
 
-committed_is : (f g : Facts) (p : Proposal) (b : Bool) → b ≡ true → after None g (due.committing f p b) ≡ view_entered g p.key p.members
+committed_is : (f g : Facts) (p : Proposal) (b : Bool) → b ≡ true → facts_after None g (due.commit_effects f p b) ≡ view_entered g p.key p.members
 committed_is f g p false e = cc
-committed_is f g p true e = commits_go (noted None g (entering f p.key p.members)) (agreement.others f.me p.members) p.key p.members ∙ entering_is f g p.key p.members
+committed_is f g p true e = commits_go (noted None g (entering f p.key p.members)) (agreement.others_among f.me p.members) p.key p.members ∙ entering_is f g p.key p.members
 
 all_counted : (f g : Facts) (from : ℕ) (key : ClusterKey) (p : Proposal) (b : Bool) → b ≡ true → is_accepted_with (Some p) from ≡ true
-    → after None g (due.counting f from key (Some p) b) ≡ view_entered g p.key p.members
+    → facts_after None g (due.accept_effects f from key (Some p) b) ≡ view_entered g p.key p.members
 all_counted f g from key p false e i = cc
 all_counted f g from key p true e i = committed_is f g p (is_nil (without_missing p from).missing) i
 
@@ -149,15 +150,16 @@ pub last_accept_is : (f : Facts) (clock from : ℕ) (key : ClusterKey) (p : Prop
     → after_message f clock from (message.Accept key) ≡ view_entered f p.key p.members
 last_accept_is f clock from key p e i =
     let g = reached f from (message.Accept key) in
-    ap (λ (o : Option Proposal). after None g (due.counting f from key o (proposes o key))) e
+    ap (λ (o : Option Proposal). facts_after None g
+    (due.accept_effects f from key o (proposes o key))) e
     ∙ all_counted f g from key p (proposes (Some p) key) (and_left (proposes (Some p) key) _ i) (and_right (proposes (Some p) key) _ i)
     ∙ entered_same f from key p.key p.members
 
 pub commit_is : (f : Facts) (clock from : ℕ) (key : ClusterKey) (ms : List Member)
-    → after_message f clock from (message.Commit key ms) ≡ (if due.may_enter f key ms then view_entered f key ms else f)
-commit_is f clock from key ms = go (due.may_enter f key ms)
+    → after_message f clock from (message.Commit key ms) ≡ (if due.may_enter_view f key ms then view_entered f key ms else f)
+commit_is f clock from key ms = go (due.may_enter_view f key ms)
   where
-    go : (b : Bool) → after None f (due.entering_if f key ms b) ≡ (if b then view_entered f key ms else f)
+    go : (b : Bool) → facts_after None f (due.entry_effects_if f key ms b) ≡ (if b then view_entered f key ms else f)
     go true = entering_is f f key ms
     go false = refl
 
@@ -174,7 +176,7 @@ state_is f clock from key wants row = go (in_view f key)
     deep false true = refl
     deep false false = refl
 
-    go : (b : Bool) → after None (row_came f from row b) (due.state_came f (row_came f from row b) from wants b)
+    go : (b : Bool) → facts_after None (row_came f from row b) (due.state_came f (row_came f from row b) from wants b)
         ≡ if_view b (exchanged_if (row_came f from row true) (view_key f) (due.finishes f (row_came f from row true))) f
     go true = deep (due.finishes f (row_came f from row true)) wants
     go false = refl
@@ -183,18 +185,18 @@ pub batch_is : (f : Facts) (clock from : ℕ) (b : Batch)
     → after_message f clock from (message.Batch b) ≡ if_view (in_view f b.key) (record f { store = store_merged_all f.store (view_key f) (newer_records f.store.by f.store.content b.records) }) f
 batch_is f clock from b = go (in_view f b.key)
   where
-    go : (c : Bool) → after None f (due.batch_came f from b c) ≡ if_view c (record f { store = store_merged_all f.store (view_key f) (newer_records f.store.by f.store.content b.records) }) f
+    go : (c : Bool) → facts_after None f (due.batch_came f from b c) ≡ if_view c (record f { store = store_merged_all f.store (view_key f) (newer_records f.store.by f.store.content b.records) }) f
     go true = merges_facts f b.records
     go false = refl
 
 pub batch_ack_is : (f : Facts) (clock from : ℕ) (key : ClusterKey) (number : ℕ) → after_message f clock from (message.BatchAck key number) ≡ batch_acked f from number (in_view f key)
 batch_ack_is f clock from key number = go (in_view f key)
   where
-    deep : (b c : Bool) → after None (batch_acked f from number b) (due.unless_spent f c) ≡ batch_acked f from number b
+    deep : (b c : Bool) → facts_after None (batch_acked f from number b) (due.unless_spent f c) ≡ batch_acked f from number b
     deep b true = refl
     deep b false = refl
 
-    go : (b : Bool) → after None (batch_acked f from number b) (due.batch_ack_came f from number b) ≡ batch_acked f from number b
+    go : (b : Bool) → facts_after None (batch_acked f from number b) (due.batch_ack_came f from number b) ≡ batch_acked f from number b
     go true = deep true (has_number (out_to f.batches from) number)
     go false = refl
 
@@ -202,28 +204,29 @@ pub progress_is : (f : Facts) (clock from : ℕ) (key : ClusterKey) (wants : Boo
     → after_message f clock from (message.Progress key wants done handed settled) ≡ progress_came f from done handed settled (in_view f key)
 progress_is f clock from key wants done handed settled = go (in_view f key)
   where
-    deep : (g : Facts) (b : Bool) → after None g (due.answer_progress partition_count g from b) ≡ g
+    deep : (g : Facts) (b : Bool)
+        → facts_after None g (due.answer_progress partition_count g from b) ≡ g
     deep g true = refl
     deep g false = refl
 
-    go : (b : Bool) → after None (progress_came f from done handed settled b) (due.progress_came partition_count f (progress_came f from done handed settled b) from wants b) ≡ progress_came f from done handed settled b
+    go : (b : Bool) → facts_after None (progress_came f from done handed settled b) (due.progress_effects_if partition_count f (progress_came f from done handed settled b) from wants b) ≡ progress_came f from done handed settled b
     go true = deep (progress_came f from done handed settled true) (wants && knows_all_settled (progress_came f from done handed settled true) partition_count 0)
     go false = refl
 
 pub repl_is : (f : Facts) (clock from : ℕ) (key : ClusterKey) (t nth : ℕ) (digest : List ℕ) (v : Version)
     → after_message f clock from (message.Repl key t nth digest v)
-    ≡ if_view (in_view f key) (merged_if (counted_if f key (list_at f (partition_of digest)) (partition_of digest) nth (from == master (list_at f (partition_of digest)))) (view_key f) digest v
+    ≡ if_view (in_view f key) (merged_if (write_counted_if f key (list_at f (partition_of digest)) (partition_of digest) nth (from == list_master (list_at f (partition_of digest)))) (view_key f) digest v
     (is_newer f.store.by v (finite.get f.store.content digest))) f
 repl_is f clock from key t nth digest v = go (in_view f key)
   where
     heard : Facts
-    heard = counted_if f key (list_at f (partition_of digest)) (partition_of digest) nth (from == master (list_at f (partition_of digest)))
+    heard = write_counted_if f key (list_at f (partition_of digest)) (partition_of digest) nth (from == list_master (list_at f (partition_of digest)))
 
     deep : (b : Bool) → noted None heard (line_if (line.Merge f.me (view_key f) digest v) b) ≡ merged_if heard (view_key f) digest v b
     deep true = refl
     deep false = refl
 
-    go : (b : Bool) → after None (write_came f from key nth (partition_of digest) b) (due.repl_came f from key t digest v b)
+    go : (b : Bool) → facts_after None (write_came f from key nth (partition_of digest) b) (due.repl_came f from key t digest v b)
         ≡ if_view b (merged_if heard (view_key f) digest v (is_newer f.store.by v (finite.get f.store.content digest))) f
     go true = deep (is_newer f.store.by v (finite.get f.store.content digest))
     go false = refl
@@ -247,20 +250,21 @@ repl_ack_is f clock from key number = go (in_view f key)
   where
     last : (t : Transaction) (b : Bool) → t.number ≡ number
         → noted None (write_acked f from number true) (line_if (line.Done f.me (view_key f) t.number) b) ≡ record f { transactions = closing_if (acknowledging f.transactions from number) number b }
-    last t true e = ap (λ (k : ℕ). record f { transactions = transactions.closing (acknowledging f.transactions from number) k }) e
+    last t true e = ap (λ (k : ℕ). record f { transactions = transactions.without_transaction (acknowledging f.transactions from number) k }) e
     last t false e = refl
 
-    mid : (t : Transaction) (a : Bool) → t.number ≡ number → after None (write_acked f from number true) (due.done_by f t from a)
+    mid : (t : Transaction) (a : Bool) → t.number ≡ number → facts_after None (write_acked f from number true) (due.done_by f t from a)
         ≡ record f { transactions = closing_if (acknowledging f.transactions from number) number (a && is_last_awaited t from) }
     mid t true e = last t (is_last_awaited t from) e
     mid t false e = refl
 
-    deep : (o : Option Transaction) → transaction f.transactions number ≡ o → after None (write_acked f from number true) (due.ack_of f from o)
+    deep : (o : Option Transaction) → transaction f.transactions number ≡ o → facts_after None (write_acked f from number true) (due.ack_of f from o)
         ≡ record f { transactions = closing_if (acknowledging f.transactions from number) number (ends_by_ack o from) }
     deep None e = refl
     deep (Some t) e = mid t (awaits_ack t from) (has_that number f.transactions.running t e)
 
-    go : (b : Bool) → after None (write_acked f from number b) (due.repl_ack_came f from number b)
+    go : (b : Bool)
+        → facts_after None (write_acked f from number b) (due.repl_ack_came f from number b)
         ≡ if_view b (record f { transactions = closing_if (acknowledging f.transactions from number) number (ends_by_ack (transaction f.transactions number) from) }) f
     go true = deep (transaction f.transactions number) refl
     go false = refl
@@ -268,7 +272,7 @@ repl_ack_is f clock from key number = go (in_view f key)
 pub ask_is : (f : Facts) (clock from : ℕ) (key : ClusterKey) (t : ℕ) (digest : List ℕ) → after_message f clock from (message.Ask key t digest) ≡ f
 ask_is f clock from key t digest = go (in_view f key)
   where
-    go : (b : Bool) → after None f (due.ask_came f from key t digest b) ≡ f
+    go : (b : Bool) → facts_after None f (due.ask_came f from key t digest b) ≡ f
     go true = refl
     go false = refl
 
@@ -279,20 +283,20 @@ repls_go g (n ∷ ns) m e = ap (λ (h : Facts). all_sent h (to_each ns m)) (e g 
 -- the facts with the transaction resolved, of which its lines are told
 wrote_is : (q : Option Want) (f g : Facts) (l : List ℕ) (t : Transaction) (v : Version)
     → g.me ≡ f.me → view_key g ≡ view_key f → other_replicas g l ≡ other_replicas f l → l ≡ list_at g (partition_of t.digest)
-    → after q g (writing f l t v) ≡ with_applied_write g l t v
+    → facts_after q g (writing f l t v) ≡ with_applied_write g l t v
 wrote_is q f g l t v me key others here =
     repls_go (noted q g (writing f l t v).lines) (other_replicas f l) (repl f t (record { version = v; nth = next_nth f (partition_of t.digest) })) (λ h n. refl)
     ∙ go (is_nil (other_replicas f l))
-    ∙ ap (λ (ns : List ℕ). closed_if (Rattle.node_rules.specs.Notes.applied g (view_key g) l t.number t.digest v) t.number (is_nil ns)) (sym others)
+    ∙ ap (λ (ns : List ℕ). closed_if (Rattle.node_rules.specs.Notes.write_applied g (view_key g) l t.number t.digest v) t.number (is_nil ns)) (sym others)
   where
     go : (b : Bool) → noted q g (line.Apply f.me (view_key f) t.number t.digest v ∷ done_if f t.number b)
-        ≡ closed_if (Rattle.node_rules.specs.Notes.applied g (view_key g) l t.number t.digest v) t.number b
+        ≡ closed_if (Rattle.node_rules.specs.Notes.write_applied g (view_key g) l t.number t.digest v) t.number b
     go true = rw (sym key, here) refl
     go false = rw (sym key, here) refl
 
 resolved_is : (q : Option Want) (f g : Facts) (clock : ℕ) (l : List ℕ) (t : Transaction) (w : Want)
     → g.me ≡ f.me → view_key g ≡ view_key f → other_replicas g l ≡ other_replicas f l → l ≡ list_at g (partition_of t.digest)
-    → after q g (resolving_want f clock l t w) ≡ resolved_by g clock l t w
+    → facts_after q g (resolving_want f clock l t w) ≡ resolved_by g clock l t w
 resolved_is q f g clock l t want.Get me key others here = refl
 resolved_is q f g clock l t (want.Put bytes) me key others here = wrote_is q f g l t (next t.best clock (body.Value bytes)) me key others here
 resolved_is q f g clock l t want.Del me key others here = wrote_is q f g l t (next t.best clock body.Tombstone) me key others here
@@ -304,50 +308,50 @@ answer_is f clock from key number v = go (in_view f key)
     g : Facts
     g = answer_came f from number v true
 
-    last : (t : Transaction) (b : Bool) → after None g (due.resolving_if f clock t b) ≡ (if b then resolved g clock (list_at g (partition_of t.digest)) t else g)
+    last : (t : Transaction) (b : Bool) → facts_after None g (due.resolving_if f clock t b) ≡ (if b then resolved g clock (list_at g (partition_of t.digest)) t else g)
     last t true = resolved_is None f g clock (list_at f (partition_of t.digest)) t t.want refl refl refl refl
     last t false = refl
 
-    mid : (t : Transaction) (a : Bool) → after None g (due.answered_by f clock t from v a)
+    mid : (t : Transaction) (a : Bool) → facts_after None g (due.answered_by f clock t from v a)
         ≡ (if a && is_last_awaited t from then resolved g clock (list_at g (partition_of t.digest)) (answered g.store.by from v t) else g)
     mid t true = last (answered f.store.by from v t) (is_last_awaited t from)
     mid t false = refl
 
-    deep : (o : Option Transaction) → after None g (due.answer_of f clock from v o) ≡ resolved_with g clock from v o
+    deep : (o : Option Transaction) → facts_after None g (due.answer_of f clock from v o) ≡ resolved_with g clock from v o
     deep None = refl
     deep (Some t) = mid t (awaits_answer t from)
 
-    go : (b : Bool) → after None (answer_came f from number v b) (due.answer_came f clock from number v b) ≡ if_view b (resolved_with g clock from v (transaction f.transactions number)) f
+    go : (b : Bool) → facts_after None (answer_came f from number v b) (due.answer_effects_if f clock from number v b) ≡ if_view b (resolved_with g clock from v (transaction f.transactions number)) f
     go true = deep (transaction f.transactions number)
     go false = refl
 
 pub map_ask_is : (f : Facts) (clock from : ℕ) → after_message f clock from message.MapAsk ≡ f
 map_ask_is f clock from = go f.exchange.exchanged
   where
-    go : (b : Bool) → after None f (due.table_if f b) ≡ f
+    go : (b : Bool) → facts_after None f (due.table_if f b) ≡ f
     go true = refl
     go false = refl
 
 -- ---- requests
 
 pub request_is : (f : Facts) (clock : ℕ) (digest : List ℕ) (w : Want)
-    → after_request f clock digest w ≡ requested f clock (list_at f (partition_of digest)) digest w (refusal_of f (list_at f (partition_of digest)) digest)
-request_is f clock digest w = go (refusal_of f (list_at f (partition_of digest)) digest)
+    → after_request f clock digest w ≡ requested f clock (list_at f (partition_of digest)) digest w (request_refusal f (list_at f (partition_of digest)) digest)
+request_is f clock digest w = go (request_refusal f (list_at f (partition_of digest)) digest)
   where
     l : List ℕ
     l = list_at f (partition_of digest)
 
     t : Transaction
-    t = new_transaction f l (f.transactions.opened + 1) digest w
+    t = opening_transaction f l (f.transactions.opened + 1) digest w
 
     g : Facts
-    g = opened f l (f.transactions.opened + 1) digest w
+    g = transaction_opened f l (f.transactions.opened + 1) digest w
 
-    asked_to : (ns : List ℕ) → after (Some w) g (asking f clock l t ns) ≡ asked_or_resolved g clock l t ns
+    asked_to : (ns : List ℕ) → facts_after (Some w) g (asking f clock l t ns) ≡ asked_or_resolved g clock l t ns
     asked_to [] = resolved_is (Some w) f g clock l t w refl refl refl refl
     asked_to (n ∷ ns) = repls_go g (n ∷ ns) (message.Ask (view_key f) t.number t.digest) (λ h m. refl)
 
-    go : (o : Option Refusal) → after (Some w) f (request_if f clock l digest w o) ≡ requested f clock l digest w o
+    go : (o : Option Refusal) → facts_after (Some w) f (request_if f clock l digest w o) ≡ requested f clock l digest w o
     go (Some cause) = refl
     go None = asked_to t.awaiting
 
@@ -356,7 +360,7 @@ request_is f clock digest w = go (refusal_of f (list_at f (partition_of digest))
 pub stop_is : (f : Facts) → after_stop f ≡ (if f.up then stopped f else f)
 stop_is f = go f.up
   where
-    go : (b : Bool) → after None f (stop_if f b) ≡ (if b then stopped f else f)
+    go : (b : Bool) → facts_after None f (stop_if f b) ≡ (if b then stopped f else f)
     go true =
         noted-append None f (closing f) (line.Stop f.me ∷ [])
         ∙ ap stopped (closing_is f f.me (view_key f) f.transactions.running)
@@ -365,6 +369,6 @@ stop_is f = go f.up
 pub start_is : (f : Facts) → after_start f ≡ (if f.up then f else started f)
 start_is f = go f.up
   where
-    go : (b : Bool) → after None f (start_if f b) ≡ (if b then f else started f)
+    go : (b : Bool) → facts_after None f (start_if f b) ≡ (if b then f else started f)
     go true = refl
     go false = refl

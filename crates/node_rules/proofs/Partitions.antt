@@ -7,7 +7,7 @@ use Rattle.cluster_types.specs.declared.copy_state.CopyState.TheVariants.{Empty,
 use Rattle.cluster_types.specs.Partitions.{partition_count}
 use Rattle.cluster_types.specs.Rows.{bit}
 use Rattle.cluster_types.specs.StateRows.{IsStateRow, state_of}
-use Rattle.node_rules.specs.Copies.{Row, Store, copy_state, with_state, row_from}
+use Rattle.node_rules.specs.Copies.{Row, Store, store_state, with_state, row_from}
 use Rattle.node_rules.specs.Facts.{Facts, list_at}
 use Rattle.node_rules.specs.Map.{is_empty}
 use Rattle.node_rules.specs.Standing.{is_done, knows_settled, knows_all_settled, is_to_learn, is_to_drop, has_nothing_to_learn_or_drop}
@@ -31,22 +31,22 @@ lower_state : (s : Store) (n p q : ℕ) → q < p → state_of (row_from s n p) 
 unfolding row_from
 lower_state s zero p q lower = refl
 lower_state s (suc n) p q lower =
-    other_state p q (copy_state s p) (row_from s n (p + 1)) (λ e. absurd (omega (arith, lower, e)))
+    other_state p q (store_state s p) (row_from s n (p + 1)) (λ e. absurd (omega (arith, lower, e)))
     ∙ lower_state s n (p + 1) q (omega (arith, lower))
 
-state_from : (s : Store) (n p q : ℕ) → p ≤ q → q < p + n → state_of (row_from s n p) q ≡ copy_state s q
+state_from : (s : Store) (n p q : ℕ) → p ≤ q → q < p + n → state_of (row_from s n p) q ≡ store_state s q
 unfolding row_from
 state_from s zero p q low high = absurd (omega (arith, low, high))
 state_from s (suc n) p q low high = elim (eqb_tells p q) [
   | inl same ↦
-      subst (λ r. state_of (with_state p (copy_state s p) (row_from s n (p + 1))) r ≡ copy_state s r) same.1
-      (own_state p (copy_state s p) (row_from s n (p + 1)) (lower_state s n (p + 1) p (omega arith)))
+      subst (λ r. state_of (with_state p (store_state s p) (row_from s n (p + 1))) r ≡ store_state s r) same.1
+      (own_state p (store_state s p) (row_from s n (p + 1)) (lower_state s n (p + 1) p (omega arith)))
   | inr other ↦
-      other_state p q (copy_state s p) (row_from s n (p + 1)) other.1
+      other_state p q (store_state s p) (row_from s n (p + 1)) other.1
       ∙ state_from s n (p + 1) q (let above : p + 1 ≤ q = grind (arith, low, other.1) in above) (omega (arith, high))
 ]
 
-pub row_tells : (s : Store) (n p : ℕ) → p < n → state_of (row_from s n 0) p ≡ copy_state s p
+pub row_tells : (s : Store) (n p : ℕ) → p < n → state_of (row_from s n 0) p ≡ store_state s p
 row_tells s n p lower = state_from s n 0 p (omega arith) (omega (arith, lower))
 
 all_cons : {A : Type 0} (P : A → Type 0) (x : A) (xs : List A) → P x → All P xs → All P (x ∷ xs)
@@ -98,7 +98,7 @@ row_from-IsRowFrom s zero p = record {
   below = λ k d within. absurd (omega (arith, within));
   none_empty = λ k d within. absurd (omega (arith, within));
 }
-row_from-IsRowFrom s (suc n) p = with_state-IsRowFrom n p (copy_state s p) (row_from s n (p + 1)) (row_from-IsRowFrom s n (p + 1))
+row_from-IsRowFrom s (suc n) p = with_state-IsRowFrom n p (store_state s p) (row_from s n (p + 1)) (row_from-IsRowFrom s n (p + 1))
 
 pub row_is_row : (s : Store) (n : ℕ) → n ≤ partition_count → IsStateRow (row_from s n 0)
 row_is_row s n few =

@@ -20,9 +20,9 @@ use Rattle.node_rules.specs.Facts.{Facts, view_key}
 use Rattle.node_rules.specs.Hearing.{heard_ids}
 use Rattle.node_rules.specs.Notes.{note, noted, sent, all_sent, neighbours, after_ages}
 use Rattle.node_rules.specs.Resolving.{repl}
-use Rattle.node_rules.specs.Settling.{settling}
+use Rattle.node_rules.specs.Settling.{settling_due}
 use Rattle.node_rules.specs.Standing.{others}
-use Rattle.node_rules.specs.Steps.{after, after_tick}
+use Rattle.node_rules.specs.Steps.{facts_after, after_tick}
 use Rattle.node_rules.specs.Tick as tick
 use Rattle.node_rules.specs.Tick.{is_candidate, propose}
 use Rattle.node_rules.specs.Transactions.{Transaction, Write}
@@ -76,12 +76,12 @@ proposed_sends : (g f : Facts) (o : Option Proposal) → all_sent f (tick.propos
 proposed_sends g f (Some p) = proposes_alone p.missing p.key p.members f
 proposed_sends g f None = go (is_candidate g && agreement.has_round g.agreement)
   where
-    deep : (key : ClusterKey) (set : List Member) (ns : List ℕ) → all_sent f (tick.proposing_to g key set ns).sends ≡ record f { agreement = (all_sent f (tick.proposing_to g key set ns).sends).agreement }
+    deep : (key : ClusterKey) (set : List Member) (ns : List ℕ) → all_sent f (tick.proposal_effects g key set ns).sends ≡ record f { agreement = (all_sent f (tick.proposal_effects g key set ns).sends).agreement }
     deep key set [] = refl
     deep key set (n ∷ ns) = proposes_alone (n ∷ ns) key set f
 
     go : (b : Bool) → all_sent f (tick.propose_new g b).sends ≡ record f { agreement = (all_sent f (tick.propose_new g b).sends).agreement }
-    go true = deep (agreement.next_key g.me g.agreement) (neighbours g) (agreement.others g.me (neighbours g))
+    go true = deep (agreement.next_key g.me g.agreement) (neighbours g) (agreement.others_among g.me (neighbours g))
     go false = refl
 
 -- batches change what is out alone
@@ -137,7 +137,7 @@ lines_are n f ls =
     ∙ ap (λ (more : List Line). noted None (noted None f2 ls) (more ++ [])) (progress_lines n (noted None f2 ls) _)
 
 parts_are : (n : ℕ) (f : Facts)
-    → after None f (tick.in_order (tick.parts n) f)
+    → facts_after None f (tick.parts_in_order (tick.parts n) f)
     ≡ record (settled_facts n f) {
       agreement = (all_sent (settled_facts n f) (propose (after_ages f)).sends).agreement;
       batches = sending_all (settled_facts n f).batches (batches_due (view_key (proposed_facts f)) (proposed_facts f).store.content (proposed_facts f).batches);
@@ -147,7 +147,7 @@ parts_are n f =
     let f2 : Facts = proposed_facts f in
     let f3 : Facts = settled_facts n f in
     ap (λ (k : Facts). all_sent k ((tick.beat f1).sends ++ ((propose f1).sends ++ ((tick.rows f2).sends ++ ((tick.transactions f2).sends ++ ((tick.batches f2).sends ++ ((tick.progress n f3).sends ++ [])))))))
-    (lines_are n f1 (settling n f2))
+    (lines_are n f1 (settling_due n f2))
     ∙ sends_are n f1 f2 f3 f3
 
 pub up_is : (f : Facts) → f.up ≡ true
@@ -157,7 +157,7 @@ pub up_is : (f : Facts) → f.up ≡ true
       batches = sending_all (settled_facts partition_count f).batches (batches_due (view_key (proposed_facts f)) (proposed_facts f).store.content (proposed_facts f).batches);
     }
 up_is f up =
-    let whole : after_tick f ≡ after None f (tick.in_order (tick.parts partition_count) f) = ap (λ (b : Bool). after None f (tick.tick_if partition_count f b)) up in
+    let whole : after_tick f ≡ facts_after None f (tick.parts_in_order (tick.parts partition_count) f) = ap (λ (b : Bool). facts_after None f (tick.tick_if partition_count f b)) up in
     let parts = whole ∙ parts_are partition_count f in
     let agrees : (all_sent (settled_facts partition_count f) (propose (after_ages f)).sends).agreement ≡ agreement.ticking f.me f.agreement (neighbours (after_ages f)) (is_candidate (after_ages f)) =
     sym (ap (λ (g : Facts). g.agreement) parts) ∙ tick_agrees f up in
@@ -168,18 +168,18 @@ up_is f up =
     }) agrees
 
 pub down_is : (f : Facts) → f.up ≡ false → after_tick f ≡ f
-down_is f down = ap (λ (b : Bool). after None f (tick.tick_if partition_count f b)) down
+down_is f down = ap (λ (b : Bool). facts_after None f (tick.tick_if partition_count f b)) down
 
 -- ---- the proposal
 
 -- what is proposed anew to these
 proposed_to : (f : Facts) (key : ClusterKey) (set : List Member) (ns : List ℕ) → is_nil ns ≡ false
-    → noted None f (tick.proposing_to f key set ns).lines ≡ record f { agreement = (noted None f (tick.proposing_to f key set ns).lines).agreement }
+    → noted None f (tick.proposal_effects f key set ns).lines ≡ record f { agreement = (noted None f (tick.proposal_effects f key set ns).lines).agreement }
 proposed_to f key set [] e = cc
 proposed_to f key set (n ∷ ns) e = refl
 
 alone_to : (f : Facts) (key : ClusterKey) (set : List Member) (ns : List ℕ) → is_nil ns ≡ true
-    → noted None f (tick.proposing_to f key set ns).lines ≡ entered_alone f key set
+    → noted None f (tick.proposal_effects f key set ns).lines ≡ entered_alone f key set
 alone_to f key set [] e = entering_is f (note None f (line.Promise f.me key)) key set
 alone_to f key set (n ∷ ns) e = cc
 
@@ -187,12 +187,12 @@ pub among_others_is : (f : Facts) → enters_alone f.me f.agreement (neighbours 
     → noted None f (propose f).lines ≡ record f { agreement = (noted None f (propose f).lines).agreement }
 among_others_is f e = go f.agreement.proposal e
   where
-    deep : (b : Bool) → (b && is_nil (agreement.others f.me (neighbours f))) ≡ false
+    deep : (b : Bool) → (b && is_nil (agreement.others_among f.me (neighbours f))) ≡ false
         → noted None f (tick.propose_new f b).lines ≡ record f { agreement = (noted None f (tick.propose_new f b).lines).agreement }
-    deep true e = proposed_to f (agreement.next_key f.me f.agreement) (neighbours f) (agreement.others f.me (neighbours f)) e
+    deep true e = proposed_to f (agreement.next_key f.me f.agreement) (neighbours f) (agreement.others_among f.me (neighbours f)) e
     deep false e = refl
 
-    go : (o : Option Proposal) → ((is_none o && (is_candidate f && agreement.has_round f.agreement)) && is_nil (agreement.others f.me (neighbours f))) ≡ false
+    go : (o : Option Proposal) → ((is_none o && (is_candidate f && agreement.has_round f.agreement)) && is_nil (agreement.others_among f.me (neighbours f))) ≡ false
         → noted None f (tick.propose_with f o).lines ≡ record f { agreement = (noted None f (tick.propose_with f o).lines).agreement }
     go (Some p) e = refl
     go None e = deep (is_candidate f && agreement.has_round f.agreement) e
@@ -201,12 +201,12 @@ pub alone_is : (f : Facts) → enters_alone f.me f.agreement (neighbours f) (is_
     → noted None f (propose f).lines ≡ entered_alone f (agreement.next_key f.me f.agreement) (neighbours f)
 alone_is f e = go f.agreement.proposal e
   where
-    deep : (b : Bool) → (b && is_nil (agreement.others f.me (neighbours f))) ≡ true
+    deep : (b : Bool) → (b && is_nil (agreement.others_among f.me (neighbours f))) ≡ true
         → noted None f (tick.propose_new f b).lines ≡ entered_alone f (agreement.next_key f.me f.agreement) (neighbours f)
-    deep true e = alone_to f (agreement.next_key f.me f.agreement) (neighbours f) (agreement.others f.me (neighbours f)) e
+    deep true e = alone_to f (agreement.next_key f.me f.agreement) (neighbours f) (agreement.others_among f.me (neighbours f)) e
     deep false e = cc
 
-    go : (o : Option Proposal) → ((is_none o && (is_candidate f && agreement.has_round f.agreement)) && is_nil (agreement.others f.me (neighbours f))) ≡ true
+    go : (o : Option Proposal) → ((is_none o && (is_candidate f && agreement.has_round f.agreement)) && is_nil (agreement.others_among f.me (neighbours f))) ≡ true
         → noted None f (tick.propose_with f o).lines ≡ entered_alone f (agreement.next_key f.me f.agreement) (neighbours f)
     go (Some p) e = cc
     go None e = deep (is_candidate f && agreement.has_round f.agreement) e

@@ -18,11 +18,11 @@ use Rattle.node_rules.specs.Facts.{Facts, view_key, list_at}
 use Rattle.node_rules.specs.Hearing.{heard_ids}
 use Rattle.node_rules.specs.Notes.{note, noted, sent, all_sent, neighbours, after_ages}
 use Rattle.node_rules.specs.Resolving.{repl}
-use Rattle.node_rules.specs.Settling.{line_if, hand, settle, learn, drop, and_then, settling_at, settling_from, settling_if}
+use Rattle.node_rules.specs.Settling.{line_if, hand, settle, learn, drop, lines_then, settling_at, settling_from, settling_if}
 use Rattle.node_rules.specs.Standing.{others}
-use Rattle.node_rules.specs.Steps.{after, after_tick}
+use Rattle.node_rules.specs.Steps.{facts_after, after_tick}
 use Rattle.node_rules.specs.Tick as tick
-use Rattle.node_rules.specs.Tick.{Part, in_order, is_candidate}
+use Rattle.node_rules.specs.Tick.{Part, parts_in_order, is_candidate}
 use Rattle.node_rules.specs.Transactions.{Transaction, Write}
 use Rattle.node_rules.proofs.Agreeing.{same_itself, entering_agrees}
 use Rattle.node_rules.proofs.NoteLaws.{noted-append, all_sent-append}
@@ -79,7 +79,8 @@ abbrev QuietParts : List Part → Type 0
 QuietParts [] = Unit {0}
 QuietParts (part ∷ parts) = ((f : Facts) → IsQuiet (part f)) × QuietParts parts
 
-in_order-quiet : (parts : List Part) → QuietParts parts → (f : Facts) → IsQuiet (in_order parts f)
+in_order-quiet : (parts : List Part) → QuietParts parts → (f : Facts)
+    → IsQuiet (parts_in_order parts f)
 in_order-quiet [] q f = record { lines = tt; sends = tt }
 in_order-quiet (part ∷ parts) q f =
     let first = q.0 f in
@@ -128,14 +129,14 @@ batches_to-quiet key f (t ∷ ts) = go (next_batch key f.store.content t) (batch
 batches-quiet : (f : Facts) → IsQuiet (tick.batches f)
 batches-quiet f = record { lines = tt; sends = batches_to-quiet (view_key f) f f.batches }
 
-and_then-quiet : (first second : Facts → List Line) → ((f : Facts) → QuietLines (first f)) → ((f : Facts) → QuietLines (second f)) → (f : Facts) → QuietLines (and_then first second f)
+and_then-quiet : (first second : Facts → List Line) → ((f : Facts) → QuietLines (first f)) → ((f : Facts) → QuietLines (second f)) → (f : Facts) → QuietLines (lines_then first second f)
 and_then-quiet first second a b f = quiet_lines-append (first f) (second (noted None f (first f))) (a f) (b (noted None f (first f)))
 
 settling_at-quiet : (l : List ℕ) (p : ℕ) (f : Facts) → QuietLines (settling_at l p f)
 settling_at-quiet l p =
-    and_then-quiet (λ f. hand f l p) (and_then (λ f. settle f l p) (and_then (λ f. learn f l p) (λ f. drop f l p)))
+    and_then-quiet (λ f. hand f l p) (lines_then (λ f. settle f l p) (lines_then (λ f. learn f l p) (λ f. drop f l p)))
     (λ f. quiet_if _ (λ g. record { me = refl; agreement = refl }) _)
-    (and_then-quiet (λ f. settle f l p) (and_then (λ f. learn f l p) (λ f. drop f l p))
+    (and_then-quiet (λ f. settle f l p) (lines_then (λ f. learn f l p) (λ f. drop f l p))
     (λ f. quiet_if _ (λ g. record { me = refl; agreement = refl }) _)
     (and_then-quiet (λ f. learn f l p) (λ f. drop f l p)
     (λ f. quiet_if _ (λ g. record { me = refl; agreement = refl }) _)
@@ -166,7 +167,7 @@ progress_if-quiet n f false = record { lines = tt; sends = tt }
 abbrev from_rows : ℕ → List Part
 from_rows n = tick.rows ∷ tick.transactions ∷ tick.batches ∷ tick.settlings n ∷ tick.progress n ∷ []
 
-rest-quiet : (n : ℕ) (f : Facts) → IsQuiet (in_order (from_rows n) f)
+rest-quiet : (n : ℕ) (f : Facts) → IsQuiet (parts_in_order (from_rows n) f)
 rest-quiet n f = in_order-quiet (from_rows n) (rows-quiet, (transactions-quiet, (batches-quiet, (settlings-quiet n, (λ g. progress_if-quiet n g _, tt))))) f
 
 -- ---- the proposal
@@ -191,8 +192,8 @@ newly_proposed a me key set e =
 
 -- a new proposal is sent to these
 asked_anew : (f k : Facts) (key : ClusterKey) (set : List Member) (ns : List ℕ) → f.agreement.proposal ≡ None
-    → Keeps (noted None f (tick.proposing_to f key set ns).lines) k
-    → (all_sent k (tick.proposing_to f key set ns).sends).agreement ≡ agreement.proposing_to f.me f.agreement key set ns
+    → Keeps (noted None f (tick.proposal_effects f key set ns).lines) k
+    → (all_sent k (tick.proposal_effects f key set ns).sends).agreement ≡ agreement.proposing_to f.me f.agreement key set ns
 asked_anew f k key set [] e h = h.agreement ∙ entering_agrees f (note None f (line.Promise f.me key)) key set
 asked_anew f k key set (n ∷ ns) e h = standing (sent k n (message.Propose key set)) (proposal_of f.me key set) ns (ap (λ (a : Agreement). a.proposal) first ∙ newly_proposed f.agreement f.me key set e) ∙ first
   where
@@ -201,7 +202,7 @@ asked_anew f k key set (n ∷ ns) e h = standing (sent k n (message.Propose key 
 
 proposed_new : (f k : Facts) (b : Bool) → f.agreement.proposal ≡ None → Keeps (noted None f (tick.propose_new f b).lines) k
     → (all_sent k (tick.propose_new f b).sends).agreement ≡ agreement.proposing_if f.me f.agreement (neighbours f) b
-proposed_new f k true e h = asked_anew f k (agreement.next_key f.me f.agreement) (neighbours f) (agreement.others f.me (neighbours f)) e h
+proposed_new f k true e h = asked_anew f k (agreement.next_key f.me f.agreement) (neighbours f) (agreement.others_among f.me (neighbours f)) e h
 proposed_new f k false e h = h.agreement
 
 proposed : (f k : Facts) (o : Option Proposal) → f.agreement.proposal ≡ o → Keeps (noted None f (tick.propose_with f o).lines) k
@@ -211,8 +212,8 @@ proposed f k None e h = proposed_new f k (is_candidate f && agreement.has_round 
 
 -- ---- what is proposed
 
-sent_anew : (f : Facts) (key : ClusterKey) (set : List Member) (ns : List ℕ) → ns ≡ agreement.others f.me set → f.agreement.proposal ≡ None
-    → (tick.proposing_to f key set ns).sends ≡ tick.proposal_sends (agreement.proposing_to f.me f.agreement key set ns).proposal
+sent_anew : (f : Facts) (key : ClusterKey) (set : List Member) (ns : List ℕ) → ns ≡ agreement.others_among f.me set → f.agreement.proposal ≡ None
+    → (tick.proposal_effects f key set ns).sends ≡ tick.proposal_sends (agreement.proposing_to f.me f.agreement key set ns).proposal
 sent_anew f key set [] same e = refl
 sent_anew f key set (n ∷ ns) same e =
     ap (λ (ms : List ℕ). to_each ms (message.Propose key set)) same
@@ -220,7 +221,7 @@ sent_anew f key set (n ∷ ns) same e =
 
 sent_new : (f : Facts) (b : Bool) → f.agreement.proposal ≡ None
     → (tick.propose_new f b).sends ≡ tick.proposal_sends (agreement.proposing_if f.me f.agreement (neighbours f) b).proposal
-sent_new f true e = sent_anew f (agreement.next_key f.me f.agreement) (neighbours f) (agreement.others f.me (neighbours f)) refl e
+sent_new f true e = sent_anew f (agreement.next_key f.me f.agreement) (neighbours f) (agreement.others_among f.me (neighbours f)) refl e
 sent_new f false e = sym (ap tick.proposal_sends e)
 
 sent_with : (f : Facts) (o : Option Proposal) → f.agreement.proposal ≡ o
@@ -235,13 +236,13 @@ proposal_goes_out f = sent_with f f.agreement.proposal refl
 
 -- the lines and messages of the parts of a tick, of the facts with its first line
 ticked : (n : ℕ) (f : Facts)
-    → (all_sent (noted None f ((tick.propose f).lines ++ (in_order (from_rows n) (noted None f (tick.propose f).lines)).lines))
-    ((tick.beat f).sends ++ ((tick.propose f).sends ++ (in_order (from_rows n) (noted None f (tick.propose f).lines)).sends))).agreement
+    → (all_sent (noted None f ((tick.propose f).lines ++ (parts_in_order (from_rows n) (noted None f (tick.propose f).lines)).lines))
+    ((tick.beat f).sends ++ ((tick.propose f).sends ++ (parts_in_order (from_rows n) (noted None f (tick.propose f).lines)).sends))).agreement
     ≡ asks_for f.agreement f.me (neighbours f) (is_candidate f)
 ticked n f =
     let proposal : Effects = tick.propose f in
     let with_proposal : Facts = noted None f proposal.lines in
-    let rest : Effects = in_order (from_rows n) with_proposal in
+    let rest : Effects = parts_in_order (from_rows n) with_proposal in
     let quiet : IsQuiet rest = rest-quiet n with_proposal in
     let noted_all : Facts = noted None f (proposal.lines ++ rest.lines) in
     let after_beat : Facts = all_sent noted_all (tick.beat f).sends in
@@ -249,14 +250,14 @@ ticked n f =
     ∙ (sends_keep rest.sends quiet.sends (all_sent after_beat proposal.sends)).agreement
     ∙ proposed f after_beat f.agreement.proposal refl (keeps n f)
   where
-    keeps : (m : ℕ) (g : Facts) → Keeps (noted None g (tick.propose g).lines) (all_sent (noted None g ((tick.propose g).lines ++ (in_order (from_rows m) (noted None g (tick.propose g).lines)).lines)) (tick.beat g).sends)
+    keeps : (m : ℕ) (g : Facts) → Keeps (noted None g (tick.propose g).lines) (all_sent (noted None g ((tick.propose g).lines ++ (parts_in_order (from_rows m) (noted None g (tick.propose g).lines)).lines)) (tick.beat g).sends)
     keeps m g = and_so _ _ _ (lines m g) (sends_keep (tick.beat g).sends (heartbeats-quiet g.peers g) _)
       where
-        lines : (o : ℕ) (h : Facts) → Keeps (noted None h (tick.propose h).lines) (noted None h ((tick.propose h).lines ++ (in_order (from_rows o) (noted None h (tick.propose h).lines)).lines))
+        lines : (o : ℕ) (h : Facts) → Keeps (noted None h (tick.propose h).lines) (noted None h ((tick.propose h).lines ++ (parts_in_order (from_rows o) (noted None h (tick.propose h).lines)).lines))
         lines o h = subst (λ (x : Facts). Keeps (noted None h (tick.propose h).lines) x) (sym (noted-append None h (tick.propose h).lines _)) (lines_keep _ (rest-quiet o (noted None h (tick.propose h).lines)).lines (noted None h (tick.propose h).lines))
 
-tick_when_up : (n : ℕ) (f : Facts) → (after None f (in_order (tick.parts n) f)).agreement ≡ agreement.ticking f.me f.agreement (neighbours (after_ages f)) (is_candidate (after_ages f))
+tick_when_up : (n : ℕ) (f : Facts) → (facts_after None f (parts_in_order (tick.parts n) f)).agreement ≡ agreement.ticking f.me f.agreement (neighbours (after_ages f)) (is_candidate (after_ages f))
 tick_when_up n f = ticked n (after_ages f)
 
 pub tick_agrees : (f : Facts) → f.up ≡ true → (after_tick f).agreement ≡ agreement.ticking f.me f.agreement (neighbours (after_ages f)) (is_candidate (after_ages f))
-tick_agrees f up = ap (λ (b : Bool). (after None f (tick.tick_if partition_count f b)).agreement) up ∙ tick_when_up partition_count f
+tick_agrees f up = ap (λ (b : Bool). (facts_after None f (tick.tick_if partition_count f b)).agreement) up ∙ tick_when_up partition_count f

@@ -37,12 +37,16 @@ abbrev pub agreement_of : ClusterKey → ClusterKey → Agreement
 agreement_of promised last = record { promised = promised; last = last; proposal = None; seen = 0 }
 
 -- the members' ids but the node's own, in member order
-abbrev pub others : ℕ → List Member → List ℕ
-others me members = without (ids_of members) me
+abbrev pub others_among : ℕ → List Member → List ℕ
+others_among me members = without (ids_of members) me
 
 -- a proposal that nobody has accepted
 abbrev pub proposal_of : ℕ → ClusterKey → List Member → Proposal
-proposal_of me key members = record { key = key; members = members; missing = others me members }
+proposal_of me key members = record {
+  key = key;
+  members = members;
+  missing = others_among me members;
+}
 
 -- whether the proposal is of that key
 abbrev pub proposes : Option Proposal → ClusterKey → Bool
@@ -59,8 +63,8 @@ abbrev pub promising : Agreement → ClusterKey → Agreement
 promising a key = record a { promised = key; proposal = kept_if (proposes a.proposal key) a.proposal }
 
 -- the node entered the view of that key
-abbrev pub entering : Agreement → ClusterKey → Agreement
-entering a key = record a { last = key; proposal = None }
+abbrev pub agreement_entered : Agreement → ClusterKey → Agreement
+agreement_entered a key = record a { last = key; proposal = None }
 
 -- a promised key of another node was seen
 abbrev pub seeing : Agreement → ClusterKey → Agreement
@@ -149,7 +153,7 @@ is_accepted_with (Some p) from = is_nil (without_missing p from).missing
 
 -- the view is entered where the test holds
 abbrev pub entering_if : Agreement → ClusterKey → Bool → Agreement
-entering_if a key true = entering a key
+entering_if a key true = agreement_entered a key
 entering_if a key false = a
 
 -- an Accept of that key came from a member: with the last one of a proposal its view is entered
@@ -174,16 +178,16 @@ proposes_anew a candidate = is_none a.proposal && (candidate && has_round a)
 
 -- whether a new proposal is entered at once: it has no other members
 abbrev pub enters_alone : ℕ → Agreement → List Member → Bool → Bool
-enters_alone me a set candidate = proposes_anew a candidate && is_nil (others me set)
+enters_alone me a set candidate = proposes_anew a candidate && is_nil (others_among me set)
 
 -- a view of that key and these members is proposed to the others; without others it is entered at once
 abbrev pub proposing_to : ℕ → Agreement → ClusterKey → List Member → List ℕ → Agreement
-proposing_to me a key set [] = entering (promising a key) key
+proposing_to me a key set [] = agreement_entered (promising a key) key
 proposing_to me a key set (n ∷ ns) = proposing (promising a key) me key set
 
 -- a new proposal of these members where the test holds
 abbrev pub proposing_if : ℕ → Agreement → List Member → Bool → Agreement
-proposing_if me a set true = proposing_to me a (next_key me a) set (others me set)
+proposing_if me a set true = proposing_to me a (next_key me a) set (others_among me set)
 proposing_if me a set false = a
 
 -- a tick at which the neighbours are these, and the node is a candidate or not

@@ -109,13 +109,13 @@ acked_out t number None = t
 acked_out t number (Some b) = if b.number == number then without_batch t b else t
 
 -- a change of the member's target
-abbrev pub changing : Targets → ℕ → (Target → Target) → Targets
-changing targets n change = map (λ t. changed_if change t (t.node == n)) targets
+abbrev pub change_target : Targets → ℕ → (Target → Target) → Targets
+change_target targets n change = map (λ t. changed_if change t (t.node == n)) targets
 
 -- a BatchAck came: it counts where it has the number of the batch that is out to its sender
 abbrev pub acking : Targets → ℕ → ℕ → Targets
-acking targets from number = changing targets from (λ t. acked_out t number t.out)
+acking targets from number = change_target targets from (λ t. acked_out t number t.out)
 
 -- a batch was sent to the member
 abbrev pub sending : Targets → ℕ → Batch → Targets
-sending targets to b = changing targets to (λ t. record t { out = Some b; batches = b.number })
+sending targets to b = change_target targets to (λ t. record t { out = Some b; batches = b.number })

@@ -3,7 +3,7 @@ use Rattle.std.specs.Prelude.{ℕ, ◌&&◌, ◌||◌, Bool, true, false, not, L
 use Rattle.std.specs.List.{list_all}
 use Rattle.cluster_types.specs.Partitions.{partition_count}
 use Rattle.cluster_types.specs.Rows.{bit}
-use Rattle.node_rules.specs.Tables.{Table, at, with_entry}
+use Rattle.node_rules.specs.Tables.{Table, at, table_with}
 
 -- bits of each partition, of the view alone
 pub record Bits : Type 0 where
@@ -45,7 +45,7 @@ knows_done b p m = bit (unwrap_or (at b.done m) []) p
 -- a Progress came: its done row takes the place of the sender's last one, and the other two are joined. What the node
 -- wrote itself stays
 abbrev pub progressing : Bits → ℕ → List Bool → List Bool → List Bool → Bits
-progressing b from done handed settled = record b { done = with_entry b.done from done; handed = or_rows b.handed handed; settled = or_rows b.settled settled }
+progressing b from done handed settled = record b { done = table_with b.done from done; handed = or_rows b.handed handed; settled = or_rows b.settled settled }
 
 -- whether the node knows each of these members done at the partition
 abbrev pub knows_each_done : Bits → List ℕ → ℕ → Bool
@@ -65,13 +65,13 @@ learning b p = record b { learnt = with_bit b.learnt p }
 
 -- whether the partition is handed over by a node that is the acting master by the rows or isn't, and the list
 -- master or isn't, where all members are known done or aren't, and a transaction is open on it or isn't
-abbrev pub may_hand : Bits → ℕ → Bool → Bool → Bool → Bool → Bool
-may_hand b p is_acting is_master all_done is_busy =
+abbrev pub bits_may_hand : Bits → ℕ → Bool → Bool → Bool → Bool → Bool
+bits_may_hand b p is_acting is_master all_done is_busy =
     is_acting && (not is_master && (not (bit b.own_handed p) && (all_done && not is_busy)))
 
 -- whether the partition is settled by such a node, where all copies were empty or weren't
-abbrev pub may_settle : Bits → ℕ → Bool → Bool → Bool → Bool → Bool → Bool
-may_settle b p is_acting is_master all_empty all_done is_busy =
+abbrev pub bits_may_settle : Bits → ℕ → Bool → Bool → Bool → Bool → Bool → Bool
+bits_may_settle b p is_acting is_master all_empty all_done is_busy =
     is_master
     && (not all_empty
     && (not (bit b.settled p) && (not is_busy && (bit b.handed p || (is_acting && all_done)))))

@@ -15,8 +15,8 @@ use Rattle.node_rules.specs.Batches.{Targets, next_batch, sending}
 use Rattle.node_rules.specs.Copies.{Content, is_nil}
 use Rattle.node_rules.specs.Exchange.{is_single}
 use Rattle.node_rules.specs.Facts.{Facts, view_key, list_at}
-use Rattle.node_rules.specs.Notes.{noted, after_ages, own_row, entered, exchanged, opened, closed, applied, merged, new_transaction}
-use Rattle.node_rules.specs.Settling.{settling}
+use Rattle.node_rules.specs.Notes.{noted, after_ages, own_row, entered, exchanged, transaction_opened, closed, write_applied, merged, opening_transaction}
+use Rattle.node_rules.specs.Settling.{settling_due}
 use Rattle.node_rules.specs.Standing.{other_replicas}
 use Rattle.node_rules.specs.Tick.{propose}
 use Rattle.node_rules.specs.Transactions.{Transaction, answered, awaits_answer, is_last_awaited}
@@ -47,7 +47,7 @@ merged_if f key digest v newer = if newer then merged f key digest v else f
 
 -- the transaction wrote this version, and is closed where no other replica is to acknowledge it
 abbrev pub with_applied_write : Facts → List ℕ → Transaction → Version → Facts
-with_applied_write f l t v = closed_if (applied f (view_key f) l t.number t.digest v) t.number (is_nil (other_replicas f l))
+with_applied_write f l t v = closed_if (write_applied f (view_key f) l t.number t.digest v) t.number (is_nil (other_replicas f l))
 
 -- the transaction was resolved by that want, at this time of the node's clock
 abbrev pub resolved_by : Facts → ℕ → List ℕ → Transaction → Want → Facts
@@ -74,8 +74,8 @@ asked_or_resolved f clock l t (n ∷ ns) = f
 abbrev pub requested : Facts → ℕ → List ℕ → List ℕ → Want → Option Refusal → Facts
 requested f clock l digest w (Some cause) = f
 requested f clock l digest w None =
-    asked_or_resolved (opened f l (f.transactions.opened + 1) digest w) clock l (new_transaction f l (f.transactions.opened + 1) digest w)
-    (new_transaction f l (f.transactions.opened + 1) digest w).awaiting
+    asked_or_resolved (transaction_opened f l (f.transactions.opened + 1) digest w) clock l (opening_transaction f l (f.transactions.opened + 1) digest w)
+    (opening_transaction f l (f.transactions.opened + 1) digest w).awaiting
 
 -- ---- a tick
 
@@ -93,4 +93,4 @@ proposed_facts f = noted None (after_ages f) (propose (after_ages f)).lines
 
 -- the facts of which a tick's last part is due, of so many partitions
 abbrev pub settled_facts : ℕ → Facts → Facts
-settled_facts n f = noted None (proposed_facts f) (settling n (proposed_facts f))
+settled_facts n f = noted None (proposed_facts f) (settling_due n (proposed_facts f))

@@ -95,8 +95,8 @@ state_with (d ∷ ds) (Some stamp) = Whole stamp.0 stamp.1
 
 -- the state of a partition's copy: Empty where it has no record, otherwise Whole with the stamp
 -- where there is one, and otherwise Part
-abbrev pub copy_state : Store → ℕ → CopyState
-copy_state s p = state_with (digests_of s.content p) (map.get s.stamps p)
+abbrev pub store_state : Store → ℕ → CopyState
+store_state s p = state_with (digests_of s.content p) (map.get s.stamps p)
 
 -- a row's entries with the state of a lower partition before them
 abbrev pub with_state : ℕ → CopyState → Row → Row
@@ -107,4 +107,4 @@ with_state p (Whole key writes) row = (p, Whole key writes) ∷ row
 -- the row of so many partitions from one on
 unfoldable pub row_from : Store → ℕ → ℕ → Row
 row_from s zero p = []
-row_from s (suc n) p = with_state p (copy_state s p) (row_from s n (p + 1))
+row_from s (suc n) p = with_state p (store_state s p) (row_from s n (p + 1))

@@ -34,9 +34,9 @@ abbrev pub begun : ℕ → ClusterKey → List Member → Row → Exchange
 begun me key members row = record { view = Some (record { key = key; members = members }); rows = record { node = me; row = row } ∷ []; exchanged = false }
 
 -- the key of the view, or none
-abbrev pub key_of : Option View → ClusterKey
-key_of None = keys.none
-key_of (Some v) = v.key
+abbrev pub exchange_key : Option View → ClusterKey
+exchange_key None = keys.none
+exchange_key (Some v) = v.key
 
 -- whether the node is in the view of that key
 abbrev pub is_view : Option View → ClusterKey → Bool

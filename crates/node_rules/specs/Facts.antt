@@ -8,7 +8,7 @@ use Rattle.cluster_types.specs.MembersEqual.{same_members}
 use Rattle.partition_lists.specs.Lists.{list, in_order}
 use Rattle.node_rules.specs.Hearing.{Hearing, deaf}
 use Rattle.node_rules.specs.Agreement.{Agreement, no_agreement}
-use Rattle.node_rules.specs.Exchange.{Exchange, outside, key_of, members_of, is_view}
+use Rattle.node_rules.specs.Exchange.{Exchange, outside, exchange_key, members_of, is_view}
 use Rattle.node_rules.specs.Copies.{Store, empty_store}
 use Rattle.node_rules.specs.Stamps.{Writes, no_writes}
 use Rattle.node_rules.specs.Transactions.{Transactions, no_transactions}
@@ -56,15 +56,15 @@ fresh me role peers factor by = record {
 
 -- the key of the node's view, or none
 abbrev pub view_key : Facts → ClusterKey
-view_key f = key_of f.exchange.view
+view_key f = exchange_key f.exchange.view
 
 -- the members of the node's view; none without a view
-abbrev pub members : Facts → List Member
-members f = members_of f.exchange.view
+abbrev pub members_of_view : Facts → List Member
+members_of_view f = members_of f.exchange.view
 
 -- the list of a partition over the members of the node's view
 abbrev pub list_at : Facts → ℕ → List ℕ
-list_at f p = list (members f) p
+list_at f p = list (members_of_view f) p
 
 -- the key of the node's view with its members, if it has one
 abbrev pub view_members : Facts → Option (ClusterKey × List Member)
@@ -73,4 +73,4 @@ view_members f = option_map (λ v. (v.key, v.members)) f.exchange.view
 -- whether the node has finished the exchange of the view of that key, whose members are just these, with
 -- these roles
 abbrev pub has_exchanged_in : ClusterKey → List Member → Facts → Bool
-has_exchanged_in key set f = f.exchange.exchanged && (is_view f.exchange.view key && same_members (members f) set)
+has_exchanged_in key set f = f.exchange.exchanged && (is_view f.exchange.view key && same_members (members_of_view f) set)

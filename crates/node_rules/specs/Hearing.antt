@@ -7,7 +7,7 @@ use Rattle.cluster_types.specs.declared.member.Member.{Member}
 use Rattle.cluster_types.specs.MembersEqual.{same_members}
 use Rattle.node_rules.specs.declared.beat.Beat.{Beat}
 use Rattle.node_rules.specs.Keys.{same_key}
-use Rattle.node_rules.specs.Tables.{Table, with_entry, contains}
+use Rattle.node_rules.specs.Tables.{Table, table_with, contains}
 
 -- the last heartbeat of another node since the start, and how many ticks came after it
 pub record Heard : Type 0 where
@@ -37,7 +37,7 @@ quiet_ticks = 2
 
 -- a heartbeat is its sender's entry from now on
 abbrev pub beat_heard : Hearing → ℕ → Beat → Hearing
-beat_heard h from beat = record h { heard = with_entry h.heard from (record { age = 0; beat = beat }) }
+beat_heard h from beat = record h { heard = table_with h.heard from (record { age = 0; beat = beat }) }
 
 -- an entry one tick later
 abbrev pub older : ℕ × Heard → ℕ × Heard
@@ -62,7 +62,7 @@ member_of e = record { id = e.0; role = e.1 }
 -- the neighbours: the node itself, and each node that it hears and that hears it, with the role of
 -- its heartbeat; in descending order
 abbrev pub neighbours_of : ℕ → Role → Table Heard → List Member
-neighbours_of me role heard = reverse (map member_of (with_entry (map (λ e. (e.0, e.1.beat.role)) (filter (names me) heard)) me role))
+neighbours_of me role heard = reverse (map member_of (table_with (map (λ e. (e.0, e.1.beat.role)) (filter (names me) heard)) me role))
 
 -- whether the neighbours are those of the tick before, if there was one
 abbrev pub is_unchanged : Option (List Member) → List Member → Bool

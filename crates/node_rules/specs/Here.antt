@@ -8,7 +8,7 @@ use Rattle.journal_lines.specs.declared.line.Line.TheVariants as line
 use Rattle.node_rules.specs.Copies.{holds_of}
 use Rattle.node_rules.specs.Facts.{Facts, view_key, list_at}
 use Rattle.node_rules.specs.Settling.{line_if}
-use Rattle.node_rules.specs.Standing.{is_acting, is_master, is_replica, is_all_empty, are_all_done, is_done, has_settled_bit, knows_handed, has_handed}
+use Rattle.node_rules.specs.Standing.{is_acting, is_master, is_own_replica, is_all_empty, are_all_done, is_done, has_settled_bit, knows_handed, has_handed}
 use Rattle.node_rules.specs.Transactions.{is_busy}
 
 -- how a node stands to a partition of its view
@@ -42,7 +42,7 @@ abbrev pub here : Facts → List ℕ → ℕ → Here
 here f l p = record {
   acting = is_acting f l p;
   master = is_master f l;
-  replica = is_replica f l;
+  replica = is_own_replica f l;
   handed = knows_handed f p;
   own_handed = has_handed f p;
   settled = has_settled_bit f p;

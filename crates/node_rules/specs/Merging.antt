@@ -23,15 +23,15 @@ record_if r true = r ∷ []
 record_if r false = []
 
 -- the content with the record where the test holds
-abbrev pub joined_if : Policy → Content → Record → Bool → Content
-joined_if by content r true = joined by content r.0 r.1
-joined_if by content r false = content
+abbrev pub content_joined_if : Policy → Content → Record → Bool → Content
+content_joined_if by content r true = joined by content r.0 r.1
+content_joined_if by content r false = content
 
 -- those of the records that are newer than what is held as they are come to, in their order
 abbrev pub newer_records : Policy → Content → List Record → List Record
 newer_records by content [] = []
 newer_records by content (r ∷ rs) =
-    record_if r (is_newer_than_held by content r) ++ newer_records by (joined_if by content r (is_newer_than_held by content r)) rs
+    record_if r (is_newer_than_held by content r) ++ newer_records by (content_joined_if by content r (is_newer_than_held by content r)) rs
 
 -- the content after these records came
 abbrev pub joined_all : Policy → Content → List Record → Content

@@ -15,13 +15,13 @@ use Rattle.wire_messages.specs.declared.message.MapTable.{MapTable}
 use Rattle.wire_messages.specs.declared.message.Message.{Message}
 use Rattle.wire_messages.specs.declared.message.Message.TheVariants as message
 use Rattle.node_rules.specs.Agreement as agreement
-use Rattle.node_rules.specs.Agreement.{Proposal, proposes, without_missing, others}
+use Rattle.node_rules.specs.Agreement.{Proposal, proposes, without_missing, others_among}
 use Rattle.node_rules.specs.Batches.{out_to, has_number}
 use Rattle.node_rules.specs.Copies.{is_nil}
 use Rattle.node_rules.specs.Effects.{Effects, nothing, lines_only, sends_only, to_each, to_one}
 use Rattle.node_rules.specs.Entering.{entering}
 use Rattle.node_rules.specs.Exchange.{first_missing}
-use Rattle.node_rules.specs.Facts.{Facts, view_key, members, list_at}
+use Rattle.node_rules.specs.Facts.{Facts, view_key, members_of_view, list_at}
 use Rattle.node_rules.specs.Notes.{noted, reached, in_view}
 use Rattle.node_rules.specs.Resolving.{resolving}
 use Rattle.node_rules.specs.Settling.{line_if}
@@ -40,30 +40,32 @@ spent f = lines_only (line.Spent f.me ∷ [])
 -- ---- agreement
 
 -- the vote, where the test says whether the key is below the promised one
-abbrev pub voting : Facts → ℕ → ClusterKey → Bool → Effects
-voting f from key true = sends_only (to_one from (message.Refuse key f.agreement.promised))
-voting f from key false = record { lines = line_if (line.Promise f.me key) (keys.key_lt f.agreement.promised key); sends = to_one from (message.Accept key) }
+abbrev pub vote_effects : Facts → ℕ → ClusterKey → Bool → Effects
+vote_effects f from key true = sends_only (to_one from (message.Refuse key f.agreement.promised))
+vote_effects f from key false = record { lines = line_if (line.Promise f.me key) (keys.key_lt f.agreement.promised key); sends = to_one from (message.Accept key) }
 
 -- Propose: refused with the promised key where its key is below that; otherwise the key is promised
 -- where it is above, and accepted
 abbrev pub due_propose : Facts → ℕ → ClusterKey → Effects
-due_propose f from key = voting f from key (keys.key_lt key f.agreement.promised)
+due_propose f from key = vote_effects f from key (keys.key_lt key f.agreement.promised)
 
 -- the view is entered where the test says that nobody is missing
-abbrev pub committing : Facts → Proposal → Bool → Effects
-committing f p true = record { lines = entering f p.key p.members; sends = to_each (others f.me p.members) (message.Commit p.key p.members) }
-committing f p false = nothing
+abbrev pub commit_effects : Facts → Proposal → Bool → Effects
+commit_effects f p true = record { lines = entering f p.key p.members; sends = to_each (others_among f.me p.members) (message.Commit p.key p.members) }
+commit_effects f p false = nothing
 
 -- an Accept, where the test says whether its key is the proposal's
-abbrev pub counting : Facts → ℕ → ClusterKey → Option Proposal → Bool → Effects
-counting f from key (Some p) true = committing f p (is_nil (without_missing p from).missing)
-counting f from key (Some p) false = stale f
-counting f from key None b = stale f
+abbrev pub accept_effects : Facts → ℕ → ClusterKey → Option Proposal → Bool → Effects
+accept_effects f from key (Some p) true = commit_effects f p
+    (is_nil (without_missing p from).missing)
+accept_effects f from key (Some p) false = stale f
+accept_effects f from key None b = stale f
 
 -- Accept: stale where its key isn't proposed; once all other members have accepted, the view is
 -- entered and a Commit goes to each of them in member order
 abbrev pub due_accept : Facts → ℕ → ClusterKey → Effects
-due_accept f from key = counting f from key f.agreement.proposal (proposes f.agreement.proposal key)
+due_accept f from key = accept_effects f from key f.agreement.proposal
+    (proposes f.agreement.proposal key)
 
 -- nothing where the test holds, and otherwise stale
 abbrev pub unless_stale : Facts → Bool → Effects
@@ -76,23 +78,23 @@ due_refuse f key = unless_stale f (proposes f.agreement.proposal key)
 
 -- whether the node enters a committed view: its key is the promised one and above the last, and the
 -- node is a member
-abbrev pub may_enter : Facts → ClusterKey → List Member → Bool
-may_enter f key ms = agreement.may_enter f.me f.agreement key ms
+abbrev pub may_enter_view : Facts → ClusterKey → List Member → Bool
+may_enter_view f key ms = agreement.may_enter f.me f.agreement key ms
 
 -- the view is entered where the test holds, and otherwise the message is stale
-abbrev pub entering_if : Facts → ClusterKey → List Member → Bool → Effects
-entering_if f key ms true = lines_only (entering f key ms)
-entering_if f key ms false = stale f
+abbrev pub entry_effects_if : Facts → ClusterKey → List Member → Bool → Effects
+entry_effects_if f key ms true = lines_only (entering f key ms)
+entry_effects_if f key ms false = stale f
 
 -- Commit: the view is entered, or the message is stale
 abbrev pub due_commit : Facts → ClusterKey → List Member → Effects
-due_commit f key ms = entering_if f key ms (may_enter f key ms)
+due_commit f key ms = entry_effects_if f key ms (may_enter_view f key ms)
 
 -- ---- rows
 
 -- whether the exchange is over with these facts and wasn't before
 abbrev pub finishes : Facts → Facts → Bool
-finishes before now = is_none (first_missing now.exchange.rows (members now)) && not before.exchange.exchanged
+finishes before now = is_none (first_missing now.exchange.rows (members_of_view now)) && not before.exchange.exchanged
 
 -- the node's own row, where it is wanted
 abbrev pub answer_state : Facts → ℕ → Bool → List (ℕ × Message)
@@ -154,13 +156,13 @@ answer_progress n now from true = sends_only (to_one from (progress_message n no
 answer_progress n now from false = nothing
 
 -- a Progress, where the test says whether it is of the view
-abbrev pub progress_came : ℕ → Facts → Facts → ℕ → Bool → Bool → Effects
-progress_came n f now from wants true = answer_progress n now from (wants && knows_all_settled now n 0)
-progress_came n f now from wants false = stale f
+abbrev pub progress_effects_if : ℕ → Facts → Facts → ℕ → Bool → Bool → Effects
+progress_effects_if n f now from wants true = answer_progress n now from (wants && knows_all_settled now n 0)
+progress_effects_if n f now from wants false = stale f
 
 -- Progress: one that is wanted is answered by a node that, with this message, knows every partition settled
 abbrev pub due_progress : ℕ → Facts → Facts → ℕ → ClusterKey → Bool → Effects
-due_progress n f now from key wants = progress_came n f now from wants (in_view f key)
+due_progress n f now from key wants = progress_effects_if n f now from wants (in_view f key)
 
 -- ---- transactions
 
@@ -217,13 +219,13 @@ answer_of f clock from v None = spent f
 answer_of f clock from v (Some t) = answered_by f clock t from v (awaits_answer t from)
 
 -- an Answer, where the test says whether it is of the view
-abbrev pub answer_came : Facts → ℕ → ℕ → ℕ → Option Version → Bool → Effects
-answer_came f clock from number v true = answer_of f clock from v (transaction f.transactions number)
-answer_came f clock from number v false = stale f
+abbrev pub answer_effects_if : Facts → ℕ → ℕ → ℕ → Option Version → Bool → Effects
+answer_effects_if f clock from number v true = answer_of f clock from v (transaction f.transactions number)
+answer_effects_if f clock from number v false = stale f
 
 -- Answer: spent where it isn't awaited; the last one that is awaited resolves the transaction
 abbrev pub due_answer : Facts → ℕ → ℕ → ClusterKey → ℕ → Option Version → Effects
-due_answer f clock from key number v = answer_came f clock from number v (in_view f key)
+due_answer f clock from key number v = answer_effects_if f clock from number v (in_view f key)
 
 -- ---- the client
 

@@ -25,9 +25,9 @@ use Rattle.node_rules.specs.Copies.{Store, Stamps, Row, row_from, dropping}
 use Rattle.node_rules.specs.Exchange.{begun, outside, is_view, with_row, finished}
 use Rattle.node_rules.specs.Facts.{Facts, list_at}
 use Rattle.node_rules.specs.Hearing.{Hearing, ticked, deaf, without_quiet, beat_heard, neighbours_of}
-use Rattle.node_rules.specs.Map.{master}
+use Rattle.node_rules.specs.Map.{list_master}
 use Rattle.node_rules.specs.Stamps.{Writes, no_writes, applying, applies_at, hearing_write, count_at, stamped_with, store_counted, store_merged, store_applied, store_learnt}
-use Rattle.node_rules.specs.Standing.{others, asked, is_master, is_all_empty, is_replica, other_replicas}
+use Rattle.node_rules.specs.Standing.{others, asked, is_master, is_all_empty, is_own_replica, other_replicas}
 use Rattle.node_rules.specs.Transactions as transactions
 use Rattle.node_rules.specs.Transactions.{Transaction, no_transactions}
 
@@ -80,7 +80,7 @@ own_row f = row_from f.store partition_count 0
 abbrev pub entered : Facts → ClusterKey → List Member → Row → Facts
 entered f key members row = record f {
   hearing = without_quiet f.hearing;
-  agreement = agreement.entering f.agreement key;
+  agreement = agreement.agreement_entered f.agreement key;
   exchange = begun f.me key members row;
   writes = no_writes;
   transactions = no_transactions;
@@ -99,7 +99,7 @@ stamped_if f key l p stamps b = stamped_with key (count_in f l p) p stamps b
 -- at the end of the exchange a copy of a partition that is empty everywhere is stamped, where the
 -- node is a replica
 abbrev pub stamped_at : Facts → ClusterKey → List ℕ → ℕ → Stamps → Stamps
-stamped_at f key l p stamps = stamped_if f key l p stamps (is_all_empty f p && is_replica f l)
+stamped_at f key l p stamps = stamped_if f key l p stamps (is_all_empty f p && is_own_replica f l)
 
 -- the stamps with those of so many partitions from one on
 unfoldable pub stamped_from : Facts → ClusterKey → Stamps → ℕ → ℕ → Stamps
@@ -115,38 +115,38 @@ abbrev pub target_for : Facts → ℕ → Target
 target_for f to = batches.target_of (is_for f) f.store.content to
 
 -- a target for each other member
-abbrev pub targets_of : Facts → Targets
-targets_of f = batches.targets_of (is_for f) f.store.content (others f)
+abbrev pub own_targets : Facts → Targets
+own_targets f = batches.targets_of (is_for f) f.store.content (others f)
 
 -- the exchange is finished: copies are stamped, and digests are pending
 abbrev pub exchanged : Facts → ClusterKey → Facts
 exchanged f key = record f {
   exchange = finished f.exchange;
   store = record f.store { stamps = stamped_from f key f.store.stamps partition_count 0 };
-  batches = targets_of f;
+  batches = own_targets f;
 }
 
 -- ---- transactions and records
 
 -- what a request wants: the want in hand, and without one what its line tells
-abbrev pub want_of : Option Want → Action → Want
-want_of (Some w) a = w
-want_of None action.Get = want.Get
-want_of None action.Put = want.Put []
-want_of None action.Del = want.Del
+abbrev pub request_want : Option Want → Action → Want
+request_want (Some w) a = w
+request_want None action.Get = want.Get
+request_want None action.Put = want.Put []
+request_want None action.Del = want.Del
 
 -- a transaction that opens now on a digest of the partition with that list
-abbrev pub new_transaction : Facts → List ℕ → ℕ → List ℕ → Want → Transaction
-new_transaction f l number digest w =
+abbrev pub opening_transaction : Facts → List ℕ → ℕ → List ℕ → Want → Transaction
+opening_transaction f l number digest w =
     transactions.new_transaction number digest w (finite.get f.store.content digest) (asked f l (partition_of digest))
 
 -- a transaction opens
-abbrev pub opened : Facts → List ℕ → ℕ → List ℕ → Want → Facts
-opened f l number digest w = record f { transactions = transactions.opening f.transactions (new_transaction f l number digest w) }
+abbrev pub transaction_opened : Facts → List ℕ → ℕ → List ℕ → Want → Facts
+transaction_opened f l number digest w = record f { transactions = transactions.opening f.transactions (opening_transaction f l number digest w) }
 
 -- a transaction is closed
 abbrev pub closed : Facts → ℕ → Facts
-closed f number = record f { transactions = transactions.closing f.transactions number }
+closed f number = record f { transactions = transactions.without_transaction f.transactions number }
 
 -- the number that the node's next write of the partition has in the view
 abbrev pub next_nth : Facts → ℕ → ℕ
@@ -157,8 +157,8 @@ abbrev pub applied_store : Facts → ClusterKey → List ℕ → List ℕ → Ve
 applied_store f key l digest v w = store_applied f.store key digest v (count_at w (is_master f l) (partition_of digest))
 
 -- the node applied the transaction's write: it counts, and each other replica is to acknowledge it
-abbrev pub applied : Facts → ClusterKey → List ℕ → ℕ → List ℕ → Version → Facts
-applied f key l number digest v = record f {
+abbrev pub write_applied : Facts → ClusterKey → List ℕ → ℕ → List ℕ → Version → Facts
+write_applied f key l number digest v = record f {
   store = applied_store f key l digest v (applying f.writes (partition_of digest));
   writes = applying f.writes (partition_of digest);
   transactions = transactions.changing f.transactions number (transactions.with_write v (next_nth f (partition_of digest)) (other_replicas f l));
@@ -198,9 +198,10 @@ note q f (line.Unquiesce n) = marked f false
 note q f (line.Promise n key) = record f { agreement = agreement.promising f.agreement key }
 note q f (line.Enter n key members) = entered f key members (own_row f)
 note q f (line.Exchanged n key) = exchanged f key
-note q f (line.Opened n key t digest a) = opened f (list_at f (partition_of digest)) t digest (want_of q a)
+note q f (line.Opened n key t digest a) = transaction_opened f (list_at f (partition_of digest)) t digest (request_want q a)
 note q f (line.Value n key t digest v) = closed f t
-note q f (line.Apply n key t digest v) = applied f key (list_at f (partition_of digest)) t digest v
+note q f (line.Apply n key t digest v) = write_applied f key
+    (list_at f (partition_of digest)) t digest v
 note q f (line.Done n key t) = closed f t
 note q f (line.Aborted n key t) = closed f t
 note q f (line.Doubt n key t) = closed f t
@@ -255,12 +256,12 @@ write_counted f key l p nth = record f {
 }
 
 -- the write counts where the test holds
-abbrev pub counted_if : Facts → ClusterKey → List ℕ → ℕ → ℕ → Bool → Facts
-counted_if f key l p nth b = if_view b (write_counted f key l p nth) f
+abbrev pub write_counted_if : Facts → ClusterKey → List ℕ → ℕ → ℕ → Bool → Facts
+write_counted_if f key l p nth b = if_view b (write_counted f key l p nth) f
 
 -- a write of the view came: it counts where the list master sent it
 abbrev pub write_came : Facts → ℕ → ClusterKey → ℕ → ℕ → Bool → Facts
-write_came f from key nth p of_view = if_view of_view (counted_if f key (list_at f p) p nth (from == master (list_at f p))) f
+write_came f from key nth p of_view = if_view of_view (write_counted_if f key (list_at f p) p nth (from == list_master (list_at f p))) f
 
 -- a ReplAck came, where the test says whether it is of the view
 abbrev pub write_acked : Facts → ℕ → ℕ → Bool → Facts

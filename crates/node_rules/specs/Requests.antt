@@ -13,7 +13,7 @@ use Rattle.node_rules.specs.Entering.{closing}
 use Rattle.node_rules.specs.Exchange.{View, first_missing}
 use Rattle.node_rules.specs.Facts.{Facts, view_key, list_at}
 use Rattle.node_rules.specs.Map.{entry_of}
-use Rattle.node_rules.specs.Notes.{new_transaction}
+use Rattle.node_rules.specs.Notes.{opening_transaction}
 use Rattle.node_rules.specs.Resolving.{resolving}
 use Rattle.node_rules.specs.Standing.{acts, named}
 use Rattle.node_rules.specs.Transactions.{Transaction, transaction_on}
@@ -57,8 +57,8 @@ refusal_after f l digest None = acting_refusal f l digest (acts f l (partition_o
 
 -- why the node refuses a request on the digest, whose partition has that list: first what keeps it
 -- from having a map, then that it doesn't act on the partition, then that a transaction is open on the digest
-abbrev pub refusal_of : Facts → List ℕ → List ℕ → Option Refusal
-refusal_of f l digest = refusal_after f l digest (map_refusal f)
+abbrev pub request_refusal : Facts → List ℕ → List ℕ → Option Refusal
+request_refusal f l digest = refusal_after f l digest (map_refusal f)
 
 -- ---- the map
 
@@ -79,18 +79,18 @@ asking f clock l t [] = resolving f clock l t
 asking f clock l t (n ∷ ns) = sends_only (to_each (n ∷ ns) (message.Ask (view_key f) t.number t.digest))
 
 -- the transaction opens
-abbrev pub opening : Facts → ℕ → List ℕ → Transaction → Effects
-opening f clock l t =
+abbrev pub opening_effects : Facts → ℕ → List ℕ → Transaction → Effects
+opening_effects f clock l t =
     followed_by (lines_only (line.Opened f.me (view_key f) t.number t.digest (action_of t.want) ∷ [])) (asking f clock l t t.awaiting)
 
 -- the request where nothing refuses it
 abbrev pub request_if : Facts → ℕ → List ℕ → List ℕ → Want → Option Refusal → Effects
 request_if f clock l digest w (Some cause) = lines_only (line.Refused f.me digest cause ∷ [])
-request_if f clock l digest w None = opening f clock l (new_transaction f l (f.transactions.opened + 1) digest w)
+request_if f clock l digest w None = opening_effects f clock l (opening_transaction f l (f.transactions.opened + 1) digest w)
 
 -- a request on a digest whose partition has that list: the first refusal, or the view's next transaction
 abbrev pub request_at : Facts → ℕ → List ℕ → List ℕ → Want → Effects
-request_at f clock l digest w = request_if f clock l digest w (refusal_of f l digest)
+request_at f clock l digest w = request_if f clock l digest w (request_refusal f l digest)
 
 -- what is due of a request at this time of the node's clock
 abbrev pub due_request : Facts → ℕ → List ℕ → Want → Effects

@@ -9,7 +9,7 @@ use Rattle.journal_lines.specs.declared.line.Line.{Line}
 use Rattle.journal_lines.specs.declared.line.Line.TheVariants as line
 use Rattle.journal_lines.specs.declared.refusal.Refusal.{Refusal}
 use Rattle.node_rules.specs.Effects.{Effects, lines_only}
-use Rattle.node_rules.specs.Facts.{Facts, view_key, members, list_at}
+use Rattle.node_rules.specs.Facts.{Facts, view_key, members_of_view, list_at}
 use Rattle.node_rules.specs.Map.{entry_of}
 use Rattle.node_rules.specs.Requests.{map_refusal}
 
@@ -20,7 +20,7 @@ with_roles ms ids = map (λ n. record { id = n; role = unwrap_or (role_of ms n) 
 -- the line of a partition that is served so: its whole list, each member with its role in the view, and
 -- the acting master by the rows
 abbrev pub map_line : Facts → ℕ → MapEntry → Line
-map_line f p e = line.Map f.me (view_key f) p (with_roles (members f) e.list) e.acting
+map_line f p e = line.Map f.me (view_key f) p (with_roles (members_of_view f) e.list) e.acting
 
 -- the line of each partition from one to another, the last one too
 abbrev pub map_lines : Facts → ℕ → ℕ → List Line

@@ -8,7 +8,7 @@ use Rattle.conflict_order.specs.declared.version.Version.{Version}
 use Rattle.cluster_types.specs.declared.cluster_key.ClusterKey.{ClusterKey}
 use Rattle.cluster_types.specs.Partitions.{partition_of}
 use Rattle.node_rules.specs.Keys.{same_key}
-use Rattle.node_rules.specs.Tables.{Table, at, with_entry}
+use Rattle.node_rules.specs.Tables.{Table, at, table_with}
 use Rattle.node_rules.specs.Copies.{Store, Stamp, Stamps, storing, stamping}
 
 -- a set of numbers, as their list in strictly rising order
@@ -49,11 +49,11 @@ numbers_at w p = unwrap_or (at w.numbers p) []
 
 -- the node applied one more
 abbrev pub applying : Writes → ℕ → Writes
-applying w p = record w { applies = with_entry w.applies p (applies_at w p + 1) }
+applying w p = record w { applies = table_with w.applies p (applies_at w p + 1) }
 
 -- the list master's write of that number reached the node
 abbrev pub hearing_write : Writes → ℕ → ℕ → Writes
-hearing_write w p nth = record w { numbers = with_entry w.numbers p (with_number (numbers_at w p) nth) }
+hearing_write w p nth = record w { numbers = table_with w.numbers p (with_number (numbers_at w p) nth) }
 
 -- how many of the list master's writes of the view the copy has had: its own for the list master
 -- itself, and for another node the numbers that reached it

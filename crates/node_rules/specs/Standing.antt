@@ -8,20 +8,20 @@ use Rattle.partition_lists.specs.Lists.{replicas}
 use Rattle.node_rules.specs.declared.member_row.MemberRow.{MemberRow}
 use Rattle.node_rules.specs.Tables.{contains}
 use Rattle.node_rules.specs.Agreement as agreement
-use Rattle.node_rules.specs.Map.{acting, master, all_empty}
-use Rattle.node_rules.specs.Classes.{asked_by}
+use Rattle.node_rules.specs.Map.{acting_by_rows, list_master, all_empty}
+use Rattle.node_rules.specs.Classes.{asked_by_rows}
 use Rattle.node_rules.specs.Batches.{is_pending}
 use Rattle.node_rules.specs.Bits.{knows_each_done}
 use Rattle.node_rules.specs.Copies.{holds_of, is_nil}
-use Rattle.node_rules.specs.Facts.{Facts, members, list_at}
+use Rattle.node_rules.specs.Facts.{Facts, members_of_view, list_at}
 
 -- the other members of the view, in member order
 abbrev pub others : Facts → List ℕ
-others f = agreement.others f.me (members f)
+others f = agreement.others_among f.me (members_of_view f)
 
 -- whether the node is a replica of the partition
-abbrev pub is_replica : Facts → List ℕ → Bool
-is_replica f l = contains (replicas l f.factor) f.me
+abbrev pub is_own_replica : Facts → List ℕ → Bool
+is_own_replica f l = contains (replicas l f.factor) f.me
 
 -- the other replicas of the partition, in list order
 abbrev pub other_replicas : Facts → List ℕ → List ℕ
@@ -29,11 +29,11 @@ other_replicas f l = without (replicas l f.factor) f.me
 
 -- whether the node is the partition's list master
 abbrev pub is_master : Facts → List ℕ → Bool
-is_master f l = master l == f.me
+is_master f l = list_master l == f.me
 
 -- the acting master by the rows of the view
 abbrev pub acting_at : Facts → List ℕ → ℕ → ℕ
-acting_at f l p = acting l f.exchange.rows p
+acting_at f l p = acting_by_rows l f.exchange.rows p
 
 -- whether the node is the acting master by the rows of the view
 abbrev pub is_acting : Facts → List ℕ → ℕ → Bool
@@ -41,7 +41,7 @@ is_acting f l p = acting_at f l p == f.me
 
 -- whether no member's copy had a record, as far as rows are there. A row of another node plays no part
 abbrev pub is_all_empty : Facts → ℕ → Bool
-is_all_empty f p = all_empty (ids_of (members f)) f.exchange.rows p
+is_all_empty f p = all_empty (ids_of (members_of_view f)) f.exchange.rows p
 
 -- whether the node is done at the partition: nothing of it is pending to any member
 abbrev pub is_done : Facts → ℕ → Bool
@@ -98,7 +98,7 @@ acts f l p = acts_by f.exchange.exchanged (is_acting f l p) (has_handed f p) (is
 -- the node that is to be asked of a list with that acting master, where the partition has come to its list master
 -- or hasn't
 abbrev pub named_by : Bool → List ℕ → ℕ → ℕ
-named_by moved l acting = if moved then master l else acting
+named_by moved l acting = if moved then list_master l else acting
 
 -- the node that is to be asked: the list master once the node knows the partition handed over or
 -- settled, and before that the acting master by the rows
@@ -107,7 +107,7 @@ named f l p = named_by (has_moved f p) l (acting_at f l p)
 
 -- whom a node asks of a partition that it knows settled or doesn't: nobody, or the firsts of all classes but its own
 abbrev pub asked_by_known : Bool → List ℕ → List MemberRow → ℕ → ℕ → List ℕ
-asked_by_known known l rows p by = if known then [] else asked_by l rows p by
+asked_by_known known l rows p by = if known then [] else asked_by_rows l rows p by
 
 -- whom a transaction asks that opens now: nobody where the node knows the partition settled, and
 -- otherwise the firsts of all classes but its own
@@ -116,12 +116,12 @@ asked f l p = asked_by_known (knows_settled f p) l f.exchange.rows p f.me
 
 -- whether the node is to learn the partition: it is settled, the node is a replica, and hasn't learnt it
 abbrev pub is_to_learn : Facts → List ℕ → ℕ → Bool
-is_to_learn f l p = has_settled_bit f p && (is_replica f l && not (bit f.bits.learnt p))
+is_to_learn f l p = has_settled_bit f p && (is_own_replica f l && not (bit f.bits.learnt p))
 
 -- whether the node is to drop the partition: it is settled, the node is done at it, is no replica,
 -- and holds a record of it
 abbrev pub is_to_drop : Facts → List ℕ → ℕ → Bool
-is_to_drop f l p = has_settled_bit f p && (is_done f p && (not (is_replica f l) && holds_of f.store.content p))
+is_to_drop f l p = has_settled_bit f p && (is_done f p && (not (is_own_replica f l) && holds_of f.store.content p))
 
 -- whether nothing is to be learnt or dropped in so many partitions, from one on
 unfoldable pub has_nothing_to_learn_or_drop : Facts → ℕ → ℕ → Bool

@@ -11,16 +11,17 @@ use Rattle.node_rules.specs.Requests.{due_request, due_stop, due_start}
 use Rattle.node_rules.specs.Tick.{due_tick}
 
 -- the facts with the lines and then with the messages of a step, where this want is in hand
-abbrev pub after : Option Want → Facts → Effects → Facts
-after q f e = all_sent (noted q f e.lines) e.sends
+abbrev pub facts_after : Option Want → Facts → Effects → Facts
+facts_after q f e = all_sent (noted q f e.lines) e.sends
 
 -- the facts after a tick
 abbrev pub after_tick : Facts → Facts
-after_tick f = after None f (due_tick f)
+after_tick f = facts_after None f (due_tick f)
 
 -- the facts after a message with so many partitions, which itself comes first
 abbrev pub after_message_of : ℕ → Facts → ℕ → ℕ → Message → Facts
-after_message_of n f clock from m = after None (reached f from m) (due_message_of n f clock from m)
+after_message_of n f clock from m = facts_after None (reached f from m)
+    (due_message_of n f clock from m)
 
 -- the facts after a message
 abbrev pub after_message : Facts → ℕ → ℕ → Message → Facts
@@ -28,15 +29,15 @@ after_message f clock from m = after_message_of partition_count f clock from m
 
 -- the facts after a request
 abbrev pub after_request : Facts → ℕ → List ℕ → Want → Facts
-after_request f clock digest w = after (Some w) f (due_request f clock digest w)
+after_request f clock digest w = facts_after (Some w) f (due_request f clock digest w)
 
 -- the facts after a stop
 abbrev pub after_stop : Facts → Facts
-after_stop f = after None f (due_stop f)
+after_stop f = facts_after None f (due_stop f)
 
 -- the facts after a start
 abbrev pub after_start : Facts → Facts
-after_start f = after None f (due_start f)
+after_start f = facts_after None f (due_start f)
 
 -- the facts, and those after the step that was planned last, where it isn't yet taken or given up
 pub record Planning : Type 0 where

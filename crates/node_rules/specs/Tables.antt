@@ -13,8 +13,8 @@ abbrev pub at : {X : Type 0} → Table X → ℕ → Option X
 at table n = find nat_cmp n table
 
 -- the table with this at the number, in place of what stood there
-abbrev pub with_entry : {X : Type 0} → Table X → ℕ → X → Table X
-with_entry table n x = put nat_cmp n x table
+abbrev pub table_with : {X : Type 0} → Table X → ℕ → X → Table X
+table_with table n x = put nat_cmp n x table
 
 -- the item, changed where the test holds
 abbrev pub changed_if : {X : Type 0} → (X → X) → X → Bool → X

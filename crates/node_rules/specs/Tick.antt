@@ -17,10 +17,10 @@ use Rattle.node_rules.specs.Entering.{entering}
 use Rattle.node_rules.specs.Exchange.{View}
 use Rattle.node_rules.specs.Facts.{Facts, view_key}
 use Rattle.node_rules.specs.Hearing.{heard_ids, all_show, is_greatest, quiet_ticks}
-use Rattle.node_rules.specs.Map.{lacks, row_of}
+use Rattle.node_rules.specs.Map.{lacks, row_of_member}
 use Rattle.node_rules.specs.Notes.{noted, neighbours}
 use Rattle.node_rules.specs.Resolving.{repl}
-use Rattle.node_rules.specs.Settling.{settling}
+use Rattle.node_rules.specs.Settling.{settling_due}
 use Rattle.node_rules.specs.Standing.{others, is_done, knows_all_settled}
 use Rattle.node_rules.specs.Transactions.{Transaction, Write}
 
@@ -29,9 +29,10 @@ abbrev pub Part : Type 0
 Part = Facts → Effects
 
 -- parts in order, each of the facts with the lines of those before it
-abbrev pub in_order : List Part → Part
-in_order [] f = nothing
-in_order (part ∷ parts) f = followed_by (part f) (in_order parts (noted None f (part f).lines))
+abbrev pub parts_in_order : List Part → Part
+parts_in_order [] f = nothing
+parts_in_order (part ∷ parts) f = followed_by (part f)
+    (parts_in_order parts (noted None f (part f).lines))
 
 -- ---- beat
 
@@ -67,13 +68,13 @@ proposal_sends (Some p) = (propose_again p).sends
 
 -- a new view is promised; without other members it is entered at once, and otherwise it is proposed
 -- to each of them
-abbrev pub proposing_to : Facts → ClusterKey → List Member → List ℕ → Effects
-proposing_to f key set [] = lines_only (line.Promise f.me key ∷ entering f key set)
-proposing_to f key set (n ∷ ns) = record { lines = line.Promise f.me key ∷ []; sends = to_each (n ∷ ns) (message.Propose key set) }
+abbrev pub proposal_effects : Facts → ClusterKey → List Member → List ℕ → Effects
+proposal_effects f key set [] = lines_only (line.Promise f.me key ∷ entering f key set)
+proposal_effects f key set (n ∷ ns) = record { lines = line.Promise f.me key ∷ []; sends = to_each (n ∷ ns) (message.Propose key set) }
 
 -- a new proposal where the test holds
 abbrev pub propose_new : Facts → Bool → Effects
-propose_new f true = proposing_to f (next_key f.me f.agreement) (neighbours f) (agreement.others f.me (neighbours f))
+propose_new f true = proposal_effects f (next_key f.me f.agreement) (neighbours f) (agreement.others_among f.me (neighbours f))
 propose_new f false = nothing
 
 -- that proposal again, and without one a new one where the node is a candidate
@@ -89,7 +90,7 @@ propose f = propose_with f f.agreement.proposal
 
 -- the node's own row of the view
 abbrev pub own_row_in : Facts → Row
-own_row_in f = unwrap_or (row_of f.exchange.rows f.me) []
+own_row_in f = unwrap_or (row_of_member f.exchange.rows f.me) []
 
 -- the message that carries the node's own row
 abbrev pub state : Facts → Bool → Message
@@ -127,7 +128,7 @@ batches f = sends_only (filter_map (λ t. batch_to t.node (next_batch (view_key 
 
 -- hand-over, settling, learning and dropping, of so many partitions
 abbrev pub settlings : ℕ → Part
-settlings n f = lines_only (settling n f)
+settlings n f = lines_only (settling_due n f)
 
 -- ---- progress
 
@@ -162,7 +163,7 @@ parts n = tick ∷ beat ∷ propose ∷ rows ∷ transactions ∷ batches ∷ se
 
 -- a tick, where the test says whether the node is up
 abbrev pub tick_if : ℕ → Facts → Bool → Effects
-tick_if n f true = in_order (parts n) f
+tick_if n f true = parts_in_order (parts n) f
 tick_if n f false = lines_only (line.Down f.me ∷ [])
 
 -- a tick with so many partitions

@@ -61,8 +61,10 @@ abbrev pub opening : Transactions → Transaction → Transactions
 opening ts t = record { opened = ts.opened + 1; running = ts.running ++ t ∷ [] }
 
 -- one is closed
-abbrev pub closing : Transactions → ℕ → Transactions
-closing ts number = record ts { running = filter (λ t. not (t.number == number)) ts.running }
+abbrev pub without_transaction : Transactions → ℕ → Transactions
+without_transaction ts number = record ts {
+  running = filter (λ t. not (t.number == number)) ts.running;
+}
 
 -- a change of one
 abbrev pub changing : Transactions → ℕ → (Transaction → Transaction) → Transactions
@@ -107,7 +109,7 @@ ends_by_ack (Some t) from = awaits_ack t from && is_last_awaited t from
 
 -- one is closed where the test holds
 abbrev pub closing_if : Transactions → ℕ → Bool → Transactions
-closing_if ts number b = if b then closing ts number else ts
+closing_if ts number b = if b then without_transaction ts number else ts
 
 -- the number of each open transaction, and whether its write is applied
 abbrev pub ends : Transactions → List (ℕ × Bool)

@@ -15,21 +15,21 @@ ghost use Rattle.cluster_types.specs.ClusterKeys.{none};
 ghost use Rattle.cluster_types.specs.Members.{plain_role, plain_member};
 ghost use Rattle.node_rules.specs.Agreement as agreement;
 ghost use Rattle.node_rules.specs.Batches.{next_batch, acking, new_target, done_row};
-ghost use Rattle.node_rules.specs.Classes.{class_first, sends, asked_by};
-ghost use Rattle.node_rules.specs.Copies.{Content, Store, Stamps, copy_state, row_from};
+ghost use Rattle.node_rules.specs.Classes.{class_first, sends, asked_by_rows};
+ghost use Rattle.node_rules.specs.Copies.{Content, Store, Stamps, store_state, row_from};
 ghost use Rattle.node_rules.specs.Facts.{Facts, fresh, list_at, view_key, view_members, has_exchanged_in};
-ghost use Rattle.node_rules.specs.Standing.{is_done, knows_settled, knows_all_settled, is_to_learn, is_to_drop, has_nothing_to_learn_or_drop, is_at_rest_of, has_moved, is_all_empty, is_replica};
+ghost use Rattle.node_rules.specs.Standing.{is_done, knows_settled, knows_all_settled, is_to_learn, is_to_drop, has_nothing_to_learn_or_drop, is_at_rest_of, has_moved, is_all_empty, is_own_replica};
 ghost use Rattle.cluster_types.specs.Partitions.{partition_count};
 ghost use Rattle.cluster_types.specs.Rows.{bit};
 ghost use Rattle.cluster_types.specs.StateRows.{IsStateRow, state_of};
 ghost use Rattle.node_rules.specs.Effects.{nothing, lines_only, sends_only, to_one, to_each};
 ghost use Rattle.node_rules.specs.Examples.{key, lone, itself, ticked_twice, in_its_view, zeros, hi, first_hi, having_hi, seven, writing_hi, hi_written, promised_two, two, five_rows, five, hearing_one, proposing_two, row_of, migrating, whole_and_part, batch_of_hi, sent_hi, restarted, hearing_of_all, waiting_for, second_hi, lacking_two, racked};
 ghost use Rattle.node_rules.specs.Here.{Here, HasRows, IsAsleep, IsOver, part_lines, lines_here, lines_from, live_from};
-ghost use Rattle.node_rules.specs.Map.{acting, all_empty};
+ghost use Rattle.node_rules.specs.Map.{acting_by_rows, all_empty};
 ghost use Rattle.node_rules.specs.Merging.{Record, newer_records, joined_all, store_merged_all};
 ghost use Rattle.node_rules.specs.Messages.{due_message, due_message_of, merging_all, merge_line, moved_from};
 ghost use Rattle.node_rules.specs.Notes.{note, noted, reached, neighbours, after_ages, stopped, marked, with_role, count_in, stamped_from};
-ghost use Rattle.node_rules.specs.Requests.{due_request, due_stop, refusal_of, request_at};
+ghost use Rattle.node_rules.specs.Requests.{due_request, due_stop, request_refusal, request_at};
 ghost use Rattle.node_rules.specs.Settling.{settling_at, settling_from};
 ghost use Rattle.node_rules.specs.Stamps.{count_of, with_number, no_class, stamped_by};
 ghost use Rattle.node_rules.specs.Tables.{all_from, bits_from};
@@ -97,19 +97,19 @@ pub fn messages_count_in_their_view()
 /// Of five members two have equal copies. The first of them in the list acts and sends for both; a
 /// copy without a count, and one that is a part, send for themselves; an empty one sends nothing.
 pub fn classes_of_five_members()
-    ensures acting { acting five five_rows 7 ≡ 3 }
+    ensures acting { acting_by_rows five five_rows 7 ≡ 3 }
     ensures first { class_first five five_rows 7 1 ≡ Some 3 }
     ensures alone { class_first five five_rows 7 2 ≡ Some 2 }
     ensures empty { class_first five five_rows 7 5 ≡ None }
     ensures second_is_silent { sends five five_rows 7 1 4 ≡ false }
     ensures class_is_spared { sends five five_rows 7 3 1 ≡ false }
     ensures others_are_served { sends five five_rows 7 3 2 ≡ true }
-    ensures asked { asked_by five five_rows 7 1 ≡ 4 ∷ 2 ∷ [] }
-    ensures asked_by_empty { asked_by five five_rows 7 5 ≡ 4 ∷ 3 ∷ 2 ∷ [] }
+    ensures asked { asked_by_rows five five_rows 7 1 ≡ 4 ∷ 2 ∷ [] }
+    ensures asked_by_empty { asked_by_rows five five_rows 7 5 ≡ 4 ∷ 3 ∷ 2 ∷ [] }
     ensures not_empty { all_empty five five_rows 7 ≡ false }
     ensures empty_elsewhere { all_empty five five_rows 6 ≡ true }
     ensures empty_among_two { all_empty (5 ∷ 6 ∷ []) five_rows 7 ≡ true }
-    ensures master_of_empty { acting five five_rows 6 ≡ 5 }
+    ensures master_of_empty { acting_by_rows five five_rows 6 ≡ 5 }
 {}
 
 /// Writes that came out of order count once they are without a gap.
@@ -130,18 +130,18 @@ pub fn partition_comes_to_its_list_master()
     ensures settles { settling_at (2 ∷ 1 ∷ []) 7 (migrating 2 1 (whole_and_part 1 2) false true) ≡ line.Settled 2 (key 2 2) 7 ∷ line.Learn 2 (key 2 2) 7 ∷ [] }
     ensures settles_its_own { settling_at (2 ∷ 1 ∷ []) 7 (migrating 2 1 (whole_and_part 2 1) true false) ≡ line.Settled 2 (key 2 2) 7 ∷ line.Learn 2 (key 2 2) 7 ∷ [] }
     ensures empty { settling_at (2 ∷ 1 ∷ []) 6 (migrating 2 1 (whole_and_part 2 1) true false) ≡ [] }
-    ensures refers { refusal_of (migrating 2 1 (whole_and_part 1 2) true false) (2 ∷ 1 ∷ []) seven ≡ Some (refusal.NotMaster 1) }
-    ensures names_itself { refusal_of (migrating 2 1 (whole_and_part 1 2) true true) (2 ∷ 1 ∷ []) seven ≡ Some (refusal.NotMaster 2) }
-    ensures accepts { refusal_of (migrating 1 2 (whole_and_part 1 2) true false) (2 ∷ 1 ∷ []) seven ≡ None }
-    ensures handed { refusal_of (migrating 1 2 (whole_and_part 1 2) true true) (2 ∷ 1 ∷ []) seven ≡ Some (refusal.NotMaster 2) }
+    ensures refers { request_refusal (migrating 2 1 (whole_and_part 1 2) true false) (2 ∷ 1 ∷ []) seven ≡ Some (refusal.NotMaster 1) }
+    ensures names_itself { request_refusal (migrating 2 1 (whole_and_part 1 2) true true) (2 ∷ 1 ∷ []) seven ≡ Some (refusal.NotMaster 2) }
+    ensures accepts { request_refusal (migrating 1 2 (whole_and_part 1 2) true false) (2 ∷ 1 ∷ []) seven ≡ None }
+    ensures handed { request_refusal (migrating 1 2 (whole_and_part 1 2) true true) (2 ∷ 1 ∷ []) seven ≡ Some (refusal.NotMaster 2) }
 {}
 
 /// Who acts, and who hands over, goes by a node's own lines: to hear that a partition was handed over or settled
 /// changes neither.
 pub fn hearing_of_a_hand_over_changes_nothing()
     ensures hands { settling_at (2 ∷ 1 ∷ []) 7 (hearing_of_all true false 1 2 (whole_and_part 1 2)) ≡ line.Handed 1 (key 2 2) 7 ∷ [] }
-    ensures accepts { refusal_of (hearing_of_all true false 1 2 (whole_and_part 1 2)) (2 ∷ 1 ∷ []) seven ≡ None }
-    ensures list_master { refusal_of (hearing_of_all true true 2 1 (whole_and_part 1 2)) (2 ∷ 1 ∷ []) seven ≡ Some (refusal.NotMaster 2) }
+    ensures accepts { request_refusal (hearing_of_all true false 1 2 (whole_and_part 1 2)) (2 ∷ 1 ∷ []) seven ≡ None }
+    ensures list_master { request_refusal (hearing_of_all true true 2 1 (whole_and_part 1 2)) (2 ∷ 1 ∷ []) seven ≡ Some (refusal.NotMaster 2) }
 {}
 
 /// A node is at rest where it has finished the exchange, knows all settled, and has nothing open. Here
@@ -175,7 +175,7 @@ pub fn exchange_ends_with_the_last_row()
     ensures unwanted { due_message lacking_two 0 2 (message.State (key 2 2) false []) ≡ lines_only (line.Exchanged 1 (key 2 2) ∷ []) }
     ensures repeated { due_message (migrating 1 2 (whole_and_part 1 2) false false) 0 2 (message.State (key 2 2) false []) ≡ nothing }
     ensures other_view { due_message lacking_two 0 2 (message.State (key 1 2) true []) ≡ lines_only (line.Stale 1 ∷ []) }
-    ensures refuses { refusal_of lacking_two (2 ∷ 1 ∷ []) seven ≡ Some (refusal.Exchanging 2) }
+    ensures refuses { request_refusal lacking_two (2 ∷ 1 ∷ []) seven ≡ Some (refusal.Exchanging 2) }
 {}
 
 /// Before a partition is settled a request waits for the other classes, and a write is done once the
@@ -244,7 +244,7 @@ pub fn batch_merges_what_is_newer()
 
 /// What is told of many partitions at once says of each what holds of it, and nothing of others.
 pub fn rows_tell_of_each_partition()
-    ensures row { (s : Store) → (n : ℕ) → (p : ℕ) → p < n → state_of (row_from s n 0) p ≡ copy_state s p }
+    ensures row { (s : Store) → (n : ℕ) → (p : ℕ) → p < n → state_of (row_from s n 0) p ≡ store_state s p }
     ensures is_row { (s : Store) → (n : ℕ) → n ≤ partition_count → IsStateRow (row_from s n 0) }
     ensures done { (f : Facts) → (n : ℕ) → (p : ℕ) → p < n → bit (done_from f n 0) p ≡ is_done f p }
     ensures size { (f : Facts) → (n : ℕ) → length (done_from f n 0) ≡ n }
@@ -258,7 +258,7 @@ pub fn many_partitions_are_tested_one_by_one()
     ensures rest { (f : Facts) → (n : ℕ) → (p : ℕ) → has_nothing_to_learn_or_drop f n p ≡ all_from (λ q. not (is_to_learn f (list_at f q) q || is_to_drop f (list_at f q) q)) n p }
     ensures done { (f : Facts) → (n : ℕ) → (p : ℕ) → done_from f n p ≡ done_row f.exchange.exchanged f.batches n p }
     ensures moved { (f : Facts) → (n : ℕ) → (p : ℕ) → moved_from f n p ≡ bits_from (has_moved f) n p }
-    ensures stamps { (f : Facts) → (k : ClusterKey) → (stamps : Stamps) → (n : ℕ) → (p : ℕ) → stamped_from f k stamps n p ≡ stamped_by (λ q. is_all_empty f q && is_replica f (list_at f q)) (λ q. count_in f (list_at f q) q) k stamps n p }
+    ensures stamps { (f : Facts) → (k : ClusterKey) → (stamps : Stamps) → (n : ℕ) → (p : ℕ) → stamped_from f k stamps n p ≡ stamped_by (λ q. is_all_empty f q && is_own_replica f (list_at f q)) (λ q. count_in f (list_at f q) q) k stamps n p }
 {}
 
 /// What is due of settling at a partition goes by the facts before any of them is settled.

@@ -18,11 +18,11 @@ ghost use Rattle.node_rules.specs.Copies.{Row};
 ghost use Rattle.node_rules.specs.Entering.{entering};
 ghost use Rattle.node_rules.specs.Facts.{Facts, view_key, list_at};
 ghost use Rattle.node_rules.specs.Hearing.{beat_heard};
-ghost use Rattle.node_rules.specs.Map.{master};
+ghost use Rattle.node_rules.specs.Map.{list_master};
 ghost use Rattle.node_rules.specs.Merging.{newer_records, store_merged_all};
-ghost use Rattle.node_rules.specs.Messages.{finishes, may_enter};
-ghost use Rattle.node_rules.specs.Notes.{noted, neighbours, after_ages, stopped, started, in_view, if_view, row_came, batch_acked, progress_came, counted_if, answer_came};
-ghost use Rattle.node_rules.specs.Requests.{refusal_of};
+ghost use Rattle.node_rules.specs.Messages.{finishes, may_enter_view};
+ghost use Rattle.node_rules.specs.Notes.{noted, neighbours, after_ages, stopped, started, in_view, if_view, row_came, batch_acked, progress_came, write_counted_if, answer_came};
+ghost use Rattle.node_rules.specs.Requests.{request_refusal};
 ghost use Rattle.node_rules.specs.Steps.{after_tick, after_message, after_request, after_stop, after_start};
 ghost use Rattle.node_rules.specs.Tick.{is_candidate, propose};
 ghost use Rattle.node_rules.specs.Transactions.{transaction, acknowledging, ends_by_ack, closing_if};
@@ -34,7 +34,7 @@ pub fn agreeing_changes_the_agreement()
     ensures accept { (f : Facts) → (clock : ℕ) → (from : ℕ) → (k : ClusterKey) → (proposes f.agreement.proposal k && is_accepted_with f.agreement.proposal from) ≡ false → after_message f clock from (message.Accept k) ≡ record f { agreement = agreement.counting f.agreement from k } }
     ensures last_accept { (f : Facts) → (clock : ℕ) → (from : ℕ) → (k : ClusterKey) → (p : Proposal) → f.agreement.proposal ≡ Some p → (proposes (Some p) k && is_accepted_with (Some p) from) ≡ true → after_message f clock from (message.Accept k) ≡ view_entered f p.key p.members }
     ensures refuse { (f : Facts) → (clock : ℕ) → (from : ℕ) → (k : ClusterKey) → (promised : ClusterKey) → after_message f clock from (message.Refuse k promised) ≡ record f { agreement = agreement.refusing f.agreement k promised } }
-    ensures commit { (f : Facts) → (clock : ℕ) → (from : ℕ) → (k : ClusterKey) → (ms : List Member) → after_message f clock from (message.Commit k ms) ≡ (if may_enter f k ms then view_entered f k ms else f) }
+    ensures commit { (f : Facts) → (clock : ℕ) → (from : ℕ) → (k : ClusterKey) → (ms : List Member) → after_message f clock from (message.Commit k ms) ≡ (if may_enter_view f k ms then view_entered f k ms else f) }
 {}
 
 /// Entering a view closes all transactions, whose facts are gone with the older view.
@@ -48,7 +48,7 @@ pub fn messages_of_the_view_change_their_part()
     ensures batch { (f : Facts) → (clock : ℕ) → (from : ℕ) → (b : Batch) → after_message f clock from (message.Batch b) ≡ if_view (in_view f b.key) (record f { store = store_merged_all f.store (view_key f) (newer_records f.store.by f.store.content b.records) }) f }
     ensures batch_ack { (f : Facts) → (clock : ℕ) → (from : ℕ) → (k : ClusterKey) → (number : ℕ) → after_message f clock from (message.BatchAck k number) ≡ batch_acked f from number (in_view f k) }
     ensures progress { (f : Facts) → (clock : ℕ) → (from : ℕ) → (k : ClusterKey) → (wants : Bool) → (done : List Bool) → (handed : List Bool) → (settled : List Bool) → after_message f clock from (message.Progress k wants done handed settled) ≡ progress_came f from done handed settled (in_view f k) }
-    ensures repl { (f : Facts) → (clock : ℕ) → (from : ℕ) → (k : ClusterKey) → (t : ℕ) → (nth : ℕ) → (digest : List ℕ) → (v : Version) → after_message f clock from (message.Repl k t nth digest v) ≡ if_view (in_view f k) (merged_if (counted_if f k (list_at f (partition_of digest)) (partition_of digest) nth (from == master (list_at f (partition_of digest)))) (view_key f) digest v (is_newer f.store.by v (finite.get f.store.content digest))) f }
+    ensures repl { (f : Facts) → (clock : ℕ) → (from : ℕ) → (k : ClusterKey) → (t : ℕ) → (nth : ℕ) → (digest : List ℕ) → (v : Version) → after_message f clock from (message.Repl k t nth digest v) ≡ if_view (in_view f k) (merged_if (write_counted_if f k (list_at f (partition_of digest)) (partition_of digest) nth (from == list_master (list_at f (partition_of digest)))) (view_key f) digest v (is_newer f.store.by v (finite.get f.store.content digest))) f }
     ensures repl_ack { (f : Facts) → (clock : ℕ) → (from : ℕ) → (k : ClusterKey) → (t : ℕ) → after_message f clock from (message.ReplAck k t) ≡ if_view (in_view f k) (record f { transactions = closing_if (acknowledging f.transactions from t) t (ends_by_ack (transaction f.transactions t) from) }) f }
     ensures ask { (f : Facts) → (clock : ℕ) → (from : ℕ) → (k : ClusterKey) → (t : ℕ) → (digest : List ℕ) → after_message f clock from (message.Ask k t digest) ≡ f }
     ensures answer { (f : Facts) → (clock : ℕ) → (from : ℕ) → (k : ClusterKey) → (t : ℕ) → (v : Option Version) → after_message f clock from (message.Answer k t v) ≡ if_view (in_view f k) (resolved_with (answer_came f from t v true) clock from v (transaction f.transactions t)) f }
@@ -57,7 +57,7 @@ pub fn messages_of_the_view_change_their_part()
 
 /// The facts after a request, a stop and a start.
 pub fn requests_change_transactions_and_the_copy()
-    ensures request { (f : Facts) → (clock : ℕ) → (digest : List ℕ) → (w : Want) → after_request f clock digest w ≡ requested f clock (list_at f (partition_of digest)) digest w (refusal_of f (list_at f (partition_of digest)) digest) }
+    ensures request { (f : Facts) → (clock : ℕ) → (digest : List ℕ) → (w : Want) → after_request f clock digest w ≡ requested f clock (list_at f (partition_of digest)) digest w (request_refusal f (list_at f (partition_of digest)) digest) }
     ensures stop { (f : Facts) → after_stop f ≡ (if f.up then stopped f else f) }
     ensures start { (f : Facts) → after_start f ≡ (if f.up then f else started f) }
 {}

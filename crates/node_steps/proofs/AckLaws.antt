@@ -52,7 +52,7 @@ same_key_is a b h =
 pub view_key_is : (f : Facts) (key : ClusterKey) → in_view f key ≡ true → view_key f ≡ key
 view_key_is f key h = go f.exchange.view h
   where
-    go : (o : Option View) → exchange.is_view o key ≡ true → exchange.key_of o ≡ key
+    go : (o : Option View) → exchange.is_view o key ≡ true → exchange.exchange_key o ≡ key
     go None no_way = cc
     go (Some v) is = same_key_is v.key key is
 

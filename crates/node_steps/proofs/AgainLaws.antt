@@ -29,10 +29,10 @@ use Rattle.node_rules.specs.Transactions.{Transaction}
 use Rattle.node_view.specs.Transactions.{kept_of}
 use Rattle.node_steps.specs.declared.effects.Effects.{Effects}
 use Rattle.node_view.specs.Fits.{AreNext, IsReadyToSend}
-use Rattle.node_view.specs.Views.{IsInView, IsViewOf, Viewed, key_of}
+use Rattle.node_view.specs.Views.{IsInView, IsViewOf, Viewed, viewed_key}
 use Rattle.node_steps.specs.Counts.{HaveNumbers}
 use Rattle.node_steps.specs.Ranges.{HasRanges}
-use Rattle.node_steps.specs.Spelled.{followed_by, spelled_sends, with_sends}
+use Rattle.node_steps.specs.Spelled.{then_effects, spelled_sends, with_sends}
 use Rattle.node_steps.specs.Viewing.{IsAsKept}
 use Rattle.node_steps.proofs.SpelledLaws.{told_sends, told_twice}
 use Rattle.node_steps.proofs.StepRanges.{due_batches_fit}
@@ -104,15 +104,15 @@ sent_again f rise = for_each f f.transactions.running (found_each f.transactions
 
 -- the first one is told before the others
 pub first_told : (f : Facts) (out told : Effects) (x : Txn) (xs : List Txn) → IsSome (rules.transaction f.transactions x.id)
-    → ForSome (rules.transaction f.transactions x.id) (λ t. told ≡ followed_by out (sends_only (sends_again f t t.applied)))
-    → followed_by told (sends_only (sends_for f xs)) ≡ followed_by out (sends_only (sends_for f (x ∷ xs)))
+    → ForSome (rules.transaction f.transactions x.id) (λ t. told ≡ then_effects out (sends_only (sends_again f t t.applied)))
+    → then_effects told (sends_only (sends_for f xs)) ≡ then_effects out (sends_only (sends_for f (x ∷ xs)))
 first_told f out told x xs some here = go (rules.transaction f.transactions x.id) some here
   where
-    go : (o : Option Transaction) → IsSome o → ForSome o (λ t. told ≡ followed_by out (sends_only (sends_again f t t.applied)))
-        → followed_by told (sends_only (sends_for f xs)) ≡ followed_by out (sends_only (sends_of f o ++ sends_for f xs))
+    go : (o : Option Transaction) → IsSome o → ForSome o (λ t. told ≡ then_effects out (sends_only (sends_again f t t.applied)))
+        → then_effects told (sends_only (sends_for f xs)) ≡ then_effects out (sends_only (sends_of f o ++ sends_for f xs))
     go None none told_so = cc
     go (Some t) is told_so =
-        ap (λ (e : Effects). followed_by e (sends_only (sends_for f xs))) (told_so t refl)
+        ap (λ (e : Effects). then_effects e (sends_only (sends_for f xs))) (told_so t refl)
         ∙ told_twice out (sends_only (sends_again f t t.applied)) (sends_only (sends_for f xs))
 
 -- ---- what has a spelling
@@ -126,7 +126,7 @@ found_has P p (x ∷ xs) h = go (p x) refl (found_has P p xs (All-tail P x xs h)
     go true e later = rw e (λ y i. let is : x ≡ y = cc in subst P is (All-head P x xs h))
     go false e later = rw e later
 
-pub key_in_view : (o : Option exchange.View) → IsSome o → ForSome o (λ w. IsKeyField w.key) → IsKeyField (exchange.key_of o)
+pub key_in_view : (o : Option exchange.View) → IsSome o → ForSome o (λ w. IsKeyField w.key) → IsKeyField (exchange.exchange_key o)
 key_in_view None none h = cc
 key_in_view (Some w) is h = h w refl
 
@@ -155,7 +155,7 @@ all_spelled [] = refl
 all_spelled (b ∷ bs) = ap (λ (ss : List (ℕ × List ℕ)). batch_spelled b ∷ ss) (all_spelled bs)
 
 -- the batches that are due, as they are told
-pub batches_told : (out : Effects) (f : Facts) (bs : List (ℕ × Batch)) → bs ≡ batches_due (view_key f) f.store.content f.batches → with_sends out (map batch_spelled bs) ≡ followed_by out (tick.batches f)
+pub batches_told : (out : Effects) (f : Facts) (bs : List (ℕ × Batch)) → bs ≡ batches_due (view_key f) f.store.content f.batches → with_sends out (map batch_spelled bs) ≡ then_effects out (tick.batches f)
 batches_told out f bs due =
     told_sends out (map batch_spelled bs) (filter_map (λ (t : Target). batch_to t.node (next_batch (view_key f) f.store.content t)) f.batches)
     (all_spelled bs ∙ ap (λ (cs : List (ℕ × Batch)). spelled_sends (map batch_sent cs)) due ∙ ap spelled_sends (batches_sent (view_key f) f.store.content f.batches))
@@ -170,16 +170,16 @@ pub sends_nothing : (out : Effects) → with_sends out [] ≡ out
 sends_nothing out = ap (λ (ss : List (ℕ × List ℕ)). record out { sends = ss }) (append-nil out.sends)
 
 -- each that is due has a spelling
-pub batches_fit : (f : Facts) (v : Viewed) → IsViewOf f v → IsSome v.exchange.view → HaveNumbers f → HasRanges f → All (λ b. IsBatch b.1) (batches_due (key_of v) f.store.content v.batches)
+pub batches_fit : (f : Facts) (v : Viewed) → IsViewOf f v → IsSome v.exchange.view → HaveNumbers f → HasRanges f → All (λ b. IsBatch b.1) (batches_due (viewed_key v) f.store.content v.batches)
 batches_fit f v own in_one numbers ranges =
     let x : v.exchange ≡ f.exchange = exchange_is f v own.viewed in
     let ts : v.batches ≡ f.batches = ap (λ (g : Facts). g.batches) own.viewed.view in
-    subst (λ (y : Exchange). All (λ b. IsBatch b.1) (batches_due (exchange.key_of y.view) f.store.content v.batches)) (sym x)
+    subst (λ (y : Exchange). All (λ b. IsBatch b.1) (batches_due (exchange.exchange_key y.view) f.store.content v.batches)) (sym x)
     (subst (λ (us : Targets). All (λ b. IsBatch b.1) (batches_due (view_key f) f.store.content us)) (sym ts)
     (due_batches_fit f (subst (λ (y : Exchange). IsSome y.view) x in_one) (subst (λ (us : Targets). AreHeld f.store.content us) ts own.pending) numbers ranges))
 
 -- what is due of the view is due of the facts
-pub due_is : (f : Facts) (v : Viewed) → IsInView f v → batches_due (key_of v) f.store.content v.batches ≡ batches_due (view_key f) f.store.content f.batches
+pub due_is : (f : Facts) (v : Viewed) → IsInView f v → batches_due (viewed_key v) f.store.content v.batches ≡ batches_due (view_key f) f.store.content f.batches
 due_is f v h = ap (λ (g : Facts). batches_due (view_key g) f.store.content g.batches) h.view
 
 -- and may be sent by a node of these facts

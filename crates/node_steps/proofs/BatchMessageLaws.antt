@@ -14,7 +14,7 @@ use Rattle.node_rules.specs.Copies.{Content}
 use Rattle.node_rules.specs.Effects as rules
 use Rattle.node_rules.specs.Effects.{to_one}
 use Rattle.node_rules.specs.Facts.{Facts, view_key}
-use Rattle.node_rules.specs.Merging.{Record, is_newer_than_held, joined_if, newer_records, record_if, store_merged_all}
+use Rattle.node_rules.specs.Merging.{Record, is_newer_than_held, content_joined_if, newer_records, record_if, store_merged_all}
 use Rattle.node_rules.specs.Messages as due
 use Rattle.node_rules.specs.Messages.{merge_line}
 use Rattle.node_rules.specs.Notes.{if_view, in_view}
@@ -24,7 +24,7 @@ use Rattle.node_rules.proofs.PartLaws.{batch_is}
 use Rattle.immigrate.specs.declared.merging.Merged.{Merged}
 use Rattle.node_view.specs.declared.view_step.ViewStep.TheVariants as step
 use Rattle.node_steps.specs.declared.planned.Planned.TheVariants as planned
-use Rattle.node_steps.specs.Fits.{Fits}
+use Rattle.node_steps.specs.Fits.{FitsPlanned}
 use Rattle.node_steps.specs.Plans.{taken}
 use Rattle.node_steps.specs.Ranges.{HasRanges}
 use Rattle.node_steps.proofs.AckLaws.{view_key_is}
@@ -38,15 +38,16 @@ line_more line_of rs i r is =
 -- those that are newer are so without the others
 pub newer_again : (by : Policy) (c : Content) (rs : List Record) → newer_records by c (newer_records by c rs) ≡ newer_records by c rs
 newer_again by c [] = refl
-newer_again by c (r ∷ rs) = go (is_newer_than_held by c r) refl (newer_again by (joined_if by c r (is_newer_than_held by c r)) rs)
+newer_again by c (r ∷ rs) = go (is_newer_than_held by c r) refl (newer_again by (content_joined_if by c r (is_newer_than_held by c r)) rs)
   where
-    first : (b : Bool) (xs : List Record) → is_newer_than_held by c r ≡ b → newer_records by c (r ∷ xs) ≡ record_if r b ++ newer_records by (joined_if by c r b) xs
-    first b xs e = ap (λ (x : Bool). record_if r x ++ newer_records by (joined_if by c r x) xs) e
+    first : (b : Bool) (xs : List Record) → is_newer_than_held by c r ≡ b → newer_records by c (r ∷ xs) ≡ record_if r b ++ newer_records by (content_joined_if by c r b) xs
+    first b xs e = ap
+        (λ (x : Bool). record_if r x ++ newer_records by (content_joined_if by c r x) xs) e
 
     go : (b : Bool) → is_newer_than_held by c r ≡ b
-        → newer_records by (joined_if by c r b) (newer_records by (joined_if by c r b) rs) ≡ newer_records by (joined_if by c r b) rs
-        → newer_records by c (record_if r b ++ newer_records by (joined_if by c r b) rs) ≡ record_if r b ++ newer_records by (joined_if by c r b) rs
-    go true e ih = first true (newer_records by (joined_if by c r true) rs) e ∙ ap (λ (xs : List Record). r ∷ xs) ih
+        → newer_records by (content_joined_if by c r b) (newer_records by (content_joined_if by c r b) rs) ≡ newer_records by (content_joined_if by c r b) rs
+        → newer_records by c (record_if r b ++ newer_records by (content_joined_if by c r b) rs) ≡ record_if r b ++ newer_records by (content_joined_if by c r b) rs
+    go true e ih = first true (newer_records by (content_joined_if by c r true) rs) e ∙ ap (λ (xs : List Record). r ∷ xs) ih
     go false e ih = ih
 
 -- what is told of a batch in the view
@@ -63,7 +64,7 @@ batch_after f from b of_view =
     batch_is f 0 from b
     ∙ ap (λ (v : Bool). if_view v (record f { store = store_merged_all f.store (view_key f) (newer_records f.store.by f.store.content b.records) }) f) of_view
 
-pub batch_fits : (f : Facts) (b : Batch) (m : Merged) → IsSome f.exchange.view → m.newer ≡ newer_records f.store.by f.store.content b.records → Fits f (planned.View (step.Merged m))
+pub batch_fits : (f : Facts) (b : Batch) (m : Merged) → IsSome f.exchange.view → m.newer ≡ newer_records f.store.by f.store.content b.records → FitsPlanned f (planned.View (step.Merged m))
 batch_fits f b m in_one e = record {
   step = record { newer = ap (newer_records f.store.by f.store.content) e ∙ newer_again f.store.by f.store.content b.records ∙ sym e };
   in_one = in_one;

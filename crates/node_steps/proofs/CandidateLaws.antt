@@ -14,7 +14,7 @@ use Rattle.std.proofs.lemmas.List.Sorted.{Contains-permutation, IsPermutation-ma
 use Rattle.cluster_types.specs.declared.member.Member.{Member}
 use Rattle.cluster_types.specs.declared.member.Role.{Role}
 use Rattle.node_rules.specs.Hearing.{Heard, is_greatest, member_of, names, neighbours_of}
-use Rattle.node_rules.specs.Tables.{Table, with_entry}
+use Rattle.node_rules.specs.Tables.{Table, table_with}
 
 pub unlike : (a b : ℕ) → a ≡ b → ¬ ((a == b) ≡ false)
 unlike a b same is = clash (sym (equal a b same) ∙ is)
@@ -48,9 +48,9 @@ ids_in (e ∷ es) = ap (λ (ns : List ℕ). e.0 ∷ ns) (ids_in es)
 pub itself_among : (me : ℕ) (role : Role) (heard : Table Heard) → Contains (ids_of (neighbours_of me role heard)) me
 itself_among me role heard =
     let before : Table Role = map (λ (e : ℕ × Heard). (e.0, e.1.beat.role)) (filter (names me) heard) in
-    let ms : List Member = map member_of (with_entry before me role) in
+    let ms : List Member = map member_of (table_with before me role) in
     Contains-permutation (ids_of ms) (ids_of (reverse ms)) me (IsPermutation-map (λ (m : Member). m.id) ms (reverse ms) (IsPermutation-reverse ms))
-    (subst (λ (ns : List ℕ). Contains ns me) (sym (ids_in (with_entry before me role))) (put_there me role before))
+    (subst (λ (ns : List ℕ). Contains ns me) (sym (ids_in (table_with before me role))) (put_there me role before))
 
 -- ---- the greatest
 

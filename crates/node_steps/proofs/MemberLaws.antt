@@ -10,7 +10,7 @@ use Rattle.heartbeat.proofs.EntryLaws.{filter_short}
 use Rattle.cluster_types.specs.Members.{ids_of}
 use Rattle.partition_lists.proofs.InOrderLaws.{equal}
 use Rattle.partition_lists.proofs.ListLaws.{any_is_contained}
-use Rattle.node_rules.specs.Agreement.{others}
+use Rattle.node_rules.specs.Agreement.{others_among}
 use Rattle.node_rules.specs.Exchange.{is_member}
 
 member_by_id : (ms : List Member) (n : ℕ) → list_any (λ m. m == n) (ids_of ms) ≡ is_member ms n
@@ -24,18 +24,18 @@ pub listed : (ms : List Member) (n : ℕ) → is_member ms n ≡ true → Contai
 listed ms n h = (any_is_contained n (ids_of ms)).0 (member_by_id ms n ∙ h)
 
 -- each of the other members is a member
-pub other_is_member : (me : ℕ) (ms : List Member) (i n : ℕ) → i < length (others me ms) → n ≡ get_or (others me ms) i n → is_member ms n ≡ true
+pub other_is_member : (me : ℕ) (ms : List Member) (i n : ℕ) → i < length (others_among me ms) → n ≡ get_or (others_among me ms) i n → is_member ms n ≡ true
 other_is_member me ms i n within is =
     ap (is_member ms) is
-    ∙ All-get_or (λ (m : ℕ). is_member ms m ≡ true) (others me ms) i n within
+    ∙ All-get_or (λ (m : ℕ). is_member ms m ≡ true) (others_among me ms) i n within
     (All-filter (λ (m : ℕ). not (m == me)) (λ (m : ℕ). is_member ms m ≡ true) (ids_of ms)
     (All-from_get_or (λ (m : ℕ). is_member ms m ≡ true) (ids_of ms) n (λ k inside. is_listed ms (get_or (ids_of ms) k n) (Contains-get_or (ids_of ms) k n inside))))
 
 -- and none of them is the node
-pub other_is_other : (me : ℕ) (ms : List Member) (i n : ℕ) → i < length (others me ms) → n ≡ get_or (others me ms) i n → n ≢ me
+pub other_is_other : (me : ℕ) (ms : List Member) (i n : ℕ) → i < length (others_among me ms) → n ≡ get_or (others_among me ms) i n → n ≢ me
 other_is_other me ms i n within is same =
-    let passes : not (get_or (others me ms) i n == me) ≡ true = All-get_or (λ (m : ℕ). not (m == me) ≡ true) (others me ms) i n within (filter_passes (λ (m : ℕ). not (m == me)) (ids_of ms)) in
-    let here : (get_or (others me ms) i n == me) ≡ true = equal (get_or (others me ms) i n) me (sym is ∙ same) in
+    let passes : not (get_or (others_among me ms) i n == me) ≡ true = All-get_or (λ (m : ℕ). not (m == me) ≡ true) (others_among me ms) i n within (filter_passes (λ (m : ℕ). not (m == me)) (ids_of ms)) in
+    let here : (get_or (others_among me ms) i n == me) ≡ true = equal (get_or (others_among me ms) i n) me (sym is ∙ same) in
     let wrong : false ≡ true = sym (ap not here) ∙ passes in
     absurd (let w : false ≡ true = wrong in cc)
 

@@ -19,17 +19,17 @@ use Rattle.node_rules.specs.Copies.{is_nil}
 use Rattle.node_rules.specs.Exchange as exchange
 use Rattle.node_rules.specs.Exchange.{Exchange}
 use Rattle.node_rules.specs.Facts.{Facts, list_at, view_key}
-use Rattle.node_rules.specs.Notes.{applied}
-use Rattle.node_rules.specs.Requests.{acting_refusal, busy_refusal, due_request, map_refusal, refusal_after, refusal_of, request_if, up_refusal, view_refusal}
+use Rattle.node_rules.specs.Notes.{write_applied}
+use Rattle.node_rules.specs.Requests.{acting_refusal, busy_refusal, due_request, map_refusal, refusal_after, request_refusal, request_if, up_refusal, view_refusal}
 use Rattle.node_rules.specs.Stamps.{Writes, applies_at}
 use Rattle.node_rules.specs.Standing.{acts, acts_by, has_handed, has_settled, is_acting, is_master, other_replicas}
 use Rattle.node_rules.specs.Steps.{after_request}
 use Rattle.node_rules.specs.Transactions.{Transaction, Transactions, new_transaction, transaction_on}
 use Rattle.node_rules.proofs.PartLaws.{request_is}
-use Rattle.node_view.specs.Counts.{last_count}
+use Rattle.node_view.specs.Counts.{greatest_count}
 use Rattle.node_view.specs.Fits.{FitsOutcome, FitsStep}
 use Rattle.node_view.specs.Plans as plans
-use Rattle.node_view.specs.Views.{IsInView, Viewed, key_of}
+use Rattle.node_view.specs.Views.{IsInView, Viewed, viewed_key}
 use Rattle.node_steps.specs.declared.resolving.Resolving.{Resolving}
 use Rattle.node_steps.specs.Counts.{HaveNumbers}
 use Rattle.node_steps.specs.Ranges.{HasRanges}
@@ -43,7 +43,7 @@ use Rattle.node_steps.proofs.WritingLaws.{next_fits, others_seen}
 -- ---- refusals
 
 -- a node with a map refuses by what it does on the partition
-pub refused_by_acting : (f : Facts) (l digest : List ℕ) (o : Option Refusal) → None ≡ map_refusal f → o ≡ acting_refusal f l digest (acts f l (partition_of digest)) → o ≡ refusal_of f l digest
+pub refused_by_acting : (f : Facts) (l digest : List ℕ) (o : Option Refusal) → None ≡ map_refusal f → o ≡ acting_refusal f l digest (acts f l (partition_of digest)) → o ≡ request_refusal f l digest
 refused_by_acting f l digest o h is = is ∙ ap (refusal_after f l digest) h
 
 -- nothing stands in the way of a request
@@ -80,7 +80,7 @@ only_exchanged : (exchanged acting handed master settled : Bool) → acts_by exc
 only_exchanged true acting handed master settled h = refl
 only_exchanged false acting handed master settled h = h
 
-pub is_accepted : (f : Facts) (digest : List ℕ) → refusal_of f (list_at f (partition_of digest)) digest ≡ None → IsAccepted f digest
+pub is_accepted : (f : Facts) (digest : List ℕ) → request_refusal f (list_at f (partition_of digest)) digest ≡ None → IsAccepted f digest
 is_accepted f digest h =
     let l = list_at f (partition_of digest) in
     let none : map_refusal f ≡ None = map_first f l digest (map_refusal f) h in
@@ -95,14 +95,14 @@ is_accepted f digest h =
 
 pub numbers_of : (f : Facts) (v : Viewed) → IsInView f v → HaveNumbers f → HasNumbers v
 numbers_of f v h numbers = record {
-  transactions = subst (λ (ts : Transactions). ts.opened < last_count) (sym (transactions_are f v h)) numbers.transactions;
-  applies = λ p. subst (λ (ws : Writes). applies_at ws p < last_count) (sym (ap (λ (g : Facts). g.writes) h.view)) (numbers.applies p);
+  transactions = subst (λ (ts : Transactions). ts.opened < greatest_count) (sym (transactions_are f v h)) numbers.transactions;
+  applies = λ p. subst (λ (ws : Writes). applies_at ws p < greatest_count) (sym (ap (λ (g : Facts). g.writes) h.view)) (numbers.applies p);
 }
 
-pub key_of_view : (f : Facts) (v : Viewed) → IsInView f v → IsSome f.exchange.view → HasRanges f → IsKeyField (key_of v)
-key_of_view f v h some ranges = subst (λ (x : Exchange). IsKeyField (exchange.key_of x.view)) (sym (exchange_is f v h)) (go f.exchange.view some ranges.view)
+pub key_of_view : (f : Facts) (v : Viewed) → IsInView f v → IsSome f.exchange.view → HasRanges f → IsKeyField (viewed_key v)
+key_of_view f v h some ranges = subst (λ (x : Exchange). IsKeyField (exchange.exchange_key x.view)) (sym (exchange_is f v h)) (go f.exchange.view some ranges.view)
   where
-    go : (o : Option exchange.View) → IsSome o → ForSome o (λ w. IsKeyField w.key) → IsKeyField (exchange.key_of o)
+    go : (o : Option exchange.View) → IsSome o → ForSome o (λ w. IsKeyField w.key) → IsKeyField (exchange.exchange_key o)
     go None some h = cc
     go (Some w) some h = h w refl
 
@@ -114,13 +114,13 @@ pub outcome_after : (f : Facts) (v : Viewed) (clock : ℕ) (t : Transaction) (x 
 outcome_after f v clock t want.Get others = refl
 outcome_after f v clock t (want.Put bytes) others =
     let w : Version = next t.best clock (body.Value bytes) in
-    ap (λ (ns : List ℕ). closed_if (applied f (view_key f) (list_at f (partition_of t.digest)) t.number t.digest w) t.number (is_nil ns)) others
+    ap (λ (ns : List ℕ). closed_if (write_applied f (view_key f) (list_at f (partition_of t.digest)) t.number t.digest w) t.number (is_nil ns)) others
 outcome_after f v clock t want.Del others =
     let w : Version = next t.best clock body.Tombstone in
-    ap (λ (ns : List ℕ). closed_if (applied f (view_key f) (list_at f (partition_of t.digest)) t.number t.digest w) t.number (is_nil ns)) others
+    ap (λ (ns : List ℕ). closed_if (write_applied f (view_key f) (list_at f (partition_of t.digest)) t.number t.digest w) t.number (is_nil ns)) others
 
 pub outcome_fits : (f : Facts) (v : Viewed) (clock : ℕ) (t : Transaction) (x : Want) → others_at v (partition_of t.digest) ≡ other_replicas f (list_at f (partition_of t.digest))
-    → t.want ≡ x → t.applied ≡ None → t.awaiting ≡ [] → applies_at f.writes (partition_of t.digest) < last_count → FitsOutcome f t (outcome_of v (resolving_of clock t) x)
+    → t.want ≡ x → t.applied ≡ None → t.awaiting ≡ [] → applies_at f.writes (partition_of t.digest) < greatest_count → FitsOutcome f t (outcome_of v (resolving_of clock t) x)
 outcome_fits f v clock t want.Get others is unapplied nobody count = tt
 outcome_fits f v clock t (want.Put bytes) others is unapplied nobody count = record {
   write = subst IsWrite (sym is) tt;
@@ -161,7 +161,7 @@ opened_fits f v clock digest x h numbers free = record { free = free; count = nu
     at (n ∷ ns) = λ o e. cc
 
 pub opened_spelled : (f : Facts) (v : Viewed) (clock : ℕ) (digest : List ℕ) (x : Want) → HaveNumbers f → clock < 2 ^ 64 → IsDigest digest → IsWant x → IsOptionVersion (finite.get f.store.content digest)
-    → HasRanges f → HasRanges (plans.taken f (opened_step f v clock digest x))
+    → HasRanges f → HasRanges (plans.view_taken f (opened_step f v clock digest x))
 opened_spelled f v clock digest x numbers fits d fit held h = at (asked_for f digest)
     (opened_ranges f digest x (finite.get f.store.content digest) (asked_for f digest) d fit held numbers.transactions h)
   where
@@ -173,8 +173,8 @@ opened_spelled f v clock digest x numbers fits d fit held h = at (asked_for f di
         (outcome_field v (opening_of f clock digest x) x fits held fit) (numbers.applies (partition_of digest)) i
     at (n ∷ ns) i = i
 
-pub opened_after : (f : Facts) (v : Viewed) (clock : ℕ) (digest : List ℕ) (x : Want) → IsInView f v → refusal_of f (list_at f (partition_of digest)) digest ≡ None
-    → plans.taken f (opened_step f v clock digest x) ≡ after_request f clock digest x
+pub opened_after : (f : Facts) (v : Viewed) (clock : ℕ) (digest : List ℕ) (x : Want) → IsInView f v → request_refusal f (list_at f (partition_of digest)) digest ≡ None
+    → plans.view_taken f (opened_step f v clock digest x) ≡ after_request f clock digest x
 opened_after f v clock digest x h accepted =
     at (asked_for f digest)
     ∙ sym (request_is f clock digest x ∙ ap (requested f clock (list_at f (partition_of digest)) digest x) accepted)
@@ -190,5 +190,5 @@ opened_after f v clock digest x h accepted =
     at [] = outcome_after g v clock t x (others_seen f v (partition_of digest) h)
     at (n ∷ ns) = refl
 
-pub opening_due : (f : Facts) (clock : ℕ) (digest : List ℕ) (x : Want) → refusal_of f (list_at f (partition_of digest)) digest ≡ None → due_opening f clock digest x ≡ due_request f clock digest x
+pub opening_due : (f : Facts) (clock : ℕ) (digest : List ℕ) (x : Want) → request_refusal f (list_at f (partition_of digest)) digest ≡ None → due_opening f clock digest x ≡ due_request f clock digest x
 opening_due f clock digest x accepted = ap (request_if f clock (list_at f (partition_of digest)) digest x) (sym accepted)

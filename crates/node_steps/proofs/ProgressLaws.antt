@@ -28,7 +28,7 @@ use Rattle.node_rules.proofs.Forms.{done_by}
 use Rattle.node_view.specs.declared.here.Settling.{Settling}
 use Rattle.node_view.specs.Fits.{AreSettlings}
 use Rattle.node_view.specs.Plans.{changed_where, settled_at, settled_by}
-use Rattle.node_view.specs.Views.{IsInView, Viewed, key_of, unsettled_count}
+use Rattle.node_view.specs.Views.{IsInView, Viewed, viewed_key, unsettled_count}
 use Rattle.node_view.proofs.RowLaws.{bits_from_length}
 use Rattle.node_view.proofs.SettleLaws.{settles_unsettled}
 use Rattle.node_view.proofs.SettledLaws.{none_counted}
@@ -91,27 +91,27 @@ alike_progress k l d e a b s t i j p q = cc
 
 -- it tells of the view, whose rows have the bits of the partitions of this tick
 pub progress_of : (f : Facts) (v : Viewed) (ss : List Settling) → IsInView f v
-    → message.Progress (key_of v) true (done_row v.exchange.exchanged v.batches partition_count 0) (row_with (λ s. s.hands) v.bits.handed ss) (row_with (λ s. s.settles) v.bits.settled ss)
+    → message.Progress (viewed_key v) true (done_row v.exchange.exchanged v.batches partition_count 0) (row_with (λ s. s.hands) v.bits.handed ss) (row_with (λ s. s.settles) v.bits.settled ss)
     ≡ progress_message partition_count (settled_by f ss) true
 progress_of f v ss h =
     alike_progress _ _ _ _ _ _ _ _
-    (ap (λ (g : Facts). exchange.key_of g.exchange.view) h.view ∙ ap (λ (x : Exchange). exchange.key_of x.view) (sym (settled_view f ss)))
+    (ap (λ (g : Facts). exchange.exchange_key g.exchange.view) h.view ∙ ap (λ (x : Exchange). exchange.exchange_key x.view) (sym (settled_view f ss)))
     (ap (λ (g : Facts). done_row g.exchange.exchanged g.batches partition_count 0) h.view
     ∙ ap₂ (λ (x : Exchange) (ts : Targets). done_row x.exchanged ts partition_count 0) (sym (settled_view f ss)) (sym (settled_batches f ss))
     ∙ sym (done_by (settled_by f ss) partition_count 0))
     (ap (λ (g : Facts). row_with (λ s. s.hands) g.bits.handed ss) h.view ∙ sym (handed_row_is f ss))
     (ap (λ (g : Facts). row_with (λ s. s.settles) g.bits.settled ss) h.view ∙ sym (settled_row_is f ss))
 
-pub others_told : (f : Facts) (v : Viewed) (ss : List Settling) → IsInView f v → agreement.others v.me (members_of v.exchange.view) ≡ others (settled_by f ss)
+pub others_told : (f : Facts) (v : Viewed) (ss : List Settling) → IsInView f v → agreement.others_among v.me (members_of v.exchange.view) ≡ others (settled_by f ss)
 others_told f v ss h =
-    ap₂ (λ (me : ℕ) (x : Exchange). agreement.others me (members_of x.view))
+    ap₂ (λ (me : ℕ) (x : Exchange). agreement.others_among me (members_of x.view))
     (sym h.me ∙ sym (settled_keeps (λ (g : Facts). g.me) f ss settled_me))
     (ap (λ (g : Facts). g.exchange) h.view ∙ sym (settled_view f ss))
 
 -- ---- to whom it goes
 
 -- the key has a spelling where it goes to somebody
-pub key_to_others : (o : Option exchange.View) (me : ℕ) → (agreement.others me (members_of o) ≡ [] → ⊥) → ForSome o (λ w. IsKeyField w.key) → IsKeyField (exchange.key_of o)
+pub key_to_others : (o : Option exchange.View) (me : ℕ) → (agreement.others_among me (members_of o) ≡ [] → ⊥) → ForSome o (λ w. IsKeyField w.key) → IsKeyField (exchange.exchange_key o)
 key_to_others None me some h = absurd (some refl)
 key_to_others (Some w) me some h = h w refl
 

@@ -17,13 +17,13 @@ use Rattle.node_rules.specs.Agreement.{Agreement, Proposal, accepting_if, enteri
 use Rattle.node_rules.specs.Batches.{Target, Targets, acked_out, acking, is_among, without_batch}
 use Rattle.node_rules.specs.Bits.{Bits, clear_row}
 use Rattle.node_rules.specs.Copies.{Store}
-use Rattle.node_rules.specs.Exchange.{Exchange, View, key_of}
+use Rattle.node_rules.specs.Exchange.{Exchange, View, exchange_key}
 use Rattle.node_rules.specs.Facts.{Facts, view_key}
 use Rattle.node_rules.specs.Hearing.{Hearing}
 use Rattle.node_rules.specs.Notes.{started, stopped, with_role}
 use Rattle.node_rules.specs.Stamps.{Writes, no_writes}
 use Rattle.node_rules.specs.Tables.{changed_if}
-use Rattle.node_rules.specs.Transactions.{Transaction, Transactions, acknowledged, acknowledging, awaits_ack, closing}
+use Rattle.node_rules.specs.Transactions.{Transaction, Transactions, acknowledged, acknowledging, awaits_ack, without_transaction}
 use Rattle.node_rules.specs.declared.member_row.MemberRow.{MemberRow}
 use Rattle.wire_messages.specs.Keys.{IsKeyField, IsKeyOrNone}
 use Rattle.wire_messages.specs.Numbers.{IsNumber}
@@ -31,7 +31,7 @@ use Rattle.wire_messages.specs.Proper.{IsBatch}
 use Rattle.wire_messages.specs.Rows.{IsStateRowField}
 use Rattle.wire_messages.specs.Versions.{IsOptionVersion, IsVersion}
 use Rattle.wire_messages.specs.declared.message.Batch.{Batch}
-use Rattle.node_steps.specs.Ranges.{AreCounted, HasRanges, IsSpelled, IsStoreField, IsTargetField}
+use Rattle.node_steps.specs.Ranges.{AreCounted, HasRanges, HasSpelling, IsStoreField, IsTargetField}
 
 -- the keys that a node tells of its agreement have a spelling
 pub record HasKeys (a : Agreement) : Type 0 where
@@ -108,13 +108,14 @@ committed_keys me a key b h = entered_keys a key b h
 pub key_fits : (f : Facts) → IsSome f.exchange.view → HasRanges f → IsKeyField (view_key f)
 key_fits f in_one h = go f.exchange.view in_one h.view
   where
-    go : (o : Option View) → IsSome o → ForSome o (λ v. IsKeyField v.key) → IsKeyField (key_of o)
+    go : (o : Option View) → IsSome o → ForSome o (λ v. IsKeyField v.key)
+        → IsKeyField (exchange_key o)
     go None some fit = cc
     go (Some v) some fit = fit v refl
 
 -- what is of a view, and the store
 pub ranges_of_parts : (f : Facts) (x : Exchange) (s : Store) (w : Writes) (ts : Transactions) (targets : Targets) (b : Bits) → HasRanges f
-    → ForSome x.view (λ v. IsKeyField v.key) → All (λ r. IsStateRowField r.row) x.rows → IsStoreField s → AreCounted w → All IsSpelled ts.running → All IsTargetField targets
+    → ForSome x.view (λ v. IsKeyField v.key) → All (λ r. IsStateRowField r.row) x.rows → IsStoreField s → AreCounted w → All HasSpelling ts.running → All IsTargetField targets
     → length b.handed ≡ partition_count → length b.settled ≡ partition_count
     → HasRanges (record f { exchange = x; store = s; writes = w; transactions = ts; batches = targets; bits = b })
 ranges_of_parts f x s w ts targets b r view rows store writes transactions batches handed settled = record {
@@ -139,7 +140,7 @@ ranges_rows f rows r fit =
 pub ranges_store : (f : Facts) (s : Store) → HasRanges f → IsStoreField s → HasRanges (record f { store = s })
 ranges_store f s r fit = ranges_of_parts f f.exchange s f.writes f.transactions f.batches f.bits r r.view r.rows fit r.writes r.transactions r.batches r.bits.handed r.bits.settled
 
-pub ranges_transactions : (f : Facts) (ts : Transactions) → HasRanges f → All IsSpelled ts.running → HasRanges (record f { transactions = ts })
+pub ranges_transactions : (f : Facts) (ts : Transactions) → HasRanges f → All HasSpelling ts.running → HasRanges (record f { transactions = ts })
 ranges_transactions f ts r spelled = ranges_of_parts f f.exchange f.store f.writes ts f.batches f.bits r r.view r.rows r.store r.writes spelled r.batches r.bits.handed r.bits.settled
 
 pub ranges_batches : (f : Facts) (targets : Targets) → HasRanges f → All IsTargetField targets → HasRanges (record f { batches = targets })
@@ -201,18 +202,18 @@ stopped_ranges f r = record {
   rows = All-nil (λ x. IsStateRowField x.row);
   store = r.store;
   writes = no_writes_counted;
-  transactions = All-nil IsSpelled;
+  transactions = All-nil HasSpelling;
   batches = All-nil IsTargetField;
   bits = record { handed = length-replicate partition_count false; settled = length-replicate partition_count false };
 }
 
 -- ---- transactions
 
-acked : (t : Transaction) (from : ℕ) (b : Bool) → IsSpelled t → IsSpelled (changed_if (acknowledged from) t b)
+acked : (t : Transaction) (from : ℕ) (b : Bool) → HasSpelling t → HasSpelling (changed_if (acknowledged from) t b)
 acked t from true h = record { number = h.number; digest = h.digest; want = h.want; best = h.best; applied = h.applied }
 acked t from false h = h
 
-acked_one : (t : Transaction) (from : ℕ) (b : Bool) → IsSpelled t → IsSpelled (changed_if (λ x. changed_if (acknowledged from) x (awaits_ack x from)) t b)
+acked_one : (t : Transaction) (from : ℕ) (b : Bool) → HasSpelling t → HasSpelling (changed_if (λ x. changed_if (acknowledged from) x (awaits_ack x from)) t b)
 acked_one t from true h = acked t from (awaits_ack t from) h
 acked_one t from false h = h
 
@@ -220,11 +221,11 @@ pub ranges_acked : (f : Facts) (from number : ℕ) → HasRanges f → HasRanges
 ranges_acked f from number r =
     let one : Transaction → Transaction = λ (t : Transaction). changed_if (λ x. changed_if (acknowledged from) x (awaits_ack x from)) t (t.number == number) in
     ranges_transactions f (acknowledging f.transactions from number) r
-    (All-map IsSpelled one f.transactions.running (λ k d within. acked_one (get_or f.transactions.running k d) from ((get_or f.transactions.running k d).number == number) (r.transactions k d within)))
+    (All-map HasSpelling one f.transactions.running (λ k d within. acked_one (get_or f.transactions.running k d) from ((get_or f.transactions.running k d).number == number) (r.transactions k d within)))
 
-pub ranges_closed : (f : Facts) (number : ℕ) → HasRanges f → HasRanges (record f { transactions = closing f.transactions number })
+pub ranges_closed : (f : Facts) (number : ℕ) → HasRanges f → HasRanges (record f { transactions = without_transaction f.transactions number })
 ranges_closed f number r =
-    ranges_transactions f (closing f.transactions number) r (All-filter (λ t. not (t.number == number)) IsSpelled f.transactions.running r.transactions)
+    ranges_transactions f (without_transaction f.transactions number) r (All-filter (λ t. not (t.number == number)) HasSpelling f.transactions.running r.transactions)
 
 -- ---- versions
 

@@ -13,9 +13,9 @@ use Rattle.node_rules.specs.ByParts.{merged_if}
 use Rattle.node_rules.specs.Effects as rules
 use Rattle.node_rules.specs.Effects.{lines_only, sends_only, to_one}
 use Rattle.node_rules.specs.Facts.{Facts, list_at, view_key}
-use Rattle.node_rules.specs.Map.{master}
+use Rattle.node_rules.specs.Map.{list_master}
 use Rattle.node_rules.specs.Messages as due
-use Rattle.node_rules.specs.Notes.{counted_if, if_view, in_view}
+use Rattle.node_rules.specs.Notes.{write_counted_if, if_view, in_view}
 use Rattle.node_rules.specs.Settling.{line_if}
 use Rattle.node_rules.specs.Steps.{after_message}
 use Rattle.node_rules.proofs.PartLaws.{repl_is}
@@ -28,40 +28,40 @@ use Rattle.wire_messages.specs.Versions.{IsDigest, IsVersion}
 use Rattle.node_view.specs.declared.view_step.ViewStep.TheVariants as step
 use Rattle.node_steps.specs.declared.effects.Effects.{Effects}
 use Rattle.node_steps.specs.declared.planned.Planned.TheVariants as planned
-use Rattle.node_steps.specs.Fits.{Fits}
+use Rattle.node_steps.specs.Fits.{FitsPlanned}
 use Rattle.node_steps.specs.Ranges.{HasRanges}
-use Rattle.node_steps.specs.Spelled.{followed_by, spelled, spelled_sends}
+use Rattle.node_steps.specs.Spelled.{then_effects, spelled, spelled_sends}
 use Rattle.node_steps.proofs.AckLaws.{view_key_is}
 use Rattle.node_steps.proofs.StepRanges.{replicated_ranges}
 
-counted_so : (f : Facts) (p nth : ℕ) (c : Option Counted) (b : Bool) → option_map (λ n. n.nth) c ≡ some_if b nth → with_count f p c ≡ counted_if f (view_key f) (list_at f p) p nth b
+counted_so : (f : Facts) (p nth : ℕ) (c : Option Counted) (b : Bool) → option_map (λ n. n.nth) c ≡ some_if b nth → with_count f p c ≡ write_counted_if f (view_key f) (list_at f p) p nth b
 counted_so f p nth None true e = cc
 counted_so f p nth None false e = refl
-counted_so f p nth (Some c) true e = let same : c.nth ≡ nth = cc in ap (λ (n : ℕ). counted_if f (view_key f) (list_at f p) p n true) same
+counted_so f p nth (Some c) true e = let same : c.nth ≡ nth = cc in ap (λ (n : ℕ). write_counted_if f (view_key f) (list_at f p) p n true) same
 counted_so f p nth (Some c) false e = cc
 
 newer_so : (f : Facts) (digest : List ℕ) (v : Version) (o : Option Version) (b : Bool) → o ≡ some_if b v → with_newer f digest o ≡ merged_if f (view_key f) digest v b
 newer_so f digest v o true e = ap (with_newer f digest) e
 newer_so f digest v o false e = ap (with_newer f digest) e
 
-key_stays : (f : Facts) (key : ClusterKey) (p nth : ℕ) (b : Bool) → view_key (counted_if f key (list_at f p) p nth b) ≡ view_key f
+key_stays : (f : Facts) (key : ClusterKey) (p nth : ℕ) (b : Bool) → view_key (write_counted_if f key (list_at f p) p nth b) ≡ view_key f
 key_stays f key p nth true = refl
 key_stays f key p nth false = refl
 
 -- the write is planned as it comes
 pub repl_after : (f : Facts) (from : ℕ) (key : ClusterKey) (t nth : ℕ) (digest : List ℕ) (v : Version) (newer : Option Version) (counted : Option Counted) → in_view f key ≡ true
     → newer ≡ some_if (is_newer f.store.by v (finite.get f.store.content digest)) v
-    → option_map (λ n. n.nth) counted ≡ some_if (from == master (list_at f (partition_of digest))) nth
+    → option_map (λ n. n.nth) counted ≡ some_if (from == list_master (list_at f (partition_of digest))) nth
     → after_message f 0 from (message.Repl key t nth digest v) ≡ replicated f (record { digest = digest; newer = newer; counted = counted })
 repl_after f from key t nth digest v newer counted of_view is_newer_one is_counted =
     let p = partition_of digest in
-    let sent : Bool = from == master (list_at f p) in
+    let sent : Bool = from == list_master (list_at f p) in
     let b : Bool = is_newer f.store.by v (finite.get f.store.content digest) in
     let keyed = view_key_is f key of_view in
-    let g : Facts = counted_if f (view_key f) (list_at f p) p nth sent in
+    let g : Facts = write_counted_if f (view_key f) (list_at f p) p nth sent in
     repl_is f 0 from key t nth digest v
-    ∙ ap (λ (x : Bool). if_view x (merged_if (counted_if f key (list_at f p) p nth sent) (view_key f) digest v b) f) of_view
-    ∙ ap (λ (k : ClusterKey). merged_if (counted_if f k (list_at f p) p nth sent) (view_key f) digest v b) (sym keyed)
+    ∙ ap (λ (x : Bool). if_view x (merged_if (write_counted_if f key (list_at f p) p nth sent) (view_key f) digest v b) f) of_view
+    ∙ ap (λ (k : ClusterKey). merged_if (write_counted_if f k (list_at f p) p nth sent) (view_key f) digest v b) (sym keyed)
     ∙ ap (λ (k : ClusterKey). merged_if g k digest v b) (sym (key_stays f (view_key f) p nth sent))
     ∙ sym (newer_so g digest v newer b is_newer_one)
     ∙ ap (λ (x : Facts). with_newer x digest newer) (sym (counted_so f p nth counted sent is_counted))
@@ -95,7 +95,7 @@ of_number P (Some y) false nth e h = λ x i. cc
 
 pub repl_fits : (f : Facts) (from nth : ℕ) (digest : List ℕ) (v : Version) (newer : Option Version) (counted : Option Counted) (b : Bool) → IsSome f.exchange.view → IsNumber nth
     → newer ≡ some_if (is_newer f.store.by v (finite.get f.store.content digest)) v → option_map (λ x. x.nth) counted ≡ some_if b nth
-    → Fits f (planned.View (step.Replicated (record { digest = digest; newer = newer; counted = counted })))
+    → FitsPlanned f (planned.View (step.Replicated (record { digest = digest; newer = newer; counted = counted })))
 repl_fits f from nth digest v newer counted b in_one number e c = record {
   step = record {
     newer = of_version (λ x. is_newer f.store.by x (finite.get f.store.content digest) ≡ true) newer (is_newer f.store.by v (finite.get f.store.content digest)) v e (λ h. h);
@@ -111,7 +111,7 @@ repl_ranges f nth digest v newer counted a b number d fit e c h =
     replicated_ranges f (record { digest = digest; newer = newer; counted = counted }) d (of_version IsVersion newer a v e (λ i. fit)) (of_number IsNumber counted b nth c number) h
 
 pub told_both : (me from : ℕ) (key : ClusterKey) (t : ℕ) (digest : List ℕ) (v : Version) (b : Bool)
-    → followed_by (spelled (lines_only (only_if (line.Merge me key digest v) b))) (sends_only (to_one from (message.ReplAck key t)))
+    → then_effects (spelled (lines_only (only_if (line.Merge me key digest v) b))) (sends_only (to_one from (message.ReplAck key t)))
     ≡ spelled (record { lines = only_if (line.Merge me key digest v) b; sends = to_one from (message.ReplAck key t) })
 told_both me from key t digest v b =
     ap (λ (ls : List Line). let e : Effects = record { lines = ls; sends = spelled_sends (to_one from (message.ReplAck key t)) } in e) (append-nil (only_if (line.Merge me key digest v) b))

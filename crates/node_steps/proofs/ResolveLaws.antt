@@ -28,7 +28,7 @@ use Rattle.node_view.specs.Rooms.{HasRoomForOutcome}
 use Rattle.node_view.specs.Views.{IsInView, IsSame, Viewed, digest_in}
 use Rattle.node_steps.specs.declared.resolving.Resolving.{Resolving}
 use Rattle.node_steps.specs.Counts.{HaveNumbers}
-use Rattle.node_steps.specs.Ranges.{HasRanges, IsResolvingField, IsSpelled}
+use Rattle.node_steps.specs.Ranges.{HasRanges, IsResolvingField, HasSpelling}
 use Rattle.node_steps.specs.Resolvings.{AwaitsLast, due_outcome, outcome_of, resolving_of}
 use Rattle.node_steps.specs.Viewing.{IsAsKept}
 use Rattle.node_steps.proofs.AckLaws.{number_is}
@@ -121,15 +121,15 @@ answer_due f clock from number v t h =
 abbrev pub outcome_at : Facts → Viewed → ℕ → Option Version → Transaction → Outcome
 outcome_at f v clock x t = outcome_of v (resolving_of clock (answered f.store.by 0 x t)) t.want
 
-found_spelled : (p : Transaction → Bool) (ts : List Transaction) (t : Transaction) → All IsSpelled ts → find p ts ≡ Some t → IsSpelled t
+found_spelled : (p : Transaction → Bool) (ts : List Transaction) (t : Transaction) → All HasSpelling ts → find p ts ≡ Some t → HasSpelling t
 found_spelled p [] t h e = cc
-found_spelled p (x ∷ xs) t h e = go (found_spelled p xs t (All-tail IsSpelled x xs h)) (p x) e
+found_spelled p (x ∷ xs) t h e = go (found_spelled p xs t (All-tail HasSpelling x xs h)) (p x) e
   where
-    go : (find p xs ≡ Some t → IsSpelled t) → (b : Bool) → cond b (Some x) (find p xs) ≡ Some t → IsSpelled t
-    go rest true i = let same : x ≡ t = cc in subst IsSpelled same (All-head IsSpelled x xs h)
+    go : (find p xs ≡ Some t → HasSpelling t) → (b : Bool) → cond b (Some x) (find p xs) ≡ Some t → HasSpelling t
+    go rest true i = let same : x ≡ t = cc in subst HasSpelling same (All-head HasSpelling x xs h)
     go rest false i = rest i
 
-pub spelled_one : (f : Facts) (from number : ℕ) (t : Transaction) → IsAnswered f from number t → HasRanges f → IsSpelled t
+pub spelled_one : (f : Facts) (from number : ℕ) (t : Transaction) → IsAnswered f from number t → HasRanges f → HasSpelling t
 spelled_one f from number t h ranges = found_spelled (λ x. x.number == number) f.transactions.running t ranges.transactions h.found
 
 joined_fits : (by : Policy) (a b : Option Version) → IsOptionVersion a → IsOptionVersion b → IsOptionVersion (join by a b)
@@ -165,21 +165,21 @@ resolved_fits f u clock from number v t h a numbers =
     one x y e = cc
 
 pub resolved_spelled : (f : Facts) (u : Viewed) (clock from number : ℕ) (v : Option Version) (t : Transaction) → IsAnswered f from number t → HaveNumbers f → IsOptionVersion v → clock < 2 ^ 64 → HasRanges f
-    → HasRanges (plans.taken f (step.Resolved from number v (outcome_at f u clock v t)))
+    → HasRanges (plans.view_taken f (step.Resolved from number v (outcome_at f u clock v t)))
 resolved_spelled f u clock from number v t a numbers fit fits h =
     let s = spelled_one f from number t a h in
     let g : Facts = plans.with_answer f from number v in
-    subst (λ (o : Option Transaction). HasRanges (plans.with_outcome g number (plans.digest_of o) (outcome_at f u clock v t))) (sym a.found)
+    subst (λ (o : Option Transaction). HasRanges (plans.with_outcome g number (plans.transaction_digest o) (outcome_at f u clock v t))) (sym a.found)
     (outcome_ranges g number t.digest (outcome_at f u clock v t) s.digest
     (outcome_field u (resolving_of clock (answered f.store.by 0 v t)) t.want fits (joined_fits f.store.by t.best v s.best fit) s.want)
     (numbers.applies (partition_of t.digest)) (answered_ranges f from number v fit h))
 
 pub resolved_after : (f : Facts) (u : Viewed) (clock from number : ℕ) (v : Option Version) (t : Transaction) → IsInView f u → IsAnswered f from number t
-    → plans.taken f (step.Resolved from number v (outcome_at f u clock v t)) ≡ resolved_with (answer_came f from number v true) clock from v (transaction f.transactions number)
+    → plans.view_taken f (step.Resolved from number v (outcome_at f u clock v t)) ≡ resolved_with (answer_came f from number v true) clock from v (transaction f.transactions number)
 resolved_after f u clock from number v t h a =
     let g : Facts = plans.with_answer f from number v in
     let x : Transaction = answered f.store.by from v t in
-    ap (λ (o : Option Transaction). plans.with_outcome g number (plans.digest_of o) (outcome_at f u clock v t)) a.found
+    ap (λ (o : Option Transaction). plans.with_outcome g number (plans.transaction_digest o) (outcome_at f u clock v t)) a.found
     ∙ ap (λ (k : ℕ). plans.with_outcome g k t.digest (outcome_at f u clock v t)) (sym (number_is f.transactions number t a.found))
     ∙ outcome_after g u clock x t.want (others_seen f u (partition_of t.digest) h)
     ∙ sym (ap (resolved_with g clock from v) a.found

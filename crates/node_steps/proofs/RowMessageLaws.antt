@@ -22,12 +22,12 @@ use Rattle.node_rules.specs.ByParts.{exchanged_if}
 use Rattle.node_rules.specs.Copies.{Row}
 use Rattle.node_rules.specs.Exchange as exchange
 use Rattle.node_rules.specs.Exchange.{Exchange, first_missing, is_member, members_of, with_row, with_row_if}
-use Rattle.node_rules.specs.Facts.{Facts, members, view_key}
+use Rattle.node_rules.specs.Facts.{Facts, members_of_view, view_key}
 use Rattle.node_rules.specs.Map.{lacks}
 use Rattle.node_rules.specs.Effects.{lines_only, sends_only}
 use Rattle.node_rules.specs.Messages as due
 use Rattle.node_rules.specs.Messages.{answer_progress, answer_state, due_progress, due_state, finishes}
-use Rattle.node_rules.specs.Notes.{if_view, in_view, progress_came, row_came, targets_of}
+use Rattle.node_rules.specs.Notes.{if_view, in_view, progress_came, row_came, own_targets}
 use Rattle.node_rules.specs.Settling.{line_if}
 use Rattle.node_rules.specs.Standing.{knows_all_settled, others}
 use Rattle.node_rules.specs.Tables.{bits_from}
@@ -37,14 +37,14 @@ use Rattle.node_rules.proofs.Forms.{done_by, settled_by}
 use Rattle.node_rules.proofs.PartLaws.{progress_is, state_is}
 use Rattle.node_view.specs.declared.view_step.LastRow.{LastRow}
 use Rattle.node_view.specs.Fits.{FitsLastRow, FitsRow, IsLacking}
-use Rattle.node_view.specs.Plans.{with_row_of}
-use Rattle.node_view.specs.Views.{IsHandedOn, IsInView, IsNodeOf, IsOtherMember, Viewed, facts_seen, key_of, with_settled_bits}
+use Rattle.node_view.specs.Plans.{facts_with_row}
+use Rattle.node_view.specs.Views.{IsHandedOn, IsInView, IsNodeInView, IsOtherMember, Viewed, facts_seen, viewed_key, with_settled_bits}
 use Rattle.exchange.specs.Served.{AreServed}
 use Rattle.exchange.proofs.RowsLaws.{full_is_there, lacks_fresh}
 use Rattle.node_steps.specs.declared.effects.Effects.{Effects}
 use Rattle.node_steps.specs.Plans.{after_row, only_if}
 use Rattle.node_steps.specs.Ranges.{HasRanges}
-use Rattle.node_steps.specs.Spelled.{followed_by, spelled, spelled_sends}
+use Rattle.node_steps.specs.Spelled.{then_effects, spelled, spelled_sends}
 use Rattle.node_steps.specs.Viewing.{finishes_with}
 use Rattle.node_steps.proofs.AckLaws.{view_key_is}
 use Rattle.node_steps.proofs.MemberLaws.{listed, other_is_member, other_is_other}
@@ -145,7 +145,7 @@ after_last f v from row h over =
 
 -- ---- what is planned of it
 
-pub other_from : (v : Viewed) (n : ℕ) → Contains (agreement.others v.me (members_of v.exchange.view)) n → IsOtherMember v n
+pub other_from : (v : Viewed) (n : ℕ) → Contains (agreement.others_among v.me (members_of v.exchange.view)) n → IsOtherMember v n
 other_from v n (i, within, is) = record {
   member = other_is_member v.me (members_of v.exchange.view) i n within (sym is);
   other = other_is_other v.me (members_of v.exchange.view) i n within (sym is);
@@ -191,51 +191,52 @@ none_of : {X : Type 0} (o : Option X) → is_none o ≡ true → o ≡ None
 none_of None e = refl
 none_of (Some x) e = cc
 
-lacking_of : (f : Facts) (v : Viewed) (from : ℕ) → IsInView f v → Contains (agreement.others v.me (members_of v.exchange.view)) from → lacks v.exchange.rows from ≡ true → IsLacking f from
+lacking_of : (f : Facts) (v : Viewed) (from : ℕ) → IsInView f v → Contains (agreement.others_among v.me (members_of v.exchange.view)) from → lacks v.exchange.rows from ≡ true → IsLacking f from
 lacking_of f v from h member lacking = record {
-  member = subst (λ (ns : List ℕ). Contains ns from) (ap₂ (λ (me : ℕ) (x : Exchange). agreement.others me (members_of x.view)) (sym h.me) (exchange_is f v h)) member;
+  member = subst (λ (ns : List ℕ). Contains ns from) (ap₂ (λ (me : ℕ) (x : Exchange). agreement.others_among me (members_of x.view)) (sym h.me) (exchange_is f v h)) member;
   lacking = ap (λ (x : Exchange). lacks x.rows from) (sym (exchange_is f v h)) ∙ lacking;
 }
 
-pub more_fits : (f : Facts) (v : Viewed) (from : ℕ) (row : Row) → IsInView f v → Contains (agreement.others v.me (members_of v.exchange.view)) from → IsMore v from row → FitsRow f from row
+pub more_fits : (f : Facts) (v : Viewed) (from : ℕ) (row : Row) → IsInView f v → Contains (agreement.others_among v.me (members_of v.exchange.view)) from → IsMore v from row → FitsRow f from row
 more_fits f v from row h member more = record {
   absent = lacking_of f v from h member more.lacking;
   more = subst (λ (x : Exchange). IsSome (first_missing (with_row x.rows from row) (members_of x.view))) (exchange_is f v h) (some_of _ more.some);
 }
 
-pub last_fits : (f : Facts) (v : Viewed) (s : held.Store) (from : ℕ) (row : Row) (l : LastRow) → IsNodeOf f v s → Contains (agreement.others v.me (members_of v.exchange.view)) from
-    → l.from ≡ from → l.row ≡ row → AreServed (members_of v.exchange.view) (with_row v.exchange.rows from row) l.served → l.emigration.key ≡ key_of v → IsHandedOn v s from row l.emigration.targets → IsLast v from row
+pub last_fits : (f : Facts) (v : Viewed) (s : held.StoreWithRoom) (from : ℕ) (row : Row) (l : LastRow) → IsNodeInView f v s → Contains (agreement.others_among v.me (members_of v.exchange.view)) from
+    → l.from ≡ from → l.row ≡ row → AreServed (members_of v.exchange.view) (with_row v.exchange.rows from row) l.served → l.emigration.key ≡ viewed_key v → IsHandedOn v s from row l.emigration.targets → IsLast v from row
     → FitsLastRow f l
 last_fits f v s from row l h member of_member with_it served keyed handed last =
     let same : v.exchange ≡ f.exchange = exchange_is f v h.view.viewed in record {
       absent = subst (IsLacking f) (sym of_member) (lacking_of f v from h.view.viewed member last.lacking);
       none_missing =
-          ap₂ (λ (n : ℕ) (r : Row). first_missing (with_row f.exchange.rows n r) (members f)) of_member with_it
+          ap₂ (λ (n : ℕ) (r : Row). first_missing (with_row f.exchange.rows n r) (members_of_view f)) of_member with_it
           ∙ ap (λ (x : Exchange). first_missing (with_row x.rows from row) (members_of x.view)) (sym same) ∙ none_of _ last.none;
       served =
-          subst (λ (rows : List MemberRow). AreServed (members f) rows l.served) (ap₂ (λ (n : ℕ) (r : Row). with_row f.exchange.rows n r) (sym of_member) (sym with_it))
+          subst (λ (rows : List MemberRow). AreServed (members_of_view f) rows l.served) (ap₂ (λ (n : ℕ) (r : Row). with_row f.exchange.rows n r) (sym of_member) (sym with_it))
           (subst (λ (x : Exchange). AreServed (members_of x.view) (with_row x.rows from row) l.served) same served);
-      key = keyed ∙ ap (λ (x : Exchange). exchange.key_of x.view) same;
+      key = keyed ∙ ap (λ (x : Exchange). exchange.exchange_key x.view) same;
       targets =
-          handed.pending (with_row_of f from row) h.view.viewed.me h.view.viewed.factor h.stored.content (ap (λ (x : Exchange). record x { rows = with_row x.rows from row }) (sym same))
-          ∙ ap₂ (λ (n : ℕ) (r : Row). targets_of (with_row_of f n r)) (sym of_member) (sym with_it);
+          handed.pending (facts_with_row f from row) h.view.viewed.me h.view.viewed.factor h.stored.content (ap (λ (x : Exchange). record x { rows = with_row x.rows from row }) (sym same))
+          ∙ ap₂ (λ (n : ℕ) (r : Row). own_targets (facts_with_row f n r)) (sym of_member)
+          (sym with_it);
     }
 
 -- the line of the last row
-pub told_last : (told : Effects) (l : Line) (b : Bool) → b ≡ true → let e : Effects = record { lines = told.lines ++ l ∷ []; sends = told.sends } in e ≡ followed_by told (lines_only (only_if l b))
+pub told_last : (told : Effects) (l : Line) (b : Bool) → b ≡ true → let e : Effects = record { lines = told.lines ++ l ∷ []; sends = told.sends } in e ≡ then_effects told (lines_only (only_if l b))
 told_last told l b e = rw e (ap (λ (ss : List (ℕ × List ℕ)). let x : Effects = record { lines = told.lines ++ l ∷ []; sends = ss } in x) (sym (append-nil told.sends)))
 
-pub told_no_line : (told : Effects) (l : Line) (b : Bool) → b ≡ false → told ≡ followed_by told (lines_only (only_if l b))
+pub told_no_line : (told : Effects) (l : Line) (b : Bool) → b ≡ false → told ≡ then_effects told (lines_only (only_if l b))
 told_no_line told l b e = rw e (sym (told_nothing told))
 
 -- ---- the message that brought it
 
 -- the key of the view has a spelling where the message's has
-pub key_fits : (f : Facts) (v : Viewed) (key : ClusterKey) → IsInView f v → in_view f key ≡ true → IsKeyField key → IsKeyField (key_of v)
-key_fits f v key h of_view k = subst IsKeyField (sym (ap (λ (x : Exchange). exchange.key_of x.view) (exchange_is f v h) ∙ view_key_is f key of_view)) k
+pub key_fits : (f : Facts) (v : Viewed) (key : ClusterKey) → IsInView f v → in_view f key ≡ true → IsKeyField key → IsKeyField (viewed_key v)
+key_fits f v key h of_view k = subst IsKeyField (sym (ap (λ (x : Exchange). exchange.exchange_key x.view) (exchange_is f v h) ∙ view_key_is f key of_view)) k
 
 pub state_proper : (f : Facts) (v : Viewed) (key : ClusterKey) → IsInView f v → in_view f key ≡ true → IsKeyField key → HasRanges f
-    → IsProper (message.State (key_of v) false (own_row_in (facts_seen v)))
+    → IsProper (message.State (viewed_key v) false (own_row_in (facts_seen v)))
 state_proper f v key h of_view k ranges =
     (key_fits f v key h of_view k, own_row_field v.exchange.rows v.me (subst (λ (x : Exchange). All (λ r. IsStateRowField r.row) x.rows) (sym (exchange_is f v h)) ranges.rows))
 
@@ -254,13 +255,13 @@ one_line l true = refl
 one_line l false = refl
 
 pub state_told : (f : Facts) (v : Viewed) (from : ℕ) (key : ClusterKey) (wants : Bool) (row : Row) → IsInView f v → in_view f key ≡ true
-    → followed_by (spelled (sends_only (answer_state f from wants))) (lines_only (only_if (line.Exchanged v.me (key_of v)) (finishes_with v from row)))
+    → then_effects (spelled (sends_only (answer_state f from wants))) (lines_only (only_if (line.Exchanged v.me (viewed_key v)) (finishes_with v from row)))
     ≡ spelled (due_state f (row_came f from row (in_view f key)) from key wants)
 state_told f v from key wants row h of_view =
     let sent = spelled_sends (answer_state f from wants) in
     let told : List Line → List (ℕ × List ℕ) → Effects = λ (ls : List Line) (ss : List (ℕ × List ℕ)). record { lines = ls; sends = ss } in
     ap₂ told
-    (ap₂ (λ (me : ℕ) (k : ClusterKey). only_if (line.Exchanged me k) (finishes_with v from row)) (sym h.me) (ap (λ (x : Exchange). exchange.key_of x.view) (exchange_is f v h))
+    (ap₂ (λ (me : ℕ) (k : ClusterKey). only_if (line.Exchanged me k) (finishes_with v from row)) (sym h.me) (ap (λ (x : Exchange). exchange.exchange_key x.view) (exchange_is f v h))
     ∙ ap (only_if (line.Exchanged f.me (view_key f))) (finishes_seen f v from row h) ∙ one_line _ _)
     (append-nil sent)
     ∙ ap (λ (b : Bool). spelled (due.state_came f (row_came f from row b) from wants b)) (sym of_view)
@@ -276,7 +277,7 @@ pub progress_told : (f : Facts) (from : ℕ) (key : ClusterKey) (wants : Bool) (
     → answer_progress partition_count (progress_came f from done handed settled true) from (wants && knows_all_settled (progress_came f from done handed settled true) partition_count 0)
     ≡ due_progress partition_count f (progress_came f from done handed settled (in_view f key)) from key wants
 progress_told f from key wants done handed settled of_view =
-    ap (λ (b : Bool). due.progress_came partition_count f (progress_came f from done handed settled b) from wants b) (sym of_view)
+    ap (λ (b : Bool). due.progress_effects_if partition_count f (progress_came f from done handed settled b) from wants b) (sym of_view)
 
 pub same_progress : (f : Facts) (from : ℕ) (a b c done handed settled : List Bool) → a ≡ done → b ≡ handed → c ≡ settled
     → progress_came f from a b c true ≡ progress_came f from done handed settled true
@@ -320,19 +321,19 @@ all_settled_came f from done handed settled =
 
 -- the answer
 pub answer_is_due : (f : Facts) (v : Viewed) (from : ℕ) (done handed settled : List Bool) → IsInView f v
-    → message.Progress (key_of v) false (done_row v.exchange.exchanged v.batches partition_count 0) (or_rows v.bits.handed handed) (or_rows v.bits.settled settled)
+    → message.Progress (viewed_key v) false (done_row v.exchange.exchanged v.batches partition_count 0) (or_rows v.bits.handed handed) (or_rows v.bits.settled settled)
     ≡ progress_message partition_count (progress_came f from done handed settled true) false
 answer_is_due f v from done handed settled h =
     ap (λ (x : Facts). message.Progress (view_key x) false (done_row x.exchange.exchanged x.batches partition_count 0) (or_rows x.bits.handed handed) (or_rows x.bits.settled settled)) h.view
     ∙ ap (λ (row : List Bool). message.Progress (view_key f) false row (or_rows f.bits.handed handed) (or_rows f.bits.settled settled))
     (sym (done_by (progress_came f from done handed settled true) partition_count 0))
 
-pub answer_proper : (v : Viewed) (handed settled : List Bool) → IsKeyField (key_of v) → IsRow v.bits.handed → IsRow v.bits.settled → IsRow handed → IsRow settled
-    → IsProper (message.Progress (key_of v) false (done_row v.exchange.exchanged v.batches partition_count 0) (or_rows v.bits.handed handed) (or_rows v.bits.settled settled))
+pub answer_proper : (v : Viewed) (handed settled : List Bool) → IsKeyField (viewed_key v) → IsRow v.bits.handed → IsRow v.bits.settled → IsRow handed → IsRow settled
+    → IsProper (message.Progress (viewed_key v) false (done_row v.exchange.exchanged v.batches partition_count 0) (or_rows v.bits.handed handed) (or_rows v.bits.settled settled))
 answer_proper v handed settled key own_handed own_settled h s =
     (key, record { size = bits_length (λ q. v.exchange.exchanged && not (is_pending v.batches q)) partition_count 0 }, either_row v.bits.handed handed own_handed h, either_row v.bits.settled settled own_settled s)
 
 -- another member is one of the view's
-pub member_lent : (f : Facts) (v : Viewed) (from : ℕ) → IsInView f v → Contains (others f) from → Contains (agreement.others v.me (members_of v.exchange.view)) from
+pub member_lent : (f : Facts) (v : Viewed) (from : ℕ) → IsInView f v → Contains (others f) from → Contains (agreement.others_among v.me (members_of v.exchange.view)) from
 member_lent f v from h member =
-    subst (λ (ns : List ℕ). Contains ns from) (sym (ap₂ (λ (me : ℕ) (x : Exchange). agreement.others me (members_of x.view)) (sym h.me) (exchange_is f v h))) member
+    subst (λ (ns : List ℕ). Contains ns from) (sym (ap₂ (λ (me : ℕ) (x : Exchange). agreement.others_among me (members_of x.view)) (sym h.me) (exchange_is f v h))) member

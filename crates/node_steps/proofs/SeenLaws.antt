@@ -12,7 +12,7 @@ use Rattle.node_view.specs.declared.view_step.ViewStep.{ViewStep}
 use Rattle.node_view.specs.declared.view_step.ViewStep.TheVariants as step
 use Rattle.node_view.specs.declared.view_step.Writing.{Writing}
 use Rattle.node_view.specs.Fits.{FitsOutcome, FitsStep, FitsWriting, IsLacking}
-use Rattle.node_view.specs.Views.{IsNodeOf, IsQuiet, IsViewOf, KeepsWatch, Viewed, Watch, facts_in, with_view}
+use Rattle.node_view.specs.Views.{IsNodeInView, IsQuiet, IsViewOf, KeepsWatch, Viewed, Watch, facts_in, with_view}
 use Rattle.std.specs.Option.{ForSome}
 
 -- ---- what no view sees
@@ -29,7 +29,7 @@ same_store a content stamps by e s b =
     ∙ ap (λ (p : Policy). record a { content = content; stamps = stamps; by = p }) b
 
 -- the facts of a node are what its view and its store see, beside what they don't
-pub node_is_seen : (f : Facts) (v : Viewed) (s : held.Store) → IsNodeOf f v s → f ≡ with_unseen f (facts_in v s)
+pub node_is_seen : (f : Facts) (v : Viewed) (s : held.StoreWithRoom) → IsNodeInView f v s → f ≡ with_unseen f (facts_in v s)
 node_is_seen f v s h =
     let in_view : Facts → Facts = λ (g : Facts). with_view g (Some v) in
     sym h.view.viewed.view
@@ -49,7 +49,7 @@ watch_seen f g w h = record {
 }
 
 -- what a view and a store know of a node is enough to say that it is in that view
-pub node_seen : (f : Facts) (v : Viewed) (s : held.Store) → IsNodeOf f v s → IsNodeOf (facts_in v s) v s
+pub node_seen : (f : Facts) (v : Viewed) (s : held.StoreWithRoom) → IsNodeInView f v s → IsNodeInView (facts_in v s) v s
 node_seen f v s h = record {
   view = record {
     viewed = record { me = refl; factor = refl; view = refl };
@@ -94,7 +94,7 @@ step_seen f g (step.Resolved from number v o) h = record { open_one = h.open_one
 step_seen f g (step.Opened digest w best asked o) h = record { free = h.free; count = h.count; outcome_of = λ x is. outcome_seen f g _ x (h.outcome_of x is) }
 
 -- a step that was planned from the facts of a node fits what its view and its store see
-pub step_fits_seen : (f : Facts) (v : Viewed) (s : held.Store) (p : ViewStep) → IsNodeOf f v s → FitsStep f p → FitsStep (facts_in v s) p
+pub step_fits_seen : (f : Facts) (v : Viewed) (s : held.StoreWithRoom) (p : ViewStep) → IsNodeInView f v s → FitsStep f p → FitsStep (facts_in v s) p
 step_fits_seen f v s p node h = step_seen f (facts_in v s) p (subst (λ (g : Facts). FitsStep g p) (node_is_seen f v s node) h)
 
 -- ---- changes that no view sees
@@ -114,7 +114,7 @@ view_unseen f g v h = record {
   };
 }
 
-pub node_unseen : (f g : Facts) (v : Viewed) (s : held.Store) → IsNodeOf f v s → IsNodeOf (with_unseen g f) v s
+pub node_unseen : (f g : Facts) (v : Viewed) (s : held.StoreWithRoom) → IsNodeInView f v s → IsNodeInView (with_unseen g f) v s
 node_unseen f g v s h = record {
   view = view_unseen f g v h.view;
   stored = record { content = h.stored.content; stamps = h.stored.stamps; by = h.stored.by };

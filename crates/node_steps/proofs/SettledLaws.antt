@@ -4,19 +4,19 @@ use Rattle.std.proofs.lemmas.Grind.{flat_map-append}
 use Rattle.std.proofs.lemmas.List.{take_more}
 use Rattle.cluster_types.specs.declared.cluster_key.ClusterKey.{ClusterKey}
 use Rattle.journal_lines.specs.declared.line.Line.{Line}
-use Rattle.node_rules.specs.Exchange.{Exchange, key_of}
+use Rattle.node_rules.specs.Exchange.{Exchange, exchange_key}
 use Rattle.node_rules.specs.Facts.{Facts, view_key, list_at}
 use Rattle.node_rules.specs.Notes.{dropped, handed, learnt, noted, settled}
 use Rattle.node_rules.proofs.NoteLaws.{noted-append}
 use Rattle.node_view.specs.declared.here.Settling.{Settling}
 use Rattle.node_view.specs.Plans.{changed_where, settled_at, settled_by}
-use Rattle.node_view.specs.Settlings.{lines_of, settling_lines}
+use Rattle.node_view.specs.Settlings.{lines_of_settling, settling_lines}
 
 -- what a tick does about a partition, with these tests
 abbrev with_tests : ℕ → Bool → Bool → Bool → Bool → Settling
 with_tests p hands settles learns drops = record { partition = p; hands = hands; settles = settles; learns = learns; drops = drops }
 
-of_tests : (f : Facts) (p : ℕ) (h s l d : Bool) → settled_at f (with_tests p h s l d) ≡ noted None f (lines_of f.me (view_key f) (with_tests p h s l d))
+of_tests : (f : Facts) (p : ℕ) (h s l d : Bool) → settled_at f (with_tests p h s l d) ≡ noted None f (lines_of_settling f.me (view_key f) (with_tests p h s l d))
 of_tests f p true true true true = refl
 of_tests f p true true true false = refl
 of_tests f p true true false true = refl
@@ -34,7 +34,7 @@ of_tests f p false false true false = refl
 of_tests f p false false false true = refl
 of_tests f p false false false false = refl
 
-pub settled_at_is : (f : Facts) (s : Settling) → settled_at f s ≡ noted None f (lines_of f.me (view_key f) s)
+pub settled_at_is : (f : Facts) (s : Settling) → settled_at f s ≡ noted None f (lines_of_settling f.me (view_key f) s)
 settled_at_is f s = of_tests f s.partition s.hands s.settles s.learns s.drops
 
 -- a change where a test holds keeps what the change keeps
@@ -60,17 +60,18 @@ pub settled_by_is : (f : Facts) (ss : List Settling) → settled_by f ss ≡ not
 settled_by_is f [] = refl
 settled_by_is f (s ∷ ss) =
     settled_by_is (settled_at f s) ss
-    ∙ ap₂ (λ (me : ℕ) (x : Exchange). noted None (settled_at f s) (settling_lines me (key_of x.view) ss)) (settled_me f s) (settled_exchange f s)
+    ∙ ap₂ (λ (me : ℕ) (x : Exchange). noted None (settled_at f s) (settling_lines me (exchange_key x.view) ss)) (settled_me f s) (settled_exchange f s)
     ∙ ap (λ (g : Facts). noted None g (settling_lines f.me (view_key f) ss)) (settled_at_is f s)
-    ∙ sym (noted-append None f (lines_of f.me (view_key f) s) (settling_lines f.me (view_key f) ss))
+    ∙ sym (noted-append None f (lines_of_settling f.me (view_key f) s)
+    (settling_lines f.me (view_key f) ss))
 
 -- the lines of one partition more
 pub lines_more : (me : ℕ) (key : ClusterKey) (ss : List Settling) (i : ℕ) (s : Settling) → i < length ss → s ≡ get_or ss i s
-    → settling_lines me key (take (i + 1) ss) ≡ settling_lines me key (take i ss) ++ lines_of me key s
+    → settling_lines me key (take (i + 1) ss) ≡ settling_lines me key (take i ss) ++ lines_of_settling me key s
 lines_more me key ss i s within is =
     ap (settling_lines me key) (take_more ss i s within)
-    ∙ flat_map-append (lines_of me key) (take i ss) (get_or ss i s ∷ [])
-    ∙ ap (λ (ls : List Line). settling_lines me key (take i ss) ++ ls) (append-nil (lines_of me key (get_or ss i s)) ∙ ap (lines_of me key) (sym is))
+    ∙ flat_map-append (lines_of_settling me key) (take i ss) (get_or ss i s ∷ [])
+    ∙ ap (λ (ls : List Line). settling_lines me key (take i ss) ++ ls) (append-nil (lines_of_settling me key (get_or ss i s)) ∙ ap (lines_of_settling me key) (sym is))
 
 pub settled_keeps : {X : Type 0} (of : Facts → X) (f : Facts) (ss : List Settling) → ((g : Facts) (s : Settling) → of (settled_at g s) ≡ of g) → of (settled_by f ss) ≡ of f
 settled_keeps of f [] h = refl

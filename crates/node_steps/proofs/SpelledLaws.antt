@@ -8,10 +8,10 @@ use Rattle.wire_messages.specs.Spelling.{spelling}
 use Rattle.node_rules.specs.Effects as rules
 use Rattle.node_rules.specs.Effects.{nothing, sends_only, to_each}
 use Rattle.node_steps.specs.declared.effects.Effects.{Effects}
-use Rattle.node_steps.specs.Spelled.{followed_by, spelled_sends, with_sends}
+use Rattle.node_steps.specs.Spelled.{then_effects, spelled_sends, with_sends}
 
 -- two parts that are told one after the other are told as one
-pub told_twice : (told : Effects) (a b : rules.Effects) → followed_by (followed_by told a) b ≡ followed_by told (rules.followed_by a b)
+pub told_twice : (told : Effects) (a b : rules.Effects) → then_effects (then_effects told a) b ≡ then_effects told (rules.followed_by a b)
 told_twice told a b =
     ap₂ (λ (ls : List Line) (ss : List (ℕ × List ℕ)). record told { lines = ls; sends = ss })
     (append_assoc told.lines a.lines b.lines)
@@ -19,7 +19,7 @@ told_twice told a b =
     ∙ ap (λ (ss : List (ℕ × List ℕ)). told.sends ++ ss) (sym (map-append (λ (m : ℕ × Message). (m.0, spelling m.1)) a.sends b.sends)))
 
 -- nothing is told
-pub told_nothing : (told : Effects) → followed_by told nothing ≡ told
+pub told_nothing : (told : Effects) → then_effects told nothing ≡ told
 told_nothing told =
     ap₂ (λ (ls : List Line) (ss : List (ℕ × List ℕ)). record told { lines = ls; sends = ss }) (append-nil told.lines) (append-nil told.sends)
 
@@ -29,11 +29,11 @@ each_spelled [] m = refl
 each_spelled (n ∷ ns) m = ap (λ (ss : List (ℕ × List ℕ)). (n, spelling m) ∷ ss) (each_spelled ns m)
 
 -- messages are told after what was told so far
-pub told_sends : (told : Effects) (ss : List (ℕ × List ℕ)) (ms : List (ℕ × Message)) → ss ≡ spelled_sends ms → with_sends told ss ≡ followed_by told (sends_only ms)
+pub told_sends : (told : Effects) (ss : List (ℕ × List ℕ)) (ms : List (ℕ × Message)) → ss ≡ spelled_sends ms → with_sends told ss ≡ then_effects told (sends_only ms)
 told_sends told ss ms same =
     ap₂ (λ (ls : List Line) (xs : List (ℕ × List ℕ)). record told { lines = ls; sends = told.sends ++ xs }) (sym (append-nil told.lines)) same
 
-pub told_each : (told : Effects) (ns : List ℕ) (m : Message) → with_sends told (map (λ n. (n, spelling m)) ns) ≡ followed_by told (sends_only (to_each ns m))
+pub told_each : (told : Effects) (ns : List ℕ) (m : Message) → with_sends told (map (λ n. (n, spelling m)) ns) ≡ then_effects told (sends_only (to_each ns m))
 told_each told ns m = told_sends told (map (λ n. (n, spelling m)) ns) (to_each ns m) (each_spelled ns m)
 
 -- ---- results

@@ -18,14 +18,14 @@ use Rattle.node_rules.specs.Facts.{Facts, list_at, view_key}
 use Rattle.node_rules.specs.Map.{lacks}
 use Rattle.node_rules.specs.Merging.{Record, newer_records, store_merged_all}
 use Rattle.node_rules.specs.Notes as notes
-use Rattle.node_rules.specs.Notes.{applied, closed, count_in, dropped, exchanged, handed, is_for, learnt, next_nth, settled, stamped_from, write_counted}
+use Rattle.node_rules.specs.Notes.{write_applied, closed, count_in, dropped, exchanged, handed, is_for, learnt, next_nth, settled, stamped_from, write_counted}
 use Rattle.node_rules.specs.Stamps.{Writes, applies_at, applying, count_at, hearing_write, store_counted, store_learnt, store_merged}
 use Rattle.node_rules.specs.Standing.{is_master, other_replicas, others}
 use Rattle.node_rules.specs.Tables.{changed_if}
 use Rattle.node_rules.specs.Transactions as rules
 use Rattle.node_rules.specs.Transactions.{Transaction, answered, answering, awaits_answer, with_write}
-use Rattle.node_view.specs.Counts.{last_count}
-use Rattle.node_view.specs.Plans.{changed_where, replicated, settled_at, settled_by, with_answer, with_count, with_newer, with_opened, with_outcome, with_row_of}
+use Rattle.node_view.specs.Counts.{greatest_count}
+use Rattle.node_view.specs.Plans.{changed_where, replicated, settled_at, settled_by, with_answer, with_count, with_newer, with_opened, with_outcome, facts_with_row}
 use Rattle.node_view.specs.declared.here.Settling.{Settling}
 use Rattle.node_view.specs.declared.view_step.Counted.{Counted}
 use Rattle.node_view.specs.declared.view_step.Outcome.{Outcome}
@@ -40,7 +40,7 @@ use Rattle.wire_messages.specs.Versions.{IsDigest, IsOptionVersion, IsRecord, Is
 use Rattle.wire_messages.specs.declared.message.Batch.{Batch}
 use Rattle.node_steps.specs.Counts.{HaveNumbers}
 use Rattle.node_steps.specs.Plans.{with_sent}
-use Rattle.node_steps.specs.Ranges.{AreCounted, HasRanges, IsSpelled, IsWriteField}
+use Rattle.node_steps.specs.Ranges.{AreCounted, HasRanges, HasSpelling, IsWriteField}
 use Rattle.node_steps.proofs.RangeLaws.{key_fits, ranges_batches, ranges_bits, ranges_closed, ranges_of_parts, ranges_rows, ranges_store, ranges_transactions}
 use Rattle.node_steps.proofs.SettledLaws.{settled_exchange}
 use Rattle.node_steps.proofs.StoreRanges.{applying_counted, content_fits, count_fits, hearing_counted, joined_version, of_newer, stamped_fits, store_is_applied, store_is_counted, store_is_dropped, store_is_learnt, store_is_merged, store_is_merged_all, store_fits}
@@ -48,19 +48,19 @@ use Rattle.node_steps.proofs.TargetRanges.{due_fit, new_targets_fit, sent_target
 
 -- ---- rows
 
-pub row_ranges : (f : Facts) (from : ℕ) (row : Row) → IsStateRowField row → HasRanges f → HasRanges (with_row_of f from row)
+pub row_ranges : (f : Facts) (from : ℕ) (row : Row) → IsStateRowField row → HasRanges f → HasRanges (facts_with_row f from row)
 row_ranges f from row fit h = ranges_rows f (with_row f.exchange.rows from row) h (go (lacks f.exchange.rows from))
   where
     go : (b : Bool) → All (λ r. IsStateRowField r.row) (with_row_if f.exchange.rows from row b)
     go true = All-push (λ r. IsStateRowField r.row) f.exchange.rows (record { node = from; row = row }) h.rows fit
     go false = h.rows
 
-pub last_row_ranges : (f : Facts) (from : ℕ) (row : Row) → IsStateRowField row → IsSome f.exchange.view → HasRanges f → HasRanges (exchanged (with_row_of f from row) (view_key f))
+pub last_row_ranges : (f : Facts) (from : ℕ) (row : Row) → IsStateRowField row → IsSome f.exchange.view → HasRanges f → HasRanges (exchanged (facts_with_row f from row) (view_key f))
 last_row_ranges f from row fit in_one h =
-    let g : Facts = with_row_of f from row in
+    let g : Facts = facts_with_row f from row in
     let r : HasRanges g = row_ranges f from row fit h in
     let s : Store = record g.store { stamps = stamped_from g (view_key f) g.store.stamps partition_count 0 } in
-    ranges_of_parts g (finished g.exchange) s g.writes g.transactions (notes.targets_of g) g.bits r r.view r.rows
+    ranges_of_parts g (finished g.exchange) s g.writes g.transactions (notes.own_targets g) g.bits r r.view r.rows
     (store_fits s (content_fits g.store r.store) (stamped_fits g (view_key f) partition_count 0 g.store.stamps (key_fits f in_one h) r.writes r.store.stamps)) r.writes r.transactions
     (new_targets_fit (is_for g) g.store.content (others g)) r.bits.handed r.bits.settled
 
@@ -116,23 +116,23 @@ pub answered_ranges : (f : Facts) (from number : ℕ) (v : Option Version) → I
 answered_ranges f from number v fit h =
     let one : Transaction → Transaction = λ (t : Transaction). changed_if (λ x. changed_if (answered f.store.by from v) x (awaits_answer x from)) t (t.number == number) in
     ranges_transactions f (answering f.store.by f.transactions from number v) h
-    (All-map IsSpelled one f.transactions.running (λ k d within. answered_one (get_or f.transactions.running k d) ((get_or f.transactions.running k d).number == number) (h.transactions k d within)))
+    (All-map HasSpelling one f.transactions.running (λ k d within. answered_one (get_or f.transactions.running k d) ((get_or f.transactions.running k d).number == number) (h.transactions k d within)))
   where
-    answered_it : (t : Transaction) (b : Bool) → IsSpelled t → IsSpelled (changed_if (answered f.store.by from v) t b)
+    answered_it : (t : Transaction) (b : Bool) → HasSpelling t → HasSpelling (changed_if (answered f.store.by from v) t b)
     answered_it t true s = record { number = s.number; digest = s.digest; want = s.want; best = joined_version f.store.by t.best v s.best fit; applied = s.applied }
     answered_it t false s = s
 
-    answered_one : (t : Transaction) (b : Bool) → IsSpelled t → IsSpelled (changed_if (λ x. changed_if (answered f.store.by from v) x (awaits_answer x from)) t b)
+    answered_one : (t : Transaction) (b : Bool) → HasSpelling t → HasSpelling (changed_if (λ x. changed_if (answered f.store.by from v) x (awaits_answer x from)) t b)
     answered_one t true s = answered_it t (awaits_answer t from) s
     answered_one t false s = s
 
 pub opened_ranges : (f : Facts) (digest : List ℕ) (w : Want) (best : Option Version) (asked : List ℕ) → IsDigest digest → IsWant w → IsOptionVersion best
-    → f.transactions.opened < last_count → HasRanges f → HasRanges (with_opened f digest w best asked)
+    → f.transactions.opened < greatest_count → HasRanges f → HasRanges (with_opened f digest w best asked)
 opened_ranges f digest w best asked d want fit count h =
     let number : ℕ = f.transactions.opened + 1 in
     let t : Transaction = rules.new_transaction number digest w best asked in
     ranges_transactions f (rules.opening f.transactions t) h
-    (All-push IsSpelled f.transactions.running t h.transactions
+    (All-push HasSpelling f.transactions.running t h.transactions
     (record { number = record { positive = omega arith; fits = omega (arith, count) }; digest = d; want = want; best = fit; applied = λ x is. cc }))
 
 -- the version that is written has a spelling
@@ -141,7 +141,7 @@ IsOutcomeField outcome.Read = Unit {0}
 IsOutcomeField (outcome.Write w) = IsVersion w.version
 
 pub outcome_ranges : (f : Facts) (number : ℕ) (digest : List ℕ) (o : Outcome) → IsDigest digest → IsOutcomeField o
-    → applies_at f.writes (partition_of digest) < last_count → HasRanges f → HasRanges (with_outcome f number digest o)
+    → applies_at f.writes (partition_of digest) < greatest_count → HasRanges f → HasRanges (with_outcome f number digest o)
 outcome_ranges f number digest outcome.Read d fit count h = ranges_closed f number h
 outcome_ranges f number digest (outcome.Write w) d fit count h = go (is_nil w.to)
   where
@@ -152,12 +152,12 @@ outcome_ranges f number digest (outcome.Write w) d fit count h = go (is_nil w.to
     l = list_at f p
 
     g : Facts
-    g = applied f (view_key f) l number digest w.version
+    g = write_applied f (view_key f) l number digest w.version
 
     one : Transaction → Transaction
     one t = changed_if (with_write w.version (next_nth f p) (other_replicas f l)) t (t.number == number)
 
-    written : (t : Transaction) (b : Bool) → IsSpelled t → IsSpelled (changed_if (with_write w.version (next_nth f p) (other_replicas f l)) t b)
+    written : (t : Transaction) (b : Bool) → HasSpelling t → HasSpelling (changed_if (with_write w.version (next_nth f p) (other_replicas f l)) t b)
     written t true s = record {
       number = s.number;
       digest = s.digest;
@@ -177,7 +177,7 @@ outcome_ranges f number digest (outcome.Write w) d fit count h = go (is_nil w.to
     wrote_it =
         ranges_of_parts f f.exchange g.store g.writes g.transactions f.batches f.bits h h.view h.rows
         (store_is_applied f.store (view_key f) digest w.version (count_at (applying f.writes p) (is_master f l) p) d fit (count_fits (applying f.writes p) (is_master f l) p counted) h.store) counted
-        (All-map IsSpelled one f.transactions.running (λ k t within. written (get_or f.transactions.running k t) ((get_or f.transactions.running k t).number == number) (h.transactions k t within)))
+        (All-map HasSpelling one f.transactions.running (λ k t within. written (get_or f.transactions.running k t) ((get_or f.transactions.running k t).number == number) (h.transactions k t within)))
         h.batches h.bits.handed h.bits.settled
 
     go : (b : Bool) → HasRanges (if b then closed g number else g)

@@ -25,12 +25,12 @@ use Rattle.conflict_order.specs.declared.version.Version.{Version}
 use Rattle.node_rules.specs.Copies.{Content, Stamp, Stamps, Store, dropping, is_of, joined}
 use Rattle.node_rules.specs.Facts.{Facts, list_at}
 use Rattle.node_rules.specs.Keys.{same_key}
-use Rattle.node_rules.specs.Merging.{Record, is_newer_than_held, joined_all, joined_if, newer_records, record_if, spoiled_all, spoiled_at, store_merged_all}
+use Rattle.node_rules.specs.Merging.{Record, is_newer_than_held, joined_all, content_joined_if, newer_records, record_if, spoiled_all, spoiled_at, store_merged_all}
 use Rattle.node_rules.specs.Notes.{count_in, stamped_at, stamped_from}
 use Rattle.node_rules.specs.Stamps.{Numbers, Writes, applies_at, applying, changed_stamps, count_at, count_of, have_no_gap, hearing_write, no_class, numbers_at, recounted, spoiled, stamped_with, store_applied, store_counted, store_learnt, store_merged, with_number}
-use Rattle.node_rules.specs.Standing.{is_all_empty, is_master, is_replica}
-use Rattle.node_rules.specs.Tables.{Table, at, with_entry}
-use Rattle.node_view.specs.Counts.{last_count}
+use Rattle.node_rules.specs.Standing.{is_all_empty, is_master, is_own_replica}
+use Rattle.node_rules.specs.Tables.{Table, at, table_with}
+use Rattle.node_view.specs.Counts.{greatest_count}
 use Rattle.partition_lists.proofs.InOrderLaws.{from_equal}
 use Rattle.record_store.proofs.CopyLaws.{digest_cmp, same_digest}
 use Rattle.wire_messages.specs.Keys.{IsKeyField}
@@ -152,7 +152,7 @@ pub of_newer : (P : Record → Type 0) (by : Policy) (rs : List Record) (c : Con
 of_newer P by [] c h = All-nil P
 of_newer P by (r ∷ rs) c h =
     let newer : Bool = is_newer_than_held by c r in
-    All-append P (record_if r newer) (newer_records by (joined_if by c r newer) rs) (one newer) (of_newer P by rs (joined_if by c r newer) (All-tail P r rs h))
+    All-append P (record_if r newer) (newer_records by (content_joined_if by c r newer) rs) (one newer) (of_newer P by rs (content_joined_if by c r newer) (All-tail P r rs h))
   where
     one : (b : Bool) → All P (record_if r b)
     one true = All-cons P r [] (All-head P r rs h) (All-nil P)
@@ -180,7 +180,7 @@ count_fits w true p h = h.applies p
 count_fits w false p h = count_of_fits (numbers_at w p) (h.numbers p)
 
 -- what holds of each entry holds of it too once there is another one at a number
-with_entry_too : {X : Type 0} (P : X → Type 0) (table : Table X) (p : ℕ) (x d : X) → P x → ((q : ℕ) → P (unwrap_or (at table q) d)) → (q : ℕ) → P (unwrap_or (at (with_entry table p x) q) d)
+with_entry_too : {X : Type 0} (P : X → Type 0) (table : Table X) (p : ℕ) (x d : X) → P x → ((q : ℕ) → P (unwrap_or (at table q) d)) → (q : ℕ) → P (unwrap_or (at (table_with table p x) q) d)
 with_entry_too {X} P table p x d new h q = subst (λ (o : Option X). P (unwrap_or o d)) (sym (find-put nat_cmp nat_cmp_total q p x table)) (go (eq_by_cmp nat_cmp q p))
   where
     go : (b : Bool) → P (unwrap_or (cond b (Some x) (at table q)) d)
@@ -188,7 +188,7 @@ with_entry_too {X} P table p x d new h q = subst (λ (o : Option X). P (unwrap_o
     go false = h q
 
 -- the node applies one more
-pub applying_counted : (w : Writes) (p : ℕ) → applies_at w p < last_count → AreCounted w → AreCounted (applying w p)
+pub applying_counted : (w : Writes) (p : ℕ) → applies_at w p < greatest_count → AreCounted w → AreCounted (applying w p)
 applying_counted w p limit h = record { applies = with_entry_too (λ n. n < 2 ^ 32) w.applies p (applies_at w p + 1) 0 (omega (arith, limit)) h.applies; numbers = h.numbers }
 
 with_number_too : (P : ℕ → Type 0) (ns : Numbers) (n : ℕ) → P n → All P ns → All P (with_number ns n)
@@ -267,7 +267,7 @@ stamped_fits f key zero p stamps k counted h = h
 stamped_fits f key (suc n) p stamps k counted h =
     let l : List ℕ = list_at f p in
     stamped_fits f key n (p + 1) (stamped_at f key l p stamps) k counted
-    (stamped_if_fits key (count_in f l p) p stamps (is_all_empty f p && is_replica f l) k (count_fits f.writes (is_master f l) p counted) h)
+    (stamped_if_fits key (count_in f l p) p stamps (is_all_empty f p && is_own_replica f l) k (count_fits f.writes (is_master f l) p counted) h)
 
 -- ---- stores
 

@@ -10,7 +10,7 @@ use Rattle.wire_messages.specs.Spelling.{spelling}
 use Rattle.wire_messages.specs.declared.message.MapTable.{MapTable}
 use Rattle.wire_messages.specs.declared.message.Message.TheVariants as message
 use Rattle.node_rules.specs.Effects.{nothing}
-use Rattle.node_rules.specs.Exchange.{View, key_of}
+use Rattle.node_rules.specs.Exchange.{View, exchange_key}
 use Rattle.node_rules.specs.Facts.{Facts, list_at, view_key}
 use Rattle.node_rules.specs.Messages.{client, due_map_ask, map_table, moved_from, named_from, table_if}
 use Rattle.node_rules.specs.Standing.{has_moved, named}
@@ -93,6 +93,6 @@ pub told_no_table : (f : Facts) → f.exchange.exchanged ≡ false → spelled n
 told_no_table f before = ap (λ (b : Bool). spelled (table_if f b)) (sym before)
 
 -- a node that is in a view knows a key that has a spelling
-pub key_in_view : (o : Option View) → IsSome o → ForSome o (λ v. IsKeyField v.key) → IsKeyField (key_of o)
+pub key_in_view : (o : Option View) → IsSome o → ForSome o (λ v. IsKeyField v.key) → IsKeyField (exchange_key o)
 key_in_view None some fit = cc
 key_in_view (Some v) some fit = fit v refl

@@ -19,7 +19,7 @@ use Rattle.node_rules.specs.ByParts.{batches_due, sending_all}
 use Rattle.node_rules.specs.Copies.{Content, digests}
 use Rattle.node_rules.specs.Merging.{Record}
 use Rattle.node_rules.specs.Tables.{changed_if}
-use Rattle.node_view.specs.Counts.{last_count}
+use Rattle.node_view.specs.Counts.{greatest_count}
 use Rattle.wire_messages.specs.Keys.{IsKeyField}
 use Rattle.wire_messages.specs.Proper.{IsBatch}
 use Rattle.wire_messages.specs.Versions.{IsRecord}
@@ -85,7 +85,7 @@ taken_rise n ds h i j d before within =
     subst (λ (e : List ℕ). IsBelow e (get_or (take n ds) j d)) (sym (get_or-take n ds i d (omega (arith, before, low))))
     (subst (IsBelow (get_or ds i d)) (sym (get_or-take n ds j d low)) (h i j d before inside))
 
-new_batch_fits : (key : ClusterKey) (c : Content) (t : Target) → IsKeyField key → IsContentField c → IsTargetField t → All (λ d. IsSome (finite.get c d)) t.pending → t.batches < last_count
+new_batch_fits : (key : ClusterKey) (c : Content) (t : Target) → IsKeyField key → IsContentField c → IsTargetField t → All (λ d. IsSome (finite.get c d)) t.pending → t.batches < greatest_count
     → t.pending ≢ [] → IsBatch (new_batch key c t)
 new_batch_fits key c t k fit h held limit some =
     let b : Batch = new_batch key c t in
@@ -103,7 +103,7 @@ new_batch_fits key c t k fit h held limit some =
       };
     }
 
-next_batch_fits : (key : ClusterKey) (c : Content) (t : Target) → IsKeyField key → IsContentField c → IsTargetField t → All (λ d. IsSome (finite.get c d)) t.pending → t.batches < last_count
+next_batch_fits : (key : ClusterKey) (c : Content) (t : Target) → IsKeyField key → IsContentField c → IsTargetField t → All (λ d. IsSome (finite.get c d)) t.pending → t.batches < greatest_count
     → ForSome (next_batch key c t) IsBatch
 next_batch_fits key c t k fit h held limit = go t.out h.out
   where
@@ -126,7 +126,7 @@ of_given {X} {Y} P h (x ∷ xs) each = go (h x) (All-head (λ y. ForSome (h y) P
 
 -- the batches that are due
 pub due_fit : (key : ClusterKey) (c : Content) (targets : Targets) → IsKeyField key → IsContentField c → All IsTargetField targets
-    → All (λ t. All (λ d. IsSome (finite.get c d)) t.pending) targets → All (λ t. t.batches < last_count) targets → All (λ b. IsBatch b.1) (batches_due key c targets)
+    → All (λ t. All (λ d. IsSome (finite.get c d)) t.pending) targets → All (λ t. t.batches < greatest_count) targets → All (λ b. IsBatch b.1) (batches_due key c targets)
 due_fit key c targets k fit h held limits =
     of_given (λ (b : ℕ × Batch). IsBatch b.1) (λ (t : Target). option_map (λ b. (t.node, b)) (next_batch key c t)) targets (λ i t within.
     let u : Target = get_or targets i t in to_it u.node (next_batch key c u) (next_batch_fits key c u k fit (h i t within) (held i t within) (limits i t within)))

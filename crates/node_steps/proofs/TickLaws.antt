@@ -15,13 +15,13 @@ use Rattle.node_rules.specs.Facts.{Facts, fresh, view_key}
 use Rattle.node_rules.specs.Hearing.{Hearing}
 use Rattle.node_rules.specs.Here.{HasRows, lines_from, part_lines}
 use Rattle.node_rules.specs.Notes.{noted}
-use Rattle.node_rules.specs.Settling.{settling, settling_if}
+use Rattle.node_rules.specs.Settling.{settling_due, settling_if}
 use Rattle.node_rules.specs.Standing.{is_done, knows_all_settled, knows_settled, others}
 use Rattle.node_rules.specs.Tick as tick
-use Rattle.node_rules.specs.Tick.{done_from, in_order, progress, progress_if}
+use Rattle.node_rules.specs.Tick.{done_from, parts_in_order, progress, progress_if}
 use Rattle.node_rules.proofs.SettlingLaws.{settled_apart}
 use Rattle.node_steps.specs.declared.effects.Effects.{Effects}
-use Rattle.node_steps.specs.Spelled.{followed_by}
+use Rattle.node_steps.specs.Spelled.{then_effects}
 use Rattle.node_steps.specs.Ticks.{later_parts}
 use Rattle.node_steps.proofs.SpelledLaws.{told_nothing, told_twice}
 
@@ -77,23 +77,23 @@ apart_alike false f h stamps rows = refl
 
 -- the lines of settling don't go by whom the node hears, nor by the stamps
 pub settling_alike : (f : Facts) (h : Hearing) (stamps : Stamps) → HasRows f
-    → settling partition_count (record f { hearing = h; store = record f.store { stamps = stamps } }) ≡ settling partition_count f
+    → settling_due partition_count (record f { hearing = h; store = record f.store { stamps = stamps } }) ≡ settling_due partition_count f
 settling_alike f h stamps rows = apart_alike f.exchange.exchanged f h stamps rows
 
 -- ---- the parts
 
 -- the parts after the agreement, told one after another
 pub told_in_order : (told : Effects) (g : Facts)
-    → followed_by (followed_by (followed_by (followed_by (followed_by told (tick.rows g)) (tick.transactions g)) (tick.batches g)) (tick.settlings partition_count g)) (progress partition_count (noted None g (settling partition_count g)))
-    ≡ followed_by told (in_order (later_parts partition_count) g)
+    → then_effects (then_effects (then_effects (then_effects (then_effects told (tick.rows g)) (tick.transactions g)) (tick.batches g)) (tick.settlings partition_count g)) (progress partition_count (noted None g (settling_due partition_count g)))
+    ≡ then_effects told (parts_in_order (later_parts partition_count) g)
 told_in_order told g =
-    let last : rules.Effects = progress partition_count (noted None g (settling partition_count g)) in
+    let last : rules.Effects = progress partition_count (noted None g (settling_due partition_count g)) in
     let rest : rules.Effects = rules.followed_by (tick.settlings partition_count g) (rules.followed_by last nothing) in
-    let told1 : Effects = followed_by told (tick.rows g) in
-    let told2 : Effects = followed_by told1 (tick.transactions g) in
-    let told3 : Effects = followed_by told2 (tick.batches g) in
-    let told4 : Effects = followed_by told3 (tick.settlings partition_count g) in
-    sym (told_nothing (followed_by told4 last))
+    let told1 : Effects = then_effects told (tick.rows g) in
+    let told2 : Effects = then_effects told1 (tick.transactions g) in
+    let told3 : Effects = then_effects told2 (tick.batches g) in
+    let told4 : Effects = then_effects told3 (tick.settlings partition_count g) in
+    sym (told_nothing (then_effects told4 last))
     ∙ told_twice told4 last nothing
     ∙ told_twice told3 (tick.settlings partition_count g) (rules.followed_by last nothing)
     ∙ told_twice told2 (tick.batches g) rest

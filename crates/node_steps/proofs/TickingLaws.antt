@@ -24,9 +24,9 @@ use Rattle.node_rules.specs.Facts.{Facts, list_at, view_key}
 use Rattle.node_rules.specs.Hearing.{Hearing, without_quiet}
 use Rattle.node_rules.specs.Here.{HasRows, Here, drops, hands, here, learns, lines_from, lines_here, part_lines, settles}
 use Rattle.node_rules.specs.Notes.{note, noted}
-use Rattle.node_rules.specs.Settling.{line_if, settling, settling_if}
+use Rattle.node_rules.specs.Settling.{line_if, settling_due, settling_if}
 use Rattle.node_rules.specs.Tick as tick
-use Rattle.node_rules.specs.Tick.{in_order, progress}
+use Rattle.node_rules.specs.Tick.{parts_in_order, progress}
 use Rattle.node_rules.proofs.SettlingLaws.{settled_apart}
 use Rattle.node_view.specs.declared.here.Settling.{Settling}
 use Rattle.node_view.specs.declared.view.View.{View}
@@ -38,10 +38,10 @@ use Rattle.node_steps.specs.declared.effects.Effects.{Effects}
 use Rattle.node_steps.specs.declared.planned.Ticked.{Ticked}
 use Rattle.node_steps.specs.Counts.{HaveNumbers}
 use Rattle.node_steps.specs.Fits.{FitsAgreed, FitsEntered}
-use Rattle.node_steps.specs.Grounds.{IsGround, lent, with_view_fields}
+use Rattle.node_steps.specs.Grounds.{IsGroundOf, lent, with_view_fields}
 use Rattle.node_steps.specs.Plans.{either}
 use Rattle.node_steps.specs.Ranges.{HasRanges, IsStoreField}
-use Rattle.node_steps.specs.Spelled.{followed_by}
+use Rattle.node_steps.specs.Spelled.{then_effects}
 use Rattle.node_steps.specs.Ticks.{TicksFrom, agreed, later_parts}
 use Rattle.node_steps.proofs.SeenLaws.{none_for, view_unseen}
 use Rattle.node_steps.proofs.SettledLaws.{settled_by_is}
@@ -74,7 +74,7 @@ all_from_one P (suc n) p f each =
     All-append P (part_lines f p) (lines_from n (p + 1) f) (all_here P f.me (view_key f) p (here f (list_at f p) p) each) (all_from_one P n (p + 1) f each)
 
 -- what holds of these lines holds of all that are due
-all_due : (P : Line → Type 0) (f : Facts) → HasRows f → HoldsOfLines P f.me (view_key f) → All P (settling partition_count f)
+all_due : (P : Line → Type 0) (f : Facts) → HasRows f → HoldsOfLines P f.me (view_key f) → All P (settling_due partition_count f)
 all_due P f rows each = go f.exchange.exchanged
   where
     go : (b : Bool) → All P (settling_if partition_count f b)
@@ -100,7 +100,7 @@ unfolding lines_from
 lines_apart zero p f a = refl
 lines_apart (suc n) p f a = ap (λ (ls : List Line). part_lines f p ++ ls) (lines_apart n (p + 1) f a)
 
-due_apart : (f : Facts) (a : Agreement) → HasRows f → settling partition_count (record f { agreement = a }) ≡ settling partition_count f
+due_apart : (f : Facts) (a : Agreement) → HasRows f → settling_due partition_count (record f { agreement = a }) ≡ settling_due partition_count f
 due_apart f a rows = go f.exchange.exchanged
   where
     go : (b : Bool) → settling_if partition_count (record f { agreement = a }) b ≡ settling_if partition_count f b
@@ -112,16 +112,16 @@ due_apart f a rows = go f.exchange.exchanged
 
 -- settling goes on apart from the agreement
 pub settled_apart_from : (f : Facts) (a : Agreement) → HasRows f
-    → noted None (record f { agreement = a }) (settling partition_count (record f { agreement = a })) ≡ record (noted None f (settling partition_count f)) { agreement = a }
+    → noted None (record f { agreement = a }) (settling_due partition_count (record f { agreement = a })) ≡ record (noted None f (settling_due partition_count f)) { agreement = a }
 settled_apart_from f a rows =
     ap (λ (ls : List Line). noted None (record f { agreement = a }) ls) (due_apart f a rows)
-    ∙ noted_apart (settling partition_count f) f a (all_due KeepsApart f rows (keeps_apart f.me (view_key f)))
+    ∙ noted_apart (settling_due partition_count f) f a (all_due KeepsApart f rows (keeps_apart f.me (view_key f)))
 
 -- and so do all parts after the agreement
 pub parts_apart : (f : Facts) (a : Agreement) → HasRows f
-    → in_order (later_parts partition_count) (record f { agreement = a }) ≡ in_order (later_parts partition_count) f
+    → parts_in_order (later_parts partition_count) (record f { agreement = a }) ≡ parts_in_order (later_parts partition_count) f
 parts_apart f a rows =
-    let g : Facts = noted None f (settling partition_count f) in
+    let g : Facts = noted None f (settling_due partition_count f) in
     ap₂ (λ (ls : List Line) (last : rules.Effects). rules.followed_by (tick.rows f) (rules.followed_by (tick.transactions f) (rules.followed_by (tick.batches f) (rules.followed_by (rules.lines_only ls) (rules.followed_by last nothing)))))
     (due_apart f a rows)
     (ap (λ (h : Facts). progress partition_count h) (settled_apart_from f a rows)
@@ -160,18 +160,18 @@ with_stamped f h stamps = record f { hearing = h; store = record f.store { stamp
 
 -- the later parts go neither by whom the node hears nor by the stamps
 pub progress_stamped : (f : Facts) (h : Hearing) (stamps : Stamps) → HasRows f
-    → progress partition_count (noted None (with_stamped f h stamps) (settling partition_count (with_stamped f h stamps))) ≡ progress partition_count (noted None f (settling partition_count f))
+    → progress partition_count (noted None (with_stamped f h stamps) (settling_due partition_count (with_stamped f h stamps))) ≡ progress partition_count (noted None f (settling_due partition_count f))
 progress_stamped f h stamps rows =
-    let alike : IsToldAlike (noted None (with_stamped f h stamps) (settling partition_count f)) (noted None f (settling partition_count f)) =
-    noted_alike (settling partition_count f) (with_stamped f h stamps) f (all_due StaysAlike f rows (stays_alike f.me (view_key f)))
+    let alike : IsToldAlike (noted None (with_stamped f h stamps) (settling_due partition_count f)) (noted None f (settling_due partition_count f)) =
+    noted_alike (settling_due partition_count f) (with_stamped f h stamps) f (all_due StaysAlike f rows (stays_alike f.me (view_key f)))
     (record { me = refl; exchange = refl; batches = refl; bits = refl }) in
     ap (λ (ls : List Line). progress partition_count (noted None (with_stamped f h stamps) ls)) (settling_alike f h stamps rows)
     ∙ progress_alike partition_count _ _ alike.me alike.exchange alike.batches alike.bits
 
 -- what is settled is what the lines add there too
 pub settled_stamped : (f : Facts) (h : Hearing) (stamps : Stamps) (ss : List Settling) → HasRows f
-    → settling partition_count f ≡ settling_lines f.me (view_key f) ss
-    → settled_by (with_stamped f h stamps) ss ≡ noted None (with_stamped f h stamps) (settling partition_count (with_stamped f h stamps))
+    → settling_due partition_count f ≡ settling_lines f.me (view_key f) ss
+    → settled_by (with_stamped f h stamps) ss ≡ noted None (with_stamped f h stamps) (settling_due partition_count (with_stamped f h stamps))
 settled_stamped f h stamps ss rows is =
     settled_by_is (with_stamped f h stamps) ss
     ∙ ap (λ (ls : List Line). noted None (with_stamped f h stamps) ls) (sym (settling_alike f h stamps rows ∙ is))
@@ -182,7 +182,7 @@ settlings_stamped f h stamps ss due = record { exchanged = due.exchanged; each =
 
 -- the later parts are due of the facts with that hearing and these stamps as they are without
 pub parts_stamped : (f : Facts) (h : Hearing) (stamps : Stamps) → HasRows f
-    → in_order (later_parts partition_count) (with_stamped f h stamps) ≡ in_order (later_parts partition_count) f
+    → parts_in_order (later_parts partition_count) (with_stamped f h stamps) ≡ parts_in_order (later_parts partition_count) f
 parts_stamped f h stamps rows =
     ap₂ (λ (ls : List Line) (last : rules.Effects). rules.followed_by (tick.rows f) (rules.followed_by (tick.transactions f) (rules.followed_by (tick.batches f) (rules.followed_by (rules.lines_only ls) (rules.followed_by last nothing)))))
     (settling_alike f h stamps rows) (progress_stamped f h stamps rows)
@@ -224,7 +224,7 @@ ground_of : (f : Facts) (hearing : Adjacent) (agree : Agreeing) (view : Option (
     → lent view ≡ o → f.up ≡ true → hearing.me ≡ f.me → agree.me ≡ f.me
     → ForSome o (λ v. IsViewOf (with_view_fields (agreeing_with f hearing.hearing agree.agreement) o) v) → ForSome o (λ v. IsSome v.exchange.view)
     → HasRanges (with_view_fields (agreeing_with f hearing.hearing agree.agreement) o)
-    → IsGround f hearing agree view
+    → IsGroundOf f hearing agree view
 ground_of f hearing agree view o is up me agrees views in_one ranges =
     let g : Option Viewed → Facts = λ (x : Option Viewed). with_view_fields (agreeing_with f hearing.hearing agree.agreement) x in
     record {
@@ -244,7 +244,7 @@ own_views f h a own is views = λ v e. subst (λ (g : Facts). IsViewOf g v) (sym
 pub ground_in_own : (f : Facts) (hearing : Adjacent) (agree : Agreeing) (own : Option (Bor View))
     → is_some own ≡ is_some f.exchange.view → (own ≡ None → with_view f None ≡ f) → IfSome own (λ v. IsViewOf f v.now)
     → f.up ≡ true → hearing.me ≡ f.me → agree.me ≡ f.me → HasRanges (agreeing_with f hearing.hearing agree.agreement)
-    → IsGround f hearing agree own
+    → IsGroundOf f hearing agree own
 ground_in_own f hearing agree own some none views up me agrees ranges =
     let is = lent_view f own none views in
     ground_of f hearing agree own (lent own) refl up me agrees
@@ -324,7 +324,7 @@ pub ground_in_newest : (f : Facts) (hearing : Adjacent) (agree : Agreeing) (ente
     → is_some own ≡ is_some f.exchange.view → (own ≡ None → with_view f None ≡ f) → IfSome own (λ v. IsViewOf f v.now)
     → lent view ≡ either (option_map (λ v. v.value) entered) (lent own)
     → f.up ≡ true → hearing.me ≡ f.me → FitsAgreed f agree entered → HasRanges f → HasRanges (agreed f hearing agree entered)
-    → IsGround f hearing agree view
+    → IsGroundOf f hearing agree view
 ground_in_newest f hearing agree entered own view some none views newest up me fits before after =
     let is = lent_view f own none views in
     ground_of f hearing agree view (either (option_map (λ (v : Box View). v.value) entered) (lent own)) newest up me fits.agree_of
@@ -344,10 +344,10 @@ later_rows f hearing agree entered own is after =
 -- the parts are due of either facts
 pub later_told : (f : Facts) (hearing : Adjacent) (agree : Agreeing) (entered : Option (Box View)) (own : Option Viewed) → with_view f own ≡ f
     → HasRanges (agreed f hearing agree entered)
-    → in_order (later_parts partition_count) (later_ground f hearing agree entered own) ≡ in_order (later_parts partition_count) (agreed f hearing agree entered)
+    → parts_in_order (later_parts partition_count) (later_ground f hearing agree entered own) ≡ parts_in_order (later_parts partition_count) (agreed f hearing agree entered)
 later_told f hearing agree entered own is after =
     sym (parts_stamped (later_ground f hearing agree entered own) (agreed f hearing agree entered).hearing (agreed f hearing agree entered).store.stamps (later_rows f hearing agree entered own is after))
-    ∙ ap (λ (g : Facts). in_order (later_parts partition_count) g) (sym (agreed_on_ground f hearing agree entered own is))
+    ∙ ap (λ (g : Facts). parts_in_order (later_parts partition_count) g) (sym (agreed_on_ground f hearing agree entered own is))
 
 -- what was planned of what the parts see is planned of the facts
 pub later_plan : (f : Facts) (hearing : Adjacent) (agree : Agreeing) (entered : Option (Box View)) (own : Option Viewed) (t : Ticked) → with_view f own ≡ f
@@ -356,7 +356,7 @@ pub later_plan : (f : Facts) (hearing : Adjacent) (agree : Agreeing) (entered : 
     → t.batches.items ≡ batches_due (view_key (later_ground f hearing agree entered own)) f.store.content (later_ground f hearing agree entered own).batches
     → AreNext (later_ground f hearing agree entered own).exchange.exchanged (view_key (later_ground f hearing agree entered own)) (later_ground f hearing agree entered own).batches t.batches.items
     → AreSettlings (later_ground f hearing agree entered own) t.settlings.items
-    → settling_lines (later_ground f hearing agree entered own).me (view_key (later_ground f hearing agree entered own)) t.settlings.items ≡ settling partition_count (later_ground f hearing agree entered own)
+    → settling_lines (later_ground f hearing agree entered own).me (view_key (later_ground f hearing agree entered own)) t.settlings.items ≡ settling_due partition_count (later_ground f hearing agree entered own)
     → TicksFrom f hearing agree entered t
 later_plan f hearing agree entered own t is after agreed_on viewed sent next due lines =
     let g : Facts = later_ground f hearing agree entered own in
@@ -369,24 +369,24 @@ later_plan f hearing agree entered own t is after agreed_on viewed sent next due
       batches = sent ∙ ap (λ (x : Facts). batches_due (view_key x) f.store.content x.batches) same;
       next = subst (λ (x : Facts). AreNext x.exchange.exchanged (view_key x) x.batches t.batches.items) same next;
       due = subst (λ (x : Facts). AreSettlings x t.settlings.items) same (settlings_stamped g h stamps t.settlings.items due);
-      settled = subst (λ (x : Facts). settled_by x t.settlings.items ≡ noted None x (settling partition_count x)) same
+      settled = subst (λ (x : Facts). settled_by x t.settlings.items ≡ noted None x (settling_due partition_count x)) same
           (settled_stamped g h stamps t.settlings.items (later_rows f hearing agree entered own is after) (sym lines));
     }
 
 -- what was told part by part is told in order
-pub told_later : (o0 o1 o2 o3 o4 o5 : Effects) (g h : Facts) → o1 ≡ followed_by o0 (tick.rows g) → o2 ≡ followed_by o1 (tick.transactions g)
-    → o3 ≡ followed_by o2 (tick.batches g) → o4 ≡ followed_by o3 (tick.settlings partition_count g) → o5 ≡ followed_by o4 (progress partition_count h)
-    → h ≡ noted None g (settling partition_count g) → o5 ≡ followed_by o0 (in_order (later_parts partition_count) g)
+pub told_later : (o0 o1 o2 o3 o4 o5 : Effects) (g h : Facts) → o1 ≡ then_effects o0 (tick.rows g) → o2 ≡ then_effects o1 (tick.transactions g)
+    → o3 ≡ then_effects o2 (tick.batches g) → o4 ≡ then_effects o3 (tick.settlings partition_count g) → o5 ≡ then_effects o4 (progress partition_count h)
+    → h ≡ noted None g (settling_due partition_count g) → o5 ≡ then_effects o0 (parts_in_order (later_parts partition_count) g)
 told_later o0 o1 o2 o3 o4 o5 g h p1 p2 p3 p4 p5 settled =
     p5
-    ∙ ap₂ (λ (o : Effects) (x : Facts). followed_by o (progress partition_count x))
-    (p4 ∙ ap (λ (o : Effects). followed_by o (tick.settlings partition_count g))
-    (p3 ∙ ap (λ (o : Effects). followed_by o (tick.batches g)) (p2 ∙ ap (λ (o : Effects). followed_by o (tick.transactions g)) p1))) settled
+    ∙ ap₂ (λ (o : Effects) (x : Facts). then_effects o (progress partition_count x))
+    (p4 ∙ ap (λ (o : Effects). then_effects o (tick.settlings partition_count g))
+    (p3 ∙ ap (λ (o : Effects). then_effects o (tick.batches g)) (p2 ∙ ap (λ (o : Effects). then_effects o (tick.transactions g)) p1))) settled
     ∙ told_in_order o0 g
 
 -- ---- heartbeats
 
 -- the key of a view has a spelling, and so has that of none
-pub key_told : (o : Option exchange.View) → ForSome o (λ v. IsKeyField v.key) → IsKeyOrNone (exchange.key_of o)
+pub key_told : (o : Option exchange.View) → ForSome o (λ v. IsKeyField v.key) → IsKeyOrNone (exchange.exchange_key o)
 key_told None h = inl refl
 key_told (Some v) h = inr (h v refl)

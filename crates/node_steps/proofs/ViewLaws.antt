@@ -11,7 +11,7 @@ use Rattle.wire_messages.specs.Keys.{IsKeyField}
 use Rattle.wire_messages.specs.Rows.{FitsState, IsStateRowField}
 use Rattle.node_rules.specs.declared.member_row.MemberRow.{MemberRow}
 use Rattle.node_rules.specs.Agreement as agreement
-use Rattle.node_rules.specs.Map.{lacks, row_of}
+use Rattle.node_rules.specs.Map.{lacks, row_of_member}
 use Rattle.node_rules.specs.Standing.{others}
 use Rattle.node_rules.specs.Tick.{differs_from, own_row_in, state}
 use Rattle.std.specs.Borrow.{Bor}
@@ -25,7 +25,7 @@ use Rattle.node_rules.specs.Facts.{Facts}
 use Rattle.node_rules.specs.Transactions.{Transaction}
 use Rattle.node_view.specs.Transactions.{kept_of}
 use Rattle.node_steps.specs.Viewing.{IsAsKept}
-use Rattle.node_view.specs.Views.{IsInView, Viewed, facts_seen, key_of}
+use Rattle.node_view.specs.Views.{IsInView, Viewed, facts_seen, viewed_key}
 
 -- what the facts have of the view that they are of
 pub exchange_is : (f : Facts) (v : Viewed) → IsInView f v → v.exchange ≡ f.exchange
@@ -55,7 +55,7 @@ found_kept (Some x) (Some t) e = λ u i.
 
 -- ---- the key and the members
 
-pub members_shown : (o : Option exchange.View) → true ≡ is_some o → ◌≡◌ {A = Option (ClusterKey × List Member)} (Some (exchange.key_of o, exchange.members_of o)) (option_map (λ v. (v.key, v.members)) o)
+pub members_shown : (o : Option exchange.View) → true ≡ is_some o → ◌≡◌ {A = Option (ClusterKey × List Member)} (Some (exchange.exchange_key o, exchange.members_of o)) (option_map (λ v. (v.key, v.members)) o)
 members_shown None e = cc
 members_shown (Some v) e = refl
 
@@ -63,11 +63,11 @@ members_shown (Some v) e = refl
 
 -- to whom it goes
 pub lacking_same : (f : Facts) (v : Viewed) → IsInView f v
-    → filter (lacks v.exchange.rows) (agreement.others v.me (exchange.members_of v.exchange.view)) ≡ filter (lacks f.exchange.rows) (others f)
-lacking_same f v h = ap₂ (λ (me : ℕ) (x : Exchange). filter (lacks x.rows) (agreement.others me (exchange.members_of x.view))) (sym h.me) (exchange_is f v h)
+    → filter (lacks v.exchange.rows) (agreement.others_among v.me (exchange.members_of v.exchange.view)) ≡ filter (lacks f.exchange.rows) (others f)
+lacking_same f v h = ap₂ (λ (me : ℕ) (x : Exchange). filter (lacks x.rows) (agreement.others_among me (exchange.members_of x.view))) (sym h.me) (exchange_is f v h)
 
-pub state_same : (f : Facts) (v : Viewed) → IsInView f v → message.State (key_of v) true (own_row_in (facts_seen v)) ≡ state f true
-state_same f v h = ap₂ (λ (me : ℕ) (x : Exchange). message.State (exchange.key_of x.view) true (unwrap_or (row_of x.rows me) [])) (sym h.me) (exchange_is f v h)
+pub state_same : (f : Facts) (v : Viewed) → IsInView f v → message.State (viewed_key v) true (own_row_in (facts_seen v)) ≡ state f true
+state_same f v h = ap₂ (λ (me : ℕ) (x : Exchange). message.State (exchange.exchange_key x.view) true (unwrap_or (row_of_member x.rows me) [])) (sym h.me) (exchange_is f v h)
 
 none_rises : AllPairs (λ (d e : ℕ × CopyState). d.0 < e.0) []
 none_rises i j d before within = absurd (omega arith)
@@ -83,16 +83,16 @@ no_row = record {
 }
 
 -- it has a spelling where each row has
-pub own_row_field : (rows : List MemberRow) (me : ℕ) → All (λ r. IsStateRowField r.row) rows → IsStateRowField (unwrap_or (row_of rows me) [])
+pub own_row_field : (rows : List MemberRow) (me : ℕ) → All (λ r. IsStateRowField r.row) rows → IsStateRowField (unwrap_or (row_of_member rows me) [])
 own_row_field [] me h = no_row
 own_row_field (r ∷ rows) me h = at (r.node == me) (own_row_field rows me (All-tail (λ (x : MemberRow). IsStateRowField x.row) r rows h))
   where
-    at : (b : Bool) → IsStateRowField (unwrap_or (row_of rows me) []) → IsStateRowField (unwrap_or (option_map (λ (x : MemberRow). x.row) (cond b (Some r) (find (λ (x : MemberRow). x.node == me) rows))) [])
+    at : (b : Bool) → IsStateRowField (unwrap_or (row_of_member rows me) []) → IsStateRowField (unwrap_or (option_map (λ (x : MemberRow). x.row) (cond b (Some r) (find (λ (x : MemberRow). x.node == me) rows))) [])
     at true later = All-head (λ (x : MemberRow). IsStateRowField x.row) r rows h
     at false later = later
 
 -- and so has the key, where it goes to somebody
-pub key_field_of : (o : Option exchange.View) (me : ℕ) (rows : List MemberRow) → (filter (lacks rows) (agreement.others me (exchange.members_of o)) ≡ [] → ⊥) → ForSome o (λ w. IsKeyField w.key) → IsKeyField (exchange.key_of o)
+pub key_field_of : (o : Option exchange.View) (me : ℕ) (rows : List MemberRow) → (filter (lacks rows) (agreement.others_among me (exchange.members_of o)) ≡ [] → ⊥) → ForSome o (λ w. IsKeyField w.key) → IsKeyField (exchange.exchange_key o)
 key_field_of None me rows some h = absurd (some refl)
 key_field_of (Some w) me rows some h = h w refl
 

@@ -36,11 +36,11 @@ use Rattle.record_store.specs.Store.{HoldsTheSame}
 use Rattle.node_view.specs.declared.view_step.Outcome.{Outcome}
 use Rattle.node_view.specs.declared.view_step.Outcome.TheVariants as outcome
 use Rattle.node_view.specs.declared.view_step.ViewStep.TheVariants as step
-use Rattle.node_view.specs.Views.{IsInView, IsLike, IsNodeOf, IsSame, KeepsWatch, Viewed, Watch, facts_seen, key_of, with_view}
+use Rattle.node_view.specs.Views.{IsInView, IsLike, IsNodeInView, IsSame, KeepsWatch, Viewed, Watch, facts_seen, viewed_key, with_view}
 use Rattle.node_steps.specs.declared.effects.Effects.{Effects}
 use Rattle.node_steps.specs.Resolvings.{asked_for, due_asking, due_opening, due_outcome, due_write, opened_step, opening_of, others_at, outcome_if_resolved, outcome_of, resolving_of, transaction_of}
 use Rattle.node_steps.specs.declared.resolving.Resolving.{Resolving}
-use Rattle.node_steps.specs.Spelled.{followed_by, spelled, with_lines, with_sends, write_lines}
+use Rattle.node_steps.specs.Spelled.{then_effects, spelled, with_lines, with_sends, write_lines}
 use Rattle.node_steps.proofs.SpelledLaws.{each_spelled, told_each}
 use Rattle.node_steps.proofs.ViewLaws.{exchange_is}
 
@@ -59,25 +59,25 @@ same_lines f number digest x false = refl
 
 -- what is due of a write, by the view
 due_seen : (f : Facts) (v : Viewed) (number : ℕ) (digest : List ℕ) (x : Version) (to : List ℕ) → IsInView f v → to ≡ other_replicas f (list_at f (partition_of digest))
-    → write_effects v.me (key_of v) (applies_at v.writes (partition_of digest) + 1) number digest x to ≡ due_write f number digest x
+    → write_effects v.me (viewed_key v) (applies_at v.writes (partition_of digest) + 1) number digest x to ≡ due_write f number digest x
 due_seen f v number digest x to h same =
     let p = partition_of digest in
     sym (ap (λ (ls : List Line). let e : rules.Effects = record { lines = ls; sends = to_each (other_replicas f (list_at f p)) (message.Repl (view_key f) number (applies_at f.writes p + 1) digest x) } in e)
     (same_lines f number digest x (is_nil (other_replicas f (list_at f p))))
     ∙ ap (λ (ns : List ℕ). write_effects f.me (view_key f) (applies_at f.writes p + 1) number digest x ns) (sym same)
     ∙ ap (λ (me : ℕ). write_effects me (view_key f) (applies_at f.writes p + 1) number digest x to) h.me
-    ∙ ap₂ (λ (e : Exchange) (ws : Writes). write_effects v.me (exchange.key_of e.view) (applies_at ws p + 1) number digest x to) (sym (exchange_is f v h)) (sym (ap (λ (g : Facts). g.writes) h.view)))
+    ∙ ap₂ (λ (e : Exchange) (ws : Writes). write_effects v.me (exchange.exchange_key e.view) (applies_at ws p + 1) number digest x to) (sym (exchange_is f v h)) (sym (ap (λ (g : Facts). g.writes) h.view)))
 
 -- a write is told by its lines and by a message to each of the others
 pub told_write : (told : Effects) (f : Facts) (v : Viewed) (number : ℕ) (digest : List ℕ) (x : Version) (to : List ℕ) (b : Bool) → IsInView f v
     → to ≡ other_replicas f (list_at f (partition_of digest)) → (IsTrue b ↔ (to ≡ []))
-    → with_sends (with_lines told (write_lines v.me (key_of v) number digest x b)) (map (λ n. (n, spelling (message.Repl (key_of v) number (applies_at v.writes (partition_of digest) + 1) digest x))) to)
-    ≡ followed_by told (due_write f number digest x)
+    → with_sends (with_lines told (write_lines v.me (viewed_key v) number digest x b)) (map (λ n. (n, spelling (message.Repl (viewed_key v) number (applies_at v.writes (partition_of digest) + 1) digest x))) to)
+    ≡ then_effects told (due_write f number digest x)
 told_write told f v number digest x to b h same none =
-    let m : Message = message.Repl (key_of v) number (applies_at v.writes (partition_of digest) + 1) digest x in
-    let lines : write_lines v.me (key_of v) number digest x b ≡ write_lines v.me (key_of v) number digest x (is_nil to) = ap (write_lines v.me (key_of v) number digest x) (empty b to none) in
+    let m : Message = message.Repl (viewed_key v) number (applies_at v.writes (partition_of digest) + 1) digest x in
+    let lines : write_lines v.me (viewed_key v) number digest x b ≡ write_lines v.me (viewed_key v) number digest x (is_nil to) = ap (write_lines v.me (viewed_key v) number digest x) (empty b to none) in
     ap₂ (λ (ls : List Line) (ss : List (ℕ × List ℕ)). with_sends (with_lines told ls) ss) lines (each_spelled to m)
-    ∙ ap (followed_by told) (due_seen f v number digest x to h same)
+    ∙ ap (then_effects told) (due_seen f v number digest x to h same)
   where
     empty : (b : Bool) (to : List ℕ) → (IsTrue b ↔ (to ≡ [])) → b ≡ is_nil to
     empty true [] e = refl
@@ -112,11 +112,11 @@ next_fits best clock b fits h body =
 
 -- a read tells the best version
 pub told_value : (told : Effects) (f : Facts) (v : Viewed) (r : Resolving) → IsInView f v → r.want ≡ want.Get
-    → with_lines told (line.Value v.me (key_of v) r.transaction r.digest r.best ∷ []) ≡ followed_by told (due_outcome f r)
+    → with_lines told (line.Value v.me (viewed_key v) r.transaction r.digest r.best ∷ []) ≡ then_effects told (due_outcome f r)
 told_value told f v r h get =
-    ap₂ (λ (me : ℕ) (e : Exchange). with_lines told (line.Value me (exchange.key_of e.view) r.transaction r.digest r.best ∷ [])) (sym h.me) (exchange_is f v h)
+    ap₂ (λ (me : ℕ) (e : Exchange). with_lines told (line.Value me (exchange.exchange_key e.view) r.transaction r.digest r.best ∷ [])) (sym h.me) (exchange_is f v h)
     ∙ ap (λ (ss : List (ℕ × List ℕ)). let e : Effects = record { lines = told.lines ++ line.Value f.me (view_key f) r.transaction r.digest r.best ∷ []; sends = ss } in e) (sym (append-nil told.sends))
-    ∙ ap (λ (w : Want). followed_by told (resolving_want f r.clock (list_at f (partition_of r.digest)) (transaction_of r) w)) (sym get)
+    ∙ ap (λ (w : Want). then_effects told (resolving_want f r.clock (list_at f (partition_of r.digest)) (transaction_of r) w)) (sym get)
 
 -- what is due of a transaction goes by what is resolved of it
 resolving_alike : (f : Facts) (clock : ℕ) (l : List ℕ) (t : Transaction) (w : Want) → resolving_want f clock l (transaction_of (resolving_of clock t)) w ≡ resolving_want f clock l t w
@@ -139,11 +139,11 @@ told_resolved f r asked none = ap (due_asking f r) (sym none)
 
 -- it asks somebody
 pub told_asked : (told : Effects) (f : Facts) (v : Viewed) (r : Resolving) (asked : List ℕ) → IsInView f v → (asked ≡ [] → ⊥)
-    → with_sends told (map (λ n. (n, spelling (message.Ask (key_of v) r.transaction r.digest))) asked) ≡ followed_by told (due_asking f r asked)
+    → with_sends told (map (λ n. (n, spelling (message.Ask (viewed_key v) r.transaction r.digest))) asked) ≡ then_effects told (due_asking f r asked)
 told_asked told f v r [] h some = absurd (some refl)
 told_asked told f v r (n ∷ ns) h some =
-    told_each told (n ∷ ns) (message.Ask (key_of v) r.transaction r.digest)
-    ∙ ap (λ (e : Exchange). followed_by told (sends_only (to_each (n ∷ ns) (message.Ask (exchange.key_of e.view) r.transaction r.digest)))) (exchange_is f v h)
+    told_each told (n ∷ ns) (message.Ask (viewed_key v) r.transaction r.digest)
+    ∙ ap (λ (e : Exchange). then_effects told (sends_only (to_each (n ∷ ns) (message.Ask (exchange.exchange_key e.view) r.transaction r.digest)))) (exchange_is f v h)
 
 pub outcome_asked : (v : Viewed) (r : Resolving) (asked : List ℕ) → (asked ≡ [] → ⊥) → None ≡ outcome_if_resolved v r asked
 outcome_asked v r [] some = absurd (some refl)
@@ -171,7 +171,7 @@ outcomes_same : (v w : Viewed) (r : Resolving) (asked : List ℕ) → IsLike v w
 outcomes_same v w r [] h = ap (λ (o : Outcome). Some o) (outcome_same v w r r.want h)
 outcomes_same v w r (n ∷ ns) h = refl
 
-pub node_alike : (f : Facts) (v w : Viewed) (s t : held.Store) → IsSame v w → HoldsTheSame s t → IsNodeOf f v s → IsNodeOf f w t
+pub node_alike : (f : Facts) (v w : Viewed) (s t : held.StoreWithRoom) → IsSame v w → HoldsTheSame s t → IsNodeInView f v s → IsNodeInView f w t
 node_alike f v w s t same holds h = record {
   view = record {
     viewed = record {
@@ -193,7 +193,7 @@ node_alike f v w s t same holds h = record {
     fields : (f : Facts) (v w : Viewed) → IsLike v w → with_view f (Some w) ≡ with_view f (Some v)
     fields f v w a = rw (a.exchange, a.writes, a.transactions, a.batches, a.bits) refl
 
-pub holds_itself : (s : held.Store) → HoldsTheSame s s
+pub holds_itself : (s : held.StoreWithRoom) → HoldsTheSame s s
 holds_itself s = record { versions = refl; stamps = refl; policy = refl }
 
 -- the step by which a transaction opens
@@ -208,12 +208,12 @@ opened_is f v w clock digest x n best asked o h number held to is =
 -- what is told of it
 pub told_opening : (f : Facts) (v w : Viewed) (clock : ℕ) (digest : List ℕ) (x : Want) (n : ℕ) (best : Option Version) (asked : List ℕ) → IsInView f v → IsLike v w
     → n ≡ f.transactions.opened + 1 → best ≡ finite.get f.store.content digest → asked ≡ asked_for f digest
-    → followed_by (record { lines = line.Opened w.me (key_of w) n digest (action_of x) ∷ []; sends = [] })
+    → then_effects (record { lines = line.Opened w.me (viewed_key w) n digest (action_of x) ∷ []; sends = [] })
     (due_asking f (record { transaction = n; digest = digest; want = x; best = best; clock = clock }) asked)
     ≡ spelled (due_opening f clock digest x)
 told_opening f v w clock digest x n best asked h alike number held to =
-    let t : Transaction = notes.new_transaction f (list_at f (partition_of digest)) (f.transactions.opened + 1) digest x in
-    let told : ℕ → Exchange → Effects = λ me e. record { lines = line.Opened me (exchange.key_of e.view) (f.transactions.opened + 1) digest (action_of x) ∷ []; sends = [] } in
+    let t : Transaction = notes.opening_transaction f (list_at f (partition_of digest)) (f.transactions.opened + 1) digest x in
+    let told : ℕ → Exchange → Effects = λ me e. record { lines = line.Opened me (exchange.exchange_key e.view) (f.transactions.opened + 1) digest (action_of x) ∷ []; sends = [] } in
     rw (number, held, to)
-    (ap₂ (λ (me : ℕ) (e : Exchange). followed_by (told me e) (due_asking f (opening_of f clock digest x) (asked_for f digest))) (alike.me ∙ sym h.me) (alike.exchange ∙ exchange_is f v h)
-    ∙ ap (followed_by (told f.me f.exchange)) (asking_alike f clock t (asked_for f digest)))
+    (ap₂ (λ (me : ℕ) (e : Exchange). then_effects (told me e) (due_asking f (opening_of f clock digest x) (asked_for f digest))) (alike.me ∙ sym h.me) (alike.exchange ∙ exchange_is f v h)
+    ∙ ap (then_effects (told f.me f.exchange)) (asking_alike f clock t (asked_for f digest)))

@@ -16,7 +16,7 @@ use Rattle.record_store.specs.Store as held
 use Rattle.node_steps.specs.declared.planned.Planned.{Planned}
 use Rattle.node_steps.specs.declared.planned.Planned.TheVariants as planned
 use Rattle.node_steps.specs.declared.planned.Ticked.{Ticked}
-use Rattle.node_steps.specs.Plans.{aged, agreed}
+use Rattle.node_steps.specs.Plans.{with_aged_hearing, agreed}
 use Rattle.node_steps.specs.Ranges.{HasRanges}
 
 -- a view that is entered is the node's
@@ -30,7 +30,8 @@ FitsEntered f entered = ForSome entered (λ v. IsNewView f v.value)
 
 -- the facts of which the later parts of a planned tick are due
 abbrev pub ticked_facts : Facts → Ticked → Facts
-ticked_facts f t = agreed (aged f) t.agree.agreement (option_map (λ v. v.value) t.entered)
+ticked_facts f t = agreed (with_aged_hearing f) t.agree.agreement
+    (option_map (λ v. v.value) t.entered)
 
 -- the tick is the node's: it enters a view of its own, and settles and sends what is due
 pub record FitsTick (f : Facts) (t : Ticked) : Type 0 where
@@ -58,15 +59,15 @@ pub record FitsView (f : Facts) (s : ViewStep) : Type 0 where
   pub in_one : IsSome f.exchange.view
 
 -- the step was planned from these facts
-abbrev pub Fits : Facts → Planned → Type 0
-Fits f (planned.Tick t) = FitsTick f t.value
-Fits f (planned.Agreed agree entered) = FitsAgreed f agree entered
-Fits f (planned.Heard from beat) = FitsBeat f from
-Fits f (planned.View s) = FitsView f s
-Fits f _ = Unit {0}
+abbrev pub FitsPlanned : Facts → Planned → Type 0
+FitsPlanned f (planned.Tick t) = FitsTick f t.value
+FitsPlanned f (planned.Agreed agree entered) = FitsAgreed f agree entered
+FitsPlanned f (planned.Heard from beat) = FitsBeat f from
+FitsPlanned f (planned.View s) = FitsView f s
+FitsPlanned f _ = Unit {0}
 
 -- the view and the store that were before the step, and those after it
-pub record HasStepped (old : Option (Box View)) (before : held.Store) (s : ViewStep) (new : Option (Box View)) (after : held.Store) : Type 0 where
+pub record HasStepped (old : Option (Box View)) (before : held.StoreWithRoom) (s : ViewStep) (new : Option (Box View)) (after : held.StoreWithRoom) : Type 0 where
   pub in_one : IsSome new
   pub becomes : (v w : Box View) → old ≡ Some v → new ≡ Some w
-      → (f : Facts) → BecomesNodeOf f v.value before (plans.taken f s) w.value after
+      → (f : Facts) → BecomesNodeOf f v.value before (plans.view_taken f s) w.value after

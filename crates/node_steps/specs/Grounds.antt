@@ -58,7 +58,7 @@ abbrev pub grounded : Facts → Adjacent → Agreeing → Option (Bor View) → 
 grounded f hearing agree view = with_view_fields (record f { hearing = hearing.hearing; agreement = agree.agreement }) (lent view)
 
 -- that hearing, agreement and view are those of the node, which runs
-pub record IsGround (f : Facts) (hearing : Adjacent) (agree : Agreeing) (view : Option (Bor View)) : Type 0 where
+pub record IsGroundOf (f : Facts) (hearing : Adjacent) (agree : Agreeing) (view : Option (Bor View)) : Type 0 where
   pub up : f.up ≡ true
   pub hearing_of : hearing.me ≡ f.me
   pub agree_of : agree.me ≡ f.me

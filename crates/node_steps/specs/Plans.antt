@@ -49,14 +49,14 @@ abbrev pub with_sent : Facts → List (ℕ × Batch) → Facts
 with_sent f sent = record f { batches = sending_all f.batches sent }
 
 -- what is heard is a tick older
-abbrev pub aged : Facts → Facts
-aged f = record f { hearing = hearing.ticked f.me f.role f.hearing }
+abbrev pub with_aged_hearing : Facts → Facts
+with_aged_hearing f = record f { hearing = hearing.ticked f.me f.role f.hearing }
 
 -- a tick
-abbrev pub ticked : Facts → Ticked → Facts
-ticked f t =
+abbrev pub tick_taken : Facts → Ticked → Facts
+tick_taken f t =
     with_sent
-    (settled_by (agreed (aged f) t.agree.agreement (option_map (λ v. v.value) t.entered)) t.settlings.items)
+    (settled_by (agreed (with_aged_hearing f) t.agree.agreement (option_map (λ v. v.value) t.entered)) t.settlings.items)
     t.batches.items
 
 -- ---- acknowledgements of writes
@@ -71,10 +71,10 @@ after_ack f from number is_last =
 -- the facts after the step
 abbrev pub taken : Facts → Planned → Facts
 taken f planned.Nothing = f
-taken f (planned.Tick t) = ticked f t.value
+taken f (planned.Tick t) = tick_taken f t.value
 taken f (planned.Agreed agree entered) = agreed f agree.agreement (option_map (λ v. v.value) entered)
 taken f (planned.Heard from beat) = record f { hearing = beat_heard f.hearing from beat; agreement = seeing f.agreement beat.promised }
-taken f (planned.View s) = view.taken f s
+taken f (planned.View s) = view.view_taken f s
 taken f planned.Stopped = stopped f
 
 -- the facts after the step that is planned, where one is

@@ -24,7 +24,7 @@ pub record IsWriteField (w : Write) : Type 0 where
   pub nth : IsNumber w.nth
 
 -- what an open transaction sends has a spelling
-pub record IsSpelled (t : Transaction) : Type 0 where
+pub record HasSpelling (t : Transaction) : Type 0 where
   pub number : IsNumber t.number
   pub digest : IsDigest t.digest
   pub want : IsWant t.want
@@ -71,6 +71,6 @@ pub record HasRanges (f : Facts) : Type 0 where
   pub rows : All (λ r. IsStateRowField r.row) f.exchange.rows
   pub store : IsStoreField f.store
   pub writes : AreCounted f.writes
-  pub transactions : All IsSpelled f.transactions.running
+  pub transactions : All HasSpelling f.transactions.running
   pub batches : All IsTargetField f.batches
   pub bits : HasRows f

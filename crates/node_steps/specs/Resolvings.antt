@@ -11,7 +11,7 @@ use Rattle.wire_messages.specs.declared.message.Message.{Message}
 use Rattle.wire_messages.specs.declared.message.Message.TheVariants as message
 use Rattle.node_rules.specs.Effects.{Effects}
 use Rattle.node_rules.specs.Facts.{Facts, list_at}
-use Rattle.node_rules.specs.Requests.{asking, opening}
+use Rattle.node_rules.specs.Requests.{asking, opening_effects}
 use Rattle.node_rules.specs.Standing.{asked}
 use Rattle.node_rules.specs.Notes as notes
 use Rattle.node_rules.specs.Resolving as rules
@@ -54,9 +54,9 @@ abbrev pub due_write : Facts → ℕ → List ℕ → Version → Effects
 due_write f number digest v = rules.writing f (list_at f (partition_of digest)) (new_transaction number digest want.Del None []) v
 
 -- the version that a Repl carries
-abbrev pub version_in : Message → Option Version
-version_in (message.Repl key number nth digest v) = Some v
-version_in _ = None
+abbrev pub repl_version : Message → Option Version
+repl_version (message.Repl key number nth digest v) = Some v
+repl_version _ = None
 
 -- the other replicas of the partition, in list order
 abbrev pub others_at : Viewed → ℕ → List ℕ
@@ -90,7 +90,7 @@ asked_for f digest = asked f (list_at f (partition_of digest)) (partition_of dig
 -- what is due of it
 abbrev pub due_opening : Facts → ℕ → List ℕ → Want → Effects
 due_opening f clock digest w =
-    opening f clock (list_at f (partition_of digest)) (notes.new_transaction f (list_at f (partition_of digest)) (f.transactions.opened + 1) digest w)
+    opening_effects f clock (list_at f (partition_of digest)) (notes.opening_transaction f (list_at f (partition_of digest)) (f.transactions.opened + 1) digest w)
 
 -- the step by which it opens in that view
 abbrev pub opened_step : Facts → Viewed → ℕ → List ℕ → Want → ViewStep

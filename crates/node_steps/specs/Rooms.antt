@@ -7,9 +7,9 @@ use Rattle.node_steps.specs.declared.planned.Planned.TheVariants as planned
 use Rattle.node_steps.specs.Viewing as viewing
 
 -- there is room for the planned step in that view, where the store has that room
-abbrev pub HasRoomIn : Viewed → List ℕ → Planned → Type 0
-HasRoomIn v spare (planned.View s) = view.HasRoomIn v spare s
-HasRoomIn v spare _ = Unit {0}
+abbrev pub HasRoomForStep : Viewed → List ℕ → Planned → Type 0
+HasRoomForStep v spare (planned.View s) = view.HasRoomIn v spare s
+HasRoomForStep v spare _ = Unit {0}
 
 -- a step that needs no room
 abbrev pub NeedsNoRoom : Planned → Type 0

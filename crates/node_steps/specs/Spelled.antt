@@ -21,8 +21,8 @@ abbrev pub spelled : rules.Effects → Effects
 spelled e = record { lines = e.lines; sends = spelled_sends e.sends }
 
 -- what was told so far, and then these effects
-abbrev pub followed_by : Effects → rules.Effects → Effects
-followed_by told e = record { lines = told.lines ++ e.lines; sends = told.sends ++ spelled_sends e.sends }
+abbrev pub then_effects : Effects → rules.Effects → Effects
+then_effects told e = record { lines = told.lines ++ e.lines; sends = told.sends ++ spelled_sends e.sends }
 
 -- what was told so far, and then these messages
 abbrev pub with_sends : Effects → List (ℕ × List ℕ) → Effects
@@ -40,6 +40,6 @@ write_lines me key number digest v false = line.Apply me key number digest v ∷
 -- ---- votes
 
 -- the message that tells the vote
-abbrev pub message_of : Vote → Message
-message_of (vote.Accept key) = message.Accept key
-message_of (vote.Refuse key promised) = message.Refuse key promised
+abbrev pub vote_message : Vote → Message
+vote_message (vote.Accept key) = message.Accept key
+vote_message (vote.Refuse key promised) = message.Refuse key promised

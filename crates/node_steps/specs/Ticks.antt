@@ -14,7 +14,7 @@ use Rattle.node_rules.specs.Agreement.{ticking}
 use Rattle.node_rules.specs.ByParts.{batches_due}
 use Rattle.node_rules.specs.Facts.{Facts, view_key}
 use Rattle.node_rules.specs.Notes.{neighbours, noted}
-use Rattle.node_rules.specs.Settling.{settling}
+use Rattle.node_rules.specs.Settling.{settling_due}
 use Rattle.node_rules.specs.Tick.{Part, batches, is_candidate, progress, rows, settlings, transactions}
 use Rattle.node_steps.specs.declared.planned.Ticked.{Ticked}
 use Rattle.node_view.specs.declared.view.View.{View}
@@ -56,4 +56,4 @@ pub record TicksFrom (f : Facts) (hearing : Adjacent) (agree : Agreeing) (entere
   pub next : AreNext (agreed f hearing agree entered).exchange.exchanged (view_key (agreed f hearing agree entered)) (agreed f hearing agree entered).batches t.batches.items
   pub due : AreSettlings (agreed f hearing agree entered) t.settlings.items
   pub settled : settled_by (agreed f hearing agree entered) t.settlings.items
-      ≡ noted None (agreed f hearing agree entered) (settling partition_count (agreed f hearing agree entered))
+      ≡ noted None (agreed f hearing agree entered) (settling_due partition_count (agreed f hearing agree entered))

@@ -10,7 +10,7 @@ use Rattle.node_rules.specs.Stamps.{applies_at}
 use Rattle.node_rules.specs.Transactions as rules
 use Rattle.node_view.specs.declared.view_step.ViewStep.{ViewStep}
 use Rattle.node_view.specs.declared.view_step.ViewStep.TheVariants as step
-use Rattle.node_view.specs.Counts.{last_count}
+use Rattle.node_view.specs.Counts.{greatest_count}
 use Rattle.node_view.specs.Views.{Viewed}
 
 -- a step that needs no room
@@ -36,8 +36,8 @@ ending_of me key t = if t.applied then line.Doubt me key t.id else line.Aborted 
 
 -- fewer transactions were opened in the view, and fewer writes applied on each partition, than there are numbers
 pub record HasNumbers (v : Viewed) : Type 0 where
-  pub transactions : v.transactions.opened < last_count
-  pub applies : (p : ℕ) → applies_at v.writes p < last_count
+  pub transactions : v.transactions.opened < greatest_count
+  pub applies : (p : ℕ) → applies_at v.writes p < greatest_count
 
 -- whether the exchange is over with that row and wasn't before
 abbrev pub finishes_with : Viewed → ℕ → Row → Bool

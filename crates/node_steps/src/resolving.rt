@@ -9,10 +9,10 @@ ghost use Rattle.wire_messages.specs.Versions.{IsDigest, IsOptionVersion, IsVers
 ghost use Rattle.record_store.specs.Store.{HoldsTheSame};
 ghost use Rattle.node_rules.specs.Facts.{Facts};
 ghost use Rattle.node_steps.specs.Ranges.{IsResolvingField};
-ghost use Rattle.node_steps.specs.Resolvings.{due_asking, due_opening, due_outcome, due_write, opened_step, outcome_if_resolved, outcome_of, version_in, writing_of};
+ghost use Rattle.node_steps.specs.Resolvings.{due_asking, due_opening, due_outcome, due_write, opened_step, outcome_if_resolved, outcome_of, repl_version, writing_of};
 ghost use Rattle.node_view.specs.Rooms.{HasRoomForOutcome, HasRoomIn};
-ghost use Rattle.node_steps.specs.Spelled.{followed_by, spelled, with_lines, write_lines};
-ghost use Rattle.node_view.specs.Views.{IsInView, IsNodeOf, IsSame, key_of};
+ghost use Rattle.node_steps.specs.Spelled.{then_effects, spelled, with_lines, write_lines};
+ghost use Rattle.node_view.specs.Views.{IsInView, IsNodeInView, IsSame, viewed_key};
 ghost use Rattle.node_steps.specs.Viewing.{HasNumbers};
 
 use crate::effects::Effects;
@@ -61,14 +61,14 @@ pub fn plan_opened(
     clock: u64,
 ) -> Result<(u32, ViewStep, Effects), NoMemory>
     requires counts { HasNumbers view.old }
-    requires key { IsKeyField (key_of view.old) }
+    requires key { IsKeyField (viewed_key view.old) }
     requires exchanged { view.old.exchange.exchanged ≡ true }
     requires digest { IsDigest digest }
     requires want { IsWant want }
     requires held { IsOptionVersion (finite.get store.old.versions digest) }
     ensures number { IfOk result (λ r. r.0 ≡ view.old.transactions.opened + 1) }
-    ensures step { IfOk result (λ r. (f : Facts) → IsNodeOf f view.old store.old → r.1 ≡ opened_step f view.old clock digest want) }
-    ensures effects { IfOk result (λ r. (f : Facts) → IsNodeOf f view.old store.old → r.2 ≡ spelled (due_opening f clock digest want)) }
+    ensures step { IfOk result (λ r. (f : Facts) → IsNodeInView f view.old store.old → r.1 ≡ opened_step f view.old clock digest want) }
+    ensures effects { IfOk result (λ r. (f : Facts) → IsNodeInView f view.old store.old → r.2 ≡ spelled (due_opening f clock digest want)) }
     ensures room { IfOk result (λ r. HasRoomIn view.new store.new.spare r.1) }
     ensures kept { HoldsTheSame store.old store.new }
     ensures same { IsSame view.old view.new }
@@ -111,9 +111,9 @@ fn plan_asking(
     out: &mut Effects,
 ) -> Result<Option<Outcome>, NoMemory>
     requires counts { HasNumbers view.old }
-    requires key { IsKeyField (key_of view.old) }
+    requires key { IsKeyField (viewed_key view.old) }
     requires fields { IsResolvingField opening.now }
-    ensures effects { OnOk result ((f : Facts) → IsNodeOf f view.old store.old → out.new ≡ followed_by out.old (due_asking f opening.now asked.now)) }
+    ensures effects { OnOk result ((f : Facts) → IsNodeInView f view.old store.old → out.new ≡ then_effects out.old (due_asking f opening.now asked.now)) }
     ensures outcome { IfOk result (λ o. o ≡ outcome_if_resolved view.old opening.now asked.now) }
     ensures room { IfOk result (λ o. ForSome o (HasRoomForOutcome view.new.room store.new.spare opening.now.digest)) }
     ensures kept { HoldsTheSame store.old store.new }
@@ -144,9 +144,9 @@ pub fn plan_outcome(
     out: &mut Effects,
 ) -> Result<Outcome, NoMemory>
     requires counts { HasNumbers view.old }
-    requires key { IsKeyField (key_of view.old) }
+    requires key { IsKeyField (viewed_key view.old) }
     requires fields { IsResolvingField resolving }
-    ensures effects { OnOk result ((f : Facts) → IsNodeOf f view.old store.old → out.new ≡ followed_by out.old (due_outcome f resolving)) }
+    ensures effects { OnOk result ((f : Facts) → IsNodeInView f view.old store.old → out.new ≡ then_effects out.old (due_outcome f resolving)) }
     ensures outcome { IfOk result (λ o. o ≡ outcome_of view.old resolving resolving.want) }
     ensures room { IfOk result (HasRoomForOutcome view.new.room store.new.spare resolving.digest) }
     ensures kept { HoldsTheSame store.old store.new }
@@ -191,11 +191,11 @@ fn plan_write(
     out: &mut Effects,
 ) -> Result<Writing, NoMemory>
     requires counts { HasNumbers view.old }
-    requires key { IsKeyField (key_of view.old) }
+    requires key { IsKeyField (viewed_key view.old) }
     requires number { IsNumber transaction }
     requires digest { IsDigest digest.now }
     requires version { IsVersion version }
-    ensures effects { OnOk result ((f : Facts) → IsInView f view.old → out.new ≡ followed_by out.old (due_write f transaction digest.now version)) }
+    ensures effects { OnOk result ((f : Facts) → IsInView f view.old → out.new ≡ then_effects out.old (due_write f transaction digest.now version)) }
     ensures writing { IfOk result (λ w. w ≡ writing_of view.old clock digest.now version) }
     ensures room { OnOk result (0 < view.new.room.applies) }
     ensures other_room { OnOk result (view.new.room.transactions ≡ view.old.room.transactions) }
@@ -234,8 +234,8 @@ fn plan_write(
 
 /// The version that the Repl carries.
 fn version_in(repl: Message) -> Version
-    requires { IsSome (version_in repl) }
-    ensures { Some result ≡ version_in repl }
+    requires { IsSome (repl_version repl) }
+    ensures { Some result ≡ repl_version repl }
 {
     match repl {
         Message::Repl { version, .. } => version,
@@ -253,7 +253,7 @@ fn write_lines(
     is_done: bool,
     out: &mut Effects,
 ) -> Result<(), NoMemory>
-    ensures { OnOk result (out.new ≡ with_lines out.old (write_lines view.now.me (key_of view.now) transaction digest.now version.now is_done)) }
+    ensures { OnOk result (out.new ≡ with_lines out.old (write_lines view.now.me (viewed_key view.now) transaction digest.now version.now is_done)) }
 {
     let node = view.me();
     let key = view.key();

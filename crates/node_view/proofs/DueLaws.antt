@@ -18,14 +18,14 @@ use Rattle.emigrate.proofs.TargetLaws.{holds_of_found, target_at}
 use Rattle.node_rules.specs.Batches.{Target, Targets, next_batch, next_batch_to, target}
 use Rattle.node_rules.specs.ByParts.{batches_due}
 use Rattle.node_rules.specs.Copies.{Content}
-use Rattle.node_rules.specs.Agreement.{others}
+use Rattle.node_rules.specs.Agreement.{others_among}
 use Rattle.node_rules.specs.Exchange.{Exchange, members_of}
 use Rattle.node_view.specs.declared.view.Moving.{Moving}
 use Rattle.node_view.specs.declared.view.Stage.{Stage}
 use Rattle.node_view.specs.declared.view.Stage.TheVariants as stage
 use Rattle.node_view.specs.declared.view.View.TheInside.{Inside}
 use Rattle.node_view.specs.Fits.{AreNext}
-use Rattle.node_view.specs.Views.{Agrees, IsMoving, IsStageOf, Viewed, exchange_at, targets_at, view_of}
+use Rattle.node_view.specs.Views.{FieldsAgree, IsMoving, IsStageOf, Viewed, exchange_at, targets_at, view_of}
 
 abbrev Sent : Type 0
 Sent = ℕ × Batch
@@ -40,13 +40,13 @@ none_handed me factor key (stage.Exchanged m) h off = absurd (let wrong : true �
 none_handed me factor key stage.Taken h off = refl
 
 -- each of the others has its target
-pub others_nodes : (i : Inside) (v : Viewed) (m : Moving) → Agrees i → view_of i ≡ v → IsMoving v m → nodes_of v.batches ≡ i.others
+pub others_nodes : (i : Inside) (v : Viewed) (m : Moving) → FieldsAgree i → view_of i ≡ v → IsMoving v m → nodes_of v.batches ≡ i.others
 others_nodes i v m a is h =
     ap nodes_of (sym h.targets)
     ∙ h.own.targeted
-    ∙ ap (λ (x : Exchange). others v.me (members_of x.view)) h.exchange
-    ∙ ap (λ (u : Viewed). others u.me (members_of u.exchange.view)) (sym is)
-    ∙ sym (a.others ∙ ap (others i.me) a.viewed)
+    ∙ ap (λ (x : Exchange). others_among v.me (members_of x.view)) h.exchange
+    ∙ ap (λ (u : Viewed). others_among u.me (members_of u.exchange.view)) (sym is)
+    ∙ sym (a.others ∙ ap (others_among i.me) a.viewed)
 
 -- ---- targets by their nodes
 

@@ -14,14 +14,14 @@ use Rattle.node_rules.specs.Exchange.{Exchange}
 use Rattle.node_rules.specs.Facts.{Facts, list_at, view_key}
 use Rattle.node_rules.specs.Here.{HasRows, Here, here, lines_from, lines_here, part_lines}
 use Rattle.node_rules.specs.Notes.{noted}
-use Rattle.node_rules.specs.Settling.{settling, settling_if}
+use Rattle.node_rules.specs.Settling.{settling_due, settling_if}
 use Rattle.node_rules.proofs.NoteLaws.{noted-append}
 use Rattle.node_rules.proofs.SettlingLaws.{asleep_is_quiet, over_is_quiet, settled_apart}
 use Rattle.node_view.specs.declared.here.Settling.{Settling}
 use Rattle.node_view.specs.declared.view.Moving.{Moving}
 use Rattle.node_view.specs.Fits.{AreSettlings}
 use Rattle.node_view.specs.Plans.{settled_at, settled_by}
-use Rattle.node_view.specs.Settlings.{lines_of, settling_lines, settling_of}
+use Rattle.node_view.specs.Settlings.{lines_of_settling, settling_lines, settling_of}
 use Rattle.node_view.specs.Views.{IsMoving, IsQuiet, IsViewOf, Viewed}
 use Rattle.node_view.proofs.SightLaws.{sees}
 
@@ -41,10 +41,10 @@ not_live f v m p h k within off =
 -- ---- one partition more
 
 pub lines_one : (r : Option Settling) (me : ℕ) (key : ClusterKey) (p : ℕ) (h : Here) → ((s : Settling) → r ≡ Some s → s ≡ settling_of p h) → (r ≡ None → lines_here me key p h ≡ [])
-    → lines_of me key (settling_of p h) ≡ lines_here me key p h → settling_lines me key (option_to_list r) ≡ lines_here me key p h
+    → lines_of_settling me key (settling_of p h) ≡ lines_here me key p h → settling_lines me key (option_to_list r) ≡ lines_here me key p h
 lines_one None me key p h some none lines = sym (none refl)
 lines_one (Some s) me key p h some none lines =
-    flat_map-cons (lines_of me key) s [] ∙ append-nil (lines_of me key s) ∙ ap (lines_of me key) (some s refl) ∙ lines
+    flat_map-cons (lines_of_settling me key) s [] ∙ append-nil (lines_of_settling me key s) ∙ ap (lines_of_settling me key) (some s refl) ∙ lines
 
 pub all_more : (P : Settling → Type 0) (xs us : List Settling) (r : Option Settling) → us ≡ xs ++ option_to_list r → All P xs → ((s : Settling) → r ≡ Some s → P s) → All P us
 all_more P xs us r is all some = subst (λ (ys : List Settling). All P ys) (sym is) (go r some)
@@ -100,7 +100,7 @@ lines_more f xs us r n is so_far one =
     let plain : n ≡ 0 + n = omega arith in
     let next : suc n ≡ n + 1 = omega arith in
     ap (settling_lines f.me (view_key f)) is
-    ∙ flat_map-append (lines_of f.me (view_key f)) xs (option_to_list r)
+    ∙ flat_map-append (lines_of_settling f.me (view_key f)) xs (option_to_list r)
     ∙ ap₂ (λ (a b : List Line). a ++ b) so_far (one ∙ ap (part_lines f) plain)
     ∙ sym (lines_last n 0 f)
     ∙ ap (λ (k : ℕ). lines_from k 0 f) next
@@ -137,7 +137,7 @@ quiet_from f zero p none = refl
 quiet_from f (suc n) p none = ap₂ (λ (a b : List Line). a ++ b) (none p (omega arith)) (quiet_from f n (p + 1) (λ q within. none q (omega (arith, within))))
 
 lines_noted : (f : Facts) (me p : ℕ) (a b c d : Bool)
-    → noted None f (lines_of me (view_key f) (record { partition = p; hands = a; settles = b; learns = c; drops = d })) ≡ settled_at f (record { partition = p; hands = a; settles = b; learns = c; drops = d })
+    → noted None f (lines_of_settling me (view_key f) (record { partition = p; hands = a; settles = b; learns = c; drops = d })) ≡ settled_at f (record { partition = p; hands = a; settles = b; learns = c; drops = d })
 lines_noted f me p true true true true = refl
 lines_noted f me p true true true false = refl
 lines_noted f me p true true false true = refl
@@ -176,18 +176,18 @@ key_kept f p false false false false = refl
 all_noted : (me : ℕ) (key : ClusterKey) (f : Facts) (ss : List Settling) → key ≡ view_key f → noted None f (settling_lines me key ss) ≡ settled_by f ss
 all_noted me key f [] e = refl
 all_noted me key f (s ∷ ss) e =
-    ap (noted None f) (flat_map-cons (lines_of me key) s ss)
-    ∙ noted-append None f (lines_of me key s) (settling_lines me key ss)
-    ∙ ap (λ (g : Facts). noted None g (settling_lines me key ss)) (ap (λ (k : ClusterKey). noted None f (lines_of me k s)) e ∙ lines_noted f me s.partition s.hands s.settles s.learns s.drops)
+    ap (noted None f) (flat_map-cons (lines_of_settling me key) s ss)
+    ∙ noted-append None f (lines_of_settling me key s) (settling_lines me key ss)
+    ∙ ap (λ (g : Facts). noted None g (settling_lines me key ss)) (ap (λ (k : ClusterKey). noted None f (lines_of_settling me k s)) e ∙ lines_noted f me s.partition s.hands s.settles s.learns s.drops)
     ∙ all_noted me key (settled_at f s) ss (e ∙ sym (key_kept f s.partition s.hands s.settles s.learns s.drops))
 
 -- all that is due
 pub record AreDue (f : Facts) (ss : List Settling) : Type 0 where
   pub settlings : AreSettlings f ss
-  pub lines : HasRows f → settling_lines f.me (view_key f) ss ≡ settling partition_count f
-  pub settled : HasRows f → settled_by f ss ≡ noted None f (settling partition_count f)
+  pub lines : HasRows f → settling_lines f.me (view_key f) ss ≡ settling_due partition_count f
+  pub settled : HasRows f → settled_by f ss ≡ noted None f (settling_due partition_count f)
 
-by_lines : (f : Facts) (ss : List Settling) → AreSettlings f ss → (HasRows f → settling_lines f.me (view_key f) ss ≡ settling partition_count f) → AreDue f ss
+by_lines : (f : Facts) (ss : List Settling) → AreSettlings f ss → (HasRows f → settling_lines f.me (view_key f) ss ≡ settling_due partition_count f) → AreDue f ss
 by_lines f ss h lines = record {
   settlings = h;
   lines = lines;
@@ -201,7 +201,7 @@ pub none_due : (f : Facts) (ss : List Settling) → ss ≡ [] → f.exchange.exc
 none_due f ss is off =
     subst (λ (xs : List Settling). AreDue f xs) (sym is) (by_lines f [] (none_at_all f) (λ rows. sym (ap (settling_if partition_count f) off)))
 
-lines_are : (f : Facts) → f.exchange.exchanged ≡ true → HasRows f → lines_from partition_count 0 f ≡ settling partition_count f
+lines_are : (f : Facts) → f.exchange.exchanged ≡ true → HasRows f → lines_from partition_count 0 f ≡ settling_due partition_count f
 lines_are f done rows = sym (settled_apart partition_count 0 f rows (omega arith)) ∙ sym (ap (settling_if partition_count f) done)
 
 pub none_live : (f : Facts) (v : Viewed) (m : Moving) (ss : List Settling) → ss ≡ [] → IsMoving v m → IsViewOf f v → ((p : ℕ) → bit m.live p ≡ false) → AreDue f ss

@@ -9,13 +9,13 @@ use Rattle.cluster_types.specs.StateRows.{IsStateRow, state_of}
 use Rattle.partition_lists.proofs.InOrderLaws.{equal, from_equal, unequal}
 use Rattle.record_store.specs.Store as held
 use Rattle.record_store.proofs.SameRows.{same_rows}
-use Rattle.node_rules.specs.Agreement.{others}
+use Rattle.node_rules.specs.Agreement.{others_among}
 use Rattle.node_rules.specs.Copies as copies
 use Rattle.node_rules.specs.Copies.{Row}
 use Rattle.node_rules.specs.Exchange.{first_missing, is_member, is_single}
 use Rattle.node_rules.specs.Map.{lacks}
 use Rattle.node_rules.proofs.Partitions.{row_tells, row_is_row}
-use Rattle.node_view.specs.Views.{own_row, store_of}
+use Rattle.node_view.specs.Views.{store_row, store_of}
 
 same_state : (ds : List (List ℕ)) (s : Option copies.Stamp) → held.state_with ds s ≡ copies.state_with ds s
 same_state [] s = refl
@@ -23,9 +23,9 @@ same_state (d ∷ ds) None = refl
 same_state (d ∷ ds) (Some s) = refl
 
 -- the row of a store
-pub row_is_own : (s : held.Store) (row : Row) → IsStateRow row → ((p : ℕ) → p < partition_count → state_of row p ≡ held.state_at s p) → row ≡ own_row s
+pub row_is_own : (s : held.StoreWithRoom) (row : Row) → IsStateRow row → ((p : ℕ) → p < partition_count → state_of row p ≡ held.copy_state_at s p) → row ≡ store_row s
 row_is_own s row valid tells =
-    same_rows row (own_row s) valid (row_is_row (store_of s) partition_count (omega arith))
+    same_rows row (store_row s) valid (row_is_row (store_of s) partition_count (omega arith))
     (λ p within. tells p within ∙ same_state (held.digests_of s.versions p) (map.get s.stamps p) ∙ sym (row_tells (store_of s) partition_count p within))
 
 -- ---- a member alone
@@ -69,11 +69,11 @@ alone_lacks_none me row (m ∷ k ∷ ms) valid member = at (me == m.id) refl ∙
     at false e = finds_first (lacks (record { node = me; row = row } ∷ [])) m.id (ids_of (k ∷ ms)) (lacks_other me m.id row (λ (i : me ≡ m.id). let wrong : true ≡ false = sym (equal me m.id i) ∙ e in cc))
 
 -- and then there are no others
-pub alone_has_no_others : (me : ℕ) (ms : List Member) → is_member ms me ≡ true → is_single ms ≡ true → others me ms ≡ []
+pub alone_has_no_others : (me : ℕ) (ms : List Member) → is_member ms me ≡ true → is_single ms ≡ true → others_among me ms ≡ []
 alone_has_no_others me [] member single = refl
 alone_has_no_others me (m ∷ []) member single = only (m.id == me) refl
   where
-    only : (b : Bool) → (m.id == me) ≡ b → others me (m ∷ []) ≡ []
+    only : (b : Bool) → (m.id == me) ≡ b → others_among me (m ∷ []) ≡ []
     only true e = rw e refl
     only false e = absurd (let h : (m.id == me || false) ≡ true = member in cc)
 alone_has_no_others me (m ∷ k ∷ ms) member single = absurd (let wrong : false ≡ true = sym (two_are_not_single m k ms) ∙ single in cc)

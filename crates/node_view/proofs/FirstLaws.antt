@@ -9,13 +9,13 @@ use Rattle.cluster_types.specs.Members.{AreMembers}
 use Rattle.cluster_types.specs.Partitions.{partition_count, partition_of}
 use Rattle.record_store.specs.Store as held
 use Rattle.exchange.specs.declared.exchanging.ExchangeStep.{ExchangeStep}
-use Rattle.exchange.specs.Met.{Met, sends_to}
+use Rattle.exchange.specs.Met.{Met, met_sends_to}
 use Rattle.exchange.specs.Steps.{step_if, step_of}
 use Rattle.cluster_types.specs.Rows.{IsClear}
 use Rattle.dup_resolve.specs.declared.txn.Txn.{Txn}
 use Rattle.dup_resolve.specs.Open.{Open}
 use Rattle.progress.proofs.RowLaws.{clear_is, clear_is_clear}
-use Rattle.node_rules.specs.Agreement.{others}
+use Rattle.node_rules.specs.Agreement.{others_among}
 use Rattle.node_rules.specs.Batches as batches
 use Rattle.node_rules.specs.Batches.{Target, Targets, done_row}
 use Rattle.node_rules.specs.Bits.{Bits, clear_row, no_bits}
@@ -29,7 +29,7 @@ use Rattle.node_view.specs.Transactions.{AreNoted, AreNotesOf, Noted, running_wi
 use Rattle.node_view.specs.declared.view.Moving.{Moving}
 use Rattle.node_view.specs.declared.view.Stage.{Stage}
 use Rattle.node_view.specs.declared.view.Stage.TheVariants as stage
-use Rattle.node_view.specs.Views.{IsEntered, IsFirstStage, IsHandedOnBy, IsLike, IsMovingStage, IsStageOf, IsWithStore, Viewed, exchange_at, own_done, own_row, store_of, targets_at, view_entered, viewed_at_entry, with_view}
+use Rattle.node_view.specs.Views.{IsEntered, IsFirstStage, IsHandedOnBy, IsLike, IsMovingStage, IsStageOf, IsWithStore, Viewed, exchange_at, own_done, store_row, store_of, targets_at, view_at_entry, viewed_at_entry, with_view}
 use Rattle.node_view.proofs.AnewLaws.{IsAnew, like_anew, watch_anew}
 use Rattle.node_view.proofs.EntryLaws.{alone_has_no_others, alone_lacks_none}
 use Rattle.node_view.proofs.RowLaws.{row_of_bits}
@@ -69,8 +69,8 @@ begun_alone : (me factor : ℕ) (key : ClusterKey) (ms : List Member) (row : Row
     → is_none (first_missing (record { node = me; row = row } ∷ []) ms) ≡ true
     → IsHandedOnBy (record (entering me factor key ms row) { exchange = finished (begun me key ms row) }) records ms key me m → IsBegun me factor key ms row (stage.Exchanged m)
 begun_alone me factor key ms row records m member single whole h =
-    let alone : others me ms ≡ [] = alone_has_no_others me ms member single in
-    let none : m.emigration.targets ≡ [] = h.targets ∙ ap (λ (ns : List ℕ). batches.targets_of (λ to d. sends_to (record (entering me factor key ms row) { exchange = finished (begun me key ms row) }) (partition_of d) me to) records ns) alone in
+    let alone : others_among me ms ≡ [] = alone_has_no_others me ms member single in
+    let none : m.emigration.targets ≡ [] = h.targets ∙ ap (λ (ns : List ℕ). batches.targets_of (λ to d. met_sends_to (record (entering me factor key ms row) { exchange = finished (begun me key ms row) }) (partition_of d) me to) records ns) alone in
     let done : m.map.exchange.exchanged ≡ true = ap (λ (x : Met). x.exchange.exchanged) h.map in
     record {
       stage_of = record {
@@ -78,7 +78,7 @@ begun_alone me factor key ms row records m member single whole h =
         finished = done;
         whole = ap (λ (x : Met). first_missing x.exchange.rows (members_of x.exchange.view)) h.map ∙ none_is (first_missing (record { node = me; row = row } ∷ []) ms) whole;
         key_of = h.key_of;
-        targeted = ap (map (λ (t : Target). t.node)) none ∙ (sym alone ∙ sym (ap (λ (x : Met). others me (members_of x.exchange.view)) h.map));
+        targeted = ap (map (λ (t : Target). t.node)) none ∙ (sym alone ∙ sym (ap (λ (x : Met). others_among me (members_of x.exchange.view)) h.map));
       };
       exchange = ap (λ (x : Met). x.exchange) h.map ∙ ap (λ (b : Bool). record (begun me key ms row) { exchanged = b }) (sym single);
       targets = none;
@@ -115,7 +115,7 @@ none_set b row none size clear = ap₂ (λ (c : Bits) (r : List Bool). record c 
 
 -- ---- what is known in it
 
-same_store : (f : Facts) (s : held.Store) → IsWithStore f s → f.store ≡ store_of s
+same_store : (f : Facts) (s : held.StoreWithRoom) → IsWithStore f s → f.store ≡ store_of s
 same_store f s h = whole s.versions s.stamps s.by h.content h.stamps h.by
   where
     whole : (content : Content) (stamps : Stamps) (by : Policy) → f.store.content ≡ content → f.store.stamps ≡ stamps → f.store.by ≡ by → f.store ≡ record { content = content; stamps = stamps; by = by }
@@ -133,11 +133,11 @@ like_trans u v w h k = record {
   bits = k.bits ∙ h.bits;
 }
 
-pub entered : (s : held.Store) (u v w : Viewed) (f : Facts) (key : ClusterKey) (ms : List Member) (me factor : ℕ) → IsAnew s u v w → IsLike (viewed_at_entry me factor s.by key ms (own_row s)) u
+pub entered : (s : held.StoreWithRoom) (u v w : Viewed) (f : Facts) (key : ClusterKey) (ms : List Member) (me factor : ℕ) → IsAnew s u v w → IsLike (viewed_at_entry me factor s.by key ms (store_row s)) u
     → f.me ≡ me → f.factor ≡ factor → IsWithStore f s → IsEntered f key ms w
 entered s u v w f key ms me factor anew like own count stored =
-    let same : view_entered f key ms ≡ viewed_at_entry me factor s.by key ms (own_row s) = rw (own, count, same_store f s stored) refl in
-    let alike : IsLike (view_entered f key ms) w = like_trans (view_entered f key ms) u w (subst (λ (x : Viewed). IsLike x u) (sym same) like) (like_anew s u v w anew) in
+    let same : view_at_entry f key ms ≡ viewed_at_entry me factor s.by key ms (store_row s) = rw (own, count, same_store f s stored) refl in
+    let alike : IsLike (view_at_entry f key ms) w = like_trans (view_at_entry f key ms) u w (subst (λ (x : Viewed). IsLike x u) (sym same) like) (like_anew s u v w anew) in
     record {
       alike = alike;
       watch =

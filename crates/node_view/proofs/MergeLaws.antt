@@ -12,7 +12,7 @@ use Rattle.node_rules.specs.Facts.{Facts, view_key}
 use Rattle.node_rules.specs.Merging.{Record, store_merged_all}
 use Rattle.node_rules.specs.Notes.{merged}
 use Rattle.node_rules.specs.Stamps.{changed_stamps, spoiled, store_merged}
-use Rattle.node_view.specs.Views.{IsNodeOf, Viewed, key_of, store_of}
+use Rattle.node_view.specs.Views.{IsNodeInView, Viewed, viewed_key, store_of}
 use Rattle.node_view.proofs.SightLaws.{sees}
 
 -- a record's stamps, where the code names the same
@@ -27,37 +27,40 @@ none_left [] e = refl
 none_left (r ∷ rs) e = cc
 
 -- the facts' store is the one that is held
-pub store_is : (f : Facts) (v : Viewed) (s : held.Store) → IsNodeOf f v s → f.store ≡ store_of s
+pub store_is : (f : Facts) (v : Viewed) (s : held.StoreWithRoom) → IsNodeInView f v s
+    → f.store ≡ store_of s
 store_is f v s h = λ i. record { content = h.stored.content i; stamps = h.stored.stamps i; by = h.stored.by i }
 
-key_is : (f : Facts) (v : Viewed) (s : held.Store) → IsNodeOf f v s → view_key f ≡ key_of v
-key_is f v s h = ap (λ (x : Exchange). exchange.key_of x.view) (sees f v h.view.viewed).exchange
+key_is : (f : Facts) (v : Viewed) (s : held.StoreWithRoom) → IsNodeInView f v s
+    → view_key f ≡ viewed_key v
+key_is f v s h = ap (λ (x : Exchange). exchange.exchange_key x.view)
+    (sees f v h.view.viewed).exchange
 
 -- the facts with that store
-abbrev pub holding : Facts → held.Store → Facts
+abbrev pub holding : Facts → held.StoreWithRoom → Facts
 holding f s = record f { store = store_of s }
 
-pub held_already : (f : Facts) (v : Viewed) (s : held.Store) → IsNodeOf f v s → IsNodeOf (holding f s) v s
-held_already f v s h = subst (λ (t : Store). IsNodeOf (record f { store = t }) v s) (store_is f v s h) h
+pub held_already : (f : Facts) (v : Viewed) (s : held.StoreWithRoom) → IsNodeInView f v s → IsNodeInView (holding f s) v s
+held_already f v s h = subst (λ (t : Store). IsNodeInView (record f { store = t }) v s) (store_is f v s h) h
 
 -- one record more
-pub store_after : (f : Facts) (v w : Viewed) (s u : held.Store) (digest : List ℕ) (x : Version) → IsNodeOf (holding f s) v s → IsNodeOf (merged (holding f s) (view_key f) digest x) w u
-    → store_of u ≡ store_merged (store_of s) (key_of v) digest x
+pub store_after : (f : Facts) (v w : Viewed) (s u : held.StoreWithRoom) (digest : List ℕ) (x : Version) → IsNodeInView (holding f s) v s → IsNodeInView (merged (holding f s) (view_key f) digest x) w u
+    → store_of u ≡ store_merged (store_of s) (viewed_key v) digest x
 store_after f v w s u digest x before after =
     sym (store_is (merged (holding f s) (view_key f) digest x) w u after) ∙ ap (λ (k : ClusterKey). store_merged (store_of s) k digest x) (key_is (holding f s) v s before)
 
-pub merged_more : (f : Facts) (v w : Viewed) (s u : held.Store) (digest : List ℕ) (x : Version) → IsNodeOf (merged (holding f s) (view_key f) digest x) w u → IsNodeOf (holding f u) w u
+pub merged_more : (f : Facts) (v w : Viewed) (s u : held.StoreWithRoom) (digest : List ℕ) (x : Version) → IsNodeInView (merged (holding f s) (view_key f) digest x) w u → IsNodeInView (holding f u) w u
 merged_more f v w s u digest x after =
-    subst (λ (t : Store). IsNodeOf (record f { store = t }) w u) (store_is (merged (holding f s) (view_key f) digest x) w u after) after
+    subst (λ (t : Store). IsNodeInView (record f { store = t }) w u) (store_is (merged (holding f s) (view_key f) digest x) w u after) after
 
-pub rest_merged : (f : Facts) (v w : Viewed) (s u : held.Store) (digest : List ℕ) (x : Version) (rs : List Record) (key : ClusterKey) → key_of v ≡ key → IsNodeOf (holding f s) v s
-    → IsNodeOf (merged (holding f s) (view_key f) digest x) w u → store_merged_all (store_of u) key rs ≡ store_merged_all (store_of s) key ((digest, x) ∷ rs)
+pub rest_merged : (f : Facts) (v w : Viewed) (s u : held.StoreWithRoom) (digest : List ℕ) (x : Version) (rs : List Record) (key : ClusterKey) → viewed_key v ≡ key → IsNodeInView (holding f s) v s
+    → IsNodeInView (merged (holding f s) (view_key f) digest x) w u → store_merged_all (store_of u) key rs ≡ store_merged_all (store_of s) key ((digest, x) ∷ rs)
 rest_merged f v w s u digest x rs key is before after =
     ap (λ (t : Store). store_merged_all t key rs) (store_after f v w s u digest x before after ∙ ap (λ (k : ClusterKey). store_merged (store_of s) k digest x) is)
 
 -- and then all of them came
-pub all_merged : (f : Facts) (v w : Viewed) (s u : held.Store) (rs : List Record) → store_merged_all (store_of u) (key_of v) [] ≡ store_merged_all (store_of s) (key_of v) rs → IsNodeOf f v s → IsNodeOf (holding f u) w u
-    → IsNodeOf (record f { store = store_merged_all f.store (view_key f) rs }) w u
+pub all_merged : (f : Facts) (v w : Viewed) (s u : held.StoreWithRoom) (rs : List Record) → store_merged_all (store_of u) (viewed_key v) [] ≡ store_merged_all (store_of s) (viewed_key v) rs → IsNodeInView f v s → IsNodeInView (holding f u) w u
+    → IsNodeInView (record f { store = store_merged_all f.store (view_key f) rs }) w u
 all_merged f v w s u rs rest before after =
-    subst (λ (t : Store). IsNodeOf (record f { store = t }) w u)
+    subst (λ (t : Store). IsNodeInView (record f { store = t }) w u)
     (rest ∙ ap₂ (λ (t : Store) (k : ClusterKey). store_merged_all t k rs) (sym (store_is f v s before)) (sym (key_is f v s before))) after

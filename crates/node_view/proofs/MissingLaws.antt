@@ -9,10 +9,10 @@ use Rattle.cluster_types.specs.Members.{ids_of}
 use Rattle.partition_lists.proofs.InOrderLaws.{any_has, equal, from_equal, has_map, index_of, unequal}
 use Rattle.exchange.proofs.RowsLaws.{full_is_there, lacks_fresh, others_lack}
 use Rattle.node_rules.specs.declared.member_row.MemberRow.{MemberRow}
-use Rattle.node_rules.specs.Agreement.{others}
+use Rattle.node_rules.specs.Agreement.{others_among}
 use Rattle.node_rules.specs.Copies.{Row}
 use Rattle.node_rules.specs.Exchange.{first_missing, is_member, with_row, with_row_if}
-use Rattle.node_rules.specs.Map.{lacks, row_of}
+use Rattle.node_rules.specs.Map.{lacks, row_of_member}
 use Rattle.node_view.proofs.StageLaws.{is_other}
 
 -- a member is one of the ids
@@ -59,12 +59,12 @@ less_one (r ∷ rows) n row h = go (r.node == n) refl (less_one rows n row)
     go true e ih = absurd (true≢false (sym h ∙ ap (λ (b : Bool). not b && list_all (λ (x : MemberRow). not (x.node == n)) rows) e))
     go false e ih = rw e (ap (λ (rs : List MemberRow). r ∷ rs) (ih (sym (ap (λ (b : Bool). not b && list_all (λ (x : MemberRow). not (x.node == n)) rows) e) ∙ h)))
 
-pub last_row : (rows : List MemberRow) (n : ℕ) (row : Row) → list_all (λ r. not (r.node == n)) rows ≡ true → row_of (rows ++ record { node = n; row = row } ∷ []) n ≡ Some row
+pub last_row : (rows : List MemberRow) (n : ℕ) (row : Row) → list_all (λ r. not (r.node == n)) rows ≡ true → row_of_member (rows ++ record { node = n; row = row } ∷ []) n ≡ Some row
 last_row [] n row h = let e : (n == n) ≡ true = equal n n refl in rw e refl
 last_row (r ∷ rows) n row h = go (r.node == n) refl (last_row rows n row)
   where
-    go : (b : Bool) → (r.node == n) ≡ b → (list_all (λ x. not (x.node == n)) rows ≡ true → row_of (rows ++ record { node = n; row = row } ∷ []) n ≡ Some row)
-        → row_of (r ∷ (rows ++ record { node = n; row = row } ∷ [])) n ≡ Some row
+    go : (b : Bool) → (r.node == n) ≡ b → (list_all (λ x. not (x.node == n)) rows ≡ true → row_of_member (rows ++ record { node = n; row = row } ∷ []) n ≡ Some row)
+        → row_of_member (r ∷ (rows ++ record { node = n; row = row } ∷ [])) n ≡ Some row
     go true e ih = absurd (true≢false (sym h ∙ ap (λ (b : Bool). not b && list_all (λ (x : MemberRow). not (x.node == n)) rows) e))
     go false e ih = rw e (ih (sym (ap (λ (b : Bool). not b && list_all (λ (x : MemberRow). not (x.node == n)) rows) e) ∙ h))
 
@@ -72,8 +72,8 @@ pub row_out : (rows : List MemberRow) (n : ℕ) (row : Row) → lacks rows n ≡
 row_out rows n row absent =
     ap (λ (b : Bool). filter (λ (r : MemberRow). not (r.node == n)) (with_row_if rows n row b)) absent ∙ less_one rows n row (others_lack rows n ∙ absent)
 
-pub row_there : (rows : List MemberRow) (n : ℕ) (row : Row) → lacks rows n ≡ true → row_of (with_row rows n row) n ≡ Some row
-row_there rows n row absent = ap (λ (b : Bool). row_of (with_row_if rows n row b) n) absent ∙ last_row rows n row (others_lack rows n ∙ absent)
+pub row_there : (rows : List MemberRow) (n : ℕ) (row : Row) → lacks rows n ≡ true → row_of_member (with_row rows n row) n ≡ Some row
+row_there rows n row absent = ap (λ (b : Bool). row_of_member (with_row_if rows n row b) n) absent ∙ last_row rows n row (others_lack rows n ∙ absent)
 
 -- ---- the last row
 
@@ -97,15 +97,15 @@ none_or true n o = refl
 none_or false n o = refl
 
 only_missing : (me from : ℕ) (rows : List MemberRow) (row : Row) (ms : List Member) → lacks rows from ≡ true → lacks rows me ≡ false
-    → list_all (λ n. beq (n == from) (lacks rows n)) (others me ms) ≡ is_none (first_missing (rows ++ record { node = from; row = row } ∷ []) ms)
+    → list_all (λ n. beq (n == from) (lacks rows n)) (others_among me ms) ≡ is_none (first_missing (rows ++ record { node = from; row = row } ∷ []) ms)
 only_missing me from rows row [] absent own = refl
 only_missing me from rows row (m ∷ ms) absent own = go (m.id == me) refl (only_missing me from rows row ms absent own)
   where
     more : List MemberRow
     more = rows ++ record { node = from; row = row } ∷ []
 
-    go : (b : Bool) → (m.id == me) ≡ b → list_all (λ n. beq (n == from) (lacks rows n)) (others me ms) ≡ is_none (first_missing more ms)
-        → list_all (λ n. beq (n == from) (lacks rows n)) (others me (m ∷ ms)) ≡ is_none (first_missing more (m ∷ ms))
+    go : (b : Bool) → (m.id == me) ≡ b → list_all (λ n. beq (n == from) (lacks rows n)) (others_among me ms) ≡ is_none (first_missing more ms)
+        → list_all (λ n. beq (n == from) (lacks rows n)) (others_among me (m ∷ ms)) ≡ is_none (first_missing more (m ∷ ms))
     go true e ih =
         let there : lacks more m.id ≡ false = lacks_more rows (record { node = from; row = row }) m.id ∙ ap (λ (b : Bool). b && not (from == m.id)) (ap (lacks rows) (from_equal m.id me e) ∙ own) in
         rw (e, there) ih
@@ -123,12 +123,12 @@ all_fails test (m ∷ ns) n found fails = go (m == n) refl (all_fails test ns n)
 
 -- whether all rows are there but that member's
 pub last_missing : (me from : ℕ) (rows : List MemberRow) (row : Row) (ms : List Member) → is_member ms from ≡ true → from ≢ me → lacks rows me ≡ false
-    → list_all (λ n. beq (n == from) (lacks rows n)) (others me ms) ≡ (lacks rows from && is_none (first_missing (with_row rows from row) ms))
+    → list_all (λ n. beq (n == from) (lacks rows n)) (others_among me ms) ≡ (lacks rows from && is_none (first_missing (with_row rows from row) ms))
 last_missing me from rows row ms member other own = go (lacks rows from) refl
   where
-    go : (b : Bool) → lacks rows from ≡ b → list_all (λ n. beq (n == from) (lacks rows n)) (others me ms) ≡ (lacks rows from && is_none (first_missing (with_row rows from row) ms))
+    go : (b : Bool) → lacks rows from ≡ b → list_all (λ n. beq (n == from) (lacks rows n)) (others_among me ms) ≡ (lacks rows from && is_none (first_missing (with_row rows from row) ms))
     go true e = only_missing me from rows row ms e own ∙ sym (ap (λ (b : Bool). b && is_none (first_missing (with_row_if rows from row b) ms)) e)
     go false e =
         let same : (from == from) ≡ true = equal from from refl in
-        all_fails (λ n. beq (n == from) (lacks rows n)) (others me ms) from (is_other me from ms member other) (rw (same, e) refl)
+        all_fails (λ n. beq (n == from) (lacks rows n)) (others_among me ms) from (is_other me from ms member other) (rw (same, e) refl)
         ∙ sym (ap (λ (b : Bool). b && is_none (first_missing (with_row_if rows from row b) ms)) e)

@@ -13,13 +13,13 @@ use Rattle.emigrate.specs.Going.{AreHeld}
 use Rattle.node_rules.specs.Batches.{is_pending}
 use Rattle.node_rules.specs.Bits.{Bits, handing, learning, settling, with_bit}
 use Rattle.node_rules.specs.Copies.{Content, Stamps, holds_of, is_of, joined}
-use Rattle.node_rules.specs.Exchange.{Exchange, key_of}
+use Rattle.node_rules.specs.Exchange.{Exchange, exchange_key}
 use Rattle.node_rules.specs.Facts.{Facts, list_at, view_key}
 use Rattle.node_rules.specs.Here.{here}
 use Rattle.node_rules.specs.Notes.{count_in, dropped, handed, learnt, merged, settled}
 use Rattle.node_rules.specs.Stamps.{changed_stamps, spoiled}
 use Rattle.node_rules.specs.Standing.{is_all_empty, knows_settled, knows_settled_by}
-use Rattle.node_view.specs.Views.{IsInView, IsNodeOf, IsQuiet, IsSeenTo, Viewed, count_seen, facts_in, learnt_copy, one_more_settled, unsettled_count, with_bits, with_live, without_copy_of}
+use Rattle.node_view.specs.Views.{IsInView, IsNodeInView, IsQuiet, IsSeenTo, Viewed, count_seen, facts_in, learnt_copy, one_more_settled, unsettled_count, with_bits, with_live, without_copy_of}
 use Rattle.node_view.specs.Views as views
 use Rattle.node_view.proofs.HeldLaws.{holds_dropped, holds_joined, pending_dropped, pending_joined}
 use Rattle.node_view.proofs.SightLaws.{Sees, in_view}
@@ -28,7 +28,7 @@ use Rattle.node_view.proofs.UnsettledLaws.{one_settled}
 use Rattle.node_view.proofs.WatchLaws.{StandsAlike, count_alike, quiet_alike}
 
 -- a node in that view with that store, where one partition is perhaps to be looked at again
-pub record IsNodeBut (p : ℕ) (f : Facts) (v : Viewed) (s : held.Store) : Type 0 where
+pub record IsNodeBut (p : ℕ) (f : Facts) (v : Viewed) (s : held.StoreWithRoom) : Type 0 where
   pub sight : Sees f v
   pub policy : v.by ≡ f.store.by
   pub pending : AreHeld f.store.content v.batches
@@ -38,7 +38,7 @@ pub record IsNodeBut (p : ℕ) (f : Facts) (v : Viewed) (s : held.Store) : Type 
   pub stamps : f.store.stamps ≡ s.stamps
   pub by : f.store.by ≡ s.by
 
-pub node_but : (p : ℕ) (f : Facts) (v : Viewed) (s : held.Store) → IsNodeOf f v s → IsNodeBut p f v s
+pub node_but : (p : ℕ) (f : Facts) (v : Viewed) (s : held.StoreWithRoom) → IsNodeInView f v s → IsNodeBut p f v s
 node_but p f v s h =
     let n = is_node f v s h in
     record {
@@ -53,7 +53,7 @@ node_but p f v s h =
     }
 
 -- once it is looked at, all is as said of the view
-pub node_seen : (p : ℕ) (f : Facts) (v : Viewed) (s : held.Store) (live : List Bool) → IsNodeBut p f v s → IsSeenTo p f v.watch.live live → IsNodeOf f (with_live v live) s
+pub node_seen : (p : ℕ) (f : Facts) (v : Viewed) (s : held.StoreWithRoom) (live : List Bool) → IsNodeBut p f v s → IsSeenTo p f v.watch.live live → IsNodeInView f (with_live v live) s
 node_seen p f v s live h seen =
     node_of f (with_live v live) s (record {
       sight = record { me = h.sight.me; factor = h.sight.factor; exchange = h.sight.exchange; writes = h.sight.writes; transactions = h.sight.transactions; batches = h.sight.batches; bits = h.sight.bits };
@@ -71,7 +71,7 @@ node_seen p f v s live h seen =
         let other : q ≢ p = λ (i : q ≡ p). let wrong : true ≡ false = sym (equal q p i) ∙ e in cc in
         h.quiet q other within done (sym (seen.others q other) ∙ off)
 
-pub but_in_view : (p : ℕ) (f : Facts) (v : Viewed) (s : held.Store) → IsNodeBut p f v s → IsInView f v
+pub but_in_view : (p : ℕ) (f : Facts) (v : Viewed) (s : held.StoreWithRoom) → IsNodeBut p f v s → IsInView f v
 but_in_view p f v s h = in_view f v h.sight
 
 -- the same of facts that stand alike to the other partitions
@@ -85,7 +85,7 @@ bit_other row p q other = get_or-set_other row p q true false other
 
 -- ---- what a tick does about the partition
 
-pub handed_but : (p : ℕ) (f : Facts) (v : Viewed) (s : held.Store) → IsNodeBut p f v s → IsNodeBut p (handed f p) (with_bits v (handing v.bits p)) s
+pub handed_but : (p : ℕ) (f : Facts) (v : Viewed) (s : held.StoreWithRoom) → IsNodeBut p f v s → IsNodeBut p (handed f p) (with_bits v (handing v.bits p)) s
 handed_but p f v s h = record {
   sight = record { me = h.sight.me; factor = h.sight.factor; exchange = h.sight.exchange; writes = h.sight.writes; transactions = h.sight.transactions; batches = h.sight.batches; bits = ap (λ (b : Bits). handing b p) h.sight.bits };
   policy = h.policy;
@@ -98,7 +98,7 @@ handed_but p f v s h = record {
   by = h.by;
 }
 
-pub settled_but : (p : ℕ) (f : Facts) (v : Viewed) (s : held.Store) → p < partition_count → knows_settled f p ≡ false → bit (with_bit v.bits.settled p) p ≡ true
+pub settled_but : (p : ℕ) (f : Facts) (v : Viewed) (s : held.StoreWithRoom) → p < partition_count → knows_settled f p ≡ false → bit (with_bit v.bits.settled p) p ≡ true
     → IsNodeBut p f v s → IsNodeBut p (settled f p) (one_more_settled v p) s
 settled_but p f v s within before set h = record {
   sight = record { me = h.sight.me; factor = h.sight.factor; exchange = h.sight.exchange; writes = h.sight.writes; transactions = h.sight.transactions; batches = h.sight.batches; bits = ap (λ (b : Bits). settling b p) h.sight.bits };
@@ -122,8 +122,8 @@ settled_but p f v s within before set h = record {
 pub count_is : (f : Facts) (v : Viewed) (p : ℕ) → Sees f v → count_in f (list_at f p) p ≡ count_seen v p
 count_is f v p s = rw (s.me, s.exchange, s.writes) refl
 
-pub learnt_but : (p : ℕ) (f : Facts) (v : Viewed) (s : held.Store) → IsNodeBut p f v s
-    → IsNodeBut p (learnt f (view_key f) (list_at f p) p) (with_bits v (learning v.bits p)) (learnt_copy s (views.key_of v) p (count_seen v p))
+pub learnt_but : (p : ℕ) (f : Facts) (v : Viewed) (s : held.StoreWithRoom) → IsNodeBut p f v s
+    → IsNodeBut p (learnt f (view_key f) (list_at f p) p) (with_bits v (learning v.bits p)) (learnt_copy s (views.viewed_key v) p (count_seen v p))
 learnt_but p f v s h = record {
   sight = record { me = h.sight.me; factor = h.sight.factor; exchange = h.sight.exchange; writes = h.sight.writes; transactions = h.sight.transactions; batches = h.sight.batches; bits = ap (λ (b : Bits). learning b p) h.sight.bits };
   policy = h.policy;
@@ -134,11 +134,11 @@ learnt_but p f v s h = record {
   content = h.content;
   stamps =
       ap (λ (m : Stamps). finite.insert m p (view_key f, count_in f (list_at f p) p)) h.stamps
-      ∙ ap₂ (λ (k : ClusterKey) (n : ℕ). finite.insert s.stamps p (k, n)) (ap (λ (x : Exchange). key_of x.view) h.sight.exchange) (count_is f v p h.sight);
+      ∙ ap₂ (λ (k : ClusterKey) (n : ℕ). finite.insert s.stamps p (k, n)) (ap (λ (x : Exchange). exchange_key x.view) h.sight.exchange) (count_is f v p h.sight);
   by = h.by;
 }
 
-pub dropped_but : (p : ℕ) (f : Facts) (v : Viewed) (s : held.Store) → is_pending v.batches p ≡ false → IsNodeBut p f v s → IsNodeBut p (dropped f p) v (without_copy_of s p)
+pub dropped_but : (p : ℕ) (f : Facts) (v : Viewed) (s : held.StoreWithRoom) → is_pending v.batches p ≡ false → IsNodeBut p f v s → IsNodeBut p (dropped f p) v (without_copy_of s p)
 dropped_but p f v s none h = record {
   sight = record { me = h.sight.me; factor = h.sight.factor; exchange = h.sight.exchange; writes = h.sight.writes; transactions = h.sight.transactions; batches = h.sight.batches; bits = h.sight.bits };
   policy = h.policy;
@@ -153,8 +153,8 @@ dropped_but p f v s none h = record {
 
 -- ---- a record that comes
 
-pub merged_but : (f : Facts) (v : Viewed) (s u : held.Store) (digest : List ℕ) (x : Version) → u.versions ≡ held.joined s.by s.versions digest x
-    → u.stamps ≡ changed_stamps s.stamps (partition_of digest) (spoiled (views.key_of v)) (finite.get s.stamps (partition_of digest)) → u.by ≡ s.by
+pub merged_but : (f : Facts) (v : Viewed) (s u : held.StoreWithRoom) (digest : List ℕ) (x : Version) → u.versions ≡ held.joined s.by s.versions digest x
+    → u.stamps ≡ changed_stamps s.stamps (partition_of digest) (spoiled (views.viewed_key v)) (finite.get s.stamps (partition_of digest)) → u.by ≡ s.by
     → IsNodeBut (partition_of digest) f v s → IsNodeBut (partition_of digest) (merged f (view_key f) digest x) v u
 merged_but f v s u digest x versions stamps by h = record {
   sight = record { me = h.sight.me; factor = h.sight.factor; exchange = h.sight.exchange; writes = h.sight.writes; transactions = h.sight.transactions; batches = h.sight.batches; bits = h.sight.bits };
@@ -165,14 +165,14 @@ merged_but f v s u digest x versions stamps by h = record {
       (λ q other. record { me = refl; factor = refl; exchange = refl; own_handed = refl; settled = refl; learnt = refl; holds = holds_joined f.store.by f.store.content digest x q other }) refl h.quiet;
   content = ap₂ (λ (b : Policy) (c : Content). joined b c digest x) h.by h.content ∙ sym versions;
   stamps =
-      ap₂ (λ (m : Stamps) (k : ClusterKey). changed_stamps m (partition_of digest) (spoiled k) (finite.get m (partition_of digest))) h.stamps (ap (λ (y : Exchange). key_of y.view) h.sight.exchange)
+      ap₂ (λ (m : Stamps) (k : ClusterKey). changed_stamps m (partition_of digest) (spoiled k) (finite.get m (partition_of digest))) h.stamps (ap (λ (y : Exchange). exchange_key y.view) h.sight.exchange)
       ∙ sym stamps;
   by = h.by ∙ sym by;
 }
 
 -- ---- the facts of a node that are known by its view and its store
 
-pub node_in : (g : Facts) (v : Viewed) (s : held.Store) → IsNodeOf g v s → IsNodeOf (facts_in v s) v s
+pub node_in : (g : Facts) (v : Viewed) (s : held.StoreWithRoom) → IsNodeInView g v s → IsNodeInView (facts_in v s) v s
 node_in g v s h =
     let n = is_node g v s h in
     node_of (facts_in v s) v s (record {
@@ -195,7 +195,7 @@ node_in g v s h =
       by = refl;
     })
 
-pub here_in : (g : Facts) (v : Viewed) (s : held.Store) (q : ℕ) → IsNodeOf g v s → here (facts_in v s) (list_at (facts_in v s) q) q ≡ here g (list_at g q) q
+pub here_in : (g : Facts) (v : Viewed) (s : held.StoreWithRoom) (q : ℕ) → IsNodeInView g v s → here (facts_in v s) (list_at (facts_in v s) q) q ≡ here g (list_at g q) q
 here_in g v s q h =
     let n = is_node g v s h in
     rw (n.sight.me, n.sight.factor, n.sight.exchange, n.sight.transactions, n.sight.batches, n.sight.bits, n.content) refl

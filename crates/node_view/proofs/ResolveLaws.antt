@@ -17,9 +17,9 @@ use Rattle.node_rules.specs.Transactions.{Transaction, Transactions}
 use Rattle.node_view.specs.declared.notes.TxnNote.{TxnNote}
 use Rattle.node_view.specs.declared.notes.Write.{Write}
 use Rattle.node_view.specs.declared.view.View.TheInside.{Inside}
-use Rattle.node_view.specs.Transactions.{AreNoted, AreNotesOf, Noted, kept_of, note_of, running_with, transaction_with, transactions_of, with_note, with_write, without_note}
+use Rattle.node_view.specs.Transactions.{AreNoted, AreNotesOf, Noted, kept_of, note_of, running_with, transaction_with, transactions_of, with_note, note_with_write, without_note}
 use Rattle.node_view.specs.Writes.{Written}
-use Rattle.node_view.specs.Views.{Agrees, ViewRoom, view_of}
+use Rattle.node_view.specs.Views.{FieldsAgree, ViewRoom, view_of}
 use Rattle.node_view.proofs.ShownLaws.{transaction_kept}
 use Rattle.node_view.proofs.TxnLaws.{IsChange, found_kept, kept_running, notes_changed, notes_closed, notes_opened, running_changed, running_closed, running_opened, written}
 
@@ -27,7 +27,7 @@ abbrev transactions_at : ℕ → List Transaction → Transactions
 transactions_at opened running = record { opened = opened; running = running }
 
 -- with other transactions, notes and writes the fields still agree
-pub agrees : (i : Inside) (o : Open) (n : Noted) (w : Written) → Agrees i → AreNoted o n → Agrees (record i { txns = o; notes = n; writes = w })
+pub agrees : (i : Inside) (o : Open) (n : Noted) (w : Written) → FieldsAgree i → AreNoted o n → FieldsAgree (record i { txns = o; notes = n; writes = w })
 agrees i o n w a noted = record {
   stage_of = a.stage_of;
   viewed = a.viewed;
@@ -51,7 +51,7 @@ mapped : (t : Option Transaction) → IsSome t → IsSome (option_map kept_of t)
 mapped None h = h
 mapped (Some t) h = refl
 
-pub is_open : (o : Open) (n : Noted) (number : ℕ) → AreNoted o n → IsSome (rules.transaction (transactions_of o n) number) → IsSome (table.transaction o.running number)
+pub is_open : (o : Open) (n : Noted) (number : ℕ) → AreNoted o n → IsSome (rules.transaction (transactions_of o n) number) → IsSome (table.txn_at o.running number)
 is_open o n number h there = subst (λ (t : Option Txn). IsSome t) (sym (transaction_kept o n number h)) (mapped _ there)
 
 -- one that is looked for among others, of which one is changed
@@ -73,28 +73,28 @@ found_changed h same number ts = go ts.running
 
 -- ---- one is closed
 
-pub closed_noted : (o p : Open) (n m : Noted) (number : ℕ) → p.opened ≡ o.opened → p.running ≡ table.closing o.running number → m.opened ≡ n.opened → m.kept ≡ without_note n.kept number
+pub closed_noted : (o p : Open) (n m : Noted) (number : ℕ) → p.opened ≡ o.opened → p.running ≡ table.without_txn o.running number → m.opened ≡ n.opened → m.kept ≡ without_note n.kept number
     → AreNoted o n → AreNoted p m
 closed_noted o p n m number e1 e2 e3 e4 h = record {
   opened = e3 ∙ h.opened ∙ sym e1;
   notes = rw (e2, e4) (notes_closed number o.running n.kept h.notes);
 }
 
-pub closed_shown : (o p : Open) (n m : Noted) (number : ℕ) → p.opened ≡ o.opened → p.running ≡ table.closing o.running number → m.kept ≡ without_note n.kept number
-    → AreNoted o n → transactions_of p m ≡ rules.closing (transactions_of o n) number
+pub closed_shown : (o p : Open) (n m : Noted) (number : ℕ) → p.opened ≡ o.opened → p.running ≡ table.without_txn o.running number → m.kept ≡ without_note n.kept number
+    → AreNoted o n → transactions_of p m ≡ rules.without_transaction (transactions_of o n) number
 closed_shown o p n m number e1 e2 e4 h = ap₂ transactions_at e1 (ap₂ running_with e2 e4 ∙ running_closed number o.running n.kept h.notes)
 
 -- ---- one is changed
 
 pub changed_noted : (f : Txn → Txn) (g : TxnNote → TxnNote) (h : Transaction → Transaction) → IsChange f g h → (o p : Open) (n m : Noted) (number : ℕ)
-    → p.opened ≡ o.opened → p.running ≡ table.changing o.running number f → m.opened ≡ n.opened → m.kept ≡ with_note n.kept number g → AreNoted o n → AreNoted p m
+    → p.opened ≡ o.opened → p.running ≡ table.change_txn o.running number f → m.opened ≡ n.opened → m.kept ≡ with_note n.kept number g → AreNoted o n → AreNoted p m
 changed_noted f g h is o p n m number e1 e2 e3 e4 a = record {
   opened = e3 ∙ a.opened ∙ sym e1;
   notes = rw (e2, e4) (notes_changed f g h is number o.running n.kept a.notes);
 }
 
 pub changed_shown : (f : Txn → Txn) (g : TxnNote → TxnNote) (h : Transaction → Transaction) → IsChange f g h → (o p : Open) (n m : Noted) (number : ℕ)
-    → p.opened ≡ o.opened → p.running ≡ table.changing o.running number f → m.kept ≡ with_note n.kept number g → AreNoted o n
+    → p.opened ≡ o.opened → p.running ≡ table.change_txn o.running number f → m.kept ≡ with_note n.kept number g → AreNoted o n
     → transactions_of p m ≡ rules.changing (transactions_of o n) number h
 changed_shown f g h is o p n m number e1 e2 e4 a = ap₂ transactions_at e1 (ap₂ running_with e2 e4 ∙ running_changed f g h is number o.running n.kept a.notes)
 
@@ -111,27 +111,28 @@ same_notes number (n ∷ ns) = ap₂ (λ (x : ℕ × TxnNote) (xs : Table TxnNot
 
 acked_change : (from : ℕ) → IsChange (table.acknowledged_if from) (λ n. n) (λ t. changed_if (rules.acknowledged from) t (rules.awaits_ack t from))
 acked_change from = record {
-  change = λ t n same. ap (λ (b : Bool). changed_if (rules.acknowledged from) (transaction_with t n) (b && contains t.awaiting from)) (written n.write ∙ same) ∙ one t n (table.awaits_ack t from);
-  number = λ t. number t (table.awaits_ack t from);
-  applied = λ t n same. same ∙ sym (applied t (table.awaits_ack t from));
+  change = λ t n same. ap (λ (b : Bool). changed_if (rules.acknowledged from) (transaction_with t n) (b && contains t.awaiting from)) (written n.write ∙ same) ∙ one t n (table.txn_awaits_ack t from);
+  number = λ t. number t (table.txn_awaits_ack t from);
+  applied = λ t n same. same ∙ sym (applied t (table.txn_awaits_ack t from));
 }
   where
-    one : (t : Txn) (n : TxnNote) (b : Bool) → changed_if (rules.acknowledged from) (transaction_with t n) b ≡ transaction_with (changed_if (table.acknowledged from) t b) n
+    one : (t : Txn) (n : TxnNote) (b : Bool) → changed_if (rules.acknowledged from) (transaction_with t n) b ≡ transaction_with (changed_if (table.txn_acknowledged from) t b) n
     one t n true = refl
     one t n false = refl
 
-    number : (t : Txn) (b : Bool) → (changed_if (table.acknowledged from) t b).id ≡ t.id
+    number : (t : Txn) (b : Bool) → (changed_if (table.txn_acknowledged from) t b).id ≡ t.id
     number t true = refl
     number t false = refl
 
-    applied : (t : Txn) (b : Bool) → (changed_if (table.acknowledged from) t b).applied ≡ t.applied
+    applied : (t : Txn) (b : Bool)
+        → (changed_if (table.txn_acknowledged from) t b).applied ≡ t.applied
     applied t true = refl
     applied t false = refl
 
-pub acked_noted : (o p : Open) (n : Noted) (from number : ℕ) → HasOpen (table.changing o.running number (table.acknowledged_if from)) o p → AreNoted o n → AreNoted p n
+pub acked_noted : (o p : Open) (n : Noted) (from number : ℕ) → HasOpen (table.change_txn o.running number (table.acknowledged_if from)) o p → AreNoted o n → AreNoted p n
 acked_noted o p n from number e h = changed_noted _ _ _ (acked_change from) o p n n number e.opened e.running refl (same_notes number n.kept) h
 
-pub acked_view : (i : Inside) (p : Open) (from number : ℕ) → HasOpen (table.changing i.txns.running number (table.acknowledged_if from)) i.txns p → AreNoted i.txns i.notes
+pub acked_view : (i : Inside) (p : Open) (from number : ℕ) → HasOpen (table.change_txn i.txns.running number (table.acknowledged_if from)) i.txns p → AreNoted i.txns i.notes
     → view_of (record i { txns = p }) ≡ record (view_of i) { transactions = rules.acknowledging (transactions_of i.txns i.notes) from number }
 acked_view i p from number e h =
     shows i p i.notes _ _ e.policy (changed_shown _ _ _ (acked_change from) i.txns p i.notes i.notes number e.opened e.running (same_notes number i.notes.kept) h)
@@ -141,27 +142,28 @@ acked_view i p from number e h =
 
 answer_change : (by : Policy) (from : ℕ) (v : Option Version) → IsChange (table.answered_if by from v) (λ n. n) (λ t. changed_if (rules.answered by from v) t (rules.awaits_answer t from))
 answer_change by from v = record {
-  change = λ t n same. ap (λ (b : Bool). changed_if (rules.answered by from v) (transaction_with t n) (not b && contains t.awaiting from)) (written n.write ∙ same) ∙ one t n (table.awaits_answer t from);
-  number = λ t. number t (table.awaits_answer t from);
-  applied = λ t n same. same ∙ sym (applied t (table.awaits_answer t from));
+  change = λ t n same. ap (λ (b : Bool). changed_if (rules.answered by from v) (transaction_with t n) (not b && contains t.awaiting from)) (written n.write ∙ same) ∙ one t n (table.txn_awaits_answer t from);
+  number = λ t. number t (table.txn_awaits_answer t from);
+  applied = λ t n same. same ∙ sym (applied t (table.txn_awaits_answer t from));
 }
   where
-    one : (t : Txn) (n : TxnNote) (b : Bool) → changed_if (rules.answered by from v) (transaction_with t n) b ≡ transaction_with (changed_if (table.answered by from v) t b) n
+    one : (t : Txn) (n : TxnNote) (b : Bool) → changed_if (rules.answered by from v) (transaction_with t n) b ≡ transaction_with (changed_if (table.txn_answered by from v) t b) n
     one t n true = refl
     one t n false = refl
 
-    number : (t : Txn) (b : Bool) → (changed_if (table.answered by from v) t b).id ≡ t.id
+    number : (t : Txn) (b : Bool) → (changed_if (table.txn_answered by from v) t b).id ≡ t.id
     number t true = refl
     number t false = refl
 
-    applied : (t : Txn) (b : Bool) → (changed_if (table.answered by from v) t b).applied ≡ t.applied
+    applied : (t : Txn) (b : Bool)
+        → (changed_if (table.txn_answered by from v) t b).applied ≡ t.applied
     applied t true = refl
     applied t false = refl
 
-pub answer_noted : (o p : Open) (n : Noted) (from number : ℕ) (v : Option Version) → HasOpen (table.changing o.running number (table.answered_if o.by from v)) o p → AreNoted o n → AreNoted p n
+pub answer_noted : (o p : Open) (n : Noted) (from number : ℕ) (v : Option Version) → HasOpen (table.change_txn o.running number (table.answered_if o.by from v)) o p → AreNoted o n → AreNoted p n
 answer_noted o p n from number v e h = changed_noted _ _ _ (answer_change o.by from v) o p n n number e.opened e.running refl (same_notes number n.kept) h
 
-pub answer_view : (i : Inside) (p : Open) (from number : ℕ) (v : Option Version) → HasOpen (table.changing i.txns.running number (table.answered_if i.txns.by from v)) i.txns p → AreNoted i.txns i.notes
+pub answer_view : (i : Inside) (p : Open) (from number : ℕ) (v : Option Version) → HasOpen (table.change_txn i.txns.running number (table.answered_if i.txns.by from v)) i.txns p → AreNoted i.txns i.notes
     → view_of (record i { txns = p }) ≡ record (view_of i) { transactions = rules.answering i.txns.by (transactions_of i.txns i.notes) from number v }
 answer_view i p from number v e h =
     shows i p i.notes _ _ e.policy (changed_shown _ _ _ (answer_change i.txns.by from v) i.txns p i.notes i.notes number e.opened e.running (same_notes number i.notes.kept) h)
@@ -169,15 +171,15 @@ answer_view i p from number v e h =
 
 -- ---- a write is applied
 
-write_change : (w : Write) (to : List ℕ) → IsChange (table.with_write to) (with_write w) (rules.with_write w.version w.nth to)
+write_change : (w : Write) (to : List ℕ) → IsChange (table.txn_with_write to) (note_with_write w) (rules.with_write w.version w.nth to)
 write_change w to = record { change = λ t n same. refl; number = λ t. refl; applied = λ t n same. refl }
 
-pub write_noted : (o p : Open) (n m : Noted) (number : ℕ) (w : Write) (to : List ℕ) → HasOpen (table.changing o.running number (table.with_write to)) o p
-    → m.opened ≡ n.opened → m.kept ≡ with_note n.kept number (with_write w) → AreNoted o n → AreNoted p m
+pub write_noted : (o p : Open) (n m : Noted) (number : ℕ) (w : Write) (to : List ℕ) → HasOpen (table.change_txn o.running number (table.txn_with_write to)) o p
+    → m.opened ≡ n.opened → m.kept ≡ with_note n.kept number (note_with_write w) → AreNoted o n → AreNoted p m
 write_noted o p n m number w to e opened kept h = changed_noted _ _ _ (write_change w to) o p n m number e.opened e.running opened kept h
 
-pub write_shown : (o p : Open) (n m : Noted) (number : ℕ) (w : Write) (to : List ℕ) → HasOpen (table.changing o.running number (table.with_write to)) o p
-    → m.kept ≡ with_note n.kept number (with_write w) → AreNoted o n → transactions_of p m ≡ rules.changing (transactions_of o n) number (rules.with_write w.version w.nth to)
+pub write_shown : (o p : Open) (n m : Noted) (number : ℕ) (w : Write) (to : List ℕ) → HasOpen (table.change_txn o.running number (table.txn_with_write to)) o p
+    → m.kept ≡ with_note n.kept number (note_with_write w) → AreNoted o n → transactions_of p m ≡ rules.changing (transactions_of o n) number (rules.with_write w.version w.nth to)
 write_shown o p n m number w to e kept h = changed_shown _ _ _ (write_change w to) o p n m number e.opened e.running kept h
 
 -- ---- one opens

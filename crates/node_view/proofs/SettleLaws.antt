@@ -24,7 +24,7 @@ use Rattle.node_view.specs.declared.view.View.TheInside.{Inside}
 use Rattle.node_view.specs.Fits.{AreSettlings}
 use Rattle.node_view.specs.Plans.{changed_where, settled_at}
 use Rattle.node_view.specs.Settlings.{settling_of}
-use Rattle.node_view.specs.Views.{Agrees, IsNodeOf, Viewed, count_seen, facts_in, facts_seen, key_of, learnt_copy, one_more_settled, view_of, with_bits, without_copy_of}
+use Rattle.node_view.specs.Views.{FieldsAgree, IsNodeInView, Viewed, count_seen, facts_in, facts_seen, viewed_key, learnt_copy, one_more_settled, view_of, with_bits, without_copy_of}
 use Rattle.node_view.proofs.HeldLaws.{holds_dropped}
 use Rattle.node_view.proofs.HereLaws.{acting_is, all_done_is, busy_is, empty_is, others_are, own_row_is}
 use Rattle.node_view.proofs.NodeLaws.{IsNodeBut, bit_other, dropped_but, handed_but, here_in, learnt_but, node_but, settled_but}
@@ -52,28 +52,28 @@ same_settles a b c d e f g a' b' c' d' e' f' g' i j k l m n o = rw (i, j, k, l, 
 
 -- a transaction is open, as dup_resolve tells
 abbrev IsBusyBy : Inside → ℕ → Bool → Type 0
-IsBusyBy i p busy = busy ≡ resolving.is_busy i.txns.running p
+IsBusyBy i p busy = busy ≡ resolving.has_txn_on i.txns.running p
 
-list_master : (f : Facts) (x : Met) (p me : ℕ) → f.exchange ≡ x.exchange → f.me ≡ me → (map.master (met.list_at x p) == me) ≡ (map.master (list_at f p) == f.me)
+list_master : (f : Facts) (x : Met) (p me : ℕ) → f.exchange ≡ x.exchange → f.me ≡ me → (map.list_master (met.served_list x p) == me) ≡ (map.list_master (list_at f p) == f.me)
 list_master f x p me same own = rw (same, own) refl
 
-pub may_hand_is : (f : Facts) (i : Inside) (x : Met) (p : ℕ) (e : MapEntry) (busy : Bool) → Agrees i → Sees f (view_of i) → f.exchange ≡ x.exchange → p < partition_count → e ≡ met.entry_at x p → IsBusyBy i p busy
-    → known.may_hand i.progress p e busy ≡ hands (here f (list_at f p) p)
+pub may_hand_is : (f : Facts) (i : Inside) (x : Met) (p : ℕ) (e : MapEntry) (busy : Bool) → FieldsAgree i → Sees f (view_of i) → f.exchange ≡ x.exchange → p < partition_count → e ≡ met.served_entry x p → IsBusyBy i p busy
+    → known.hands_entry i.progress p e busy ≡ hands (here f (list_at f p) p)
 may_hand_is f i x p e busy a s same within is busy_is_told =
     let me : f.me ≡ i.progress.me = s.me ∙ sym a.told in
     same_hands _ _ _ _ _ _ _ _ _ _
     (acting_is f x p i.progress.me e.acting same me (ap (λ (m : MapEntry). m.acting) is))
-    (ap (λ (m : MapEntry). map.master m.list == i.progress.me) is ∙ list_master f x p i.progress.me same me)
+    (ap (λ (m : MapEntry). map.list_master m.list == i.progress.me) is ∙ list_master f x p i.progress.me same me)
     (ap (λ (b : Bits). bit b.own_handed p) (sym s.bits))
     (all_done_is f i.progress i.learnt.value p (known.all_done i.progress p) within (own_row_is f i a s) (others_are f i a s) s.bits refl)
     (busy_is f i.txns i.notes p busy a.noted s.transactions busy_is_told)
 
-pub may_settle_is : (f : Facts) (i : Inside) (x : Met) (p : ℕ) (e : MapEntry) (busy : Bool) → Agrees i → Sees f (view_of i) → f.exchange ≡ x.exchange → p < partition_count → e ≡ met.entry_at x p → IsBusyBy i p busy
-    → known.may_settle i.progress p e busy ≡ settles (here f (list_at f p) p)
+pub may_settle_is : (f : Facts) (i : Inside) (x : Met) (p : ℕ) (e : MapEntry) (busy : Bool) → FieldsAgree i → Sees f (view_of i) → f.exchange ≡ x.exchange → p < partition_count → e ≡ met.served_entry x p → IsBusyBy i p busy
+    → known.settles_entry i.progress p e busy ≡ settles (here f (list_at f p) p)
 may_settle_is f i x p e busy a s same within is busy_is_told =
     let me : f.me ≡ i.progress.me = s.me ∙ sym a.told in
     same_settles _ _ _ _ _ _ _ _ _ _ _ _ _ _
-    (ap (λ (m : MapEntry). map.master m.list == i.progress.me) is ∙ list_master f x p i.progress.me same me)
+    (ap (λ (m : MapEntry). map.list_master m.list == i.progress.me) is ∙ list_master f x p i.progress.me same me)
     (empty_is f x p e.all_empty same (ap (λ (m : MapEntry). m.all_empty) is))
     (ap (λ (b : Bits). bit b.settled p) (sym s.bits))
     (busy_is f i.txns i.notes p busy a.noted s.transactions busy_is_told)
@@ -119,30 +119,30 @@ settles_after v p true e h =
     absurd (let w : false ≡ true = wrong in cc)
 
 -- it is counted then
-pub settles_counted : (v : Viewed) (s : held.Store) (p : ℕ) (a : Bool) → p < partition_count → IsNodeOf (facts_in v s) v s → settles (here (facts_seen v) (list_at (facts_seen v) p) p) ≡ true
+pub settles_counted : (v : Viewed) (s : held.StoreWithRoom) (p : ℕ) (a : Bool) → p < partition_count → IsNodeInView (facts_in v s) v s → settles (here (facts_seen v) (list_at (facts_seen v) p) p) ≡ true
     → 0 < (handed_if v p a).watch.unsettled
 settles_counted v s p a within h due =
     subst (λ (n : ℕ). 0 < n) (sym h.view.watch.unsettled) (is_counted (facts_in v s) p within (settles_unsettled (facts_in v s) (list_at (facts_in v s) p) p due))
 
 -- ---- the steps at one partition, where they are due
 
-handed_step : (p : ℕ) (f : Facts) (v : Viewed) (s : held.Store) (b : Bool) → IsNodeBut p f v s → IsNodeBut p (changed_where b (λ g. handed g p) f) (handed_if v p b) s
+handed_step : (p : ℕ) (f : Facts) (v : Viewed) (s : held.StoreWithRoom) (b : Bool) → IsNodeBut p f v s → IsNodeBut p (changed_where b (λ g. handed g p) f) (handed_if v p b) s
 handed_step p f v s true h = handed_but p f v s h
 handed_step p f v s false h = h
 
-settled_step : (p : ℕ) (f : Facts) (v : Viewed) (s : held.Store) (b : Bool) → p < partition_count → (b ≡ true → knows_settled f p ≡ false) → (b ≡ true → bit (with_bit v.bits.settled p) p ≡ true)
+settled_step : (p : ℕ) (f : Facts) (v : Viewed) (s : held.StoreWithRoom) (b : Bool) → p < partition_count → (b ≡ true → knows_settled f p ≡ false) → (b ≡ true → bit (with_bit v.bits.settled p) p ≡ true)
     → IsNodeBut p f v s → IsNodeBut p (changed_where b (λ g. settled g p) f) (if b then one_more_settled v p else v) s
 settled_step p f v s true within before set h = settled_but p f v s within (before refl) (set refl) h
 settled_step p f v s false within before set h = h
 
-learnt_step : (p : ℕ) (f : Facts) (v : Viewed) (s : held.Store) (key : ClusterKey) (l : List ℕ) (b : Bool) → key ≡ view_key f → l ≡ list_at f p → IsNodeBut p f v s
-    → IsNodeBut p (changed_where b (λ g. learnt g key l p) f) (with_bits v (if b then learning v.bits p else v.bits)) (if b then learnt_copy s (key_of v) p (count_seen v p) else s)
+learnt_step : (p : ℕ) (f : Facts) (v : Viewed) (s : held.StoreWithRoom) (key : ClusterKey) (l : List ℕ) (b : Bool) → key ≡ view_key f → l ≡ list_at f p → IsNodeBut p f v s
+    → IsNodeBut p (changed_where b (λ g. learnt g key l p) f) (with_bits v (if b then learning v.bits p else v.bits)) (if b then learnt_copy s (viewed_key v) p (count_seen v p) else s)
 learnt_step p f v s key l true of at h =
-    subst (λ (k : ClusterKey). IsNodeBut p (learnt f k l p) (with_bits v (learning v.bits p)) (learnt_copy s (key_of v) p (count_seen v p))) (sym of)
-    (subst (λ (m : List ℕ). IsNodeBut p (learnt f (view_key f) m p) (with_bits v (learning v.bits p)) (learnt_copy s (key_of v) p (count_seen v p))) (sym at) (learnt_but p f v s h))
+    subst (λ (k : ClusterKey). IsNodeBut p (learnt f k l p) (with_bits v (learning v.bits p)) (learnt_copy s (viewed_key v) p (count_seen v p))) (sym of)
+    (subst (λ (m : List ℕ). IsNodeBut p (learnt f (view_key f) m p) (with_bits v (learning v.bits p)) (learnt_copy s (viewed_key v) p (count_seen v p))) (sym at) (learnt_but p f v s h))
 learnt_step p f v s key l false of at h = h
 
-dropped_step : (p : ℕ) (f : Facts) (v : Viewed) (s : held.Store) (b : Bool) → (b ≡ true → is_pending v.batches p ≡ false) → IsNodeBut p f v s
+dropped_step : (p : ℕ) (f : Facts) (v : Viewed) (s : held.StoreWithRoom) (b : Bool) → (b ≡ true → is_pending v.batches p ≡ false) → IsNodeBut p f v s
     → IsNodeBut p (changed_where b (λ g. dropped g p) f) v (if b then without_copy_of s p else s)
 dropped_step p f v s true none h = dropped_but p f v s (none refl) h
 dropped_step p f v s false none h = h
@@ -165,12 +165,13 @@ list_stays f p false true = refl
 list_stays f p false false = refl
 
 -- the views and the stores after each of the steps at a partition
-pub record AreSteps (t : Settling) (v0 v1 v2 v3 : Viewed) (s0 s1 s2 : held.Store) : Type 0 where
+pub record AreSteps (t : Settling) (v0 v1 v2 v3 : Viewed)
+    (s0 s1 s2 : held.StoreWithRoom) : Type 0 where
   pub hand : v1 ≡ handed_if v0 t.partition t.hands
   pub settle : v2 ≡ (if t.settles then one_more_settled v1 t.partition else v1)
   pub set : t.settles ≡ true → bit v2.bits.settled t.partition ≡ true
   pub learn : v3 ≡ with_bits v2 (if t.learns then learning v2.bits t.partition else v2.bits)
-  pub learnt_in : s1 ≡ (if t.learns then learnt_copy s0 (key_of v2) t.partition (count_seen v2 t.partition) else s0)
+  pub learnt_in : s1 ≡ (if t.learns then learnt_copy s0 (viewed_key v2) t.partition (count_seen v2 t.partition) else s0)
   pub drop : s2 ≡ (if t.drops then without_copy_of s1 t.partition else s1)
 
 -- nothing is pending at a partition whose copy is dropped
@@ -193,7 +194,7 @@ set_there : (v1 v2 : Viewed) (p : ℕ) (b : Bool) → v2 ≡ (if b then one_more
 set_there v1 v2 p true is set e = sym (ap (λ (v : Viewed). bit v.bits.settled p) is) ∙ set refl
 set_there v1 v2 p false is set e = cc
 
-batches_stay : (t : Settling) (v0 v1 v2 v3 : Viewed) (s0 s1 s2 : held.Store) → AreSteps t v0 v1 v2 v3 s0 s1 s2 → v3.batches ≡ v0.batches
+batches_stay : (t : Settling) (v0 v1 v2 v3 : Viewed) (s0 s1 s2 : held.StoreWithRoom) → AreSteps t v0 v1 v2 v3 s0 s1 s2 → v3.batches ≡ v0.batches
 batches_stay t v0 v1 v2 v3 s0 s1 s2 h =
     ap (λ (v : Viewed). v.batches) h.learn ∙ (ap (λ (v : Viewed). v.batches) h.settle ∙ (go t.settles ∙ ap (λ (v : Viewed). v.batches) h.hand))
   where
@@ -201,8 +202,8 @@ batches_stay t v0 v1 v2 v3 s0 s1 s2 h =
     go true = refl
     go false = refl
 
-pub settled_node : (f : Facts) (t : Settling) (v0 v1 v2 v3 : Viewed) (s0 s1 s2 : held.Store) → AreSteps t v0 v1 v2 v3 s0 s1 s2 → t.partition < partition_count
-    → t ≡ settling_of t.partition (here f (list_at f t.partition) t.partition) → IsNodeOf f v0 s0 → IsNodeBut t.partition (settled_at f t) v3 s2
+pub settled_node : (f : Facts) (t : Settling) (v0 v1 v2 v3 : Viewed) (s0 s1 s2 : held.StoreWithRoom) → AreSteps t v0 v1 v2 v3 s0 s1 s2 → t.partition < partition_count
+    → t ≡ settling_of t.partition (here f (list_at f t.partition) t.partition) → IsNodeInView f v0 s0 → IsNodeBut t.partition (settled_at f t) v3 s2
 settled_node f t v0 v1 v2 v3 s0 s1 s2 steps within is h =
     let p = t.partition in
     let f1 = changed_where t.hands (λ g. handed g p) f in
@@ -215,17 +216,17 @@ settled_node f t v0 v1 v2 v3 s0 s1 s2 steps within is h =
     subst (λ (w : Viewed). IsNodeBut p f2 w s0) (sym steps.settle) (settled_step p f1 v1 s0 t.settles within unsettled (set_there v1 v2 p t.settles steps.settle steps.set) n1) in
     let n3 : IsNodeBut p f3 v3 s1 =
     subst (λ (w : Viewed). IsNodeBut p f3 w s1) (sym steps.learn)
-    (subst (λ (u : held.Store). IsNodeBut p f3 (with_bits v2 (if t.learns then learning v2.bits p else v2.bits)) u) (sym steps.learnt_in)
+    (subst (λ (u : held.StoreWithRoom). IsNodeBut p f3 (with_bits v2 (if t.learns then learning v2.bits p else v2.bits)) u) (sym steps.learnt_in)
     (learnt_step p f2 v2 s0 (view_key f) (list_at f p) t.learns (key_stays f p t.hands t.settles) (list_stays f p t.hands t.settles) n2)) in
     let none : t.drops ≡ true → is_pending v3.batches p ≡ false =
     λ e. ap (λ ts. is_pending ts p) (batches_stay t v0 v1 v2 v3 s0 s1 s2 steps ∙ sym (is_node f v0 s0 h).sight.batches)
     ∙ done_not_pending f.exchange.exchanged (is_pending f.batches p) (none_pending f (list_at f p) p (sym (ap (λ (u : Settling). u.drops) is) ∙ e)) in
-    subst (λ (u : held.Store). IsNodeBut p (settled_at f t) v3 u) (sym steps.drop) (dropped_step p f3 v3 s1 t.drops none n3)
+    subst (λ (u : held.StoreWithRoom). IsNodeBut p (settled_at f t) v3 u) (sym steps.drop) (dropped_step p f3 v3 s1 t.drops none n3)
 
 -- ---- what the steps need of each other
 
 -- it is settled after a hand-over too
-pub settles_after_hand : (v w : Viewed) (s : held.Store) (t : Settling) → t ≡ settling_of t.partition (here (facts_in v s) (list_at (facts_in v s) t.partition) t.partition) → w ≡ handed_if v t.partition t.hands → t.settles ≡ true
+pub settles_after_hand : (v w : Viewed) (s : held.StoreWithRoom) (t : Settling) → t ≡ settling_of t.partition (here (facts_in v s) (list_at (facts_in v s) t.partition) t.partition) → w ≡ handed_if v t.partition t.hands → t.settles ≡ true
     → settles (here (facts_seen w) (list_at (facts_seen w) t.partition) t.partition) ≡ true
 settles_after_hand v w s t is hand due =
     subst (λ (x : Viewed). settles (here (facts_seen x) (list_at (facts_seen x) t.partition) t.partition) ≡ true) (sym hand)
@@ -257,7 +258,7 @@ drops_where_settled true t r e = refl
 drops_where_settled false true r e = refl
 drops_where_settled false false r e = e
 
-pub set_where_dropped : (t : Settling) (v0 v1 v2 v3 : Viewed) (s : held.Store) → t ≡ settling_of t.partition (here (facts_in v0 s) (list_at (facts_in v0 s) t.partition) t.partition)
+pub set_where_dropped : (t : Settling) (v0 v1 v2 v3 : Viewed) (s : held.StoreWithRoom) → t ≡ settling_of t.partition (here (facts_in v0 s) (list_at (facts_in v0 s) t.partition) t.partition)
     → v1 ≡ handed_if v0 t.partition t.hands → v2 ≡ (if t.settles then one_more_settled v1 t.partition else v1) → (t.settles ≡ true → bit v2.bits.settled t.partition ≡ true)
     → v3 ≡ with_bits v2 (if t.learns then learning v2.bits t.partition else v2.bits) → t.drops ≡ true → has_settled_bit (facts_seen v3) t.partition ≡ true
 set_where_dropped t v0 v1 v2 v3 s is e1 e2 set e3 due =
@@ -265,7 +266,7 @@ set_where_dropped t v0 v1 v2 v3 s is e1 e2 set e3 due =
     let either : (h.settled || settles h) ≡ true = drops_where_settled h.settled (settles h) (h.done && (not h.replica && h.holds)) (sym (ap (λ (u : Settling). u.drops) is) ∙ due) in
     bit_after v0 v1 v2 v3 t.partition t.hands t.settles t.learns e1 e2 set e3 (ap (λ (b : Bool). h.settled || b) (ap (λ (u : Settling). u.settles) is) ∙ either)
 
-pub done_there : (t : Settling) (v0 v1 v2 v3 : Viewed) (s : held.Store) → t ≡ settling_of t.partition (here (facts_in v0 s) (list_at (facts_in v0 s) t.partition) t.partition)
+pub done_there : (t : Settling) (v0 v1 v2 v3 : Viewed) (s : held.StoreWithRoom) → t ≡ settling_of t.partition (here (facts_in v0 s) (list_at (facts_in v0 s) t.partition) t.partition)
     → v1 ≡ handed_if v0 t.partition t.hands → v2 ≡ (if t.settles then one_more_settled v1 t.partition else v1)
     → v3 ≡ with_bits v2 (if t.learns then learning v2.bits t.partition else v2.bits) → t.drops ≡ true → is_done (facts_seen v3) t.partition ≡ true
 done_there t v0 v1 v2 v3 s is e1 e2 e3 due =
@@ -362,7 +363,7 @@ rest_settlings f g t ts h same stand = record {
     due s above is = is ∙ ap (settling_of s.partition) (sym (stand s.partition (λ (i : s.partition ≡ t.partition). omega (arith, above, i))))
 
 -- where the facts are of a node in a view with a store, what is due of its other partitions is known by these
-pub rest_in_view : (f g : Facts) (v : Viewed) (s : held.Store) (t : Settling) (ts : List Settling) → AreSettlings f (t ∷ ts) → g ≡ settled_at f t → IsNodeOf g v s → AreSettlings (facts_in v s) ts
+pub rest_in_view : (f g : Facts) (v : Viewed) (s : held.StoreWithRoom) (t : Settling) (ts : List Settling) → AreSettlings f (t ∷ ts) → g ≡ settled_at f t → IsNodeInView g v s → AreSettlings (facts_in v s) ts
 rest_in_view f g v s t ts h is node =
     rest_settlings f (facts_in v s) t ts h
     (sym (is_node g v s node).sight.exchange ∙ (ap (λ (k : Facts). k.exchange) is ∙ exchange_stays f t))

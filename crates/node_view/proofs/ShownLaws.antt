@@ -16,9 +16,9 @@ use Rattle.node_view.proofs.TxnLaws.{found_kept, kept_running, noted_at}
 pub running_kept : (o : Open) (n : Noted) → AreNoted o n → o.running ≡ map kept_of (transactions_of o n).running
 running_kept o n noted = kept_running o.running n.kept noted.notes
 
-pub transaction_kept : (o : Open) (n : Noted) (number : ℕ) → AreNoted o n → table.transaction o.running number ≡ option_map kept_of (rules.transaction (transactions_of o n) number)
+pub transaction_kept : (o : Open) (n : Noted) (number : ℕ) → AreNoted o n → table.txn_at o.running number ≡ option_map kept_of (rules.transaction (transactions_of o n) number)
 transaction_kept o n number noted =
-    ap (λ (ts : List Txn). table.transaction ts number) (kept_running o.running n.kept noted.notes)
+    ap (λ (ts : List Txn). table.txn_at ts number) (kept_running o.running n.kept noted.notes)
     ∙ found_kept (λ t. t.id == number) (λ t. t.number == number) (λ x. refl) (running_with o.running n.kept)
 
 -- the write that is noted, if there is a note

@@ -7,7 +7,7 @@ use Rattle.cluster_types.specs.Distinct.{without}
 use Rattle.cluster_types.specs.Members.{ids_of}
 use Rattle.partition_lists.specs.Lists.{list}
 use Rattle.partition_lists.proofs.InOrderLaws.{equal, from_equal, unequal}
-use Rattle.node_rules.specs.Agreement.{others}
+use Rattle.node_rules.specs.Agreement.{others_among}
 use Rattle.node_rules.specs.Exchange.{Exchange, is_member, members_of}
 use Rattle.node_rules.specs.Map.{all_empty}
 use Rattle.node_view.proofs.EmptyLaws.{empty_in_list}
@@ -34,16 +34,16 @@ kept_without me n k ids rest false h self false true e i = rw (e, i) refl
 kept_without me n k ids rest false h self false false e i = rw (e, i, h) refl
 
 -- whether the node is another member
-pub other_tells : (me n : ℕ) (ms : List Member) → list_any (λ m. m == n) (others me ms) ≡ (is_member ms n && not (n == me))
+pub other_tells : (me n : ℕ) (ms : List Member) → list_any (λ m. m == n) (others_among me ms) ≡ (is_member ms n && not (n == me))
 other_tells me n [] = refl
 other_tells me n (m ∷ ms) = kept_without me n m.id (ids_of ms) (is_member ms n) (n == me) (other_tells me n ms) refl (m.id == me) (m.id == n) refl refl
 
-pub other_from : (me n : ℕ) (ms : List Member) → list_any (λ m. m == n) (others me ms) ≡ true → (is_member ms n ≡ true) × (n ≢ me)
+pub other_from : (me n : ℕ) (ms : List Member) → list_any (λ m. m == n) (others_among me ms) ≡ true → (is_member ms n ≡ true) × (n ≢ me)
 other_from me n ms h =
     let both = and_parts (is_member ms n) (not (n == me)) (sym (other_tells me n ms) ∙ h) in (
       both.0,
       λ (same : n ≡ me). let wrong : false ≡ true = sym (ap not (equal n me same)) ∙ both.1 in cc,
     )
 
-pub is_other : (me n : ℕ) (ms : List Member) → is_member ms n ≡ true → n ≢ me → list_any (λ m. m == n) (others me ms) ≡ true
+pub is_other : (me n : ℕ) (ms : List Member) → is_member ms n ≡ true → n ≢ me → list_any (λ m. m == n) (others_among me ms) ≡ true
 is_other me n ms member other = other_tells me n ms ∙ rw (member, unequal n me other) refl

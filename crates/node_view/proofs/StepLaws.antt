@@ -10,12 +10,12 @@ use Rattle.node_rules.specs.Standing.{knows_settled, knows_settled_by}
 use Rattle.node_rules.specs.Map.{all_empty}
 use Rattle.cluster_types.specs.Members.{ids_of}
 use Rattle.node_rules.specs.Transactions.{Transactions}
-use Rattle.node_view.specs.Views.{IsNodeOf, KeepsWatch, ViewRoom, Viewed, Watch}
+use Rattle.node_view.specs.Views.{IsNodeInView, KeepsWatch, ViewRoom, Viewed, Watch}
 use Rattle.node_view.proofs.SightLaws.{Sees, in_view, sees}
 use Rattle.node_view.proofs.WatchLaws.{StandsAlike, count_alike, live_alike}
 
 -- what is seen of a node in that view
-pub record IsNode (f : Facts) (v : Viewed) (s : held.Store) : Type 0 where
+pub record IsNode (f : Facts) (v : Viewed) (s : held.StoreWithRoom) : Type 0 where
   pub sight : Sees f v
   pub policy : v.by ≡ f.store.by
   pub pending : AreHeld f.store.content v.batches
@@ -24,7 +24,7 @@ pub record IsNode (f : Facts) (v : Viewed) (s : held.Store) : Type 0 where
   pub stamps : f.store.stamps ≡ s.stamps
   pub by : f.store.by ≡ s.by
 
-pub is_node : (f : Facts) (v : Viewed) (s : held.Store) → IsNodeOf f v s → IsNode f v s
+pub is_node : (f : Facts) (v : Viewed) (s : held.StoreWithRoom) → IsNodeInView f v s → IsNode f v s
 is_node f v s h = record {
   sight = sees f v h.view.viewed;
   policy = h.view.policy;
@@ -35,7 +35,7 @@ is_node f v s h = record {
   by = h.stored.by;
 }
 
-pub node_of : (f : Facts) (v : Viewed) (s : held.Store) → IsNode f v s → IsNodeOf f v s
+pub node_of : (f : Facts) (v : Viewed) (s : held.StoreWithRoom) → IsNode f v s → IsNodeInView f v s
 node_of f v s h = record {
   view = record { viewed = in_view f v h.sight; policy = h.policy; pending = h.pending; watch = h.watch };
   stored = record { content = h.content; stamps = h.stamps; by = h.by };
@@ -49,7 +49,7 @@ watch_alike f g w same x h = record { unsettled = h.unsettled ∙ sym (count_ali
     settled p = ap₂ (λ (y : Exchange) (b : Bool). knows_settled_by b y.exchanged (all_empty (ids_of (members_of y.view)) y.rows p)) x (same p).settled
 
 -- the transactions are others
-pub with_transactions : (f : Facts) (v : Viewed) (s : held.Store) (ts : Transactions) (room : ViewRoom) → IsNodeOf f v s → IsNodeOf (record f { transactions = ts }) (record v { transactions = ts; room = room }) s
+pub with_transactions : (f : Facts) (v : Viewed) (s : held.StoreWithRoom) (ts : Transactions) (room : ViewRoom) → IsNodeInView f v s → IsNodeInView (record f { transactions = ts }) (record v { transactions = ts; room = room }) s
 with_transactions f v s ts room h =
     let n = is_node f v s h in
     node_of _ _ s (record {
@@ -63,7 +63,7 @@ with_transactions f v s ts room h =
     })
 
 -- other digests are pending
-pub with_batches : (f : Facts) (v : Viewed) (s : held.Store) (ts : Targets) → AreHeld f.store.content ts → IsNodeOf f v s → IsNodeOf (record f { batches = ts }) (record v { batches = ts }) s
+pub with_batches : (f : Facts) (v : Viewed) (s : held.StoreWithRoom) (ts : Targets) → AreHeld f.store.content ts → IsNodeInView f v s → IsNodeInView (record f { batches = ts }) (record v { batches = ts }) s
 with_batches f v s ts held h =
     let n = is_node f v s h in
     node_of _ _ s (record {
@@ -77,8 +77,8 @@ with_batches f v s ts held h =
     })
 
 -- writes and stamps are others
-pub with_writes : (f : Facts) (v : Viewed) (s u : held.Store) (ws : Writes) (room : ViewRoom) → u.versions ≡ s.versions → u.by ≡ s.by → IsNodeOf f v s
-    → IsNodeOf (record f { writes = ws; store = record f.store { stamps = u.stamps } }) (record v { writes = ws; room = room }) u
+pub with_writes : (f : Facts) (v : Viewed) (s u : held.StoreWithRoom) (ws : Writes) (room : ViewRoom) → u.versions ≡ s.versions → u.by ≡ s.by → IsNodeInView f v s
+    → IsNodeInView (record f { writes = ws; store = record f.store { stamps = u.stamps } }) (record v { writes = ws; room = room }) u
 with_writes f v s u ws room same by h =
     let n = is_node f v s h in
     node_of _ _ u (record {

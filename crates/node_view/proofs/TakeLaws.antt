@@ -13,8 +13,8 @@ use Rattle.node_rules.specs.Map.{lacks}
 use Rattle.node_rules.specs.Standing.{knows_settled}
 use Rattle.node_rules.specs.Tables.{changed_if}
 use Rattle.node_view.specs.declared.view.Moving.{Moving}
-use Rattle.node_view.specs.Plans.{with_row_of}
-use Rattle.node_view.specs.Views.{IsMoving, IsNodeOf, IsOtherMember, Viewed}
+use Rattle.node_view.specs.Plans.{facts_with_row}
+use Rattle.node_view.specs.Views.{IsMoving, IsNodeInView, IsOtherMember, Viewed}
 use Rattle.node_view.proofs.MissingLaws.{full_has}
 use Rattle.node_view.proofs.SightLaws.{sees}
 use Rattle.node_view.proofs.StepLaws.{is_node, node_of, with_batches}
@@ -35,14 +35,14 @@ some_missing None h = cc
 some_missing (Some n) h = refl
 
 -- before the exchange is finished rows tell nothing of what is settled
-pub row_node : (f : Facts) (v w : Viewed) (s : held.Store) (from : ℕ) (row : Row) → w ≡ record v { exchange = record v.exchange { rows = with_row v.exchange.rows from row } } → v.exchange.exchanged ≡ false
-    → IsNodeOf f v s → IsNodeOf (with_row_of f from row) w s
+pub row_node : (f : Facts) (v w : Viewed) (s : held.StoreWithRoom) (from : ℕ) (row : Row) → w ≡ record v { exchange = record v.exchange { rows = with_row v.exchange.rows from row } } → v.exchange.exchanged ≡ false
+    → IsNodeInView f v s → IsNodeInView (facts_with_row f from row) w s
 row_node f v w s from row is waiting h =
     let n = is_node f v s h in
-    let g = with_row_of f from row in
+    let g = facts_with_row f from row in
     let off : f.exchange.exchanged ≡ false = ap (λ (x : Exchange). x.exchanged) n.sight.exchange ∙ waiting in
     let settled : (p : ℕ) → knows_settled g p ≡ knows_settled f p = λ p. rw off refl in
-    subst (λ (u : Viewed). IsNodeOf g u s) (sym is)
+    subst (λ (u : Viewed). IsNodeInView g u s) (sym is)
     (node_of g (record v { exchange = record v.exchange { rows = with_row v.exchange.rows from row } }) s (record {
       sight = record {
         me = n.sight.me;
@@ -95,10 +95,10 @@ held_acking content (t ∷ ts) from number h =
     All-cons (λ (u : Target). IsHeld content u.pending) _ (acking ts from number) (held_changed content number t (t.node == from) (h 0 t (omega arith)))
     (held_acking content ts from number (All-tail (λ (u : Target). IsHeld content u.pending) t ts h))
 
-pub acked_node : (f : Facts) (v w : Viewed) (s : held.Store) (from number : ℕ) → w ≡ record v { batches = acking v.batches from number } → IsNodeOf f v s
-    → IsNodeOf (record f { batches = acking f.batches from number }) w s
+pub acked_node : (f : Facts) (v w : Viewed) (s : held.StoreWithRoom) (from number : ℕ) → w ≡ record v { batches = acking v.batches from number } → IsNodeInView f v s
+    → IsNodeInView (record f { batches = acking f.batches from number }) w s
 acked_node f v w s from number is h =
     let batches : f.batches ≡ v.batches = (sees f v h.view.viewed).batches in
-    subst (λ (u : Viewed). IsNodeOf (record f { batches = acking f.batches from number }) u s) (sym is)
-    (subst (λ (ts : Targets). IsNodeOf (record f { batches = acking ts from number }) (record v { batches = acking v.batches from number }) s) (sym batches)
+    subst (λ (u : Viewed). IsNodeInView (record f { batches = acking f.batches from number }) u s) (sym is)
+    (subst (λ (ts : Targets). IsNodeInView (record f { batches = acking ts from number }) (record v { batches = acking v.batches from number }) s) (sym batches)
     (with_batches f v s (acking v.batches from number) (record { held = held_acking f.store.content v.batches from number h.view.pending.held }) h))

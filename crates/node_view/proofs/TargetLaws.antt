@@ -5,7 +5,7 @@ use Rattle.cluster_types.specs.Partitions.{partition_count}
 use Rattle.cluster_types.specs.Rows.{bit}
 use Rattle.wire_messages.specs.declared.message.Batch.{Batch}
 use Rattle.emigrate.proofs.TargetLaws.{acked_node}
-use Rattle.node_rules.specs.Batches.{Target, Targets, acking, acked_out, changing, done_row, is_pending, sending}
+use Rattle.node_rules.specs.Batches.{Target, Targets, acking, acked_out, change_target, done_row, is_pending, sending}
 use Rattle.node_rules.specs.Copies.{is_of}
 use Rattle.node_rules.specs.Tables.{bits_from, changed_if}
 use Rattle.node_view.proofs.RowLaws.{row_of_bits}
@@ -14,7 +14,7 @@ one_node : (change : Target → Target) → ((t : Target) → (change t).node �
 one_node change same t true = same t
 one_node change same t false = refl
 
-pub nodes_changing : (change : Target → Target) → ((t : Target) → (change t).node ≡ t.node) → (n : ℕ) (ts : Targets) → map (λ (t : Target). t.node) (changing ts n change) ≡ map (λ (t : Target). t.node) ts
+pub nodes_changing : (change : Target → Target) → ((t : Target) → (change t).node ≡ t.node) → (n : ℕ) (ts : Targets) → map (λ (t : Target). t.node) (change_target ts n change) ≡ map (λ (t : Target). t.node) ts
 nodes_changing change same n [] = refl
 nodes_changing change same n (t ∷ ts) = ap₂ (λ (x : ℕ) (xs : List ℕ). x ∷ xs) (one_node change same t (t.node == n)) (nodes_changing change same n ts)
 

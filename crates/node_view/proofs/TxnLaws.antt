@@ -26,7 +26,7 @@ one_noted f g h t n true is note = record { number = note.number ∙ sym (is.num
 one_noted f g h t n false is note = record { number = note.number; applied = note.applied }
 
 pub running_changed : (f : Txn → Txn) (g : TxnNote → TxnNote) (h : Transaction → Transaction) → IsChange f g h → (number : ℕ) (ts : List Txn) (ns : Table TxnNote) → AreNotesOf ts ns
-    → running_with (table.changing ts number f) (with_note ns number g) ≡ map (λ t. changed_if h t (t.number == number)) (running_with ts ns)
+    → running_with (table.change_txn ts number f) (with_note ns number g) ≡ map (λ t. changed_if h t (t.number == number)) (running_with ts ns)
 running_changed f g h is number [] ns notes = refl
 running_changed f g h is number (t ∷ ts) [] notes = refl
 running_changed f g h is number (t ∷ ts) (n ∷ ns) notes =
@@ -36,7 +36,7 @@ running_changed f g h is number (t ∷ ts) (n ∷ ns) notes =
     (running_changed f g h is number ts ns notes.1)
 
 pub notes_changed : (f : Txn → Txn) (g : TxnNote → TxnNote) (h : Transaction → Transaction) → IsChange f g h → (number : ℕ) (ts : List Txn) (ns : Table TxnNote) → AreNotesOf ts ns
-    → AreNotesOf (table.changing ts number f) (with_note ns number g)
+    → AreNotesOf (table.change_txn ts number f) (with_note ns number g)
 notes_changed f g h is number [] [] notes = tt
 notes_changed f g h is number (t ∷ ts) [] notes = notes
 notes_changed f g h is number [] (n ∷ ns) notes = notes
@@ -67,7 +67,7 @@ filter_cons p x xs = go (p x) refl
     go false e = rw e refl
 
 pub running_closed : (number : ℕ) (ts : List Txn) (ns : Table TxnNote) → AreNotesOf ts ns
-    → running_with (table.closing ts number) (without_note ns number) ≡ filter (λ t. not (t.number == number)) (running_with ts ns)
+    → running_with (table.without_txn ts number) (without_note ns number) ≡ filter (λ t. not (t.number == number)) (running_with ts ns)
 running_closed number [] ns notes = refl
 running_closed number (t ∷ ts) [] notes = absurd notes
 running_closed number (t ∷ ts) (n ∷ ns) notes =
@@ -75,17 +75,17 @@ running_closed number (t ∷ ts) (n ∷ ns) notes =
     let same : not (n.0 == number) ≡ b = ap (λ (k : ℕ). not (k == number)) notes.0.number in
     ap₂ running_with (filter_cons (λ (x : Txn). not (x.id == number)) t ts)
     (filter_cons (λ (x : ℕ × TxnNote). not (x.0 == number)) n ns ∙ ap (λ (c : Bool). cons_if c n (without_note ns number)) same)
-    ∙ closed_step b t n ts (table.closing ts number) ns (without_note ns number) [] _ (running_closed number ts ns notes.1)
+    ∙ closed_step b t n ts (table.without_txn ts number) ns (without_note ns number) [] _ (running_closed number ts ns notes.1)
     ∙ sym (filter_cons (λ (x : Transaction). not (x.number == number)) (transaction_with t n.1) (running_with ts ns))
 
-pub notes_closed : (number : ℕ) (ts : List Txn) (ns : Table TxnNote) → AreNotesOf ts ns → AreNotesOf (table.closing ts number) (without_note ns number)
+pub notes_closed : (number : ℕ) (ts : List Txn) (ns : Table TxnNote) → AreNotesOf ts ns → AreNotesOf (table.without_txn ts number) (without_note ns number)
 notes_closed number [] [] notes = tt
 notes_closed number [] (n ∷ ns) notes = absurd notes
 notes_closed number (t ∷ ts) [] notes = absurd notes
 notes_closed number (t ∷ ts) (n ∷ ns) notes =
     let same : not (n.0 == number) ≡ not (t.id == number) = ap (λ (k : ℕ). not (k == number)) notes.0.number in
     rw (filter_cons (λ (x : Txn). not (x.id == number)) t ts, filter_cons (λ (x : ℕ × TxnNote). not (x.0 == number)) n ns, same)
-    (noted_step (not (t.id == number)) t n (table.closing ts number) (without_note ns number) notes.0 (notes_closed number ts ns notes.1))
+    (noted_step (not (t.id == number)) t n (table.without_txn ts number) (without_note ns number) notes.0 (notes_closed number ts ns notes.1))
 
 pub running_opened : (t : Txn) (n : ℕ × TxnNote) (ts : List Txn) (ns : Table TxnNote) → AreNotesOf ts ns
     → running_with (ts ++ t ∷ []) (ns ++ n ∷ []) ≡ running_with ts ns ++ transaction_with t n.1 ∷ []

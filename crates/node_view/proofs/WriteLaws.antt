@@ -3,24 +3,24 @@ use Rattle.std.proofs.Common.{◌≡◌, ℕ, zero, suc, ◌+◌, ◌<◌, Bool,
 use Rattle.std.specs.Prelude.{unwrap_or}
 use Rattle.std.specs.List.{insert}
 use Rattle.node_rules.specs.Stamps.{Writes, count_at, count_of, with_number}
-use Rattle.node_rules.specs.Tables.{Table, at, with_entry}
+use Rattle.node_rules.specs.Tables.{Table, at, table_with}
 use Rattle.write_path.specs.Numbered.{Numbered}
-use Rattle.node_view.specs.Writes.{heard_in, rooms_in, HasRoomToHear, IsAscending, IsGapFor, IsPlaceOf}
+use Rattle.node_view.specs.Writes.{heard_in, rooms_in, HasRoomToHear, IsAscendingTable, IsGapFor, IsTablePlaceOf}
 use Rattle.node_view.specs.Writes.HasRoomToHear.{known, new}
 use Rattle.node_view.proofs.TableLaws.{at_gap, at_mapped, at_place, at_put, none_mapped, put_gap, put_mapped, put_place}
 
 -- ---- applied writes
 
-pub applied_at : (es : List (ℕ × ℕ)) (p i : ℕ) (x : ℕ × ℕ) (last : ℕ) → IsAscending es → IsPlaceOf p es i → x ≡ get_or es i x → unwrap_or (at es p) 0 < last → x.1 < last
+pub applied_at : (es : List (ℕ × ℕ)) (p i : ℕ) (x : ℕ × ℕ) (last : ℕ) → IsAscendingTable es → IsTablePlaceOf p es i → x ≡ get_or es i x → unwrap_or (at es p) 0 < last → x.1 < last
 applied_at es p i x last h here is few = subst (λ (o : Option ℕ). unwrap_or o 0 < last) (at_place p es i x h here is) few
 
-pub applied_place : (es : List (ℕ × ℕ)) (p i : ℕ) (x : ℕ × ℕ) → IsAscending es → IsPlaceOf p es i → x ≡ get_or es i x → set es i (x.0, x.1 + 1) ≡ with_entry es p (unwrap_or (at es p) 0 + 1)
+pub applied_place : (es : List (ℕ × ℕ)) (p i : ℕ) (x : ℕ × ℕ) → IsAscendingTable es → IsTablePlaceOf p es i → x ≡ get_or es i x → set es i (x.0, x.1 + 1) ≡ table_with es p (unwrap_or (at es p) 0 + 1)
 applied_place es p i x h here is =
-    put_place p (x.1 + 1) es i x h here is ∙ ap (λ (o : Option ℕ). with_entry es p (unwrap_or o 0 + 1)) (sym (at_place p es i x h here is))
+    put_place p (x.1 + 1) es i x h here is ∙ ap (λ (o : Option ℕ). table_with es p (unwrap_or o 0 + 1)) (sym (at_place p es i x h here is))
 
-pub applied_gap : (es us : List (ℕ × ℕ)) (p i : ℕ) → IsGapFor p es i → us ≡ insert es i (p, 1) → us ≡ with_entry es p (unwrap_or (at es p) 0 + 1)
+pub applied_gap : (es us : List (ℕ × ℕ)) (p i : ℕ) → IsGapFor p es i → us ≡ insert es i (p, 1) → us ≡ table_with es p (unwrap_or (at es p) 0 + 1)
 applied_gap es us p i gap is =
-    is ∙ (put_gap p 1 es i gap ∙ ap (λ (o : Option ℕ). with_entry es p (unwrap_or o 0 + 1)) (sym (at_gap p es i gap)))
+    is ∙ (put_gap p 1 es i gap ∙ ap (λ (o : Option ℕ). table_with es p (unwrap_or o 0 + 1)) (sym (at_gap p es i gap)))
 
 -- ---- room for a number
 
@@ -32,7 +32,7 @@ heard_kept (e ∷ es) zero x t within is same =
 heard_kept (e ∷ es) (suc i) x t within is same =
     ap (λ (rest : Table (List ℕ)). (e.0, e.1.numbers) ∷ rest) (heard_kept es i x t (omega (arith, within)) is same)
 
-pub room_kept : (es : List (ℕ × Numbered)) (p i k : ℕ) (x : ℕ × Numbered) (t first : Numbered) → IsAscending es → IsPlaceOf p es i → x ≡ get_or es i x → 0 < t.spare → HasRoomToHear (rooms_in (set es i (x.0, t))) k p first
+pub room_kept : (es : List (ℕ × Numbered)) (p i k : ℕ) (x : ℕ × Numbered) (t first : Numbered) → IsAscendingTable es → IsTablePlaceOf p es i → x ≡ get_or es i x → 0 < t.spare → HasRoomToHear (rooms_in (set es i (x.0, t))) k p first
 room_kept es p i k x t first h here is some =
     let there : at (set es i (x.0, t)) p ≡ Some t = ap (λ (us : List (ℕ × Numbered)). at us p) (put_place p t es i x h here is) ∙ at_put p t es in
     known t.spare (at_mapped (λ (n : Numbered). n.spare) (set es i (x.0, t)) p t there) some
@@ -45,7 +45,7 @@ room_first es us p i k (Err e) gap is some none room = tt
 
 -- ---- numbers
 
-pub room_known : (es : List (ℕ × Numbered)) (p i k : ℕ) (x : ℕ × Numbered) (first : Numbered) → IsAscending es → IsPlaceOf p es i → x ≡ get_or es i x → HasRoomToHear (rooms_in es) k p first → 0 < x.1.spare
+pub room_known : (es : List (ℕ × Numbered)) (p i k : ℕ) (x : ℕ × Numbered) (first : Numbered) → IsAscendingTable es → IsTablePlaceOf p es i → x ≡ get_or es i x → HasRoomToHear (rooms_in es) k p first → 0 < x.1.spare
 room_known es p i k x first h here is room = go room (at_mapped (λ (n : Numbered). n.spare) es p x.1 (at_place p es i x h here is))
   where
     go : HasRoomToHear (rooms_in es) k p first → at (rooms_in es) p ≡ Some x.1.spare → 0 < x.1.spare
@@ -64,19 +64,19 @@ room_new es p i k first gap room = go room (none_mapped (λ (n : Numbered). n.sp
     go (known n e some) missing = cc
     go (new e some none spare) missing = record { numbers = some; none = none; spare = spare }
 
-pub heard_place : (es : List (ℕ × Numbered)) (p i nth : ℕ) (x : ℕ × Numbered) (t : Numbered) → IsAscending es → IsPlaceOf p es i → x ≡ get_or es i x → t.numbers ≡ with_number x.1.numbers nth
-    → heard_in (set es i (x.0, t)) ≡ with_entry (heard_in es) p (with_number (unwrap_or (at (heard_in es) p) []) nth)
+pub heard_place : (es : List (ℕ × Numbered)) (p i nth : ℕ) (x : ℕ × Numbered) (t : Numbered) → IsAscendingTable es → IsTablePlaceOf p es i → x ≡ get_or es i x → t.numbers ≡ with_number x.1.numbers nth
+    → heard_in (set es i (x.0, t)) ≡ table_with (heard_in es) p (with_number (unwrap_or (at (heard_in es) p) []) nth)
 heard_place es p i nth x t h here is more =
     ap heard_in (put_place p t es i x h here is)
     ∙ (put_mapped (λ (n : Numbered). n.numbers) es p t
-    ∙ ap (λ (n : List ℕ). with_entry (heard_in es) p n) (more ∙ ap (λ (o : Option (List ℕ)). with_number (unwrap_or o []) nth) (sym (at_mapped (λ (n : Numbered). n.numbers) es p x.1 (at_place p es i x h here is)))))
+    ∙ ap (λ (n : List ℕ). table_with (heard_in es) p n) (more ∙ ap (λ (o : Option (List ℕ)). with_number (unwrap_or o []) nth) (sym (at_mapped (λ (n : Numbered). n.numbers) es p x.1 (at_place p es i x h here is)))))
 
 pub heard_gap : (es us : List (ℕ × Numbered)) (p i nth : ℕ) (first t : Numbered) → IsGapFor p es i → us ≡ insert es i (p, t) → first.numbers ≡ [] → t.numbers ≡ with_number first.numbers nth
-    → heard_in us ≡ with_entry (heard_in es) p (with_number (unwrap_or (at (heard_in es) p) []) nth)
+    → heard_in us ≡ table_with (heard_in es) p (with_number (unwrap_or (at (heard_in es) p) []) nth)
 heard_gap es us p i nth first t gap is none more =
     ap heard_in (is ∙ put_gap p t es i gap)
     ∙ (put_mapped (λ (n : Numbered). n.numbers) es p t
-    ∙ ap (λ (n : List ℕ). with_entry (heard_in es) p n) (more ∙ (ap (λ (ns : List ℕ). with_number ns nth) none ∙ ap (λ (o : Option (List ℕ)). with_number (unwrap_or o []) nth) (sym (none_mapped (λ (n : Numbered). n.numbers) es p (at_gap p es i gap))))))
+    ∙ ap (λ (n : List ℕ). table_with (heard_in es) p n) (more ∙ (ap (λ (ns : List ℕ). with_number ns nth) none ∙ ap (λ (o : Option (List ℕ)). with_number (unwrap_or o []) nth) (sym (none_mapped (λ (n : Numbered). n.numbers) es p (at_gap p es i gap))))))
 
 -- ---- how many of the list master's writes a copy has had
 

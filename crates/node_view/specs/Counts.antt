@@ -2,5 +2,5 @@
 use Rattle.std.specs.Prelude.{ℕ}
 
 -- the greatest count
-abbrev pub last_count : ℕ
-last_count = 4294967295
+abbrev pub greatest_count : ℕ
+greatest_count = 4294967295

@@ -14,11 +14,11 @@ use Rattle.write_path.specs.Writes.{IsWrite, body_of}
 use Rattle.node_rules.specs.Batches.{Targets, target}
 use Rattle.node_rules.specs.Copies.{Row}
 use Rattle.node_rules.specs.Exchange.{first_missing, with_row}
-use Rattle.node_rules.specs.Facts.{Facts, list_at, members, view_key}
+use Rattle.node_rules.specs.Facts.{Facts, list_at, members_of_view, view_key}
 use Rattle.node_rules.specs.Here.{here}
 use Rattle.node_rules.specs.Map.{lacks}
 use Rattle.node_rules.specs.Merging.{newer_records}
-use Rattle.node_rules.specs.Notes.{targets_of}
+use Rattle.node_rules.specs.Notes.{own_targets}
 use Rattle.node_rules.specs.Stamps.{applies_at}
 use Rattle.node_rules.specs.Standing.{other_replicas, others}
 use Rattle.node_rules.specs.Transactions.{Transaction, new_transaction, transaction, transaction_on}
@@ -31,11 +31,11 @@ use Rattle.node_view.specs.declared.view_step.Replicated.{Replicated}
 use Rattle.node_view.specs.declared.view_step.ViewStep.{ViewStep}
 use Rattle.node_view.specs.declared.view_step.ViewStep.TheVariants as step
 use Rattle.node_view.specs.declared.view_step.Writing.{Writing}
-use Rattle.node_view.specs.Counts.{last_count}
-use Rattle.node_view.specs.Plans.{with_answer, with_row_of}
+use Rattle.node_view.specs.Counts.{greatest_count}
+use Rattle.node_view.specs.Plans.{with_answer, facts_with_row}
 use Rattle.node_view.specs.Settlings.{settling_of}
 use Rattle.node_view.specs.Rooms.{HasRoomForOutcome, HasRoomIn}
-use Rattle.node_view.specs.Views.{IsNodeOf, Viewed, digest_in, facts_in, key_of}
+use Rattle.node_view.specs.Views.{IsNodeInView, Viewed, digest_in, facts_in, viewed_key}
 
 -- ---- ticks
 
@@ -61,15 +61,16 @@ pub record IsLacking (f : Facts) (from : ℕ) : Type 0 where
 -- the row isn't the last one
 pub record FitsRow (f : Facts) (from : ℕ) (row : Row) : Type 0 where
   pub absent : IsLacking f from
-  pub more : IsSome (first_missing (with_row f.exchange.rows from row) (members f))
+  pub more : IsSome (first_missing (with_row f.exchange.rows from row) (members_of_view f))
 
 -- the row is the last one, and with it the partitions are served so and these records are handed on
 pub record FitsLastRow (f : Facts) (l : LastRow) : Type 0 where
   pub absent : IsLacking f l.from
-  pub none_missing : first_missing (with_row f.exchange.rows l.from l.row) (members f) ≡ None
-  pub served : AreServed (members f) (with_row f.exchange.rows l.from l.row) l.served
+  pub none_missing : first_missing (with_row f.exchange.rows l.from l.row) (members_of_view f)
+      ≡ None
+  pub served : AreServed (members_of_view f) (with_row f.exchange.rows l.from l.row) l.served
   pub key : l.emigration.key ≡ view_key f
-  pub targets : l.emigration.targets ≡ targets_of (with_row_of f l.from l.row)
+  pub targets : l.emigration.targets ≡ own_targets (facts_with_row f l.from l.row)
 
 -- ---- records of other nodes
 
@@ -93,7 +94,7 @@ pub record FitsWriting (f : Facts) (t : Transaction) (w : Writing) : Type 0 wher
   pub version : w.version ≡ next t.best w.clock (body_of t.want)
   pub kept : w.kept ≡ w.version
   pub to : w.to ≡ other_replicas f (list_at f (partition_of t.digest))
-  pub count : applies_at f.writes (partition_of t.digest) < last_count
+  pub count : applies_at f.writes (partition_of t.digest) < greatest_count
 
 -- the transaction is resolved so
 abbrev pub FitsOutcome : Facts → Transaction → Outcome → Type 0
@@ -101,14 +102,14 @@ FitsOutcome f t outcome.Read = Unit {0}
 FitsOutcome f t (outcome.Write w) = FitsWriting f t w
 
 -- the transaction of that number is open, and is resolved so
-pub record Resolves (f : Facts) (number : ℕ) (o : Outcome) : Type 0 where
+pub record ResolvesTransaction (f : Facts) (number : ℕ) (o : Outcome) : Type 0 where
   pub open_one : IsSome (transaction f.transactions number)
   pub outcome_of : ForSome (transaction f.transactions number) (λ t. FitsOutcome f t o)
 
 -- none is open on the digest, there is a number for it, and where it is resolved at once it is so
 pub record FitsOpened (f : Facts) (digest : List ℕ) (t : Transaction) (o : Option Outcome) : Type 0 where
   pub free : transaction_on f.transactions digest ≡ None
-  pub count : f.transactions.opened < last_count
+  pub count : f.transactions.opened < greatest_count
   pub outcome_of : ForSome o (FitsOutcome f t)
 
 -- ---- all steps
@@ -121,27 +122,29 @@ FitsStep f (step.Merged m) = FitsMerged f m
 FitsStep f (step.Progressed p) = Contains (others f) p.from
 FitsStep f (step.Replicated r) = FitsReplicated f r
 FitsStep f (step.Done number) = IsSome (transaction f.transactions number)
-FitsStep f (step.Resolved from number v o) = Resolves (with_answer f from number v) number o
+FitsStep f (step.Resolved from number v o) = ResolvesTransaction
+    (with_answer f from number v) number o
 FitsStep f (step.Opened digest w best asked o) = FitsOpened f digest (new_transaction (f.transactions.opened + 1) digest w best asked) o
 FitsStep f _ = Unit {0}
 
 -- a view with that store is ready for the step: it was planned from what the node knows, and there is room
-pub record IsReady (v : Viewed) (s : held.Store) (p : ViewStep) : Type 0 where
-  pub node : IsNodeOf (facts_in v s) v s
+pub record IsReady (v : Viewed) (s : held.StoreWithRoom) (p : ViewStep) : Type 0 where
+  pub node : IsNodeInView (facts_in v s) v s
   pub fits : FitsStep (facts_in v s) p
   pub room : HasRoomIn v s.spare p
 
 -- it is ready to resolve its transaction so
-pub record IsReadyToResolve (v : Viewed) (s : held.Store) (number : ℕ) (o : Outcome) : Type 0 where
-  pub node : IsNodeOf (facts_in v s) v s
-  pub fits : Resolves (facts_in v s) number o
+pub record IsReadyToResolve (v : Viewed) (s : held.StoreWithRoom) (number : ℕ)
+    (o : Outcome) : Type 0 where
+  pub node : IsNodeInView (facts_in v s) v s
+  pub fits : ResolvesTransaction (facts_in v s) number o
   pub room : HasRoomForOutcome v.room s.spare (digest_in v number) o
 
 -- it is ready to settle so
-pub record IsReadyToSettle (v : Viewed) (s : held.Store) (ss : List Settling) : Type 0 where
-  pub node : IsNodeOf (facts_in v s) v s
+pub record IsReadyToSettle (v : Viewed) (s : held.StoreWithRoom) (ss : List Settling) : Type 0 where
+  pub node : IsNodeInView (facts_in v s) v s
   pub settlings : AreSettlings (facts_in v s) ss
 
 -- it is ready to send these batches
 abbrev pub IsReadyToSend : Viewed → List (ℕ × Batch) → Type 0
-IsReadyToSend v batches = AreNext v.exchange.exchanged (key_of v) v.batches batches
+IsReadyToSend v batches = AreNext v.exchange.exchanged (viewed_key v) v.batches batches

@@ -9,7 +9,7 @@ use Rattle.node_rules.specs.Copies.{is_nil, Row}
 use Rattle.node_rules.specs.Exchange.{with_row}
 use Rattle.node_rules.specs.Facts.{Facts, view_key, list_at}
 use Rattle.node_rules.specs.Merging.{store_merged_all}
-use Rattle.node_rules.specs.Notes.{applied, closed, counted_if, dropped, exchanged, handed, learnt, merged, settled, stamped_from}
+use Rattle.node_rules.specs.Notes.{write_applied, closed, write_counted_if, dropped, exchanged, handed, learnt, merged, settled, stamped_from}
 use Rattle.node_rules.specs.Transactions as rules
 use Rattle.node_view.specs.declared.here.Settling.{Settling}
 use Rattle.node_view.specs.declared.view_step.Counted.{Counted}
@@ -40,8 +40,8 @@ with_stamps f false = f
 with_stamps f true = record f { store = record f.store { stamps = stamped_from f (view_key f) f.store.stamps partition_count 0 } }
 
 -- a row came
-abbrev pub with_row_of : Facts → ℕ → Row → Facts
-with_row_of f from row = record f { exchange = record f.exchange { rows = with_row f.exchange.rows from row } }
+abbrev pub facts_with_row : Facts → ℕ → Row → Facts
+facts_with_row f from row = record f { exchange = record f.exchange { rows = with_row f.exchange.rows from row } }
 
 -- ---- settling
 
@@ -61,8 +61,8 @@ settled_by f ss = fold settled_at f ss
 -- the transaction wrote that version, and is closed where nobody is to acknowledge it
 abbrev pub wrote : Facts → ℕ → List ℕ → Writing → Facts
 wrote f number digest w =
-    if is_nil w.to then closed (applied f (view_key f) (list_at f (partition_of digest)) number digest w.version) number
-    else applied f (view_key f) (list_at f (partition_of digest)) number digest w.version
+    if is_nil w.to then closed (write_applied f (view_key f) (list_at f (partition_of digest)) number digest w.version) number
+    else write_applied f (view_key f) (list_at f (partition_of digest)) number digest w.version
 
 -- the transaction on that digest was resolved
 abbrev pub with_outcome : Facts → ℕ → List ℕ → Outcome → Facts
@@ -75,9 +75,9 @@ with_outcome_if f number digest None = f
 with_outcome_if f number digest (Some o) = with_outcome f number digest o
 
 -- the digest of the open transaction
-abbrev pub digest_of : Option rules.Transaction → List ℕ
-digest_of None = []
-digest_of (Some t) = t.digest
+abbrev pub transaction_digest : Option rules.Transaction → List ℕ
+transaction_digest None = []
+transaction_digest (Some t) = t.digest
 
 -- an answer came
 abbrev pub with_answer : Facts → ℕ → ℕ → Option Version → Facts
@@ -93,7 +93,7 @@ with_opened f digest w best asked =
 -- the write counts, where it has a number
 abbrev pub with_count : Facts → ℕ → Option Counted → Facts
 with_count f p None = f
-with_count f p (Some c) = counted_if f (view_key f) (list_at f p) p c.nth true
+with_count f p (Some c) = write_counted_if f (view_key f) (list_at f p) p c.nth true
 
 -- the version came, where it was newer
 abbrev pub with_newer : Facts → List ℕ → Option Version → Facts
@@ -107,17 +107,17 @@ replicated f r = with_newer (with_count f (partition_of r.digest) r.counted) r.d
 -- ---- all steps
 
 -- the facts after the step
-abbrev pub taken : Facts → ViewStep → Facts
-taken f (step.Row from row) = with_row_of f from row
-taken f (step.LastRow l) = exchanged (with_row_of f l.from l.row) (view_key f)
-taken f (step.Merged m) = record f { store = store_merged_all f.store (view_key f) m.newer }
-taken f (step.BatchAcked from number) = record f { batches = acking f.batches from number }
-taken f (step.Progressed p) = record f { bits = progressing f.bits p.from p.done p.handed p.settled }
-taken f (step.Replicated r) = replicated f r
-taken f (step.WriteAcked from number) = record f { transactions = rules.acknowledging f.transactions from number }
-taken f (step.Done number) = closed f number
-taken f (step.Answered from number v) = with_answer f from number v
-taken f (step.Resolved from number v o) =
-    with_outcome (with_answer f from number v) number (digest_of (rules.transaction f.transactions number)) o
-taken f (step.Opened digest w best asked o) =
+abbrev pub view_taken : Facts → ViewStep → Facts
+view_taken f (step.Row from row) = facts_with_row f from row
+view_taken f (step.LastRow l) = exchanged (facts_with_row f l.from l.row) (view_key f)
+view_taken f (step.Merged m) = record f { store = store_merged_all f.store (view_key f) m.newer }
+view_taken f (step.BatchAcked from number) = record f { batches = acking f.batches from number }
+view_taken f (step.Progressed p) = record f { bits = progressing f.bits p.from p.done p.handed p.settled }
+view_taken f (step.Replicated r) = replicated f r
+view_taken f (step.WriteAcked from number) = record f { transactions = rules.acknowledging f.transactions from number }
+view_taken f (step.Done number) = closed f number
+view_taken f (step.Answered from number v) = with_answer f from number v
+view_taken f (step.Resolved from number v o) =
+    with_outcome (with_answer f from number v) number (transaction_digest (rules.transaction f.transactions number)) o
+view_taken f (step.Opened digest w best asked o) =
     with_outcome_if (with_opened f digest w best asked) (f.transactions.opened + 1) digest o

@@ -43,12 +43,12 @@ abbrev pub settling_of : ℕ → rules.Here → Settling
 settling_of p h = record { partition = p; hands = hands h; settles = settles h; learns = learns h; drops = drops h }
 
 -- the lines of that
-abbrev pub lines_of : ℕ → ClusterKey → Settling → List Line
-lines_of me key s =
+abbrev pub lines_of_settling : ℕ → ClusterKey → Settling → List Line
+lines_of_settling me key s =
     line_if (line.Handed me key s.partition) s.hands
     ++ (line_if (line.Settled me key s.partition) s.settles
     ++ (line_if (line.Learn me key s.partition) s.learns ++ line_if (line.Drop me key s.partition) s.drops))
 
 -- the lines of what a tick does about partitions
 abbrev pub settling_lines : ℕ → ClusterKey → List Settling → List Line
-settling_lines me key ss = flat_map (lines_of me key) ss
+settling_lines me key ss = flat_map (lines_of_settling me key) ss

@@ -35,8 +35,8 @@ abbrev pub without_note : Table TxnNote → ℕ → Table TxnNote
 without_note notes number = filter (λ e. not (e.0 == number)) notes
 
 -- the transaction applied the write
-abbrev pub with_write : Write → TxnNote → TxnNote
-with_write w n = record n { write = Some w }
+abbrev pub note_with_write : Write → TxnNote → TxnNote
+note_with_write w n = record n { write = Some w }
 
 -- the write that was applied
 abbrev pub write_of : Write → rules.Write

@@ -8,7 +8,7 @@ use Rattle.cluster_types.specs.Rows.{bit}
 use Rattle.cluster_types.specs.declared.cluster_key.ClusterKey.{ClusterKey}
 use Rattle.cluster_types.specs.declared.member.Member.{Member}
 use Rattle.cluster_types.specs.Members.{plain_role}
-use Rattle.node_rules.specs.Agreement.{others}
+use Rattle.node_rules.specs.Agreement.{others_among}
 use Rattle.node_rules.specs.Batches as batches
 use Rattle.node_rules.specs.Batches.{Targets, done_row}
 use Rattle.node_rules.specs.Bits.{Bits, clear_row, no_bits, or_rows, settling}
@@ -19,7 +19,7 @@ use Rattle.node_rules.specs.Notes as notes
 use Rattle.record_store.specs.Store as held
 use Rattle.node_rules.specs.Facts.{Facts, fresh, list_at}
 use Rattle.node_rules.specs.Here.{here, IsAsleep, IsOver}
-use Rattle.node_rules.specs.Standing.{is_all_empty, is_replica, knows_settled}
+use Rattle.node_rules.specs.Standing.{is_all_empty, is_own_replica, knows_settled}
 use Rattle.node_rules.specs.Stamps.{Writes, no_writes, stamped_with}
 use Rattle.node_rules.specs.Transactions as rules
 use Rattle.emigrate.specs.Going.{AreHeld}
@@ -29,7 +29,7 @@ use Rattle.node_view.specs.declared.view.Stage.TheVariants as stage
 use Rattle.node_view.specs.declared.view.View.TheInside.{Inside}
 use Rattle.exchange.specs.declared.exchanging.ExchangeStep.{ExchangeStep}
 use Rattle.exchange.specs.declared.exchanging.ExchangeStep.TheVariants.{Waiting, Complete}
-use Rattle.exchange.specs.Met.{Met, sends_to}
+use Rattle.exchange.specs.Met.{Met, met_sends_to}
 use Rattle.node_view.specs.Transactions.{AreNoted, transactions_of}
 use Rattle.node_view.specs.Writes.{writes_of}
 
@@ -81,8 +81,8 @@ pub record IsSame (old new : Viewed) : Type 0 where
   pub watch : new.watch ≡ old.watch
 
 -- the key of the view
-abbrev pub key_of : Viewed → ClusterKey
-key_of v = exchange.key_of v.exchange.view
+abbrev pub viewed_key : Viewed → ClusterKey
+viewed_key v = exchange.exchange_key v.exchange.view
 
 -- the exchange at that stage
 abbrev pub exchange_at : Stage → Exchange
@@ -140,7 +140,7 @@ with_view f (Some v) = record f {
 }
 
 -- what is held, without the room
-abbrev pub store_of : held.Store → Store
+abbrev pub store_of : held.StoreWithRoom → Store
 store_of s = record { content = s.versions; stamps = s.stamps; by = s.by }
 
 -- the facts of a node in that view, of which nothing else is known
@@ -148,7 +148,7 @@ abbrev pub facts_seen : Viewed → Facts
 facts_seen v = with_view (fresh v.me plain_role [] v.factor v.by) (Some v)
 
 -- the same of a node with that store
-abbrev pub facts_in : Viewed → held.Store → Facts
+abbrev pub facts_in : Viewed → held.StoreWithRoom → Facts
 facts_in v s = record (facts_seen v) { store = store_of s }
 
 -- the facts are of a node in that view
@@ -158,7 +158,7 @@ pub record IsInView (f : Facts) (v : Viewed) : Type 0 where
   pub view : with_view f (Some v) ≡ f
 
 -- the facts are of a node with that store
-pub record IsWithStore (f : Facts) (s : held.Store) : Type 0 where
+pub record IsWithStore (f : Facts) (s : held.StoreWithRoom) : Type 0 where
   pub content : f.store.content ≡ s.versions
   pub stamps : f.store.stamps ≡ s.stamps
   pub by : f.store.by ≡ s.by
@@ -195,7 +195,7 @@ pub record IsViewOf (f : Facts) (v : Viewed) : Type 0 where
   pub watch : KeepsWatch f v.watch
 
 -- the facts are of a node in that view, with that store
-pub record IsNodeOf (f : Facts) (v : Viewed) (s : held.Store) : Type 0 where
+pub record IsNodeInView (f : Facts) (v : Viewed) (s : held.StoreWithRoom) : Type 0 where
   pub view : IsViewOf f v
   pub stored : IsWithStore f s
 
@@ -241,18 +241,18 @@ count_seen v p = notes.count_in (facts_seen v) (list_at (facts_seen v) p) p
 
 -- whether the copy is stamped once the exchange is finished: no member's copy had a record, and the node is a replica
 abbrev pub is_stamped : Viewed → ℕ → Bool
-is_stamped v p = (v.exchange.exchanged && is_all_empty (facts_seen v) p) && is_replica (facts_seen v) (list_at (facts_seen v) p)
+is_stamped v p = (v.exchange.exchanged && is_all_empty (facts_seen v) p) && is_own_replica (facts_seen v) (list_at (facts_seen v) p)
 
 -- the store where the copy is stamped, if it is to be
-abbrev pub with_copy_stamped : held.Store → Viewed → ℕ → held.Store
-with_copy_stamped s v p = record s { stamps = stamped_with (key_of v) (count_seen v p) p s.stamps (is_stamped v p) }
+abbrev pub with_copy_stamped : held.StoreWithRoom → Viewed → ℕ → held.StoreWithRoom
+with_copy_stamped s v p = record s { stamps = stamped_with (viewed_key v) (count_seen v p) p s.stamps (is_stamped v p) }
 
 -- the store where the copy is whole under that key, with that count
-abbrev pub learnt_copy : held.Store → ClusterKey → ℕ → ℕ → held.Store
+abbrev pub learnt_copy : held.StoreWithRoom → ClusterKey → ℕ → ℕ → held.StoreWithRoom
 learnt_copy s key p count = record s { stamps = finite.insert s.stamps p (key, count) }
 
 -- the store without the partition's copy and its stamp
-abbrev pub without_copy_of : held.Store → ℕ → held.Store
+abbrev pub without_copy_of : held.StoreWithRoom → ℕ → held.StoreWithRoom
 without_copy_of s p = record s { versions = held.without_copy s.versions p; stamps = finite.remove s.stamps p }
 
 -- the exchange is that of the node with that factor
@@ -268,7 +268,7 @@ pub record IsWaitingOf (x : Met) (me factor : ℕ) : Type 0 where
 
 -- each other member has its target, in member order
 abbrev pub AreTargeted : Targets → ℕ → List Member → Type 0
-AreTargeted targets me members = map (λ t. t.node) targets ≡ others me members
+AreTargeted targets me members = map (λ t. t.node) targets ≡ others_among me members
 
 -- what there is once the exchange is finished is of that node, all rows are there, and batches carry the key
 pub record IsMovingOf (m : Moving) (me factor : ℕ) (key : ClusterKey) : Type 0 where
@@ -286,7 +286,7 @@ IsStageOf me factor key stage.Taken = ⊥
 
 -- what a view has besides, once its exchange is finished, is what is said of the view
 pub record IsMoving (v : Viewed) (m : Moving) : Type 0 where
-  pub own : IsMovingOf m v.me v.factor (key_of v)
+  pub own : IsMovingOf m v.me v.factor (viewed_key v)
   pub exchange : m.map.exchange ≡ v.exchange
   pub targets : m.emigration.targets ≡ v.batches
   pub live : m.live ≡ v.watch.live
@@ -295,7 +295,7 @@ pub record IsMoving (v : Viewed) (m : Moving) : Type 0 where
 pub record IsHandedOnBy (x : Met) (records : Content) (members : List Member) (key : ClusterKey) (me : ℕ) (m : Moving) : Type 0 where
   pub map : m.map ≡ x
   pub key_of : m.emigration.key ≡ key
-  pub targets : m.emigration.targets ≡ batches.targets_of (λ to d. sends_to x (partition_of d) me to) records (others me members)
+  pub targets : m.emigration.targets ≡ batches.targets_of (λ to d. met_sends_to x (partition_of d) me to) records (others_among me members)
   pub live : m.live ≡ clear_row
 
 -- the stage is that of a view whose exchange is finished so
@@ -316,12 +316,12 @@ own_done own (stage.Exchanged m) = done_row true m.emigration.targets partition_
 own_done own stage.Taken = own
 
 -- the fields of a view agree with each other
-pub record Agrees (v : Inside) : Type 0 where
+pub record FieldsAgree (v : Inside) : Type 0 where
   pub stage_of : IsStageOf v.me v.factor v.key v.stage
   pub viewed : v.members ≡ exchange.members_of (exchange_at v.stage).view
-  pub key : v.key ≡ exchange.key_of (exchange_at v.stage).view
+  pub key : v.key ≡ exchange.exchange_key (exchange_at v.stage).view
   pub member : is_member v.members v.me ≡ true
-  pub others : v.others ≡ others v.me v.members
+  pub others : v.others ≡ others_among v.me v.members
   pub told : v.progress.me ≡ v.me
   pub heard : v.progress.others ≡ v.others
   -- the node's own done row is what is handed on
@@ -336,8 +336,8 @@ pub record IsOtherMember (v : Viewed) (n : ℕ) : Type 0 where
 -- ---- entering
 
 -- the row that a node with that store makes as it enters a view
-abbrev pub own_row : held.Store → Row
-own_row s = row_from (store_of s) partition_count 0
+abbrev pub store_row : held.StoreWithRoom → Row
+store_row s = row_from (store_of s) partition_count 0
 
 -- a view as it is entered, with that row. One of a single member has its exchange finished, and nobody to hand on to
 abbrev pub viewed_at_entry : ℕ → ℕ → Policy → ClusterKey → List Member → Row → Viewed
@@ -355,27 +355,28 @@ viewed_at_entry me factor by key members row = record {
 }
 
 -- a view as it is entered by a node of these facts, but for what is kept of the partitions
-abbrev pub view_entered : Facts → ClusterKey → List Member → Viewed
-view_entered f key members = viewed_at_entry f.me f.factor f.store.by key members (notes.own_row f)
+abbrev pub view_at_entry : Facts → ClusterKey → List Member → Viewed
+view_at_entry f key members = viewed_at_entry f.me f.factor f.store.by key members (notes.own_row f)
 
 -- the view is entered by a node of these facts, and what is kept of the partitions is what the facts say that it then has
 pub record IsEntered (f : Facts) (key : ClusterKey) (members : List Member) (v : Viewed) : Type 0 where
-  pub alike : IsLike (view_entered f key members) v
+  pub alike : IsLike (view_at_entry f key members) v
   pub watch : KeepsWatch (with_view f (Some v)) v.watch
 
 -- ---- the last row
 
 -- these are the targets once that row is there: what the store holds and hands on is pending
-pub record IsHandedOn (v : Viewed) (s : held.Store) (from : ℕ) (row : Row) (targets : Targets) : Type 0 where
+pub record IsHandedOn (v : Viewed) (s : held.StoreWithRoom) (from : ℕ) (row : Row) (targets : Targets) : Type 0 where
   pub pending : (f : Facts) → f.me ≡ v.me → f.factor ≡ v.factor → f.store.content ≡ s.versions
-      → f.exchange ≡ record v.exchange { rows = exchange.with_row v.exchange.rows from row } → targets ≡ notes.targets_of f
+      → f.exchange ≡ record v.exchange { rows = exchange.with_row v.exchange.rows from row } → targets ≡ notes.own_targets f
 
 -- ---- steps
 
 -- where the facts are of a node in the old view with the old store, those after the step are of one in the new view
 -- with the new store
-abbrev pub BecomesNodeOf : Facts → Viewed → held.Store → Facts → Viewed → held.Store → Type 0
-BecomesNodeOf f old before after new now = IsNodeOf f old before → IsNodeOf after new now
+abbrev pub BecomesNodeOf : Facts → Viewed → held.StoreWithRoom → Facts → Viewed
+    → held.StoreWithRoom → Type 0
+BecomesNodeOf f old before after new now = IsNodeInView f old before → IsNodeInView after new now
 
 -- the digest of the open transaction
 abbrev pub digest_in : Viewed → ℕ → List ℕ

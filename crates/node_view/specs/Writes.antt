@@ -31,11 +31,11 @@ abbrev pub rooms_in : Table Numbered → Table ℕ
 rooms_in table = map (λ e. (e.0, e.1.spare)) table
 
 -- the partitions rise strictly
-abbrev pub IsAscending : {X : Type 0} → Table X → Type 0
-IsAscending table = IsTrue (is_sorted nat_cmp table)
+abbrev pub IsAscendingTable : {X : Type 0} → Table X → Type 0
+IsAscendingTable table = IsTrue (is_sorted nat_cmp table)
 
 -- the entry at this place is the partition's
-pub record IsPlaceOf {X : Type 0} (p : ℕ) (table : Table X) (place : ℕ) : Type 0 where
+pub record IsTablePlaceOf {X : Type 0} (p : ℕ) (table : Table X) (place : ℕ) : Type 0 where
   pub within : place < length table
   pub entry : HoldsAt (λ e. e.0 ≡ p) table place
 

@@ -4,7 +4,7 @@ ghost use Rattle.cluster_types.specs.declared.cluster_key.ClusterKey.{ClusterKey
 ghost use Rattle.node_rules.specs.Here as rules;
 ghost use Rattle.node_rules.specs.Here.{IsAsleep, IsOver, lines_here};
 ghost use Rattle.node_view.specs.declared.here.Settling.{Settling};
-ghost use Rattle.node_view.specs.Settlings.{has_done_its_share, here_of, is_to_learn_or_drop, keeps, lines_of, settling_of};
+ghost use Rattle.node_view.specs.Settlings.{has_done_its_share, here_of, is_to_learn_or_drop, keeps, lines_of_settling, settling_of};
 
 use cluster_types::PartitionId;
 
@@ -117,7 +117,7 @@ impl Settling {
     pub(crate) fn of(p: PartitionId, here: &Here) -> Option<Settling>
         ensures some { (s : Settling) → result ≡ Some s → s ≡ settling_of p (here_of here.now) }
         ensures none { (me : ℕ) → (key : ClusterKey) → result ≡ None → lines_here me key p (here_of here.now) ≡ [] }
-        ensures lines { (me : ℕ) → (key : ClusterKey) → lines_of me key (settling_of p (here_of here.now)) ≡ lines_here me key p (here_of here.now) }
+        ensures lines { (me : ℕ) → (key : ClusterKey) → lines_of_settling me key (settling_of p (here_of here.now)) ≡ lines_here me key p (here_of here.now) }
     {
         let settling = Settling {
             partition: p,

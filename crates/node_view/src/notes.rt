@@ -2,7 +2,7 @@
 ghost use Rattle.std.specs.Prelude.{◌≡◌, ◌<◌, ◌≤◌, ◌+◌, ◌-◌, ◌++◌, ◌∷◌, [], ◌⊎◌, ℕ, Some, None, OnOk, MatchOption, slice_set};
 ghost use Rattle.std.specs.VecDeque.{deque_capacity, deque_len};
 ghost use Rattle.std.specs.Option.{option_copied, option_map};
-ghost use Rattle.node_view.specs.Counts.{last_count};
+ghost use Rattle.node_view.specs.Counts.{greatest_count};
 ghost use Rattle.node_view.specs.Transactions as kept;
 ghost use Rattle.node_view.specs.Transactions.{note_of, notes_after, with_note, without_note};
 
@@ -76,7 +76,7 @@ impl TxnNotes {
     /// A transaction opens, for which there is room, and asks these.
     pub fn open(&mut self, asked: NodeList)
         requires room { 0 < self.old.spare }
-        requires count { self.old.opened < last_count }
+        requires count { self.old.opened < greatest_count }
         ensures fresh { note_of self.old.kept (self.old.opened + 1) ≡ None }
         ensures notes { self.new.kept ≡ self.old.kept ++ (self.old.opened + 1, record { asked = asked; write = None }) ∷ [] }
         ensures opened { self.new.opened ≡ self.old.opened + 1 }
@@ -97,7 +97,7 @@ impl TxnNotes {
 
     /// The open transaction applied the write.
     pub fn applied(&mut self, t: u32, write: Write)
-        ensures notes { self.new.kept ≡ with_note self.old.kept t (kept.with_write write) }
+        ensures notes { self.new.kept ≡ with_note self.old.kept t (kept.note_with_write write) }
         ensures opened { self.new.opened ≡ self.old.opened }
         ensures spare { self.new.spare ≡ self.old.spare }
     {
@@ -139,7 +139,7 @@ fn place_of(t: u32, opened: u32, slots: usize) -> Option<usize>
 
 /// The transaction of the slot, if there is one, applied the write.
 fn put_write(slot: &mut Option<TxnNote>, write: Write)
-    ensures { slot.new ≡ option_map (kept.with_write write) slot.old }
+    ensures { slot.new ≡ option_map (kept.note_with_write write) slot.old }
 {
     if let Some(note) = slot {
         note.write = Some(write);

@@ -8,17 +8,17 @@ ghost use Rattle.node_rules.specs.ByParts.{batches_due};
 ghost use Rattle.node_rules.specs.Exchange.{members_of};
 ghost use Rattle.node_rules.specs.Facts.{Facts, list_at, view_key};
 ghost use Rattle.node_rules.specs.Here.{HasRows, here, part_lines};
-ghost use Rattle.node_rules.specs.Map.{master};
+ghost use Rattle.node_rules.specs.Map.{list_master};
 ghost use Rattle.node_rules.specs.Notes.{noted};
 ghost use Rattle.node_rules.specs.Requests.{acting_refusal};
-ghost use Rattle.node_rules.specs.Settling.{settling};
+ghost use Rattle.node_rules.specs.Settling.{settling_due};
 ghost use Rattle.node_rules.specs.Standing.{acts, asked};
-ghost use Rattle.node_view.specs.Counts.{last_count};
+ghost use Rattle.node_view.specs.Counts.{greatest_count};
 ghost use Rattle.node_view.specs.Fits.{AreSettlings, IsReadyToSend};
 ghost use Rattle.node_view.specs.Plans.{settled_by, some_if};
 ghost use Rattle.node_view.specs.Rooms.{HasRoomToCount};
 ghost use Rattle.node_view.specs.Settlings.{settling_lines, settling_of};
-ghost use Rattle.node_view.specs.Views.{IsInView, IsMoving, IsSame, IsViewOf, key_of};
+ghost use Rattle.node_view.specs.Views.{IsInView, IsMoving, IsSame, IsViewOf, viewed_key};
 
 use crate::here::Settling;
 use crate::view::{Moving, View};
@@ -50,7 +50,7 @@ impl View {
     /// 2^32 - 1 were opened.
     pub fn plan_opening(&mut self, digest: &Digest) -> Result<(u32, NodeList), NoMemory>
         requires exchanged { self.old.exchange.exchanged ≡ true }
-        requires count { self.old.transactions.opened < last_count }
+        requires count { self.old.transactions.opened < greatest_count }
         ensures number { IfOk result (λ r. r.0 ≡ self.old.transactions.opened + 1) }
         ensures asked { IfOk result (λ r. (f : Facts) → IsInView f self.old → r.1 ≡ asked f (list_at f (partition_of digest.now)) (partition_of digest.now)) }
         ensures room { OnOk result (0 < self.new.room.transactions) }
@@ -78,7 +78,7 @@ impl View {
         p: PartitionId,
         nth: u32,
     ) -> Result<Option<Counted>, NoMemory>
-        ensures counted { IfOk result (λ c. option_map (λ n. n.nth) c ≡ some_if (from == master (list (members_of self.old.exchange.view) p)) nth) }
+        ensures counted { IfOk result (λ c. option_map (λ n. n.nth) c ≡ some_if (from == list_master (list (members_of self.old.exchange.view) p)) nth) }
         ensures room { IfOk result (λ c. ForSome c (λ n. HasRoomToCount self.new.room p n)) }
         ensures same { IsSame self.old self.new }
     {
@@ -98,8 +98,8 @@ impl View {
         store: &RecordStore,
     ) -> Result<Vec<(NodeId, Batch)>, NoMemory>
         requires held { AreHeld store.now.versions self.now.batches }
-        requires counts { All (λ t. t.batches < last_count) self.now.batches }
-        ensures due { IfOk result (λ bs. bs.items ≡ batches_due (key_of self.now) store.now.versions self.now.batches) }
+        requires counts { All (λ t. t.batches < greatest_count) self.now.batches }
+        ensures due { IfOk result (λ bs. bs.items ≡ batches_due (viewed_key self.now) store.now.versions self.now.batches) }
 
         // They may then be sent.
         ensures next { IfOk result (λ bs. IsReadyToSend self.now bs.items) }
@@ -120,8 +120,8 @@ impl View {
     /// no line of a partition bears on another one.
     pub fn settlings(&self, alloc: Global, store: &RecordStore) -> Result<Vec<Settling>, NoMemory>
         ensures due { IfOk result (λ ss. (f : Facts) → IsViewOf f self.now → f.store.content ≡ store.now.versions → AreSettlings f ss.items) }
-        ensures lines { IfOk result (λ ss. (f : Facts) → HasRows f → IsViewOf f self.now → f.store.content ≡ store.now.versions → settling_lines f.me (view_key f) ss.items ≡ settling partition_count f) }
-        ensures settled { IfOk result (λ ss. (f : Facts) → HasRows f → IsViewOf f self.now → f.store.content ≡ store.now.versions → settled_by f ss.items ≡ noted None f (settling partition_count f)) }
+        ensures lines { IfOk result (λ ss. (f : Facts) → HasRows f → IsViewOf f self.now → f.store.content ≡ store.now.versions → settling_lines f.me (view_key f) ss.items ≡ settling_due partition_count f) }
+        ensures settled { IfOk result (λ ss. (f : Facts) → HasRows f → IsViewOf f self.now → f.store.content ≡ store.now.versions → settled_by f ss.items ≡ noted None f (settling_due partition_count f)) }
     {
         let mut due = Vec::new(alloc);
         let Some(moving) = self.moving() else {

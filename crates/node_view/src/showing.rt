@@ -14,7 +14,7 @@ ghost use Rattle.node_rules.specs.Standing.{acts, asked, has_moved, has_nothing_
 ghost use Rattle.node_rules.specs.Tick.{own_row_in};
 ghost use Rattle.node_rules.specs.Transactions as rules;
 ghost use Rattle.node_view.specs.Transactions.{kept_of, write_of};
-ghost use Rattle.node_view.specs.Views.{IsInView, IsOtherMember, IsViewOf, facts_seen, is_known_empty, key_of, with_settled_bits};
+ghost use Rattle.node_view.specs.Views.{IsInView, IsOtherMember, IsViewOf, facts_seen, is_known_empty, viewed_key, with_settled_bits};
 
 use crate::notes::Write;
 use crate::view::View;
@@ -38,7 +38,7 @@ impl View {
 
     /// The message that carries the node's own row.
     pub fn state(&self, alloc: Global, wants: bool) -> Result<Message, NoMemory>
-        ensures { IfOk result (λ m. m ≡ message.State (key_of self.now) wants (own_row_in (facts_seen self.now))) }
+        ensures { IfOk result (λ m. m ≡ message.State (viewed_key self.now) wants (own_row_in (facts_seen self.now))) }
     {
         Ok(Message::State {
             key: self.key,

@@ -11,18 +11,18 @@ ghost use Rattle.node_rules.specs.Exchange.{first_missing, members_of, with_row}
 ghost use Rattle.node_rules.specs.Facts.{Facts, list_at, view_key};
 ghost use Rattle.node_rules.specs.Here.{hands, here, settles};
 ghost use Rattle.node_rules.specs.Map.{lacks};
-ghost use Rattle.node_rules.specs.Notes.{applied, merged, write_counted};
+ghost use Rattle.node_rules.specs.Notes.{write_applied, merged, write_counted};
 ghost use Rattle.node_rules.specs.Standing.{has_settled_bit, is_done};
 ghost use Rattle.node_rules.specs.Stamps.{applies_at, applying, changed_stamps, recounted, spoiled};
 ghost use Rattle.node_rules.specs.Transactions as rules;
-ghost use Rattle.node_rules.specs.Transactions.{closing};
-ghost use Rattle.node_view.specs.Counts.{last_count};
+ghost use Rattle.node_rules.specs.Transactions.{without_transaction};
+ghost use Rattle.node_view.specs.Counts.{greatest_count};
 ghost use Rattle.node_view.specs.declared.view_step.Outcome.TheVariants as outcome;
 ghost use Rattle.node_view.specs.declared.view_step.ViewStep.TheVariants as step;
 ghost use Rattle.node_view.specs.Fits.{IsReady, IsReadyToResolve, IsReadyToSend, IsReadyToSettle};
-ghost use Rattle.node_view.specs.Plans.{settled_at, settled_by, taken, with_count, with_newer, with_outcome, with_stamps, wrote};
+ghost use Rattle.node_view.specs.Plans.{settled_at, settled_by, view_taken, with_count, with_newer, with_outcome, with_stamps, wrote};
 ghost use Rattle.node_view.specs.Rooms.{HasRoomToCount};
-ghost use Rattle.node_view.specs.Views.{AreLive, BecomesNodeOf, IsInView, IsOtherMember, IsSeenTo, count_seen, digest_in, facts_seen, is_known_empty, key_of, learnt_copy, one_more_settled, unsettled_count, with_bits, with_copy_stamped, with_live, with_settled_row, with_watch, without_copy_of, without_unsettled};
+ghost use Rattle.node_view.specs.Views.{AreLive, BecomesNodeOf, IsInView, IsOtherMember, IsSeenTo, count_seen, digest_in, facts_seen, is_known_empty, viewed_key, learnt_copy, one_more_settled, unsettled_count, with_bits, with_copy_stamped, with_live, with_settled_row, with_watch, without_copy_of, without_unsettled};
 
 use crate::here::Settling;
 use crate::notes::Write;
@@ -44,7 +44,7 @@ impl View {
     /// Takes the step, which was planned from what the node knows, and for which there is room.
     pub fn take_step(&mut self, store: &mut RecordStore, step: ViewStep)
         requires { IsReady self.old store.old step }
-        ensures { (f : Facts) → BecomesNodeOf f self.old store.old (taken f step) self.new store.new }
+        ensures { (f : Facts) → BecomesNodeOf f self.old store.old (view_taken f step) self.new store.new }
     {
         match step {
             ViewStep::Row { from, row } => self.add_row(from, row),
@@ -93,7 +93,7 @@ impl View {
 
     fn end_exchange(&mut self, store: &mut RecordStore, last: LastRow)
         requires { IsReady self.old store.old (step.LastRow last) }
-        ensures { (f : Facts) → BecomesNodeOf f self.old store.old (taken f (step.LastRow last)) self.new store.new }
+        ensures { (f : Facts) → BecomesNodeOf f self.old store.old (view_taken f (step.LastRow last)) self.new store.new }
     {
         self.take_last_row(last, store);
         self.stamp_empty_copies(store);
@@ -101,7 +101,7 @@ impl View {
 
     fn merge(&mut self, store: &mut RecordStore, merged: Merged)
         requires { IsReady self.old store.old (step.Merged merged) }
-        ensures { (f : Facts) → BecomesNodeOf f self.old store.old (taken f (step.Merged merged)) self.new store.new }
+        ensures { (f : Facts) → BecomesNodeOf f self.old store.old (view_taken f (step.Merged merged)) self.new store.new }
     {
         let mut newer = merged.newer;
         while let Some((digest, version)) = newer.take_first() {
@@ -124,7 +124,7 @@ impl View {
 
     fn take_progress(&mut self, store: &RecordStore, progressed: &Progressed)
         requires { IsReady self.old store.now (step.Progressed progressed.now) }
-        ensures { (f : Facts) → BecomesNodeOf f self.old store.now (taken f (step.Progressed progressed.now)) self.new store.now }
+        ensures { (f : Facts) → BecomesNodeOf f self.old store.now (view_taken f (step.Progressed progressed.now)) self.new store.now }
     {
         let before = *self.settled_row();
         self.hear_progress(progressed);
@@ -172,7 +172,7 @@ impl View {
 
     fn replicate(&mut self, store: &mut RecordStore, write: Replicated)
         requires { IsReady self.old store.old (step.Replicated write) }
-        ensures { (f : Facts) → BecomesNodeOf f self.old store.old (taken f (step.Replicated write)) self.new store.new }
+        ensures { (f : Facts) → BecomesNodeOf f self.old store.old (view_taken f (step.Replicated write)) self.new store.new }
     {
         self.count(store, partition_of(&write.digest), write.counted);
         self.merge_newer(store, write.digest, write.newer);
@@ -223,7 +223,7 @@ impl View {
         outcome: Option<Outcome>,
     )
         requires { IsReady self.old store.old (step.Opened digest want best asked outcome) }
-        ensures { (f : Facts) → BecomesNodeOf f self.old store.old (taken f (step.Opened digest want best asked outcome)) self.new store.new }
+        ensures { (f : Facts) → BecomesNodeOf f self.old store.old (view_taken f (step.Opened digest want best asked outcome)) self.new store.new }
     {
         let transaction = self.begin(digest, want, best, asked);
         match outcome {
@@ -236,7 +236,7 @@ impl View {
     /// number.
     fn begin(&mut self, digest: Digest, want: Want, best: Option<Version>, asked: NodeList) -> u32
         requires free { rules.transaction_on self.old.transactions digest ≡ None }
-        requires count { self.old.transactions.opened < last_count }
+        requires count { self.old.transactions.opened < greatest_count }
         requires room { 0 < self.old.room.transactions }
         ensures number { result ≡ self.old.transactions.opened + 1 }
         ensures view { self.new ≡ record self.old { transactions = rules.opening self.old.transactions (rules.new_transaction (self.old.transactions.opened + 1) digest want best asked); room = record self.old.room { transactions = self.new.room.transactions } } }
@@ -274,7 +274,7 @@ impl View {
         outcome: Outcome,
     )
         requires { IsReady self.old store.old (step.Resolved from transaction version outcome) }
-        ensures { (f : Facts) → BecomesNodeOf f self.old store.old (taken f (step.Resolved from transaction version outcome)) self.new store.new }
+        ensures { (f : Facts) → BecomesNodeOf f self.old store.old (view_taken f (step.Resolved from transaction version outcome)) self.new store.new }
     {
         self.answer(from, transaction, version);
         self.resolve(store, transaction, outcome);
@@ -306,7 +306,7 @@ impl View {
     /// A write is applied, and its transaction is open still.
     fn apply(&mut self, store: &mut RecordStore, transaction: u32, writing: Writing)
         requires { IsReadyToResolve self.old store.old transaction (outcome.Write writing) }
-        ensures node { (f : Facts) → BecomesNodeOf f self.old store.old (applied f (view_key f) (list_at f (partition_of (digest_in self.old transaction))) transaction (digest_in self.old transaction) writing.version) self.new store.new }
+        ensures node { (f : Facts) → BecomesNodeOf f self.old store.old (write_applied f (view_key f) (list_at f (partition_of (digest_in self.old transaction))) transaction (digest_in self.old transaction) writing.version) self.new store.new }
         ensures open { IsSome (rules.transaction self.new.transactions transaction) }
     {
         let key = self.key;
@@ -354,7 +354,7 @@ impl View {
     /// The open transaction is closed.
     fn close(&mut self, transaction: u32)
         requires { IsSome (rules.transaction self.old.transactions transaction) }
-        ensures { self.new ≡ record self.old { transactions = closing self.old.transactions transaction; room = self.new.room } }
+        ensures { self.new ≡ record self.old { transactions = without_transaction self.old.transactions transaction; room = self.new.room } }
     {
         self.txns.finish(transaction);
         self.notes.close(transaction);
@@ -437,7 +437,7 @@ impl View {
     /// The copy is whole under the view's key, where that is due.
     fn learn(&mut self, store: &mut RecordStore, p: PartitionId, is_due: bool)
         ensures view { self.new ≡ with_bits self.old (if is_due then learning self.old.bits p else self.old.bits) }
-        ensures store { store.new ≡ (if is_due then learnt_copy store.old (key_of self.old) p (count_seen self.old p) else store.old) }
+        ensures store { store.new ≡ (if is_due then learnt_copy store.old (viewed_key self.old) p (count_seen self.old p) else store.old) }
     {
         if is_due {
             store.stamp(p, self.key, self.count_at(p));

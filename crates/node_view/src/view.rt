@@ -7,14 +7,14 @@ ghost use Rattle.std.specs.Bool.{beq};
 ghost use Rattle.std.specs.List.{list_all};
 ghost use Rattle.emigrate.specs.Going.{IsNext};
 ghost use Rattle.exchange.specs.Served.{AreServed};
-ghost use Rattle.partition_lists.specs.Lists.{is_replica, list};
-ghost use Rattle.node_rules.specs.Agreement.{others};
+ghost use Rattle.partition_lists.specs.Lists.{is_replica_of, list};
+ghost use Rattle.node_rules.specs.Agreement.{others_among};
 ghost use Rattle.node_rules.specs.Batches.{acking, done_row, sending, target};
 ghost use Rattle.node_rules.specs.Exchange.{finished, first_missing, is_member, members_of, with_row};
 ghost use Rattle.node_rules.specs.Facts.{Facts, list_at};
-ghost use Rattle.node_rules.specs.Map.{lacks, master, row_of};
+ghost use Rattle.node_rules.specs.Map.{lacks, list_master, row_of_member};
 ghost use Rattle.node_rules.specs.Standing.{is_all_empty, knows_all_settled, knows_settled, other_replicas};
-ghost use Rattle.node_view.specs.Views.{AreTargeted, IsEntered, IsFirstStage, IsHandedOn, IsInView, IsLike, IsMet, IsMoving, IsOtherMember, IsViewOf, IsWithStore, KeepsWatch, count_seen, facts_seen, key_of, own_done, own_row, with_live};
+ghost use Rattle.node_view.specs.Views.{AreTargeted, IsEntered, IsFirstStage, IsHandedOn, IsInView, IsLike, IsMet, IsMoving, IsOtherMember, IsViewOf, IsWithStore, KeepsWatch, count_seen, facts_seen, viewed_key, own_done, store_row, with_live};
 
 use crate::live::Live;
 use crate::notes::TxnNotes;
@@ -58,7 +58,7 @@ pub struct View {
 
 impl Model for View {
     ghost use Rattle.node_rules.specs.Codes.{facts_codes};
-    ghost use Rattle.node_view.specs.Views.{Agrees, Viewed, view_of};
+    ghost use Rattle.node_view.specs.Views.{FieldsAgree, Viewed, view_of};
 
     ghost Value = { Viewed };
 
@@ -66,7 +66,7 @@ impl Model for View {
 
     ghost view = { view_of };
 
-    ghost invariant = { Agrees };
+    ghost invariant = { FieldsAgree };
 }
 
 /// How far the exchange of rows has come.
@@ -143,7 +143,7 @@ impl View {
 
     /// The key of the view.
     pub fn key(&self) -> ClusterKey
-        ensures { result ≡ key_of self.now }
+        ensures { result ≡ viewed_key self.now }
     {
         self.key
     }
@@ -157,7 +157,7 @@ impl View {
 
     /// The other members, in member order.
     pub fn others(&self) -> &NodeList
-        ensures { result.now ≡ others self.now.me (members_of self.now.exchange.view) }
+        ensures { result.now ≡ others_among self.now.me (members_of self.now.exchange.view) }
     {
         &self.others
     }
@@ -216,7 +216,7 @@ impl View {
     pub(crate) fn send_batch(&mut self, to: NodeId, batch: Batch)
         requires exchanged { self.old.exchange.exchanged ≡ true }
         requires member { IsSome (target self.old.batches to) }
-        requires next { IfSome (target self.old.batches to) (λ t. IsNext (key_of self.old) t batch) }
+        requires next { IfSome (target self.old.batches to) (λ t. IsNext (viewed_key self.old) t batch) }
         ensures { self.new ≡ record self.old { batches = sending self.old.batches to batch } }
     {
         if let Stage::Exchanged(moving) = &mut self.stage {
@@ -236,7 +236,7 @@ impl View {
 
     /// The row that the node made as it entered.
     pub(crate) fn own_row(&self) -> &StateRow
-        ensures { Some result.now ≡ row_of self.now.exchange.rows self.now.me }
+        ensures { Some result.now ≡ row_of_member self.now.exchange.rows self.now.me }
     {
         match &self.stage {
             Stage::Exchanging(waiting) => waiting.own_row(),
@@ -279,7 +279,7 @@ impl View {
         requires member { IsOtherMember self.old from }
         requires lacking { lacks self.old.exchange.rows from ≡ true }
         requires last { is_none (first_missing (with_row self.old.exchange.rows from row) (members_of self.old.exchange.view)) ≡ true }
-        ensures key { IfOk result (λ l. l.emigration.key ≡ key_of self.old) }
+        ensures key { IfOk result (λ l. l.emigration.key ≡ viewed_key self.old) }
         ensures row { IfOk result (λ l. (l.from ≡ from) × (l.row ≡ row)) }
         ensures served { IfOk result (λ l. AreServed (members_of self.old.exchange.view) (with_row self.old.exchange.rows from row) l.served) }
         ensures targets { IfOk result (λ l. IsHandedOn self.old store.now from row l.emigration.targets) }
@@ -326,7 +326,7 @@ impl View {
         requires lacking { lacks self.old.exchange.rows last.from ≡ true }
         requires last { is_none (first_missing (with_row self.old.exchange.rows last.from last.row) (members_of self.old.exchange.view)) ≡ true }
         requires served { AreServed (members_of self.old.exchange.view) (with_row self.old.exchange.rows last.from last.row) last.served }
-        requires key { last.emigration.key ≡ key_of self.old }
+        requires key { last.emigration.key ≡ viewed_key self.old }
         requires targets { IsHandedOn self.old store.now last.from last.row last.emigration.targets }
         ensures alike { IsLike (record self.old { exchange = finished (record self.old.exchange { rows = with_row self.old.exchange.rows last.from last.row }); batches = last.emigration.targets }) self.new }
         ensures watch { (f : Facts) → IsInView f self.new → f.store.content ≡ store.now.versions → KeepsWatch f self.new.watch }
@@ -342,7 +342,7 @@ impl View {
         requires lacking { lacks self.old.exchange.rows last.from ≡ true }
         requires last { is_none (first_missing (with_row self.old.exchange.rows last.from last.row) (members_of self.old.exchange.view)) ≡ true }
         requires served { AreServed (members_of self.old.exchange.view) (with_row self.old.exchange.rows last.from last.row) last.served }
-        requires key { last.emigration.key ≡ key_of self.old }
+        requires key { last.emigration.key ≡ viewed_key self.old }
         requires targeted { AreTargeted last.emigration.targets self.old.me (members_of self.old.exchange.view) }
         ensures { self.new ≡ record self.old { exchange = finished (record self.old.exchange { rows = with_row self.old.exchange.rows last.from last.row }); batches = last.emigration.targets; watch = record self.old.watch { live = last.live } } }
     {
@@ -390,14 +390,15 @@ impl View {
 
     /// Whether the node is among the partition's replicas.
     pub(crate) fn is_replica(&self, n: NodeId, p: PartitionId) -> bool
-        ensures { result ≡ is_replica n (members_of self.now.exchange.view) p self.now.factor }
+        ensures { result ≡ is_replica_of n (members_of self.now.exchange.view) p self.now.factor }
     {
         self.lists().is_replica(n, p, self.factor)
     }
 
     /// Whether the node itself is the partition's list master.
     pub(crate) fn is_master(&self, p: PartitionId) -> bool
-        ensures { result ≡ (master (list (members_of self.now.exchange.view) p) == self.now.me) }
+        ensures { result ≡
+            (list_master (list (members_of self.now.exchange.view) p) == self.now.me) }
     {
         self.lists().master(p) == self.me
     }
@@ -430,7 +431,7 @@ impl View {
 
 /// The row that a node with that store makes as it enters a view.
 fn own_row(alloc: Global, store: &RecordStore) -> Result<StateRow, NoMemory>
-    ensures { IfOk result (λ row. row ≡ own_row store.now) }
+    ensures { IfOk result (λ row. row ≡ store_row store.now) }
 {
     let row = store.row(alloc)?;
     // They are those of a row.
@@ -440,7 +441,7 @@ fn own_row(alloc: Global, store: &RecordStore) -> Result<StateRow, NoMemory>
 
 /// The other members, in member order.
 fn others_of(members: &Members, me: NodeId) -> NodeList
-    ensures others { result ≡ others me members.now }
+    ensures others { result ≡ others_among me members.now }
     ensures valid { AreMembers members.now }
 {
     // They fall strictly.

@@ -4,9 +4,9 @@ ghost use Rattle.std.specs.List.{insert};
 ghost use Rattle.std.specs.Option.{option_copied};
 ghost use Rattle.node_rules.specs.Stamps as rules;
 ghost use Rattle.node_rules.specs.Stamps.{no_writes, applying, hearing_write, with_number};
-ghost use Rattle.node_rules.specs.Tables.{at, with_entry};
-ghost use Rattle.node_view.specs.Counts.{last_count};
-ghost use Rattle.node_view.specs.Writes.{heard_in, rooms_in, writes_of, HasRoomToApply, HasRoomToHear, IsAscending, IsGapFor, IsPlaceOf};
+ghost use Rattle.node_rules.specs.Tables.{at, table_with};
+ghost use Rattle.node_view.specs.Counts.{greatest_count};
+ghost use Rattle.node_view.specs.Writes.{heard_in, rooms_in, writes_of, HasRoomToApply, HasRoomToHear, IsAscendingTable, IsGapFor, IsTablePlaceOf};
 
 use cluster_types::{NoMemory, PartitionId};
 use std::alloc::Global;
@@ -24,13 +24,13 @@ pub(crate) struct Writes {
 
 impl Model for Writes {
     ghost use Rattle.std.specs.Prelude.{◌-◌, vec_capacity, vec_len};
-    ghost use Rattle.node_view.specs.Writes.{heard_in, rooms_in, IsAscending, Written};
+    ghost use Rattle.node_view.specs.Writes.{heard_in, rooms_in, IsAscendingTable, Written};
 
     ghost Value = { Written };
 
     ghost view = { λ w. record { writes = record { applies = w.applies.items; numbers = heard_in w.numbers.items }; applies = vec_capacity w.applies - vec_len w.applies; numbers = vec_capacity w.numbers - vec_len w.numbers; further = rooms_in w.numbers.items } };
 
-    ghost invariant = { λ w. IsAscending w.applies.items × IsAscending w.numbers.items };
+    ghost invariant = { λ w. IsAscendingTable w.applies.items × IsAscendingTable w.numbers.items };
 }
 
 impl Writes {
@@ -80,7 +80,7 @@ impl Writes {
     /// before.
     pub fn apply(&mut self, p: PartitionId)
         requires room { HasRoomToApply self.old }
-        requires count { rules.applies_at (writes_of self.old) p < last_count }
+        requires count { rules.applies_at (writes_of self.old) p < greatest_count }
         ensures { writes_of self.new ≡ applying (writes_of self.old) p }
     {
         apply_at(&mut self.applies, p);
@@ -107,11 +107,11 @@ impl Writes {
 
 /// One more write of the partition.
 fn apply_at(applies: &mut Vec<(PartitionId, u32)>, p: PartitionId)
-    requires ascending { IsAscending applies.old.items }
+    requires ascending { IsAscendingTable applies.old.items }
     requires room { vec_len applies.old < vec_capacity applies.old }
-    requires count { unwrap_or (at applies.old.items p) 0 < last_count }
-    ensures ascending { IsAscending applies.new.items }
-    ensures applies { applies.new.items ≡ with_entry applies.old.items p (unwrap_or (at applies.old.items p) 0 + 1) }
+    requires count { unwrap_or (at applies.old.items p) 0 < greatest_count }
+    ensures ascending { IsAscendingTable applies.new.items }
+    ensures applies { applies.new.items ≡ table_with applies.old.items p (unwrap_or (at applies.old.items p) 0 + 1) }
 {
     match place_of(applies, p) {
         Ok(place) => applies[place].1 += 1,
@@ -125,8 +125,8 @@ fn reserve_at(
     alloc: Global,
     p: PartitionId,
 ) -> Result<Seen, NoMemory>
-    requires { IsAscending numbers.old.items }
-    ensures ascending { IsAscending numbers.new.items }
+    requires { IsAscendingTable numbers.old.items }
+    ensures ascending { IsAscendingTable numbers.new.items }
     ensures same { heard_in numbers.new.items ≡ heard_in numbers.old.items }
     ensures room { IfOk result (HasRoomToHear (rooms_in numbers.new.items) (vec_capacity numbers.new - vec_len numbers.new) p) }
 {
@@ -154,11 +154,11 @@ fn seen_with_room(alloc: Global) -> Result<Seen, NoMemory>
 
 /// One more number of the partition.
 fn hear_at(numbers: &mut Vec<(PartitionId, Seen)>, p: PartitionId, nth: u32, mut first: Seen)
-    requires ascending { IsAscending numbers.old.items }
+    requires ascending { IsAscendingTable numbers.old.items }
     requires room { HasRoomToHear (rooms_in numbers.old.items) (vec_capacity numbers.old - vec_len numbers.old) p first }
     requires number { 0 < nth }
-    ensures ascending { IsAscending numbers.new.items }
-    ensures numbers { heard_in numbers.new.items ≡ with_entry (heard_in numbers.old.items) p (with_number (unwrap_or (at (heard_in numbers.old.items) p) []) nth) }
+    ensures ascending { IsAscendingTable numbers.new.items }
+    ensures numbers { heard_in numbers.new.items ≡ table_with (heard_in numbers.old.items) p (with_number (unwrap_or (at (heard_in numbers.old.items) p) []) nth) }
 {
     match place_of(numbers, p) {
         Ok(place) => {
@@ -173,7 +173,7 @@ fn hear_at(numbers: &mut Vec<(PartitionId, Seen)>, p: PartitionId, nth: u32, mut
 
 /// What the partition has, if it has an entry.
 fn entry<X>(entries: &[(PartitionId, X)], p: PartitionId) -> Option<&X>
-    requires { IsAscending entries.now }
+    requires { IsAscendingTable entries.now }
     ensures { option_copied result ≡ at entries.now p }
 {
     match place_of(entries, p) {
@@ -193,8 +193,8 @@ fn put_at<X: Drop>(entries: &mut Vec<(PartitionId, X)>, place: usize, p: Partiti
 
 /// The place of the partition's entry, or the place where it would stand.
 fn place_of<X>(entries: &[(PartitionId, X)], p: PartitionId) -> Result<usize, usize>
-    requires { IsAscending entries.now }
-    ensures { MatchResult result (IsPlaceOf p entries.now) (IsGapFor p entries.now) }
+    requires { IsAscendingTable entries.now }
+    ensures { MatchResult result (IsTablePlaceOf p entries.now) (IsGapFor p entries.now) }
 {
     entries.binary_search_by_key(&p, |entry| entry.0)
 }

@@ -10,7 +10,7 @@ use Rattle.cluster_types.specs.Members.{AreMembers}
 use Rattle.cluster_types.specs.NodeLists.{IsNodeList}
 use Rattle.cluster_types.specs.Partitions.{partition_count}
 use Rattle.cluster_types.proofs.DistinctLaws.{descending_distinct}
-use Rattle.partition_lists.specs.Acting.{master}
+use Rattle.partition_lists.specs.Acting.{list_master}
 use Rattle.partition_lists.specs.Lists.{list}
 use Rattle.partition_lists.specs.ViewLists.{lists_from}
 use Rattle.partition_lists.proofs.ListLaws.{list_distinct, list_length}
@@ -104,6 +104,6 @@ pub list_some : (ms : List Member) (p : ℕ) → AreMembers ms → 0 < length (l
 list_some ms p h = omega (arith, list_length ms p, h.some)
 
 -- the first of a list that isn't empty is its master
-pub first_is_master : (l : List ℕ) (n : ℕ) → 0 < length l → n ≡ get_or l 0 n → n ≡ master l
+pub first_is_master : (l : List ℕ) (n : ℕ) → 0 < length l → n ≡ get_or l 0 n → n ≡ list_master l
 first_is_master [] n some is = absurd (omega (arith, some))
 first_is_master (m ∷ l) n some is = is

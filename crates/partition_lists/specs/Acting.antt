@@ -26,9 +26,9 @@ whole_key Part = keys.none
 whole_key (Whole key writes) = key
 
 -- the list master: the first of the list, and 0 where it is empty
-abbrev pub master : List ℕ → ℕ
-master [] = 0
-master (n ∷ l) = n
+abbrev pub list_master : List ℕ → ℕ
+list_master [] = 0
+list_master (n ∷ l) = n
 
 -- whether the member's copy is whole, and none in the list is whole under a greater key
 abbrev pub is_wholest_by : List ℕ → (ℕ → CopyState) → ℕ → Bool
@@ -37,7 +37,7 @@ is_wholest_by l state n = is_whole (state n) && list_all (λ m. not (keys.key_lt
 -- the acting master: the first of the list whose copy is whole under the greatest key, and the list
 -- master where no copy is whole. Counts of writes play no part
 abbrev pub acting_by : List ℕ → (ℕ → CopyState) → ℕ
-acting_by l state = unwrap_or (find (is_wholest_by l state) l) (master l)
+acting_by l state = unwrap_or (find (is_wholest_by l state) l) (list_master l)
 
 -- whether no member's copy has a record
 abbrev pub all_empty_by : List ℕ → (ℕ → CopyState) → Bool

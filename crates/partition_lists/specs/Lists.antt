@@ -37,5 +37,5 @@ abbrev pub replicas : List ℕ → ℕ → List ℕ
 replicas ids factor = take factor ids
 
 -- whether the node is a replica of the partition
-abbrev pub is_replica : ℕ → List Member → ℕ → ℕ → Bool
-is_replica n members p factor = list_any (λ m. m == n) (replicas (list members p) factor)
+abbrev pub is_replica_of : ℕ → List Member → ℕ → ℕ → Bool
+is_replica_of n members p factor = list_any (λ m. m == n) (replicas (list members p) factor)

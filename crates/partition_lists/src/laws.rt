@@ -5,7 +5,7 @@ ghost use Rattle.cluster_types.specs.Distinct.{AreDistinct, without};
 ghost use Rattle.cluster_types.specs.Members.{ids_of};
 ghost use Rattle.partition_lists.specs.Leaving.{members_without, HoldsNoRack, SharesRack, IsNextOfRack, IsAloneInRack, AreAllPlain};
 ghost use Rattle.partition_lists.specs.Ranks.{is_repeat};
-ghost use Rattle.partition_lists.specs.Lists.{list, position_of, IsListOf, replicas, is_replica};
+ghost use Rattle.partition_lists.specs.Lists.{list, position_of, IsListOf, replicas, is_replica_of};
 
 /// A list has each member once, and no other node.
 pub fn list_has_each_member_once()
@@ -34,7 +34,7 @@ pub fn racks_alternate_and_quiesced_members_stand_last()
 pub fn replicas_stand_first()
     ensures first { (ids : List ℕ) → (factor : ℕ) → replicas ids factor ++ drop factor ids ≡ ids }
     ensures length { (ids : List ℕ) → (factor : ℕ) → length (replicas ids factor) ≡ min factor (length ids) }
-    ensures replica { (n : ℕ) → (members : List Member) → (p : ℕ) → (factor : ℕ) → IsTrue (is_replica n members p factor) ↔ Contains (replicas (list members p) factor) n }
+    ensures replica { (n : ℕ) → (members : List Member) → (p : ℕ) → (factor : ℕ) → IsTrue (is_replica_of n members p factor) ↔ Contains (replicas (list members p) factor) n }
 {}
 
 /// When a member leaves, the others keep their order, but for the next of its rack where it was

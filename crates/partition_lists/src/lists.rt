@@ -1,6 +1,6 @@
 //! The list of a partition, and its replicas.
 ghost use Rattle.std.specs.Prelude.{◌≡◌, ◌↔◌, IsTrue, Contains};
-ghost use Rattle.partition_lists.specs.Lists.{list, IsListOf, replicas, is_replica};
+ghost use Rattle.partition_lists.specs.Lists.{list, IsListOf, replicas, is_replica_of};
 
 use crate::ranks::Ranks;
 use cluster_types::{Members, NodeId, NodeList, PartitionId};
@@ -27,7 +27,7 @@ pub fn replicas(l: &NodeList, factor: u8) -> NodeList
 
 /// Whether the node is among the partition's replicas.
 pub fn is_replica(n: NodeId, m: &Members, p: PartitionId, factor: u8) -> bool
-    ensures value { result ≡ is_replica n m.now p factor }
+    ensures value { result ≡ is_replica_of n m.now p factor }
     ensures found { IsTrue result ↔ Contains (replicas (list m.now p) factor) n }
 {
     replicas(&list(m, p), factor).contains(n)

@@ -3,8 +3,8 @@ ghost use Rattle.std.specs.Prelude.{◌≡◌, ◌<◌, IfOk, length, replicate}
 ghost use Rattle.cluster_types.specs.Members.{AreMembers};
 ghost use Rattle.cluster_types.specs.NodeLists.{IsNodeList};
 ghost use Rattle.cluster_types.specs.Partitions.{partition_count};
-ghost use Rattle.partition_lists.specs.Acting.{master};
-ghost use Rattle.partition_lists.specs.Lists.{list, is_replica};
+ghost use Rattle.partition_lists.specs.Acting.{list_master};
+ghost use Rattle.partition_lists.specs.Lists.{list, is_replica_of};
 ghost use Rattle.partition_lists.specs.ViewLists.{lists_from};
 
 use crate::ranks::Ranks;
@@ -88,14 +88,14 @@ impl Lists {
 
     /// The partition's list master: the first of its list.
     pub fn master(&self, p: PartitionId) -> NodeId
-        ensures { result ≡ master (list self.now p) }
+        ensures { result ≡ list_master (list self.now p) }
     {
         self.ids(p)[0]
     }
 
     /// Whether the node is among the first `factor` nodes of the partition's list.
     pub fn is_replica(&self, n: NodeId, p: PartitionId, factor: u8) -> bool
-        ensures { result ≡ is_replica n self.now p factor }
+        ensures { result ≡ is_replica_of n self.now p factor }
     {
         let list = self.ids(p);
         list[..list.len().min(usize::from(factor))].contains(&n)

@@ -7,19 +7,19 @@ use Rattle.std.proofs.lemmas.List.Elements.{All-filter, All-contains}
 use Rattle.std.proofs.lemmas.List.Filters.{length-filter_both}
 use Rattle.cluster_types.specs.StateRows.{state_of}
 use Rattle.node_rules.specs.declared.member_row.MemberRow.{MemberRow}
-use Rattle.node_rules.specs.Map.{state_at}
+use Rattle.node_rules.specs.Map.{row_state_at}
 use Rattle.partition_state.specs.Copies.{copies_at}
 
-state_is : (rows : List MemberRow) (p n : ℕ) → state_of (copies_at rows p) n ≡ state_at rows p n
+state_is : (rows : List MemberRow) (p n : ℕ) → state_of (copies_at rows p) n ≡ row_state_at rows p n
 state_is [] p n = refl
 state_is (r ∷ rows) p n = go (r.node == n) refl (state_is rows p n)
   where
-    go : (b : Bool) → (r.node == n) ≡ b → state_of (copies_at rows p) n ≡ state_at rows p n → state_of (copies_at (r ∷ rows) p) n ≡ state_at (r ∷ rows) p n
+    go : (b : Bool) → (r.node == n) ≡ b → state_of (copies_at rows p) n ≡ row_state_at rows p n → state_of (copies_at (r ∷ rows) p) n ≡ row_state_at (r ∷ rows) p n
     go true h ih = rw h refl
     go false h ih = rw h ih
 
 -- the copies of the rows have the states that the rules read off the rows
-pub states_are : (rows : List MemberRow) (p : ℕ) → state_of (copies_at rows p) ≡ state_at rows p
+pub states_are : (rows : List MemberRow) (p : ℕ) → state_of (copies_at rows p) ≡ row_state_at rows p
 states_are rows p = fun_ext (λ n. state_is rows p n)
 
 -- some of the first nodes of a list leave room for another

@@ -3,7 +3,7 @@ ghost use Rattle.std.specs.Prelude.{◌≡◌, ◌<◌, ◌≤◌, length};
 ghost use Rattle.std.specs.List.{list_all};
 ghost use Rattle.cluster_types.specs.StateRows.{state_of};
 ghost use Rattle.partition_lists.specs.Acting.{is_empty};
-ghost use Rattle.node_rules.specs.Map.{acting};
+ghost use Rattle.node_rules.specs.Map.{acting_by_rows};
 ghost use Rattle.node_rules.specs.Classes.{class_first, same_class};
 ghost use Rattle.partition_state.specs.Copies.{are_all_empty, row_limit};
 
@@ -18,7 +18,7 @@ use node_rules::MemberRow;
 pub fn acting(l: &NodeList, rows: &[MemberRow], p: PartitionId) -> NodeId
     requires some { 0 < length l.now }
     requires rows { length rows.now ≤ row_limit }
-    ensures { result ≡ acting l.now rows.now p }
+    ensures { result ≡ acting_by_rows l.now rows.now p }
 {
     States::of(rows, p).acting(l)
 }

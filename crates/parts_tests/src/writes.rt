@@ -1,6 +1,6 @@
 //! Tests of `write_path` by its public calls.
 ghost use Rattle.std.specs.Prelude.{◌≡◌, [], Some};
-ghost use Rattle.dup_resolve.specs.Open.{new_txn, transaction};
+ghost use Rattle.dup_resolve.specs.Open.{new_txn, txn_at};
 
 use cluster_types::{CopyState, Digest, NodeId, NodeList};
 use conflict_order::{Body, ValueBytes, ValueFault, Version, Want};
@@ -35,7 +35,7 @@ fn node(rt: &impl Abort, n: u16) -> NodeId {
 fn open(rt: &impl Abort, txns: &mut Txns, d: Digest, want: Want, best: Option<Version>) -> u32
     requires none { txns.old.running ≡ [] }
     requires first { txns.old.opened ≡ 0 }
-    ensures { transaction txns.new.running result ≡ Some (new_txn 1 d want best []) }
+    ensures { txn_at txns.new.running result ≡ Some (new_txn 1 d want best []) }
 {
     txns.begin(d, want, best, NodeList::new())
         .expect(rt, "a number")

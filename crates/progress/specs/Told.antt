@@ -8,8 +8,8 @@ use Rattle.node_rules.specs.Tables.{Table}
 use Rattle.progress.specs.declared.told.Told.{Told}
 
 -- a member that told nothing
-abbrev pub silent : ℕ → Told
-silent n = record { node = n; came = false; done = clear_row }
+abbrev pub silent_member : ℕ → Told
+silent_member n = record { node = n; came = false; done = clear_row }
 
 -- the member once its Progress came
 abbrev pub telling : Told → List Bool → Told
@@ -20,17 +20,17 @@ abbrev pub is_done_at : ℕ → Told → Bool
 is_done_at p t = bit t.done p
 
 -- the members of these
-abbrev pub nodes_of : List Told → List ℕ
-nodes_of ts = map (λ t. t.node) ts
+abbrev pub told_nodes : List Told → List ℕ
+told_nodes ts = map (λ t. t.node) ts
 
 -- the entry of the member in the table, if its Progress came
-abbrev pub entry_of : Told → Table (List Bool)
-entry_of t = cond t.came ((t.node, t.done) ∷ []) []
+abbrev pub done_entry : Told → Table (List Bool)
+done_entry t = cond t.came ((t.node, t.done) ∷ []) []
 
 -- the done rows as a table: in rising order, without those that told nothing
-abbrev pub table_of : List Told → Table (List Bool)
-table_of [] = []
-table_of (t ∷ ts) = table_of ts ++ entry_of t
+abbrev pub told_table : List Told → Table (List Bool)
+told_table [] = []
+told_table (t ∷ ts) = told_table ts ++ done_entry t
 
 -- 1 where the test holds, and 0 where it doesn't
 abbrev pub one_if : Bool → ℕ
@@ -38,7 +38,7 @@ one_if b = cond b 1 0
 
 -- what is kept of the other members, and of each partition the number of those that are known done
 pub record AreTold (heard : List Told) (known : List ℕ) : Type 0 where
-  pub falls : IsDescending (nodes_of heard)
+  pub falls : IsDescending (told_nodes heard)
   pub limit : length heard ≤ 16
   -- a member that told nothing isn't known done anywhere
   pub clear : All (λ t. t.came ≡ false → IsClear t.done) heard

@@ -2,8 +2,8 @@
 ghost use Rattle.std.specs.Prelude.{◌≡◌, ◌==◌, IfOk, IsTrue, Contains, SomeIff};
 ghost use Rattle.cluster_types.specs.Rows.{bit};
 ghost use Rattle.node_rules.specs.Bits.{progressing, handing, settling, knows_each_done};
-ghost use Rattle.node_rules.specs.Map.{master};
-ghost use Rattle.progress.specs.Known.{all_done, may_hand, may_settle, nothing};
+ghost use Rattle.node_rules.specs.Map.{list_master};
+ghost use Rattle.progress.specs.Known.{all_done, hands_entry, settles_entry, nothing_known};
 
 use crate::counts::no_counts;
 use crate::row::HeapRow;
@@ -33,15 +33,15 @@ impl Model for Progress {
     ghost use Rattle.node_rules.specs.Bits.{clear_row};
     ghost use Rattle.node_rules.specs.Codes.{facts_codes};
     ghost use Rattle.progress.specs.Known.{Known};
-    ghost use Rattle.progress.specs.Told.{AreTold, nodes_of, table_of};
+    ghost use Rattle.progress.specs.Told.{AreTold, told_nodes, told_table};
 
     ghost Value = { Known };
 
     ghost coded = { Prim.hlevel facts_codes };
 
-    ghost view = { λ k. record { me = k.me; others = k.others; own = k.own; bits = record { done = table_of k.heard.items; handed = k.handed; settled = k.settled; own_handed = k.own_handed; own_settled = k.own_settled; learnt = clear_row } } };
+    ghost view = { λ k. record { me = k.me; others = k.others; own = k.own; bits = record { done = told_table k.heard.items; handed = k.handed; settled = k.settled; own_handed = k.own_handed; own_settled = k.own_settled; learnt = clear_row } } };
 
-    ghost invariant = { λ k. (nodes_of k.heard.items ≡ k.others) × AreTold k.heard.items k.known.items };
+    ghost invariant = { λ k. (told_nodes k.heard.items ≡ k.others) × AreTold k.heard.items k.known.items };
 }
 
 /// The partition's settling was written. Only `Progress::knows_settled` makes one.
@@ -62,7 +62,7 @@ impl SettledBit {
 impl Progress {
     /// Nothing is known. `me` is a member.
     pub fn new(alloc: Global, members: &Members, me: NodeId) -> Result<Progress, NoMemory>
-        ensures { IfOk result (λ k. k ≡ nothing members.now me) }
+        ensures { IfOk result (λ k. k ≡ nothing_known members.now me) }
     {
         let others = members.ids().without(me);
         let heard = silent_others(alloc, members, me)?;
@@ -113,7 +113,7 @@ impl Progress {
     /// Whether the node is to hand the partition over: it is the acting master and not the list
     /// master, hasn't handed it over, all members are known done, and no transaction is open on it.
     pub fn may_hand(&self, p: PartitionId, e: &MapEntry, busy: bool) -> bool
-        ensures { result ≡ may_hand self.now p e.now busy }
+        ensures { result ≡ hands_entry self.now p e.now busy }
     {
         e.acting == self.me
             && !self.is_master(e)
@@ -126,7 +126,7 @@ impl Progress {
     /// empty, the settled bit isn't set, no transaction is open on it, and it was handed over, or
     /// the node is the acting master and all members are known done.
     pub fn may_settle(&self, p: PartitionId, e: &MapEntry, busy: bool) -> bool
-        ensures { result ≡ may_settle self.now p e.now busy }
+        ensures { result ≡ settles_entry self.now p e.now busy }
     {
         self.is_master(e)
             && !e.all_empty
@@ -137,7 +137,7 @@ impl Progress {
 
     /// The node hands the partition over, which it may.
     pub fn hand(&mut self, p: PartitionId, e: &MapEntry, busy: bool)
-        requires { IsTrue (may_hand self.old p e.now busy) }
+        requires { IsTrue (hands_entry self.old p e.now busy) }
         ensures { self.new ≡ record self.old { bits = handing self.old.bits p } }
     {
         self.handed.put(p);
@@ -146,7 +146,7 @@ impl Progress {
 
     /// The node settles the partition, which it may.
     pub fn settle(&mut self, p: PartitionId, e: &MapEntry, busy: bool)
-        requires { IsTrue (may_settle self.old p e.now busy) }
+        requires { IsTrue (settles_entry self.old p e.now busy) }
         ensures { self.new ≡ record self.old { bits = settling self.old.bits p } }
     {
         self.settled.put(p);
@@ -221,7 +221,7 @@ impl Progress {
 
     /// Whether the node is the list master.
     fn is_master(&self, e: &MapEntry) -> bool
-        ensures { result ≡ (master e.now.list == self.now.me) }
+        ensures { result ≡ (list_master e.now.list == self.now.me) }
     {
         let me = self.me.number();
         match e.list.as_slice() {

@@ -2,9 +2,9 @@
 ghost use Rattle.std.specs.Prelude.{◌≡◌, ◌==◌, ◌<◌, IfOk, Contains, length, map, slice_index};
 ghost use Rattle.std.specs.List.{position};
 ghost use Rattle.cluster_types.specs.Members.{AreMembers};
-ghost use Rattle.node_rules.specs.Agreement.{others};
-ghost use Rattle.node_rules.specs.Tables.{with_entry};
-ghost use Rattle.progress.specs.Told.{AreTold, nodes_of, silent, table_of, telling};
+ghost use Rattle.node_rules.specs.Agreement.{others_among};
+ghost use Rattle.node_rules.specs.Tables.{table_with};
+ghost use Rattle.progress.specs.Told.{AreTold, told_nodes, silent_member, told_table, telling};
 
 use crate::counts::recount;
 use crate::row::HeapRow;
@@ -24,7 +24,7 @@ pub(crate) struct Told {
 impl Told {
     /// A member that told nothing.
     fn silent(alloc: Global, node: NodeId) -> Result<Told, NoMemory>
-        ensures { IfOk result (λ t. t ≡ silent node) }
+        ensures { IfOk result (λ t. t ≡ silent_member node) }
     {
         let done = HeapRow::new(alloc)?;
         Ok(Told {
@@ -49,7 +49,8 @@ pub(crate) fn silent_others(
     members: &Members,
     me: NodeId,
 ) -> Result<Vec<Told>, NoMemory>
-    ensures heard { IfOk result (λ heard. heard.items ≡ map silent (others me members.now)) }
+    ensures heard { IfOk result
+        (λ heard. heard.items ≡ map silent_member (others_among me members.now)) }
     ensures members { IfOk result (λ heard. AreMembers members.now) }
 {
     let mut heard = Vec::with_capacity(alloc, members.len())?;
@@ -64,10 +65,10 @@ pub(crate) fn silent_others(
 /// A Progress of one of the members came.
 pub(crate) fn hear(heard: &mut [Told], known: &mut [u8], from: NodeId, done: &Row4096)
     requires told { AreTold heard.old known.old }
-    requires listed { Contains (nodes_of heard.old) from }
-    ensures nodes { nodes_of heard.new ≡ nodes_of heard.old }
+    requires listed { Contains (told_nodes heard.old) from }
+    ensures nodes { told_nodes heard.new ≡ told_nodes heard.old }
     ensures told { AreTold heard.new known.new }
-    ensures table { table_of heard.new ≡ with_entry (table_of heard.old) from done.now }
+    ensures table { told_table heard.new ≡ table_with (told_table heard.old) from done.now }
 {
     match place_of(heard, from) {
         Some(place) => hear_at(heard, known, place, done),
@@ -79,9 +80,9 @@ pub(crate) fn hear(heard: &mut [Told], known: &mut [u8], from: NodeId, done: &Ro
 fn hear_at(heard: &mut [Told], known: &mut [u8], place: usize, done: &Row4096)
     requires told { AreTold heard.old known.old }
     requires place { place < length heard.old }
-    ensures nodes { nodes_of heard.new ≡ nodes_of heard.old }
+    ensures nodes { told_nodes heard.new ≡ told_nodes heard.old }
     ensures told { AreTold heard.new known.new }
-    ensures table { table_of heard.new ≡ with_entry (table_of heard.old) (slice_index (nodes_of heard.old) place) done.now }
+    ensures table { told_table heard.new ≡ table_with (told_table heard.old) (slice_index (told_nodes heard.old) place) done.now }
 {
     recount(known, heard[place].done.as_row(), done);
     heard[place].hear(done);

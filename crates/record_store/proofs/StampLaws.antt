@@ -8,7 +8,7 @@ use Rattle.std.proofs.lemmas.Bool.Decides.{eqb_tells, nat_tests}
 use Rattle.std.proofs.lemmas.List.{length-set, get_or-set_same, get_or-set_other}
 use Rattle.cluster_types.specs.declared.cluster_key.ClusterKey.{ClusterKey}
 use Rattle.record_store.specs.declared.stamp.Stamp.{Stamp}
-use Rattle.record_store.specs.StampList.{shown, with_entry, entries_from, stamps_of}
+use Rattle.record_store.specs.StampList.{shown_stamp, with_stamp_entry, entries_from, stamps_of}
 
 abbrev Shown : Type 0
 Shown = Option (ClusterKey × ℕ)
@@ -17,14 +17,14 @@ tied : (q p : ℕ) → eq_by_cmp nat_cmp q p ≡ (q == p)
 tied q p = grind (arith, nat_tests)
 
 -- the entry of another partition isn't found
-find_apart : (q p : ℕ) (o : Shown) (es : List (ℕ × (ClusterKey × ℕ))) → (q ≡ p → ⊥) → find nat_cmp q (with_entry p o es) ≡ find nat_cmp q es
+find_apart : (q p : ℕ) (o : Shown) (es : List (ℕ × (ClusterKey × ℕ))) → (q ≡ p → ⊥) → find nat_cmp q (with_stamp_entry p o es) ≡ find nat_cmp q es
 find_apart q p None es apart = refl
 find_apart q p (Some s) es apart = elim (eqb_tells q p) as (λ _. cond (eq_by_cmp nat_cmp q p) (Some s) (find nat_cmp q es) ≡ find nat_cmp q es) [
   | inl same ↦ absurd (apart same.1)
   | inr other ↦ ap (λ b. cond b (Some s) (find nat_cmp q es)) (tied q p ∙ other.0)
 ]
 
-find_here : (q p : ℕ) (o : Shown) (es : List (ℕ × (ClusterKey × ℕ))) → q ≡ p → find nat_cmp q es ≡ None → find nat_cmp q (with_entry p o es) ≡ o
+find_here : (q p : ℕ) (o : Shown) (es : List (ℕ × (ClusterKey × ℕ))) → q ≡ p → find nat_cmp q es ≡ None → find nat_cmp q (with_stamp_entry p o es) ≡ o
 find_here q p None es same none = none
 find_here q p (Some s) es same none = elim (eqb_tells q p) as (λ _. cond (eq_by_cmp nat_cmp q p) (Some s) (find nat_cmp q es) ≡ Some s) [
   | inl here ↦ ap (λ b. cond b (Some s) (find nat_cmp q es)) (tied q p ∙ here.0)
@@ -33,35 +33,35 @@ find_here q p (Some s) es same none = elim (eqb_tells q p) as (λ _. cond (eq_by
 
 find_below : (ss : List (Option Stamp)) (n q : ℕ) → q < n → find nat_cmp q (entries_from n ss) ≡ None
 find_below [] n q below = refl
-find_below (s ∷ ss) n q below = find_apart q n (shown s) (entries_from (suc n) ss) (λ same. omega (arith, same)) ∙ find_below ss (suc n) q (omega arith)
+find_below (s ∷ ss) n q below = find_apart q n (shown_stamp s) (entries_from (suc n) ss) (λ same. omega (arith, same)) ∙ find_below ss (suc n) q (omega arith)
 
-find_at : (ss : List (Option Stamp)) (n i q : ℕ) (z : Option Stamp) → q ≡ n + i → i < length ss → find nat_cmp q (entries_from n ss) ≡ shown (get_or ss i z)
+find_at : (ss : List (Option Stamp)) (n i q : ℕ) (z : Option Stamp) → q ≡ n + i → i < length ss → find nat_cmp q (entries_from n ss) ≡ shown_stamp (get_or ss i z)
 find_at [] n i q z is within = absurd (omega arith)
-find_at (s ∷ ss) n zero q z is within = find_here q n (shown s) (entries_from (suc n) ss) (omega (arith, is)) (find_below ss (suc n) q (omega (arith, is)))
-find_at (s ∷ ss) n (suc i) q z is within = find_apart q n (shown s) (entries_from (suc n) ss) (λ same. omega (arith, same, is)) ∙ find_at ss (suc n) i q z (omega (arith, is)) (omega (arith, within))
+find_at (s ∷ ss) n zero q z is within = find_here q n (shown_stamp s) (entries_from (suc n) ss) (omega (arith, is)) (find_below ss (suc n) q (omega (arith, is)))
+find_at (s ∷ ss) n (suc i) q z is within = find_apart q n (shown_stamp s) (entries_from (suc n) ss) (λ same. omega (arith, same, is)) ∙ find_at ss (suc n) i q z (omega (arith, is)) (omega (arith, within))
 
 find_past : (ss : List (Option Stamp)) (n i q : ℕ) → q ≡ n + i → length ss ≤ i → find nat_cmp q (entries_from n ss) ≡ None
 find_past [] n i q is past = refl
 find_past (s ∷ ss) n zero q is past = absurd (omega (arith, past))
-find_past (s ∷ ss) n (suc i) q is past = find_apart q n (shown s) (entries_from (suc n) ss) (λ same. omega (arith, same, is)) ∙ find_past ss (suc n) i q (omega (arith, is)) (omega (arith, past))
+find_past (s ∷ ss) n (suc i) q is past = find_apart q n (shown_stamp s) (entries_from (suc n) ss) (λ same. omega (arith, same, is)) ∙ find_past ss (suc n) i q (omega (arith, is)) (omega (arith, past))
 
-pub get_stamps : (ss : List (Option Stamp)) (p : ℕ) (z : Option Stamp) → p < length ss → get (stamps_of ss) p ≡ shown (get_or ss p z)
+pub get_stamps : (ss : List (Option Stamp)) (p : ℕ) (z : Option Stamp) → p < length ss → get (stamps_of ss) p ≡ shown_stamp (get_or ss p z)
 get_stamps ss p z within = get-from_entries nat_cmp_total (entries_from 0 ss) p ∙ find_at ss 0 p p z (omega arith) within
 
 get_stamps_past : (ss : List (Option Stamp)) (p : ℕ) → length ss ≤ p → get (stamps_of ss) p ≡ None
 get_stamps_past ss p past = get-from_entries nat_cmp_total (entries_from 0 ss) p ∙ find_past ss 0 p p (omega arith) past
 
-get_set : (ss : List (Option Stamp)) (p q : ℕ) (o : Option Stamp) → p < length ss → get (stamps_of (set ss p o)) q ≡ cond (eq_by_cmp nat_cmp q p) (shown o) (get (stamps_of ss) q)
-get_set ss p q o within = elim (eqb_tells q p) as (λ _. get (stamps_of (set ss p o)) q ≡ cond (eq_by_cmp nat_cmp q p) (shown o) (get (stamps_of ss) q)) [
+get_set : (ss : List (Option Stamp)) (p q : ℕ) (o : Option Stamp) → p < length ss → get (stamps_of (set ss p o)) q ≡ cond (eq_by_cmp nat_cmp q p) (shown_stamp o) (get (stamps_of ss) q)
+get_set ss p q o within = elim (eqb_tells q p) as (λ _. get (stamps_of (set ss p o)) q ≡ cond (eq_by_cmp nat_cmp q p) (shown_stamp o) (get (stamps_of ss) q)) [
   | inl same ↦ get_stamps (set ss p o) q o (omega (arith, within, same.1, length-set ss p o))
-      ∙ ap (λ n. shown (get_or (set ss p o) n o)) same.1
-      ∙ ap shown (get_or-set_same ss p o o within)
-      ∙ sym (ap (λ b. cond b (shown o) (get (stamps_of ss) q)) (tied q p ∙ same.0))
+      ∙ ap (λ n. shown_stamp (get_or (set ss p o) n o)) same.1
+      ∙ ap shown_stamp (get_or-set_same ss p o o within)
+      ∙ sym (ap (λ b. cond b (shown_stamp o) (get (stamps_of ss) q)) (tied q p ∙ same.0))
   | inr other ↦ elim (cases_lt q (length ss)) as (λ _. get (stamps_of (set ss p o)) q ≡ get (stamps_of ss) q) [
-    | inl lower ↦ get_stamps (set ss p o) q o (omega (arith, lower, length-set ss p o)) ∙ ap shown (get_or-set_other ss p q o o other.1) ∙ sym (get_stamps ss q o lower)
+    | inl lower ↦ get_stamps (set ss p o) q o (omega (arith, lower, length-set ss p o)) ∙ ap shown_stamp (get_or-set_other ss p q o o other.1) ∙ sym (get_stamps ss q o lower)
     | inr past ↦ get_stamps_past (set ss p o) q (omega (arith, past, length-set ss p o)) ∙ sym (get_stamps_past ss q past)
   ]
-      ∙ sym (ap (λ b. cond b (shown o) (get (stamps_of ss) q)) (tied q p ∙ other.0))
+      ∙ sym (ap (λ b. cond b (shown_stamp o) (get (stamps_of ss) q)) (tied q p ∙ other.0))
 ]
 
 pub stamps_set : (ss : List (Option Stamp)) (p : ℕ) (s : Stamp) → p < length ss → stamps_of (set ss p (Some s)) ≡ insert (stamps_of ss) p (s.key, s.writes)
@@ -76,4 +76,4 @@ stamps_new ss h = ap (λ (es : List (ℕ × (ClusterKey × ℕ))). from_entries 
   where
     none : (n : ℕ) (bs : List (Option Stamp)) → ((j : ℕ) (z : Option Stamp) → j < length bs → get_or bs j z ≡ None) → entries_from n bs ≡ []
     none n [] g = refl
-    none n (s ∷ bs) g = ap (λ o. with_entry n (shown o) (entries_from (suc n) bs)) (g 0 s (omega arith)) ∙ none (suc n) bs (λ j z lower. g (suc j) z (omega (arith, lower)))
+    none n (s ∷ bs) g = ap (λ o. with_stamp_entry n (shown_stamp o) (entries_from (suc n) bs)) (g 0 s (omega arith)) ∙ none (suc n) bs (λ j z lower. g (suc j) z (omega (arith, lower)))

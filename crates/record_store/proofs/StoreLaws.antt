@@ -10,7 +10,7 @@ use Rattle.conflict_order.specs.declared.policy.Policy.{Policy}
 use Rattle.conflict_order.specs.Order.{is_newer}
 use Rattle.std.specs.Ordering.{is_lt}
 use Rattle.record_store.specs.declared.joined.Joined.TheVariants.{Newer, Kept}
-use Rattle.record_store.specs.Store.{digests_of, without_copy, above, answer}
+use Rattle.record_store.specs.Store.{digests_of, without_copy, digests_above, answer}
 use Rattle.record_store.specs.Copies.{Entries, copies_of, versions_of, IsCopy, AreCopies}
 use Rattle.record_store.proofs.CopyLaws.{digest_cmp, get_versions, digests_of_copy, copies_set, is_copy_empty, is_copy_put, versions_clear, versions_put, versions_new}
 
@@ -19,10 +19,10 @@ passed true e es ds h = ap (λ fs. e.0 ∷ fs) h
 passed false e es ds h = h
 
 -- the digests above one are those of the entries above it
-pub above_digests : (after : Option (List ℕ)) (es : Entries) → map (λ e. e.0) (chain.above after es) ≡ above after (map (λ e. e.0) es)
+pub above_digests : (after : Option (List ℕ)) (es : Entries) → map (λ e. e.0) (chain.above after es) ≡ digests_above after (map (λ e. e.0) es)
 above_digests None es = refl
 above_digests (Some d) [] = refl
-above_digests (Some d) (e ∷ es) = passed (is_lt (digest_cmp d e.0)) e (chain.above (Some d) es) (above (Some d) (map (λ e. e.0) es)) (above_digests (Some d) es)
+above_digests (Some d) (e ∷ es) = passed (is_lt (digest_cmp d e.0)) e (chain.above (Some d) es) (digests_above (Some d) (map (λ e. e.0) es)) (above_digests (Some d) es)
 
 module _ (cs : List (Chain Version)) (h : AreCopies (copies_of cs)) (p : ℕ) (within : p < partition_count) (x : Chain Version) (at : x ≡ get_or cs p x) where
   pub chain_within : p < length cs
@@ -39,10 +39,10 @@ module _ (cs : List (Chain Version)) (h : AreCopies (copies_of cs)) (p : ℕ) (w
   digests_held = digests_of_copy (copies_of cs) h p x.items within ∙ ap (map (λ (e : List ℕ × Version). e.0)) list_at
 
   -- the first digests of a walk
-  pub walked : (after : Option (List ℕ)) (max : ℕ) (es : Entries) → es ≡ chain.above after x.items → take max (map (λ e. e.0) es) ≡ take max (above after (digests_of (versions_of (copies_of cs)) p))
+  pub walked : (after : Option (List ℕ)) (max : ℕ) (es : Entries) → es ≡ chain.above after x.items → take max (map (λ e. e.0) es) ≡ take max (digests_above after (digests_of (versions_of (copies_of cs)) p))
   walked after max es is =
       ap (λ (fs : Entries). take max (map (λ e. e.0) fs)) is
-      ∙ ap (take max) (above_digests after x.items ∙ ap (above after) (sym digests_held))
+      ∙ ap (take max) (above_digests after x.items ∙ ap (digests_above after) (sym digests_held))
 
   module _ (y : Chain Version) where
     copies_are : (es : Entries) → y.items ≡ es → copies_of (set cs p y) ≡ set (copies_of cs) p es

@@ -10,7 +10,7 @@ use Rattle.std.proofs.lemmas.List.{length-take, get_or-take}
 use Rattle.std.proofs.lemmas.List.Kept.{AllPairs-cons, AllPairs-filter}
 use lib.Dec.{T}
 use Rattle.conflict_order.specs.declared.version.Version.{Version}
-use Rattle.record_store.specs.Store.{Records, is_of, digests_of, above}
+use Rattle.record_store.specs.Store.{Records, is_of, digests_of, digests_above}
 use Rattle.record_store.specs.Copies.{Entries}
 use Rattle.record_store.proofs.CopyLaws.{digest_cmp, same_digest}
 
@@ -43,7 +43,8 @@ entries_rise (e ∷ es) h = AllPairs-cons (λ d f. digest_cmp d f ≡ Less) e.0 
 pub digests_rise : (versions : Records) (p : ℕ) → Rising (digests_of versions p)
 digests_rise versions p = entries_rise (entries (retain_keys versions (is_of p))) (entries_sorted (retain_keys versions (is_of p)))
 
-above_rises : (after : Option (List ℕ)) (ds : List (List ℕ)) → Rising ds → Rising (above after ds)
+above_rises : (after : Option (List ℕ)) (ds : List (List ℕ)) → Rising ds
+    → Rising (digests_above after ds)
 above_rises None ds h = h
 above_rises (Some d) ds h = AllPairs-filter (λ d e. digest_cmp d e ≡ Less) (λ e. is_lt (digest_cmp d e)) ds h
 
@@ -55,8 +56,8 @@ taken_rises n ds h j k z lower inside =
     (h j k z lower (omega (arith, within))))
 
 -- what a walk gives rises
-pub walk_rises : (versions : Records) (p : ℕ) (after : Option (List ℕ)) (max : ℕ) → Rising (take max (above after (digests_of versions p)))
-walk_rises versions p after max = taken_rises max (above after (digests_of versions p)) (above_rises after (digests_of versions p) (digests_rise versions p))
+pub walk_rises : (versions : Records) (p : ℕ) (after : Option (List ℕ)) (max : ℕ) → Rising (take max (digests_above after (digests_of versions p)))
+walk_rises versions p after max = taken_rises max (digests_above after (digests_of versions p)) (above_rises after (digests_of versions p) (digests_rise versions p))
 
 -- the digests of a partition are those of its digests that are held
 pub digests_are_held : (versions : Records) (p : ℕ) (q : List ℕ) → list_any (eq_by_cmp digest_cmp q) (digests_of versions p) ≡ (is_of p q && is_some (get versions q))

@@ -6,19 +6,19 @@ use Rattle.record_store.specs.declared.stamp.Stamp.{Stamp}
 use Rattle.record_store.specs.Store.{Stamps}
 
 -- the key and the number of writes
-abbrev pub shown : Option Stamp → Option (ClusterKey × ℕ)
-shown None = None
-shown (Some s) = Some (s.key, s.writes)
+abbrev pub shown_stamp : Option Stamp → Option (ClusterKey × ℕ)
+shown_stamp None = None
+shown_stamp (Some s) = Some (s.key, s.writes)
 
 -- the entry of that partition before others
-abbrev pub with_entry : ℕ → Option (ClusterKey × ℕ) → List (ℕ × (ClusterKey × ℕ)) → List (ℕ × (ClusterKey × ℕ))
-with_entry p None es = es
-with_entry p (Some stamp) es = (p, stamp) ∷ es
+abbrev pub with_stamp_entry : ℕ → Option (ClusterKey × ℕ) → List (ℕ × (ClusterKey × ℕ)) → List (ℕ × (ClusterKey × ℕ))
+with_stamp_entry p None es = es
+with_stamp_entry p (Some stamp) es = (p, stamp) ∷ es
 
 -- the entries of the stamps from that partition on
 abbrev pub entries_from : ℕ → List (Option Stamp) → List (ℕ × (ClusterKey × ℕ))
 entries_from p [] = []
-entries_from p (s ∷ stamps) = with_entry p (shown s) (entries_from (suc p) stamps)
+entries_from p (s ∷ stamps) = with_stamp_entry p (shown_stamp s) (entries_from (suc p) stamps)
 
 abbrev pub stamps_of : List (Option Stamp) → Stamps
 stamps_of stamps = finite.from_entries (entries_from 0 stamps)

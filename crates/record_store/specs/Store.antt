@@ -33,7 +33,7 @@ Stamps = map.FinMap nat_cmp (ClusterKey × ℕ)
 abbrev pub stamps_code : Coded Stamps
 stamps_code = map.code coded_ℕ (coded× key.the_row.coded coded_ℕ)
 
-pub record Store : Type 0 where
+pub record StoreWithRoom : Type 0 where
   pub versions : Records
   pub stamps : Stamps
   -- how versions of one digest compare
@@ -42,13 +42,13 @@ pub record Store : Type 0 where
   pub spare : List ℕ
 
 -- no record and no stamp
-pub record IsNewStore (by : Policy) (s : Store) : Type 0 where
+pub record IsNewStore (by : Policy) (s : StoreWithRoom) : Type 0 where
   pub versions : s.versions ≡ map.empty
   pub stamps : s.stamps ≡ map.empty
   pub policy : s.by ≡ by
 
 -- the same records and stamps
-pub record HoldsTheSame (old new : Store) : Type 0 where
+pub record HoldsTheSame (old new : StoreWithRoom) : Type 0 where
   pub versions : new.versions ≡ old.versions
   pub stamps : new.stamps ≡ old.stamps
   pub policy : new.by ≡ old.by
@@ -62,9 +62,9 @@ abbrev pub digests_of : Records → ℕ → List (List ℕ)
 digests_of versions p = map.keys (map.retain_keys versions (is_of p))
 
 -- all of the digests, or those above the one
-abbrev pub above : Option (List ℕ) → List (List ℕ) → List (List ℕ)
-above None ds = ds
-above (Some d) ds = filter (λ e. is_lt (slice_cmp nat_cmp d e)) ds
+abbrev pub digests_above : Option (List ℕ) → List (List ℕ) → List (List ℕ)
+digests_above None ds = ds
+digests_above (Some d) ds = filter (λ e. is_lt (slice_cmp nat_cmp d e)) ds
 
 -- the records without those of a partition
 abbrev pub without_copy : Records → ℕ → Records
@@ -78,8 +78,8 @@ state_with (d ∷ ds) None = Part
 state_with (d ∷ ds) (Some stamp) = Whole stamp.0 stamp.1
 
 -- the state of a partition's copy
-abbrev pub state_at : Store → ℕ → CopyState
-state_at s p = state_with (digests_of s.versions p) (map.get s.stamps p)
+abbrev pub copy_state_at : StoreWithRoom → ℕ → CopyState
+copy_state_at s p = state_with (digests_of s.versions p) (map.get s.stamps p)
 
 -- the records after a version came
 abbrev pub joined : Policy → Records → List ℕ → Version → Records

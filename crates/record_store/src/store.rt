@@ -6,8 +6,8 @@ ghost use Rattle.cluster_types.specs.Partitions.{partition_count, partition_of};
 ghost use Rattle.cluster_types.specs.StateRows.{state_of};
 ghost use Rattle.conflict_order.specs.declared.policy.Policy.TheVariants.{Time};
 ghost use Rattle.record_store.specs.Copies.{copies_of, rooms_of};
-ghost use Rattle.record_store.specs.StampList.{shown};
-ghost use Rattle.record_store.specs.Store.{IsNewStore, HoldsTheSame, HasRoom, KeepsRoom, UsesRoom, room_at, state_at, state_with, digests_of, above, without_copy, joined, answer};
+ghost use Rattle.record_store.specs.StampList.{shown_stamp};
+ghost use Rattle.record_store.specs.Store.{IsNewStore, HoldsTheSame, HasRoom, KeepsRoom, UsesRoom, room_at, copy_state_at, state_with, digests_of, digests_above, without_copy, joined, answer};
 
 use crate::joined::Joined;
 use crate::stamp::Stamp;
@@ -33,11 +33,11 @@ impl Model for RecordStore {
     ghost use Rattle.std.specs.Coded.{codes};
     ghost use Rattle.conflict_order.specs.contracts.policy.Policy as policy;
     ghost use Rattle.cluster_types.specs.Partitions.{partition_count};
-    ghost use Rattle.record_store.specs.Store.{Store, records_code, stamps_code};
+    ghost use Rattle.record_store.specs.Store.{StoreWithRoom, records_code, stamps_code};
     ghost use Rattle.record_store.specs.Copies.{copies_of, rooms_of, versions_of, AreCopies};
     ghost use Rattle.record_store.specs.StampList.{stamps_of};
 
-    ghost Value = { Store };
+    ghost Value = { StoreWithRoom };
 
     ghost coded = { Prim.hlevel (codes, records_code, stamps_code, policy.the_row.coded) };
 
@@ -74,7 +74,7 @@ impl RecordStore {
 
     /// The state of the partition's copy: empty while it has no record, also where it has a stamp.
     pub fn state(&self, p: PartitionId) -> CopyState
-        ensures { result ≡ state_at self.now p }
+        ensures { result ≡ copy_state_at self.now p }
     {
         let place = place_of(p);
         copy_state(&self.copies[place], self.stamps[place])
@@ -82,14 +82,14 @@ impl RecordStore {
 
     /// The stamp of the partition's copy, which also stays while the copy has no record.
     pub fn stamp_at(&self, p: PartitionId) -> Option<Stamp>
-        ensures { shown result ≡ finite.get self.now.stamps p }
+        ensures { shown_stamp result ≡ finite.get self.now.stamps p }
     {
         self.stamps[place_of(p)]
     }
 
     /// The states of all copies.
     pub fn row(&self, alloc: Global) -> Result<StateRow, NoMemory>
-        ensures { IfOk result (λ row. (p : ℕ) → p < partition_count → state_of row p ≡ state_at self.now p) }
+        ensures { IfOk result (λ row. (p : ℕ) → p < partition_count → state_of row p ≡ copy_state_at self.now p) }
     {
         let mut row = StateRow::new(alloc);
         for number in 0..PARTITIONS {
@@ -180,7 +180,7 @@ impl RecordStore {
         after: Option<&Digest>,
         max: usize,
     ) -> Result<DigestList, NoMemory>
-        ensures { IfOk result (λ ds. ds ≡ take max (above (option_copied after.entry) (digests_of self.now.versions p))) }
+        ensures { IfOk result (λ ds. ds ≡ take max (digests_above (option_copied after.entry) (digests_of self.now.versions p))) }
     {
         let records = &self.copies[place_of(p)];
         match after {
@@ -200,7 +200,7 @@ fn place_of(p: PartitionId) -> usize
 
 /// The state of a copy with these records and that stamp.
 fn copy_state(records: &SortedChain<Version>, stamp: Option<Stamp>) -> CopyState
-    ensures { result ≡ state_with (map (λ e. e.0) records.now.items) (shown stamp) }
+    ensures { result ≡ state_with (map (λ e. e.0) records.now.items) (shown_stamp stamp) }
 {
     if records.is_empty() {
         return CopyState::Empty;

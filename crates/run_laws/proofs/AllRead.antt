@@ -31,17 +31,17 @@ use Rattle.node_rules.specs.Batches.{Target, Targets, next_batch}
 use Rattle.node_rules.specs.ByParts.{entered_alone}
 use Rattle.node_rules.specs.Copies.{is_nil}
 use Rattle.node_rules.specs.Effects.{to_each}
-use Rattle.node_rules.specs.Exchange.{Exchange, View, is_member, key_of}
+use Rattle.node_rules.specs.Exchange.{Exchange, View, is_member, exchange_key}
 use Rattle.node_rules.specs.Facts.{Facts, view_key, list_at}
 use Rattle.node_rules.specs.Hearing.{heard_ids}
 use Rattle.node_rules.specs.Map.{lacks}
 use Rattle.node_rules.specs.Messages as due
 use Rattle.node_rules.specs.Messages.{due_message, map_table}
 use Rattle.node_rules.specs.Notes as notes
-use Rattle.node_rules.specs.Notes.{noted, note, neighbours, after_ages, reached, in_view, new_transaction}
-use Rattle.node_rules.specs.Requests.{due_request, asking, request_if, refusal_of}
+use Rattle.node_rules.specs.Notes.{noted, note, neighbours, after_ages, reached, in_view, opening_transaction}
+use Rattle.node_rules.specs.Requests.{due_request, asking, request_if, request_refusal}
 use Rattle.node_rules.specs.Resolving.{repl, resolving_want}
-use Rattle.node_rules.specs.Settling.{line_if, hand, settle, learn, drop, settling, settling_at, settling_from, settling_if}
+use Rattle.node_rules.specs.Settling.{line_if, hand, settle, learn, drop, settling_due, settling_at, settling_from, settling_if}
 use Rattle.node_rules.specs.Standing.{others, other_replicas, asked, knows_all_settled}
 use Rattle.node_rules.specs.Tick as tick
 use Rattle.node_rules.specs.Tick.{propose, is_candidate, state, progress_message, done_from, tick_if}
@@ -61,7 +61,7 @@ use Rattle.key_laws.proofs.NamedSends.{aged_proposal}
 use Rattle.key_laws.proofs.Neighbours.{all_cons, all_none}
 use Rattle.key_laws.proofs.Peopled.{FitsRack}
 use Rattle.run_laws.specs.LineDue.{LawOf}
-use Rattle.run_laws.specs.Spelled.{AreRead, is_ranged}
+use Rattle.run_laws.specs.Spelled.{AreReadInRange, is_ranged}
 use Rattle.run_laws.specs.Tied.{Each}
 use Rattle.run_laws.proofs.Named.{once}
 use Rattle.run_laws.proofs.NodeLaws.{reached_law, set_length}
@@ -73,7 +73,7 @@ use Rattle.run_laws.proofs.ViewSteps.{Viewed, view_of}
 abbrev pub FreeRead : List (ℕ × Message) → Type 0
 FreeRead ss = Each (λ (s : ℕ × Message). is_ranged s.1 ≡ false → message_of (spelling s.1) ≡ Some s.1) ss
 
-pub all_read : (ss : List (ℕ × Message)) → AreRead ss → FreeRead ss → steps.AreRead ss
+pub all_read : (ss : List (ℕ × Message)) → AreReadInRange ss → FreeRead ss → steps.AreRead ss
 all_read [] a b = tt
 all_read (s ∷ ss) a b = (go (is_ranged s.1) refl, all_read ss a.1 b.1)
   where
@@ -240,12 +240,12 @@ later_free g i h =
 propose_free : (g : Facts) → IsId g.me → AreMembersField (neighbours g) → ((p : Proposal) → g.agreement.proposal ≡ Some p → ProposalFits p) → FreeRead (propose g).sends
 propose_free g id near h = go g.agreement.proposal refl
   where
-    to : (ns : List ℕ) → has_round g.agreement ≡ true → FreeRead (tick.proposing_to g (next_key g.me g.agreement) (neighbours g) ns).sends
+    to : (ns : List ℕ) → has_round g.agreement ≡ true → FreeRead (tick.proposal_effects g (next_key g.me g.agreement) (neighbours g) ns).sends
     to [] e = tt
     to (n ∷ ns) e = each_free (n ∷ ns) (message.Propose (next_key g.me g.agreement) (neighbours g)) (next_is_key g.me g.agreement id e, near)
 
     new : (b : Bool) → (is_candidate g && has_round g.agreement) ≡ b → FreeRead (tick.propose_new g b).sends
-    new true e = to (agreement.others g.me (neighbours g)) (and_right (is_candidate g) _ e)
+    new true e = to (agreement.others_among g.me (neighbours g)) (and_right (is_candidate g) _ e)
     new false e = tt
 
     go : (o : Option Proposal) → g.agreement.proposal ≡ o → FreeRead (tick.propose_with g o).sends
@@ -260,29 +260,29 @@ exchanged_in f inside e = go f.exchange.view refl
     go (Some v) i = (v, i)
 
 tick_parts_free : (g : Facts) → TicksSpelled g → IsKeyOrNone g.agreement.promised → ((v : View) → g.exchange.view ≡ Some v → IsKeyField (view_key g)) → ((p : Proposal) → g.agreement.proposal ≡ Some p → ProposalFits p) → (g.exchange.view ≡ None → g.exchange.exchanged ≡ false) → Wide g
-    → FreeRead ((tick.beat g).sends ++ ((propose g).sends ++ later partition_count (noted None g (propose g).lines) (noted None (noted None g (propose g).lines) (settling partition_count (noted None g (propose g).lines)))))
+    → FreeRead ((tick.beat g).sends ++ ((propose g).sends ++ later partition_count (noted None g (propose g).lines) (noted None (noted None g (propose g).lines) (settling_due partition_count (noted None g (propose g).lines)))))
 tick_parts_free g t promised key h inside wide =
     append_free _ _ (each_free g.peers (message.Heartbeat (view_key g) g.agreement.promised (heard_ids g.hearing.heard) g.role) (t.view, promised, t.heard, t.rack))
     (append_free _ _ (propose_free g t.me t.neighbours h) (go (enters_alone g.me g.agreement (neighbours g) (is_candidate g)) refl))
   where
-    go : (b : Bool) → enters_alone g.me g.agreement (neighbours g) (is_candidate g) ≡ b → FreeRead (later partition_count (noted None g (propose g).lines) (noted None (noted None g (propose g).lines) (settling partition_count (noted None g (propose g).lines))))
+    go : (b : Bool) → enters_alone g.me g.agreement (neighbours g) (is_candidate g) ≡ b → FreeRead (later partition_count (noted None g (propose g).lines) (noted None (noted None g (propose g).lines) (settling_due partition_count (noted None g (propose g).lines))))
     go true e =
         let k : Facts = entered_alone g (agreement.next_key g.me g.agreement) (neighbours g) in
         let alone : Alone k = alone_in (record g { agreement = agreement.promising g.agreement (agreement.next_key g.me g.agreement) }) (agreement.next_key g.me g.agreement) (neighbours g) _ (alone_now g (neighbours g) e) in
-        let i : Facts = noted None k (settling partition_count k) in
-        subst (λ (x : Facts). FreeRead (later partition_count x (noted None x (settling partition_count x)))) (sym (alone_is g e))
-        (subst (λ (ms : List (ℕ × Message)). FreeRead ms) (sym (nothing_later partition_count k i alone (same_others k i (noted_me None k (settling partition_count k)) (settled_view partition_count k k.exchange.exchanged)))) tt)
+        let i : Facts = noted None k (settling_due partition_count k) in
+        subst (λ (x : Facts). FreeRead (later partition_count x (noted None x (settling_due partition_count x)))) (sym (alone_is g e))
+        (subst (λ (ms : List (ℕ × Message)). FreeRead ms) (sym (nothing_later partition_count k i alone (same_others k i (noted_me None k (settling_due partition_count k)) (settled_view partition_count k k.exchange.exchanged)))) tt)
     go false e =
         let k : Facts = record g { agreement = (noted None g (propose g).lines).agreement } in
-        let i : Facts = noted None k (settling partition_count k) in
+        let i : Facts = noted None k (settling_due partition_count k) in
         let same : i.exchange ≡ g.exchange = settled_view partition_count k k.exchange.exchanged in
         let w : Wide i = settled_wide partition_count k k.exchange.exchanged (record { handed = wide.handed; settled = wide.settled }) in
-        subst (λ (x : Facts). FreeRead (later partition_count x (noted None x (settling partition_count x)))) (sym (among_others_is g e))
+        subst (λ (x : Facts). FreeRead (later partition_count x (noted None x (settling_due partition_count x)))) (sym (among_others_is g e))
         (later_free k i (λ q. progress_proper i true (field i same (and_left i.exchange.exchanged _ q)) w))
       where
         field : (i : Facts) → i.exchange ≡ g.exchange → i.exchange.exchanged ≡ true → IsKeyField (view_key i)
         field i same q = let v : (v : View) × (g.exchange.view ≡ Some v) = exchanged_in g inside (ap (λ (x : Exchange). x.exchanged) (sym same) ∙ q) in
-            subst (λ (x : Exchange). IsKeyField (key_of x.view)) (sym same) (key v.0 v.1)
+            subst (λ (x : Exchange). IsKeyField (exchange_key x.view)) (sym same) (key v.0 v.1)
 
 pub tick_free : {by : Policy} {factor : ℕ} (f : Facts) → LawOf by factor f → Spells f → TicksSpelled (after_ages f) → (b : Bool) → FreeRead (tick_if partition_count f b).sends
 tick_free {by} {factor} f law s t true = tick_parts_free (after_ages f) t s.promised s.key (λ p e. s.proposal p (aged_proposal f p e)) law.inside (record { handed = law.handed_places; settled = law.settled_places })
@@ -296,10 +296,10 @@ resolving_free f clock l x (want.Put bytes) = ranged_free (other_replicas f l) _
 resolving_free f clock l x want.Del = ranged_free (other_replicas f l) _ refl
 
 pub request_free : (f : Facts) (clock : ℕ) (d : List ℕ) (w : Want) → FreeRead (due_request f clock d w).sends
-request_free f clock d w = go (refusal_of f (list_at f (partition_of d)) d)
+request_free f clock d w = go (request_refusal f (list_at f (partition_of d)) d)
   where
     new : Transaction
-    new = new_transaction f (list_at f (partition_of d)) (f.transactions.opened + 1) d w
+    new = opening_transaction f (list_at f (partition_of d)) (f.transactions.opened + 1) d w
 
     asks : (ns : List ℕ) → FreeRead (asking f clock (list_at f (partition_of d)) new ns).sends
     asks [] = resolving_free f clock (list_at f (partition_of d)) new w
@@ -321,16 +321,16 @@ pub message_free : {by : Policy} {factor : ℕ} (f : Facts) (clock from : ℕ) (
 message_free {by} {factor} f clock from (message.Heartbeat view promised hears role) p law s = tt
 message_free {by} {factor} f clock from (message.Propose k ms) p law s = go (keys.key_lt k f.agreement.promised) refl
   where
-    go : (b : Bool) → keys.key_lt k f.agreement.promised ≡ b → FreeRead (due.voting f from k b).sends
+    go : (b : Bool) → keys.key_lt k f.agreement.promised ≡ b → FreeRead (due.vote_effects f from k b).sends
     go true e = each_free (from ∷ []) (message.Refuse k f.agreement.promised) (p.0, ⊎_elim (λ q. absurd (none_above k f.agreement.promised e q)) (λ q. q) s.promised)
     go false e = each_free (from ∷ []) (message.Accept k) p.0
 message_free {by} {factor} f clock from (message.Accept k) p law s = go f.agreement.proposal refl (proposes f.agreement.proposal k)
   where
-    commits : (x : Proposal) → f.agreement.proposal ≡ Some x → (b : Bool) → FreeRead (due.committing f x b).sends
-    commits x e true = each_free (agreement.others f.me x.members) (message.Commit x.key x.members) ((s.proposal x e).key, (s.proposal x e).members)
+    commits : (x : Proposal) → f.agreement.proposal ≡ Some x → (b : Bool) → FreeRead (due.commit_effects f x b).sends
+    commits x e true = each_free (agreement.others_among f.me x.members) (message.Commit x.key x.members) ((s.proposal x e).key, (s.proposal x e).members)
     commits x e false = tt
 
-    go : (o : Option Proposal) → f.agreement.proposal ≡ o → (b : Bool) → FreeRead (due.counting f from k o b).sends
+    go : (o : Option Proposal) → f.agreement.proposal ≡ o → (b : Bool) → FreeRead (due.accept_effects f from k o b).sends
     go (Some x) e true = commits x e (is_nil (without_missing x from).missing)
     go (Some x) e false = tt
     go None e b = tt
@@ -339,9 +339,10 @@ message_free {by} {factor} f clock from (message.Refuse k promised) p law s = go
     go : (b : Bool) → FreeRead (due.unless_stale f b).sends
     go true = tt
     go false = tt
-message_free {by} {factor} f clock from (message.Commit k ms) p law s = go (due.may_enter f k ms)
+message_free {by} {factor} f clock from (message.Commit k ms) p law s = go
+    (due.may_enter_view f k ms)
   where
-    go : (b : Bool) → FreeRead (due.entering_if f k ms b).sends
+    go : (b : Bool) → FreeRead (due.entry_effects_if f k ms b).sends
     go true = tt
     go false = tt
 message_free {by} {factor} f clock from (message.State k wants row) p law s = go (in_view f k)
@@ -381,7 +382,7 @@ message_free {by} {factor} f clock from (message.Progress k wants done handed se
         (progress_proper now false (subst (λ (q : ClusterKey). IsKeyField q) (sym (same (in_view f k))) key) (wide_of (reached_law by factor f from (message.Progress k wants done handed settled) p law)))
     answers key false = tt
 
-    go : (b : Bool) → in_view f k ≡ b → FreeRead (due.progress_came partition_count f now from wants b).sends
+    go : (b : Bool) → in_view f k ≡ b → FreeRead (due.progress_effects_if partition_count f now from wants b).sends
     go true e = let v : Viewed f k = view_of f k e in answers (s.key v.view v.is) (wants && knows_all_settled now partition_count 0)
     go false e = tt
 message_free {by} {factor} f clock from (message.Repl k t nth d v) p law s = go (in_view f k)
@@ -421,7 +422,7 @@ message_free {by} {factor} f clock from (message.Answer k t v) p law s = go (in_
     opens None = tt
     opens (Some y) = awaited y (awaits_answer y from)
 
-    go : (b : Bool) → FreeRead (due.answer_came f clock from t v b).sends
+    go : (b : Bool) → FreeRead (due.answer_effects_if f clock from t v b).sends
     go true = opens (transaction f.transactions t)
     go false = tt
 message_free {by} {factor} f clock from message.MapAsk p law s = go f.exchange.exchanged refl

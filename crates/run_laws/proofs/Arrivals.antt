@@ -18,23 +18,23 @@ use Rattle.node_rules.specs.Copies.{Row}
 use Rattle.node_rules.specs.Exchange as exchange
 use Rattle.node_rules.specs.Exchange.{View}
 use Rattle.node_rules.specs.Facts.{Facts, list_at}
-use Rattle.node_rules.specs.Map.{master}
+use Rattle.node_rules.specs.Map.{list_master}
 use Rattle.node_rules.specs.Hearing.{Hearing}
 use Rattle.node_rules.specs.Notes as notes
 use Rattle.node_rules.specs.Notes.{reached, in_view}
 use Rattle.node_rules.specs.Tables.{changed_if}
 use Rattle.node_rules.specs.Transactions as transactions
 use Rattle.node_rules.specs.Transactions.{Transaction, transaction, awaits_answer, awaits_ack}
-use Rattle.cluster_rules.specs.World.{World, at}
+use Rattle.cluster_rules.specs.World.{World, changed_at}
 use Rattle.cluster_laws.specs.Changed.{at_number, at_key, at_stay}
 use Rattle.cluster_laws.specs.Changes as changes
 use Rattle.cluster_laws.specs.Changes.{act, owes}
-use Rattle.cluster_laws.specs.Effect.{Effect, Nothing, Row_came, Batch_acked, Told, Write_came, Write_acked, Answered, effect_if, is_view, batch_ack, write_ack, answer, comes}
+use Rattle.cluster_laws.specs.Effect.{Effect, Nothing, Row_came, Batch_acked, Told, Write_came, Write_acked, Answered, effect_if, is_view_key, batch_ack, write_ack, answer_effect, comes}
 use Rattle.cluster_laws.specs.Ground.{Ground}
 use Rattle.cluster_laws.specs.Picture.{Seen, Owed, Picture}
 use Rattle.cluster_laws.specs.Stay.{Running, Stay}
 use Rattle.cluster_laws.proofs.At.{key_same, some_same, no_some, differ}
-use Rattle.run_laws.specs.Tied.{Seens, Stays, key_in, shown}
+use Rattle.run_laws.specs.Tied.{Seens, Stays, key_in, running_from}
 use Rattle.run_laws.specs.Fronts.{NodeTie, Ties, owed_if, owed_by, SaneNode}
 use Rattle.run_laws.proofs.Moves.{SameTie, same_tie, unmoved, in_view as in_view_tie, facts_only, with_stay, with_both}
 use Rattle.run_laws.proofs.Reached.{row_tied, progress_tied, write_tied, changed_tied, unchanged_tied}
@@ -75,10 +75,10 @@ with_other f h a up role e = record {
 
 -- ---- the view's test
 
-view_test : (f : Facts) (x : Seen) (k : ClusterKey) → Seens f x → is_view x.view k ≡ in_view f k
-view_test f x k s = ap (λ (o : Option ClusterKey). is_view o k) s.view ∙ go f.exchange.view
+view_test : (f : Facts) (x : Seen) (k : ClusterKey) → Seens f x → is_view_key x.view k ≡ in_view f k
+view_test f x k s = ap (λ (o : Option ClusterKey). is_view_key o k) s.view ∙ go f.exchange.view
   where
-    go : (o : Option View) → is_view (key_in o) k ≡ exchange.is_view o k
+    go : (o : Option View) → is_view_key (key_in o) k ≡ exchange.is_view o k
     go None = refl
     go (Some v) = refl
 
@@ -107,7 +107,7 @@ pub record Reach (G : Ground) (z : World) (c : ℕ → Bool) (due : Option Owed)
 
 -- the tie with these facts of the node, after an effect
 abbrev pub Now : Ground → World → (ℕ → Bool) → Picture → ℕ → Facts → Effect → Option Owed → Type 0
-Now G z c w n g e o = Ties (at z.facts n g) z.clocks c z.network o (act G e w).node (act G e w).stay (act G e w).packet (act G e w).owed
+Now G z c w n g e o = Ties (changed_at z.facts n g) z.clocks c z.network o (act G e w).node (act G e w).stay (act G e w).packet (act G e w).owed
 
 as_it_was : {G : Ground} {z : World} {c : ℕ → Bool} {due : Option Owed} {w : Picture} {n : ℕ} → Reach G z c due w n → Now G z c w n (z.facts n) Nothing due
 as_it_was {G} {z} {c} {due} {w} {n} r = facts_only z.facts z.clocks c c z.network due w.node w.stay w.packet w.owed n (z.facts n) (unmoved n c) (r.tie.nodes n) r.tie
@@ -130,7 +130,7 @@ stilled {G} {z} {c} {due} {w} {n} r k g e same sn st = facts_only z.facts z.cloc
 
 -- in the view, with another stay
 stayed : {G : Ground} {z : World} {c : ℕ → Bool} {due : Option Owed} {w : Picture} {n : ℕ} → Reach G z c due w n → (k : ClusterKey) (g : Facts) (s : Stay) → key_in (z.facts n).exchange.view ≡ Some k → key_in g.exchange.view ≡ Some k
-    → Seens g (w.node n) → Stays g s → s.closing ≡ (w.stay n k).closing → Ties (at z.facts n g) z.clocks c z.network due w.node (at_stay w.stay n k s) w.packet w.owed
+    → Seens g (w.node n) → Stays g s → s.closing ≡ (w.stay n k).closing → Ties (changed_at z.facts n g) z.clocks c z.network due w.node (at_stay w.stay n k s) w.packet w.owed
 stayed {G} {z} {c} {due} {w} {n} r k g s e i sn st cl = with_stay z.facts z.clocks c c z.network due w.node w.stay w.packet w.owed n g (at_key (w.stay n) k s) (unmoved n c)
     (in_view_tie g (w.node n) (w.stay n) k s (z.clocks n) (c n) i sn (r.tie.nodes n).clock st (cl ∙ closing_in (z.facts n) (w.node n) (w.stay n) (z.clocks n) (c n) k (r.tie.nodes n) e)) r.tie
 
@@ -138,7 +138,7 @@ stayed {G} {z} {c} {due} {w} {n} r k g s e i sn st cl = with_stay z.facts z.cloc
 row_at : {G : Ground} {z : World} {c : ℕ → Bool} {due : Option Owed} {w : Picture} {n : ℕ} → Reach G z c due w n → (from : ℕ) (k : ClusterKey) (row : Row) (b : Bool) → in_view (z.facts n) k ≡ b
     → Now G z c w n (notes.row_came (z.facts n) from row b) (effect_if (Row_came n k from) b) due
 row_at {G} {z} {c} {due} {w} {n} r from k row true e = let h : Seens (z.facts n) (w.node n) = (r.tie.nodes n).seen in
-    stayed r k (notes.row_came (z.facts n) from row true) (changes.with_row from (w.stay n k)) (viewed (z.facts n) k e) (viewed (z.facts n) k e)
+    stayed r k (notes.row_came (z.facts n) from row true) (changes.stay_with_row from (w.stay n k)) (viewed (z.facts n) k e) (viewed (z.facts n) k e)
     (record { view = h.view; last = h.last; content = h.content; stamp = h.stamp }) (row_tied (z.facts n) (w.stay n k) from row (the_stay r k (viewed (z.facts n) k e))) refl
 row_at r from k row false e = as_it_was r
 
@@ -162,14 +162,14 @@ ack_at {G} {z} {c} {due} {w} {n} r from k number true e = go (out_to (z.facts n)
     go (Some b) i = by (b.number == number) refl
       where
         by : (q : Bool) → (b.number == number) ≡ q → Now G z c w n (notes.batch_acked (z.facts n) from number true) (effect_if (Batch_acked n k from b) q) due
-        by true j = stayed r k (notes.batch_acked (z.facts n) from number true) (changes.without_batch from b (w.stay n k)) v v same_seen (acked_tied (z.facts n) (w.stay n k) from number b i j (the_stay r k v)) refl
+        by true j = stayed r k (notes.batch_acked (z.facts n) from number true) (changes.stay_without_batch from b (w.stay n k)) v v same_seen (acked_tied (z.facts n) (w.stay n k) from number b i j (the_stay r k v)) refl
         by false j = unspent (λ x l. ap (λ (y : Batch). y.number == number) (some_same (sym l ∙ i)) ∙ j)
 
 -- a progress
 progress_at : {G : Ground} {z : World} {c : ℕ → Bool} {due : Option Owed} {w : Picture} {n : ℕ} → Reach G z c due w n → (from : ℕ) (k : ClusterKey) (done handed settled : List Bool) (b : Bool) → in_view (z.facts n) k ≡ b
     → Now G z c w n (notes.progress_came (z.facts n) from done handed settled b) (effect_if (Told n k from done handed settled) b) due
 progress_at {G} {z} {c} {due} {w} {n} r from k done handed settled true e = let h : Seens (z.facts n) (w.node n) = (r.tie.nodes n).seen in
-    stayed r k (notes.progress_came (z.facts n) from done handed settled true) (changes.with_bits from done handed settled (w.stay n k)) (viewed (z.facts n) k e) (viewed (z.facts n) k e)
+    stayed r k (notes.progress_came (z.facts n) from done handed settled true) (changes.stay_with_bits from done handed settled (w.stay n k)) (viewed (z.facts n) k e) (viewed (z.facts n) k e)
     (record { view = h.view; last = h.last; content = h.content; stamp = h.stamp }) (progress_tied (z.facts n) (w.stay n k) from done handed settled (the_stay r k (viewed (z.facts n) k e))) refl
 progress_at r from k done handed settled false e = as_it_was r
 
@@ -186,22 +186,22 @@ write_at {G} {z} {c} {due} {w} {n} r from k nth d v true e = record {
     at_view : key_in (z.facts n).exchange.view ≡ Some k
     at_view = viewed (z.facts n) k e
 
-    both : Seens (notes.write_came (z.facts n) from k nth (partition_of d) true) (changes.counting G (z.facts n).me k from (partition_of d) (changes.hearing G k from nth (partition_of d) (w.stay n k)) (w.node n))
+    both : Seens (notes.write_came (z.facts n) from k nth (partition_of d) true) (changes.seen_after_count G (z.facts n).me k from (partition_of d) (changes.hearing G k from nth (partition_of d) (w.stay n k)) (w.node n))
         × Stays (notes.write_came (z.facts n) from k nth (partition_of d) true) (changes.hearing G k from nth (partition_of d) (w.stay n k))
     both = write_tied G k (z.facts n) (w.node n) (w.stay n k) from nth (partition_of d) (below_count d) (views_at G n (z.facts n) k r.sane at_view) (r.tie.nodes n).seen (the_stay r k at_view)
 
-    same_view : (q : Bool) → key_in (notes.counted_if (z.facts n) k (list_at (z.facts n) (partition_of d)) (partition_of d) nth q).exchange.view ≡ Some k
+    same_view : (q : Bool) → key_in (notes.write_counted_if (z.facts n) k (list_at (z.facts n) (partition_of d)) (partition_of d) nth q).exchange.view ≡ Some k
     same_view true = at_view
     same_view false = at_view
 
-    moved : Ties (at z.facts n (notes.write_came (z.facts n) from k nth (partition_of d) true)) z.clocks c z.network due
-        (at_number w.node n (changes.counting G n k from (partition_of d) (changes.hearing G k from nth (partition_of d) (w.stay n k)) (w.node n)))
+    moved : Ties (changed_at z.facts n (notes.write_came (z.facts n) from k nth (partition_of d) true)) z.clocks c z.network due
+        (at_number w.node n (changes.seen_after_count G n k from (partition_of d) (changes.hearing G k from nth (partition_of d) (w.stay n k)) (w.node n)))
         (at_stay w.stay n k (changes.hearing G k from nth (partition_of d) (w.stay n k))) w.packet w.owed
     moved = with_both z.facts z.clocks c c z.network due w.node w.stay w.packet w.owed n (notes.write_came (z.facts n) from k nth (partition_of d) true)
-        (changes.counting G n k from (partition_of d) (changes.hearing G k from nth (partition_of d) (w.stay n k)) (w.node n)) (at_key (w.stay n) k (changes.hearing G k from nth (partition_of d) (w.stay n k))) (unmoved n c)
-        (in_view_tie (notes.write_came (z.facts n) from k nth (partition_of d) true) (changes.counting G n k from (partition_of d) (changes.hearing G k from nth (partition_of d) (w.stay n k)) (w.node n)) (w.stay n) k (changes.hearing G k from nth (partition_of d) (w.stay n k)) (z.clocks n) (c n)
-        (same_view (from == master (list_at (z.facts n) (partition_of d))))
-        (subst (λ (m : ℕ). Seens (notes.write_came (z.facts n) from k nth (partition_of d) true) (changes.counting G m k from (partition_of d) (changes.hearing G k from nth (partition_of d) (w.stay n k)) (w.node n))) r.sane.me both.0)
+        (changes.seen_after_count G n k from (partition_of d) (changes.hearing G k from nth (partition_of d) (w.stay n k)) (w.node n)) (at_key (w.stay n) k (changes.hearing G k from nth (partition_of d) (w.stay n k))) (unmoved n c)
+        (in_view_tie (notes.write_came (z.facts n) from k nth (partition_of d) true) (changes.seen_after_count G n k from (partition_of d) (changes.hearing G k from nth (partition_of d) (w.stay n k)) (w.node n)) (w.stay n) k (changes.hearing G k from nth (partition_of d) (w.stay n k)) (z.clocks n) (c n)
+        (same_view (from == list_master (list_at (z.facts n) (partition_of d))))
+        (subst (λ (m : ℕ). Seens (notes.write_came (z.facts n) from k nth (partition_of d) true) (changes.seen_after_count G m k from (partition_of d) (changes.hearing G k from nth (partition_of d) (w.stay n k)) (w.node n))) r.sane.me both.0)
         (r.tie.nodes n).clock both.1 (closing_in (z.facts n) (w.node n) (w.stay n) (z.clocks n) (c n) k (r.tie.nodes n) at_view)) r.tie
 
 -- ---- a transaction changes where a test holds
@@ -232,9 +232,9 @@ spent_at {G} {z} {c} {due} {w} {n} r k number change test v keeps none = stilled
 -- where it counts
 counts_at : {G : Ground} {z : World} {c : ℕ → Bool} {due : Option Owed} {w : Picture} {n : ℕ} → Reach G z c due w n → (k : ClusterKey) (number : ℕ) (change : Transaction → Transaction) (test : Transaction → Bool) (y : Transaction) → key_in (z.facts n).exchange.view ≡ Some k
     → ((x : Transaction) → (change x).number ≡ x.number) → transaction (z.facts n).transactions number ≡ Some y → test y ≡ true
-    → Ties (at z.facts n (with_change (z.facts n) number change test)) z.clocks c z.network due w.node (at_stay w.stay n k (changes.running_as number (shown (change y)) (w.stay n k))) w.packet w.owed
-counts_at {G} {z} {c} {due} {w} {n} r k number change test y v keeps is holds = stayed r k (with_change (z.facts n) number change test) (changes.running_as number (shown (change y)) (w.stay n k)) v v (changed_seen (z.facts n) (w.node n) number change test (r.tie.nodes n).seen)
-    (subst (λ (b : Bool). Stays (with_change (z.facts n) number change test) (changes.running_as number (shown (changed_if change y b)) (w.stay n k))) holds
+    → Ties (changed_at z.facts n (with_change (z.facts n) number change test)) z.clocks c z.network due w.node (at_stay w.stay n k (changes.running_as number (running_from (change y)) (w.stay n k))) w.packet w.owed
+counts_at {G} {z} {c} {due} {w} {n} r k number change test y v keeps is holds = stayed r k (with_change (z.facts n) number change test) (changes.running_as number (running_from (change y)) (w.stay n k)) v v (changed_seen (z.facts n) (w.node n) number change test (r.tie.nodes n).seen)
+    (subst (λ (b : Bool). Stays (with_change (z.facts n) number change test) (changes.running_as number (running_from (changed_if change y b)) (w.stay n k))) holds
     (changed_tied (z.facts n) (w.stay n k) number (λ x. changed_if change x (test x)) y (kept_number change test keeps) is (the_stay r k v))) refl
 
 repl_ack_at : {G : Ground} {z : World} {c : ℕ → Bool} {due : Option Owed} {w : Picture} {n : ℕ} → Reach G z c due w n → (from : ℕ) (k : ClusterKey) (number : ℕ) (b : Bool) → in_view (z.facts n) k ≡ b
@@ -245,31 +245,32 @@ repl_ack_at {G} {z} {c} {due} {w} {n} r from k number true e = subst (λ (o : Op
     v : key_in (z.facts n).exchange.view ≡ Some k
     v = viewed (z.facts n) k e
 
-    go : (o : Option Transaction) → transaction (z.facts n).transactions number ≡ o → Now G z c w n (notes.write_acked (z.facts n) from number true) (write_ack n k from number (option_map shown o)) due
+    go : (o : Option Transaction) → transaction (z.facts n).transactions number ≡ o → Now G z c w n (notes.write_acked (z.facts n) from number true) (write_ack n k from number (option_map running_from o)) due
     go None i = spent_at r k number (transactions.acknowledged from) (λ x. awaits_ack x from) v (λ x. refl) (λ y j. no_some (sym i ∙ j))
     go (Some y) i = by (awaits_ack y from) refl
       where
-        by : (q : Bool) → awaits_ack y from ≡ q → Now G z c w n (notes.write_acked (z.facts n) from number true) (effect_if (Write_acked n k from number (shown y)) q) due
+        by : (q : Bool) → awaits_ack y from ≡ q → Now G z c w n (notes.write_acked (z.facts n) from number true) (effect_if (Write_acked n k from number (running_from y)) q) due
         by true j = counts_at r k number (transactions.acknowledged from) (λ x. awaits_ack x from) y v (λ x. refl) i j
         by false j = spent_at r k number (transactions.acknowledged from) (λ x. awaits_ack x from) v (λ x. refl) (λ x l. ap (λ (m : Transaction). awaits_ack m from) (some_same (sym l ∙ i)) ∙ j)
 
 answer_at : {G : Ground} {z : World} {c : ℕ → Bool} {due : Option Owed} {w : Picture} {n : ℕ} → Reach G z c due w n → (from : ℕ) (k : ClusterKey) (number : ℕ) (a : Option Version) (b : Bool) → in_view (z.facts n) k ≡ b
-    → Now G z c w n (notes.answer_came (z.facts n) from number a b) (effect_if (answer n k from number a ((w.stay n k).running number)) b) due
+    → Now G z c w n (notes.answer_came (z.facts n) from number a b) (effect_if (answer_effect n k from number a ((w.stay n k).running number)) b) due
 answer_at r from k number a false e = as_it_was r
-answer_at {G} {z} {c} {due} {w} {n} r from k number a true e = subst (λ (o : Option Running). Now G z c w n (notes.answer_came (z.facts n) from number a true) (answer n k from number a o) due) (sym ((the_stay r k v).running number)) (go (transaction (z.facts n).transactions number) refl)
+answer_at {G} {z} {c} {due} {w} {n} r from k number a true e = subst (λ (o : Option Running). Now G z c w n (notes.answer_came (z.facts n) from number a true) (answer_effect n k from number a o) due) (sym ((the_stay r k v).running number)) (go (transaction (z.facts n).transactions number) refl)
   where
     v : key_in (z.facts n).exchange.view ≡ Some k
     v = viewed (z.facts n) k e
 
-    by_ground : (y : Transaction) → changes.with_answer G.by from a (shown y) ≡ shown (transactions.answered (z.facts n).store.by from a y)
-    by_ground y = ap (λ (p : Policy). changes.with_answer p from a (shown y)) r.sane.by
+    by_ground : (y : Transaction) → changes.running_with_answer G.by from a (running_from y) ≡ running_from (transactions.answered (z.facts n).store.by from a y)
+    by_ground y = ap
+        (λ (p : Policy). changes.running_with_answer p from a (running_from y)) r.sane.by
 
-    go : (o : Option Transaction) → transaction (z.facts n).transactions number ≡ o → Now G z c w n (notes.answer_came (z.facts n) from number a true) (answer n k from number a (option_map shown o)) due
+    go : (o : Option Transaction) → transaction (z.facts n).transactions number ≡ o → Now G z c w n (notes.answer_came (z.facts n) from number a true) (answer_effect n k from number a (option_map running_from o)) due
     go None i = spent_at r k number (transactions.answered (z.facts n).store.by from a) (λ x. awaits_answer x from) v (λ x. refl) (λ y j. no_some (sym i ∙ j))
     go (Some y) i = by (awaits_answer y from) refl
       where
-        by : (q : Bool) → awaits_answer y from ≡ q → Now G z c w n (notes.answer_came (z.facts n) from number a true) (effect_if (Answered n k from number a (shown y)) q) due
-        by true j = subst (λ (x : Running). Ties (at z.facts n (notes.answer_came (z.facts n) from number a true)) z.clocks c z.network due w.node (at_stay w.stay n k (changes.running_as number x (w.stay n k))) w.packet w.owed) (sym (by_ground y))
+        by : (q : Bool) → awaits_answer y from ≡ q → Now G z c w n (notes.answer_came (z.facts n) from number a true) (effect_if (Answered n k from number a (running_from y)) q) due
+        by true j = subst (λ (x : Running). Ties (changed_at z.facts n (notes.answer_came (z.facts n) from number a true)) z.clocks c z.network due w.node (at_stay w.stay n k (changes.running_as number x (w.stay n k))) w.packet w.owed) (sym (by_ground y))
             (counts_at r k number (transactions.answered (z.facts n).store.by from a) (λ x. awaits_answer x from) y v (λ x. refl) i j)
         by false j = spent_at r k number (transactions.answered (z.facts n).store.by from a) (λ x. awaits_answer x from) v (λ x. refl) (λ x l. ap (λ (m : Transaction). awaits_answer m from) (some_same (sym l ∙ i)) ∙ j)
 
@@ -285,7 +286,7 @@ refused_last a false = refl
 
 -- the picture tests its own view
 by_view : {G : Ground} {z : World} {c : ℕ → Bool} {due : Option Owed} {w : Picture} {n : ℕ} → Reach G z c due w n → (k : ClusterKey) (g : Bool → Facts) (e : Effect) (o : Bool → Option Owed) → ((b : Bool) → in_view (z.facts n) k ≡ b → Now G z c w n (g b) (effect_if e b) (o b))
-    → Now G z c w n (g (in_view (z.facts n) k)) (effect_if e (is_view (w.node n).view k)) (o (in_view (z.facts n) k))
+    → Now G z c w n (g (in_view (z.facts n) k)) (effect_if e (is_view_key (w.node n).view k)) (o (in_view (z.facts n) k))
 by_view {G} {z} {c} {due} {w} {n} r k g e o h = subst (λ (b : Bool). Now G z c w n (g (in_view (z.facts n) k)) (effect_if e b) (o (in_view (z.facts n) k))) (sym (view_test (z.facts n) (w.node n) k (r.tie.nodes n).seen)) (h (in_view (z.facts n) k) refl)
 
 pub reached_tied : {G : Ground} {z : World} {c : ℕ → Bool} {due : Option Owed} {w : Picture} {n : ℕ} → Reach G z c due w n → (from : ℕ) (m : Message) → Now G z c w n (reached (z.facts n) from m) (comes w n from m) (owed_by (z.facts n) n m due)
@@ -301,5 +302,5 @@ reached_tied {G} {z} {c} {due} {w} {n} r from (message.BatchAck k number) = by_v
 reached_tied {G} {z} {c} {due} {w} {n} r from (message.Progress k wants done handed settled) = by_view r k (notes.progress_came (z.facts n) from done handed settled) (Told n k from done handed settled) (λ b. due) (progress_at r from k done handed settled)
 reached_tied {G} {z} {c} {due} {w} {n} r from (message.Repl k t nth d v) = by_view r k (notes.write_came (z.facts n) from k nth (partition_of d)) (Write_came n k from nth d v) (λ b. owed_if (z.facts n) n k d v b due) (write_at r from k nth d v)
 reached_tied {G} {z} {c} {due} {w} {n} r from (message.ReplAck k t) = by_view r k (notes.write_acked (z.facts n) from t) (write_ack n k from t ((w.stay n k).running t)) (λ b. due) (repl_ack_at r from k t)
-reached_tied {G} {z} {c} {due} {w} {n} r from (message.Answer k t v) = by_view r k (notes.answer_came (z.facts n) from t v) (answer n k from t v ((w.stay n k).running t)) (λ b. due) (answer_at r from k t v)
+reached_tied {G} {z} {c} {due} {w} {n} r from (message.Answer k t v) = by_view r k (notes.answer_came (z.facts n) from t v) (answer_effect n k from t v ((w.stay n k).running t)) (λ b. due) (answer_at r from k t v)
 reached_tied r from _ = as_it_was r

@@ -22,7 +22,7 @@ use Rattle.run_laws.specs.Steps.{Rests, Ended}
 use Rattle.run_laws.specs.Tied.{Each}
 use Rattle.run_laws.proofs.Calmly.{EachPlainly, is_plain}
 use Rattle.run_laws.proofs.NodeSteps.{NodeGo}
-use Rattle.run_laws.specs.Spelled.{AreRead, is_ranged}
+use Rattle.run_laws.specs.Spelled.{AreReadInRange, is_ranged}
 use Rattle.run_laws.proofs.Reading.{ReadsWell}
 use Rattle.run_laws.proofs.Turns.{Elsewhere, ended_but}
 
@@ -58,6 +58,6 @@ pub spent_go : (z : Front) (f : Facts) → Ended z → NodeGo z f.me (spent f)
 spent_go z f h = record { due = ((h.owes, tt), tt); sent = refl; sends = tt; ends = record { owes = h.owes; stays = h.stays; rests = h.rests } }
 
 -- one message to each of those
-pub each_plain : (z : Front) (n : ℕ) (m : Message) (ns : List ℕ) → is_plain m ≡ true → ((r : ℕ) → SendDue z n r m) → ((is_ranged m ≡ true → message_of (spelling m) ≡ Some m) → ReadsWell m) → AreRead (to_each ns m) → EachPlainly z n (to_each ns m)
+pub each_plain : (z : Front) (n : ℕ) (m : Message) (ns : List ℕ) → is_plain m ≡ true → ((r : ℕ) → SendDue z n r m) → ((is_ranged m ≡ true → message_of (spelling m) ≡ Some m) → ReadsWell m) → AreReadInRange (to_each ns m) → EachPlainly z n (to_each ns m)
 each_plain z n m [] p d w r = tt
 each_plain z n m (x ∷ ns) p d w r = (record { plain = p; read = w r.0; due = d x }, each_plain z n m ns p d w r.1)

@@ -26,7 +26,7 @@ use Rattle.cluster_laws.specs.Licences.{IsAmong}
 use Rattle.cluster_laws.proofs.At.{some_same, no_some, digests}
 use Rattle.wire_messages.proofs.DecodingLaws.{what_is_read, read_back}
 use Rattle.run_laws.proofs.Reading.{reads_itself}
-use Rattle.run_laws.specs.Fronts.{Front, world_of, facts_at, after}
+use Rattle.run_laws.specs.Fronts.{Front, world_of, facts_at, front_after}
 use Rattle.run_laws.specs.LineOk.{Came, IsDeclared}
 use Rattle.run_laws.specs.LineDue.{AllDue}
 use Rattle.run_laws.specs.Steps.{RestsWith, Rests}
@@ -34,7 +34,7 @@ use Rattle.run_laws.specs.Tied.{key_in}
 use Rattle.run_laws.proofs.Arrived.{Arrived, ended_at, stale_go}
 use Rattle.run_laws.proofs.CopySteps.{held_at_least, merged_holds}
 use Rattle.run_laws.proofs.NodeSteps.{NodeGo}
-use Rattle.run_laws.specs.Spelled.{AreRead}
+use Rattle.run_laws.specs.Spelled.{AreReadInRange}
 use Rattle.run_laws.proofs.Tables.{joined_at}
 use Rattle.run_laws.proofs.Turns.{after_lines, Elsewhere, nothing_moves, elsewhere_on, ended_but, here, away}
 use Rattle.run_laws.proofs.ViewSteps.{Viewed, view_of}
@@ -87,14 +87,14 @@ merges_go n z f b from u [] me is st o v k named came dec among = record {
     none (suc i) = refl
 merges_go n z f b from u (r ∷ rs) me is st o v k named came dec among = go (is_newer f.store.by r.1 (finite.get f.store.content r.0)) refl
     (merges_go n z f b from u rs me is st o v k named came dec later)
-    (merges_go n (after z (Writes (line.Merge n b.key r.0 r.1))) (notes.merged f b.key r.0 r.1) b from u rs me (here (world_of z).facts n _ ∙ ap (λ (x : Facts). notes.merged x b.key r.0 r.1) is) st refl v k named
+    (merges_go n (front_after z (Writes (line.Merge n b.key r.0 r.1))) (notes.merged f b.key r.0 r.1) b from u rs me (here (world_of z).facts n _ ∙ ap (λ (x : Facts). notes.merged x b.key r.0 r.1) is) st refl v k named
     (record { number = came.number; posting = came.posting; sent = came.sent; ends = came.ends; message = came.message }) dec later)
   where
     later : (d : List ℕ) (x : Version) → IsAmong rs d x → IsAmong b.records d x
     later d x a = among d x (record { place = suc a.place; here = a.here })
 
     -- with the record's own line, where it is newer
-    first : MergesGo n (after z (Writes (line.Merge n b.key r.0 r.1))) (notes.merged f b.key r.0 r.1) rs → MergesLines n z f (r ∷ rs) (line.Merge n b.key r.0 r.1 ∷ merging_all (notes.merged f b.key r.0 r.1) rs) (noted None (notes.merged f b.key r.0 r.1) (merging_all (notes.merged f b.key r.0 r.1) rs))
+    first : MergesGo n (front_after z (Writes (line.Merge n b.key r.0 r.1))) (notes.merged f b.key r.0 r.1) rs → MergesLines n z f (r ∷ rs) (line.Merge n b.key r.0 r.1 ∷ merging_all (notes.merged f b.key r.0 r.1) rs) (noted None (notes.merged f b.key r.0 r.1) (merging_all (notes.merged f b.key r.0 r.1) rs))
     first rest = record {
       due = (
         record {
@@ -121,7 +121,7 @@ merges_go n z f b from u (r ∷ rs) me is st o v k named came dec among = go (is
       };
     }
 
-    go : (q : Bool) → is_newer f.store.by r.1 (finite.get f.store.content r.0) ≡ q → MergesGo n z f rs → MergesGo n (after z (Writes (line.Merge n b.key r.0 r.1))) (notes.merged f b.key r.0 r.1) rs
+    go : (q : Bool) → is_newer f.store.by r.1 (finite.get f.store.content r.0) ≡ q → MergesGo n z f rs → MergesGo n (front_after z (Writes (line.Merge n b.key r.0 r.1))) (notes.merged f b.key r.0 r.1) rs
         → MergesLines n z f (r ∷ rs) (line_if (line.Merge f.me (view_key f) r.0 r.1) q ++ merging_all (noted None f (line_if (line.Merge f.me (view_key f) r.0 r.1) q)) rs)
         (noted None f (line_if (line.Merge f.me (view_key f) r.0 r.1) q ++ merging_all (noted None f (line_if (line.Merge f.me (view_key f) r.0 r.1) q)) rs))
     go true e old new = subst (λ (m : ℕ). MergesLines n z f (r ∷ rs) (line.Merge m (view_key f) r.0 r.1 ∷ merging_all (notes.merged f (view_key f) r.0 r.1) rs) (noted None (notes.merged f (view_key f) r.0 r.1) (merging_all (notes.merged f (view_key f) r.0 r.1) rs))) (sym me)
@@ -145,10 +145,10 @@ merges_go n z f b from u (r ∷ rs) me is st o v k named came dec among = go (is
 
 -- ---- the batch
 
-pub batch_go : {by : Policy} {factor : ℕ} {z0 z : Front} {f : Facts} {clock from : ℕ} {b : Batch} → Arrived by factor z0 z f clock from (message.Batch b) → AreRead (due.due_batch f from b).sends → NodeGo z f.me (due.due_batch f from b)
+pub batch_go : {by : Policy} {factor : ℕ} {z0 z : Front} {f : Facts} {clock from : ℕ} {b : Batch} → Arrived by factor z0 z f clock from (message.Batch b) → AreReadInRange (due.due_batch f from b).sends → NodeGo z f.me (due.due_batch f from b)
 batch_go {by} {factor} {z0} {z} {f} {clock} {from} {b} a read = go (in_view f b.key) refl read
   where
-    go : (q : Bool) → in_view f b.key ≡ q → AreRead (batch_came f from b q).sends → NodeGo z f.me (batch_came f from b q)
+    go : (q : Bool) → in_view f b.key ≡ q → AreReadInRange (batch_came f from b q).sends → NodeGo z f.me (batch_came f from b q)
     go false e r = stale_go z f (ended_at a a.owes a.rests)
     go true e r =
         let v : Viewed f b.key = view_of f b.key e in

@@ -18,7 +18,7 @@ use Rattle.journal_lines.specs.declared.line.Line.{Line}
 use Rattle.journal_lines.specs.declared.line.Line.TheVariants as line
 use Rattle.node_rules.specs.Batches.{Targets, Target, target, is_pending}
 use Rattle.node_rules.specs.Copies.{is_of, holds_of}
-use Rattle.node_rules.specs.Facts.{list_at, members}
+use Rattle.node_rules.specs.Facts.{list_at, members_of_view}
 use Rattle.node_rules.specs.Map.{is_empty}
 use Rattle.node_rules.specs.Standing as standing
 use Rattle.node_rules.specs.Standing.{is_done, is_all_empty, is_to_drop, has_settled_bit}
@@ -36,7 +36,7 @@ use Rattle.journal_readings.specs.Settled.{is_settled, is_settled_by, is_open_wr
 use Rattle.journal_readings.specs.Stamps.{is_empty_at_entry, is_empty_everywhere}
 use Rattle.journal_readings.specs.Views as views
 use Rattle.cluster_rules.specs.World.{is_up, member_now}
-use Rattle.cluster_laws.specs.Ground.{Ground, IsGround, is_member, master, is_replica, acting, all_empty}
+use Rattle.cluster_laws.specs.Ground.{Ground, IsGround, is_view_member, view_master, is_view_replica, view_acting, is_view_empty}
 use Rattle.cluster_laws.specs.Licences.{IsDone}
 use Rattle.cluster_laws.specs.Picture.{Picture}
 use Rattle.cluster_laws.specs.Stay.{Applied}
@@ -48,7 +48,7 @@ use Rattle.cluster_laws.proofs.ReadingTies.{in_view_entered, members_of}
 use Rattle.cluster_laws.proofs.Settled as laws
 use Rattle.run_laws.specs.Fronts.{Front, world_of, facts_at, Tied, Sane}
 use Rattle.run_laws.specs.LineOk.{CalmOk}
-use Rattle.run_laws.specs.Tied.{Among, Stays, Views, RowsAgree, has_pending, shown}
+use Rattle.run_laws.specs.Tied.{Among, Stays, Views, RowsAgree, has_pending, running_from}
 use Rattle.run_laws.proofs.Arrivals.{below_count}
 use Rattle.run_laws.proofs.CalmReadings.{Told, is_apply}
 use Rattle.run_laws.proofs.Classes.{empty_tied, replica_tied}
@@ -69,21 +69,21 @@ pub record AtCalm (ns : List ℕ) (G : Ground) (z : Front) (w : Picture) (j : Li
   pub known : (world_of z).nodes ≡ ns
   pub declared : nodes j ≡ ns
   pub groups : groups_of j ≡ (world_of z).network.groups
-  pub ups : (n : ℕ) → has_node ns n ≡ true → settings.is_up n j ≡ is_up (world_of z) n
+  pub ups : (n : ℕ) → has_node ns n ≡ true → settings.is_node_up n j ≡ is_up (world_of z) n
   pub roles : (n : ℕ) → present_role n j ≡ ((world_of z).facts n).role
 
 -- ---- a member of the view
 
 -- a node that is at rest in the view
 record Lives (G : Ground) (z : Front) (w : Picture) (j : List Line) (k : ClusterKey) (n : ℕ) : Type 0 where
-  resident : Resident k (members (facts_at z n)) (facts_at z n)
+  resident : Resident k (members_of_view (facts_at z n)) (facts_at z n)
   view : (w.node n).view ≡ Some k
   read : views.view n j ≡ Some k
   entered : (w.stay n k).entered ≡ true
   stays : Stays (facts_at z n) (w.stay n k)
   open_yet : (w.stay n k).closing ≡ false
   views : Views G k (facts_at z n)
-  member : is_member G k n ≡ true
+  member : is_view_member G k n ≡ true
   rows : RowsAgree G k (facts_at z n).exchange.rows
 
 lives : {ns : List ℕ} (G : Ground) (z : Front) (w : Picture) (j : List Line) (k : ClusterKey) (set : List Member) (n : ℕ) → AtCalm ns G z w j → Resident k set (facts_at z n) → Lives G z w j k n
@@ -104,42 +104,42 @@ lives {ns} G z w j k set n x r = record {
 
 -- each member of the view of that key is so, and the reader finds the ground's members
 record Filled (G : Ground) (z : Front) (w : Picture) (j : List Line) (k : ClusterKey) : Type 0 where
-  each : (m : ℕ) → is_member G k m ≡ true → Lives G z w j k m
+  each : (m : ℕ) → is_view_member G k m ≡ true → Lives G z w j k m
   members : views.members k j ≡ G.members k
   node : ℕ
-  inside : is_member G k node ≡ true
+  inside : is_view_member G k node ≡ true
 
 -- ---- partitions
 
 -- nobody misses a row of a partition that all entered empty
-read_empty : {ns : List ℕ} (G : Ground) (z : Front) (w : Picture) (j : List Line) (k : ClusterKey) (p : ℕ) → AtCalm ns G z w j → Filled G z w j k → all_empty G k p ≡ true → is_empty_everywhere k p j ≡ true
+read_empty : {ns : List ℕ} (G : Ground) (z : Front) (w : Picture) (j : List Line) (k : ClusterKey) (p : ℕ) → AtCalm ns G z w j → Filled G z w j k → is_view_empty G k p ≡ true → is_empty_everywhere k p j ≡ true
 unfolding is_empty_everywhere
 read_empty {ns} G z w j k p x f e = subst (λ (ms : List Member). list_all (λ m. is_empty_at_entry k m.id p j) ms ≡ true) (sym f.members) (each (G.members k) (λ m i. i))
   where
-    each : (ms : List Member) → ((m : ℕ) → contains (ids_of ms) m ≡ true → is_member G k m ≡ true) → list_all (λ m. is_empty_at_entry k m.id p j) ms ≡ true
+    each : (ms : List Member) → ((m : ℕ) → contains (ids_of ms) m ≡ true → is_view_member G k m ≡ true) → list_all (λ m. is_empty_at_entry k m.id p j) ms ≡ true
     each [] inside = refl
     each (m ∷ ms) inside = and_both (is_empty_at_entry k m.id p j) _ (one m.id (inside m.id (or_left_true (m.id == m.id) _ (number_here m.id)))) (each ms (λ o i. inside o (or_right_true (m.id == o) _ i)))
       where
-        one : (o : ℕ) → is_member G k o ≡ true → is_empty_at_entry k o p j ≡ true
+        one : (o : ℕ) → is_view_member G k o ≡ true → is_empty_at_entry k o p j ≡ true
         one o i = x.told.tied.empties o k p (f.each o i).entered ∙ ap is_empty (empty_row G k p o e i)
 
 -- the list master is a member
-master_inside : {ns : List ℕ} (G : Ground) (z : Front) (w : Picture) (j : List Line) (k : ClusterKey) (p : ℕ) → AtCalm ns G z w j → Filled G z w j k → is_member G k (master G k p) ≡ true
-master_inside G z w j k p x f = replica_member G k p (master G k p) (master_replica G x.ground k p f.node f.inside)
+master_inside : {ns : List ℕ} (G : Ground) (z : Front) (w : Picture) (j : List Line) (k : ClusterKey) (p : ℕ) → AtCalm ns G z w j → Filled G z w j k → is_view_member G k (view_master G k p) ≡ true
+master_inside G z w j k p x f = replica_member G k p (view_master G k p) (master_replica G x.ground k p f.node f.inside)
 
 -- each partition is settled
 settled_here : {ns : List ℕ} (G : Ground) (z : Front) (w : Picture) (j : List Line) (k : ClusterKey) (p : ℕ) → AtCalm ns G z w j → Filled G z w j k → p < partition_count → is_settled k p j ≡ true
 unfolding is_settled
-settled_here {ns} G z w j k p x f below = subst (λ (m : ℕ). is_settled_by k p m j ≡ true) (sym (master_is G k p j f.members)) (go (or_cases (has_settled_bit (facts_at z (master G k p)) p) _ (l.resident.settled p below)))
+settled_here {ns} G z w j k p x f below = subst (λ (m : ℕ). is_settled_by k p m j ≡ true) (sym (master_is G k p j f.members)) (go (or_cases (has_settled_bit (facts_at z (view_master G k p)) p) _ (l.resident.settled p below)))
   where
-    l : Lives G z w j k (master G k p)
-    l = f.each (master G k p) (master_inside G z w j k p x f)
+    l : Lives G z w j k (view_master G k p)
+    l = f.each (view_master G k p) (master_inside G z w j k p x f)
 
-    go : (has_settled_bit (facts_at z (master G k p)) p ≡ true) ⊎ (((facts_at z (master G k p)).exchange.exchanged && is_all_empty (facts_at z (master G k p)) p) ≡ true) → is_settled_by k p (master G k p) j ≡ true
-    go (inl bit) = or_left_true (list_any (is_settled_line k (master G k p) p) j) _ (x.told.settled k p ((x.told.tied.sound.whole.known.cross (master G k p) k).settled p (l.stays.settled p ∙ bit)))
-    go (inr none) = or_right_true (list_any (is_settled_line k (master G k p) p) j) _ (and_both (list_any (is_exchanged k (master G k p)) j) _
-        (x.told.tied.exchanged (master G k p) k ∙ l.stays.exchanged ∙ l.resident.exchanged)
-        (read_empty G z w j k p x f (sym (empty_tied G k (facts_at z (master G k p)) p l.views l.rows) ∙ and_right (facts_at z (master G k p)).exchange.exchanged _ none)))
+    go : (has_settled_bit (facts_at z (view_master G k p)) p ≡ true) ⊎ (((facts_at z (view_master G k p)).exchange.exchanged && is_all_empty (facts_at z (view_master G k p)) p) ≡ true) → is_settled_by k p (view_master G k p) j ≡ true
+    go (inl bit) = or_left_true (list_any (is_settled_line k (view_master G k p) p) j) _ (x.told.settled k p ((x.told.tied.sound.whole.known.cross (view_master G k p) k).settled p (l.stays.settled p ∙ bit)))
+    go (inr none) = or_right_true (list_any (is_settled_line k (view_master G k p) p) j) _ (and_both (list_any (is_exchanged k (view_master G k p)) j) _
+        (x.told.tied.exchanged (view_master G k p) k ∙ l.stays.exchanged ∙ l.resident.exchanged)
+        (read_empty G z w j k p x f (sym (empty_tied G k (facts_at z (view_master G k p)) p l.views l.rows) ∙ and_right (facts_at z (view_master G k p)).exchange.exchanged _ none)))
 
 -- a line that passes the test, if one does
 some_line : (test : Line → Bool) (j : List Line) → list_any test j ≡ true → (l : Line) × (test l ≡ true) × ((other : Line → Bool) → other l ≡ true → list_any other j ≡ true)
@@ -154,41 +154,42 @@ some_line test (l ∷ j) e = go (test l) refl e (some_line test j)
 -- no write of the list master is open
 closed_here : {ns : List ℕ} (G : Ground) (z : Front) (w : Picture) (j : List Line) (k : ClusterKey) (p : ℕ) → AtCalm ns G z w j → Filled G z w j k → has_open_write k p j ≡ false
 unfolding has_open_write
-closed_here {ns} G z w j k p x f = subst (λ (m : ℕ). list_any (is_open_write k p m j) j ≡ false) (sym (master_is G k p j f.members)) (go (list_any (is_open_write k p (master G k p) j) j) refl)
+closed_here {ns} G z w j k p x f = subst (λ (m : ℕ). list_any (is_open_write k p m j) j ≡ false) (sym (master_is G k p j f.members)) (go (list_any (is_open_write k p (view_master G k p) j) j) refl)
   where
-    l : Lives G z w j k (master G k p)
-    l = f.each (master G k p) (master_inside G z w j k p x f)
+    l : Lives G z w j k (view_master G k p)
+    l = f.each (view_master G k p) (master_inside G z w j k p x f)
 
-    nothing : (t : ℕ) → (w.stay (master G k p) k).running t ≡ None
-    nothing t = l.stays.running t ∙ ap (λ (ys : List Transaction). option_map shown (transaction (record (facts_at z (master G k p)).transactions { running = ys }) t)) l.resident.idle
+    nothing : (t : ℕ) → (w.stay (view_master G k p) k).running t ≡ None
+    nothing t = l.stays.running t ∙ ap (λ (ys : List Transaction). option_map running_from (transaction (record (facts_at z (view_master G k p)).transactions { running = ys }) t)) l.resident.idle
 
-    all_done : (t : ℕ) → list_any (is_apply k (master G k p) t) j ≡ true → list_any (lines.is_done k (master G k p) t) j ≡ true
-    all_done t e = by_write ((w.stay (master G k p) k).writes t) refl (x.told.writes (master G k p) k t e)
+    all_done : (t : ℕ) → list_any (is_apply k (view_master G k p) t) j ≡ true → list_any (lines.is_done_line k (view_master G k p) t) j ≡ true
+    all_done t e = by_write ((w.stay (view_master G k p) k).writes t) refl (x.told.writes (view_master G k p) k t e)
       where
-        by_write : (o : Option Applied) → (w.stay (master G k p) k).writes t ≡ o → is_some o ≡ true → list_any (lines.is_done k (master G k p) t) j ≡ true
+        by_write : (o : Option Applied) → (w.stay (view_master G k p) k).writes t ≡ o → is_some o ≡ true → list_any (lines.is_done_line k (view_master G k p) t) j ≡ true
         by_write None i s = differ s refl
-        by_write (Some a) i s = x.told.done (master G k p) k t (⊎_elim (λ d. d) (λ c. ⊎_elim (λ leaves. differ leaves l.open_yet) (λ o. no_some (sym (nothing t) ∙ o.running)) c)
-            ((x.told.tied.sound.whole.known.txns (master G k p) k).stands t a i))
+        by_write (Some a) i s = x.told.done (view_master G k p) k t (⊎_elim (λ d. d) (λ c. ⊎_elim (λ leaves. differ leaves l.open_yet) (λ o. no_some (sym (nothing t) ∙ o.running)) c)
+            ((x.told.tied.sound.whole.known.txns (view_master G k p) k).stands t a i))
 
-    never : (y : Line) → is_open_write k p (master G k p) j y ≡ true → ((other : Line → Bool) → other y ≡ true → list_any other j ≡ true) → ⊥
+    never : (y : Line) → is_open_write k p (view_master G k p) j y ≡ true → ((other : Line → Bool) → other y ≡ true → list_any other j ≡ true) → ⊥
     never (line.Apply m u t d v) e among =
-        let b : (same_key u k && ((partition_of d == p) && not (list_any (lines.is_done k (master G k p) t) j))) ≡ true = and_right (m == master G k p) _ e in
-        let c : ((partition_of d == p) && not (list_any (lines.is_done k (master G k p) t) j)) ≡ true = and_right (same_key u k) _ b in
-        apart (list_any (lines.is_done k (master G k p) t) j) (and_right (partition_of d == p) _ c)
-        (all_done t (among (is_apply k (master G k p) t) (and_both (m == master G k p) _ (and_left (m == master G k p) _ e) (and_both (same_key u k) (t == t) (and_left (same_key u k) _ b) (number_here t)))))
+        let b : (same_key u k && ((partition_of d == p) && not (list_any (lines.is_done_line k (view_master G k p) t) j))) ≡ true = and_right (m == view_master G k p) _ e in
+        let c : ((partition_of d == p) && not (list_any (lines.is_done_line k (view_master G k p) t) j)) ≡ true = and_right (same_key u k) _ b in
+        apart (list_any (lines.is_done_line k (view_master G k p) t) j)
+        (and_right (partition_of d == p) _ c)
+        (all_done t (among (is_apply k (view_master G k p) t) (and_both (m == view_master G k p) _ (and_left (m == view_master G k p) _ e) (and_both (same_key u k) (t == t) (and_left (same_key u k) _ b) (number_here t)))))
       where
         apart : (b : Bool) → not b ≡ true → b ≡ true → ⊥
         apart true y z = differ y refl
         apart false y z = differ z refl
     never _ e among = differ e refl
 
-    go : (b : Bool) → list_any (is_open_write k p (master G k p) j) j ≡ b → b ≡ false
+    go : (b : Bool) → list_any (is_open_write k p (view_master G k p) j) j ≡ b → b ≡ false
     go false e = refl
-    go true e = let y = some_line (is_open_write k p (master G k p) j) j e in absurd (never y.0 y.1 y.2)
+    go true e = let y = some_line (is_open_write k p (view_master G k p) j) j e in absurd (never y.0 y.1 y.2)
 
 -- the list master is in the view
 served_here : {ns : List ℕ} (G : Ground) (z : Front) (w : Picture) (j : List Line) (k : ClusterKey) (p : ℕ) → AtCalm ns G z w j → Filled G z w j k → views.view (views.master k p j) j ≡ Some k
-served_here G z w j k p x f = subst (λ (m : ℕ). views.view m j ≡ Some k) (sym (master_is G k p j f.members)) (f.each (master G k p) (master_inside G z w j k p x f)).read
+served_here G z w j k p x f = subst (λ (m : ℕ). views.view m j ≡ Some k) (sym (master_is G k p j f.members)) (f.each (view_master G k p) (master_inside G z w j k p x f)).read
 
 throughout : {ns : List ℕ} (G : Ground) (z : Front) (w : Picture) (j : List Line) (k : ClusterKey) → AtCalm ns G z w j → Filled G z w j k → IsSettledThroughout k j
 throughout G z w j k x f = record { settled = λ p below. settled_here G z w j k p x f below; closed = λ p below. closed_here G z w j k p x f; served = λ p below. served_here G z w j k p x f }
@@ -231,7 +232,7 @@ none_pends p ts aims none = go ts (λ t a. a)
         neither a b x y = grind arith
 
 -- who is no replica holds nothing
-other_holds : {ns : List ℕ} (G : Ground) (z : Front) (w : Picture) (j : List Line) (k : ClusterKey) (n : ℕ) (d : List ℕ) → AtCalm ns G z w j → Filled G z w j k → is_member G k n ≡ true → is_replica G k (partition_of d) n ≡ false → content G.by n d j ≡ None
+other_holds : {ns : List ℕ} (G : Ground) (z : Front) (w : Picture) (j : List Line) (k : ClusterKey) (n : ℕ) (d : List ℕ) → AtCalm ns G z w j → Filled G z w j k → is_view_member G k n ≡ true → is_view_replica G k (partition_of d) n ≡ false → content G.by n d j ≡ None
 other_holds {ns} G z w j k n d x f mem out = x.told.tied.contents n d ∙ go (or_cases (has_settled_bit (facts_at z n) (partition_of d)) _ (l.resident.settled (partition_of d) (below_count d)))
   where
     l : Lives G z w j k n
@@ -242,7 +243,7 @@ other_holds {ns} G z w j k n d x f mem out = x.told.tied.contents n d ∙ go (or
 
     by_bit : has_settled_bit (facts_at z n) p ≡ true → (w.node n).content d ≡ None
     by_bit bit = (x.tied.nodes n).seen.content d ∙ none_of_part (facts_at z n).store p d
-        (holds_none (has_settled_bit (facts_at z n) p) (is_done (facts_at z n) p) (standing.is_replica (facts_at z n) (list_at (facts_at z n) p)) (holds_of (facts_at z n).store.content p) bit done
+        (holds_none (has_settled_bit (facts_at z n) p) (is_done (facts_at z n) p) (standing.is_own_replica (facts_at z n) (list_at (facts_at z n) p)) (holds_of (facts_at z n).store.content p) bit done
         (ap (λ (m : ℕ). contains (Rattle.partition_lists.specs.Lists.replicas (list_at (facts_at z n) p) (facts_at z n).factor) m) (x.sane.nodes n).me ∙ sym (replica_tied G k (facts_at z n) p n l.views) ∙ out) (l.resident.dropped p (below_count d))) refl
       where
         moved : IsDone (w.stay n k) p
@@ -255,20 +256,20 @@ other_holds {ns} G z w j k n d x f mem out = x.told.tied.contents n d ∙ go (or
         holds_none a b c e i q r s = grind arith
 
     -- it has neither an entry nor a write of its own
-    by_rows : all_empty G k p ≡ true → (w.node n).content d ≡ None
+    by_rows : is_view_empty G k p ≡ true → (w.node n).content d ≡ None
     by_rows e = AtMost_antisymm {by = G.by}
         ((x.told.tied.sound.whole.known.inside n k l.view).outside d None out (subst (λ (o : Option Version). AtMost G.by o None) (sym ((x.told.tied.sound.whole.based n k).empty l.entered p (empty_row G k p n e mem) d refl)) (AtMost_refl None))
         (λ t a i q. absurd (writes t a i q)))
         (AtMost_none ((w.node n).content d))
       where
         writes : (t : ℕ) (a : Applied) → (w.stay n k).writes t ≡ Some a → a.digest ≡ d → ⊥
-        writes t a i q = differ (subst (λ (m : ℕ). is_replica G k p m ≡ true) (sym who) (master_replica G x.ground k p n mem)) out
+        writes t a i q = differ (subst (λ (m : ℕ). is_view_replica G k p m ≡ true) (sym who) (master_replica G x.ground k p n mem)) out
           where
             part : partition_of a.digest ≡ p
             part = ap partition_of q
 
-            who : n ≡ master G k p
-            who = ⊎_elim (λ s. s ∙ ap (acting G k) part ∙ empty_acting G k p e) (λ s. s.0 ∙ ap (master G k) part) ((x.told.tied.sound.whole.writers n k).write t a i)
+            who : n ≡ view_master G k p
+            who = ⊎_elim (λ s. s ∙ ap (view_acting G k) part ∙ empty_acting G k p e) (λ s. s.0 ∙ ap (view_master G k) part) ((x.told.tied.sound.whole.writers n k).write t a i)
 
     go : (has_settled_bit (facts_at z n) p ≡ true) ⊎ (((facts_at z n).exchange.exchanged && is_all_empty (facts_at z n) p) ≡ true) → (w.node n).content d ≡ None
     go (inl bit) = by_bit bit
@@ -283,13 +284,13 @@ spread G z w j k x f = record {
 -- ---- a group
 
 -- where all nodes are in the group, its replicas hold the newest version of all
-has_newest : {ns : List ℕ} (G : Ground) (z : Front) (w : Picture) (j : List Line) (k : ClusterKey) → AtCalm ns G z w j → Filled G z w j k → ((o : ℕ) → contains ns o ≡ true → is_member G k o ≡ true) → HasNewest G.by G.factor k j
+has_newest : {ns : List ℕ} (G : Ground) (z : Front) (w : Picture) (j : List Line) (k : ClusterKey) → AtCalm ns G z w j → Filled G z w j k → ((o : ℕ) → contains ns o ≡ true → is_view_member G k o ≡ true) → HasNewest G.by G.factor k j
 has_newest {ns} G z w j k x f all = record { replicas = one }
   where
     one : (n : ℕ) (d : List ℕ) → views.is_replica G.factor k (partition_of d) n j ≡ true → content G.by n d j ≡ applied G.by d j
     one n d rep = go (w.applied d) refl
       where
-        folded : (o : ℕ) (v : Version) → (w.node o).content d ≡ Some v → (b : Bool) → is_replica G k (partition_of d) o ≡ b → fold_of G.by k d j ≡ Some v
+        folded : (o : ℕ) (v : Version) → (w.node o).content d ≡ Some v → (b : Bool) → is_view_replica G k (partition_of d) o ≡ b → fold_of G.by k d j ≡ Some v
         folded o v e true i = sym (replica_holds G z w j k o d x f (replica_is G k (partition_of d) o j f.members ∙ i)) ∙ x.told.tied.contents o d ∙ e
         folded o v e false i = no_some (sym (other_holds G z w j k o d x f (all o (x.told.tied.holders o d v e)) i) ∙ x.told.tied.contents o d ∙ e)
 
@@ -297,7 +298,7 @@ has_newest {ns} G z w j k x f all = record { replicas = one }
         go None e = x.told.tied.contents n d ∙ AtMost_antisymm {by = G.by} (subst (AtMost G.by ((w.node n).content d)) e (x.told.tied.sound.applied n d)) (AtMost_none ((w.node n).content d)) ∙ sym e ∙ sym (x.told.tied.applied d)
         go (Some v) e =
             let holder : (o : ℕ) × ((w.node o).content d ≡ Some v) = laws.no_loss G w x.told.tied.sound d v e in
-            replica_holds G z w j k n d x f rep ∙ folded holder.0 v holder.1 (is_replica G k (partition_of d) holder.0) refl ∙ sym e ∙ sym (x.told.tied.applied d)
+            replica_holds G z w j k n d x f rep ∙ folded holder.0 v holder.1 (is_view_replica G k (partition_of d) holder.0) refl ∙ sym e ∙ sym (x.told.tied.applied d)
 
 -- who stands in a group is declared
 among_all : (groups : List (List ℕ)) (group : List ℕ) (n : ℕ) → Has groups group → Has group n → Has (concat groups) n
@@ -324,7 +325,7 @@ in_a_group {ns} G z w j group n x there has =
 same_members : {ns : List ℕ} (G : Ground) (z : Front) (w : Picture) (j : List Line) (group : List ℕ) → AtCalm ns G z w j → Has (world_of z).network.groups group → as_members (world_of z) (up_in (world_of z) group) ≡ up_members group j
 same_members G z w j group x there = ap (λ (ms : List Member). in_order (λ a b. nat_lt b.id a.id) ms)
     (map_same (member_now (world_of z)) (λ n. record { id = n; role = present_role n j }) (up_in (world_of z) group) (λ n h. ap (λ (r : Role). record { id = n; role = r }) (sym (x.roles n)))
-    ∙ ap (λ (ns : List ℕ). with_present_roles ns j) (filter_same (is_up (world_of z)) (λ n. settings.is_up n j) group (record { at = λ n e. sym (x.ups n (in_a_group G z w j group n x there (contained group n e))) })))
+    ∙ ap (λ (ns : List ℕ). with_present_roles ns j) (filter_same (is_up (world_of z)) (λ n. settings.is_node_up n j) group (record { at = λ n e. sym (x.ups n (in_a_group G z w j group n x there (contained group n e))) })))
 
 -- the one group has each declared node
 only_group : (groups : List (List ℕ)) (group : List ℕ) → length groups ≡ 1 → Has groups group → groups ≡ group ∷ []
@@ -354,7 +355,7 @@ at_rest {ns} G z w j x group n among inside up = (
     r : GroupRests (world_of z) group
     r = group_rests (world_of z) group n group_there inside (sym (x.ups n (known n inside)) ∙ up) x.calm.calm
 
-    has_up : (m : ℕ) → Contains group m → settings.is_up m j ≡ true → Has (up_in (world_of z) group) m
+    has_up : (m : ℕ) → Contains group m → settings.is_node_up m j ≡ true → Has (up_in (world_of z) group) m
     has_up m i u = has_filter (is_up (world_of z)) group m (has_of group m i) (sym (x.ups m (known m i)) ∙ u)
 
     each_up : (m : ℕ) → Has (up_in (world_of z) group) m → Lives G z w j r.key m
@@ -379,5 +380,5 @@ at_rest {ns} G z w j x group n among inside up = (
     in_group u o e = contained group o (subst (λ (ms : List ℕ). has_node ms o ≡ true) (ap concat (only_group (world_of z).network.groups group (ap length (sym x.groups) ∙ u.one_group) (has_of (world_of z).network.groups group group_there)) ∙ append-nil group)
         (all_has (has_node (concat (world_of z).network.groups)) (world_of z).nodes o (and_right (list_all (has_node (world_of z).nodes) (concat (world_of z).network.groups)) _ x.grouped) (contained (world_of z).nodes o (subst (λ (ms : List ℕ). contains ms o ≡ true) (sym x.known) e))))
 
-    is_up_of : IsUndivided j → (o : ℕ) → contains ns o ≡ true → settings.is_up o j ≡ true
-    is_up_of u o e = all_has (λ m. settings.is_up m j) (nodes j) o u.up (contained (nodes j) o (subst (λ (ms : List ℕ). contains ms o ≡ true) (sym x.declared) e))
+    is_up_of : IsUndivided j → (o : ℕ) → contains ns o ≡ true → settings.is_node_up o j ≡ true
+    is_up_of u o e = all_has (λ m. settings.is_node_up m j) (nodes j) o u.up (contained (nodes j) o (subst (λ (ms : List ℕ). contains ms o ≡ true) (sym x.declared) e))

@@ -25,7 +25,7 @@ use Rattle.cluster_laws.specs.Licences as licences
 use Rattle.cluster_laws.specs.Picture.{start}
 use Rattle.cluster_laws.proofs.At.{and_left, and_right, and_both}
 use Rattle.run_laws.specs.Claims.{OfEveryJournal}
-use Rattle.run_laws.specs.Fronts.{Front, world_of, after_all, Tied}
+use Rattle.run_laws.specs.Fronts.{Front, world_of, front_after_all, Tied}
 use Rattle.run_laws.specs.Taken.{Taken, first, ground_of}
 use Rattle.run_laws.proofs.CalmEnds.{AtCalm, at_rest}
 use Rattle.run_laws.proofs.CalmReadings.{journal_told}
@@ -58,8 +58,8 @@ lines_are h ms = go (header_lines h)
     go [] = refl
     go (l ∷ ls) = ap (λ (xs : List Line). l ∷ xs) (go ls)
 
-up_is : (h : Header) (ms : List Mark) (n : ℕ) → has_node (declared_nodes h) n ≡ true → settings.is_up n (header_lines h ++ lines_among ms) ≡ ((marks.after_all (opened h) ms).facts n).up
-up_is h ms n e = ap (settings.is_up n) (sym (lines_are h ms)) ∙ up_agrees h (map Writes (header_lines h) ++ ms) n e
+up_is : (h : Header) (ms : List Mark) (n : ℕ) → has_node (declared_nodes h) n ≡ true → settings.is_node_up n (header_lines h ++ lines_among ms) ≡ ((marks.after_all (opened h) ms).facts n).up
+up_is h ms n e = ap (settings.is_node_up n) (sym (lines_are h ms)) ∙ up_agrees h (map Writes (header_lines h) ++ ms) n e
     ∙ ap (λ (w : World). (w.facts n).up) (after_all-append (opened h) (map Writes (header_lines h)) ms ∙ ap (λ (w : World). marks.after_all w ms) (header_adds_nothing (opened h) h))
 
 -- ---- the line of calm
@@ -71,14 +71,14 @@ calm_place h ss t i rounds e = (
   record {
     ground = o.ground;
     sane = p.sane;
-    tied = subst (Tied z) (sym (ap (licences.after_all G start) b.before ∙ header_passes G start h (take b.place ls))) p.tied;
+    tied = subst (Tied z) (sym (ap (licences.picture_after_all G start) b.before ∙ header_passes G start h (take b.place ls))) p.tied;
     told = journal_told h G ls o i;
     calm = p.ok.1;
     grouped = p.grouped;
     known = ap (λ (x : World). x.nodes) world ∙ nodes_stay (take p.count (all_marks ss)) (opened h) ∙ sym (nodes_agree h ls w.behind);
     declared = ap nodes lines_here ∙ nodes_agree h (lines_among (take p.count (all_marks ss))) behind_here ∙ sym (nodes_agree h ls w.behind);
     groups = ap groups_of lines_here ∙ groups_agree h (take p.count (all_marks ss)) behind_here ∙ sym (ap (λ (x : World). x.network.groups) world);
-    ups = λ n e. ap (settings.is_up n) lines_here ∙ up_is h (take p.count (all_marks ss)) n (subst (λ (ns : List ℕ). has_node ns n ≡ true) (nodes_agree h ls w.behind) e) ∙ sym (ap (λ (x : World). (x.facts n).up) world);
+    ups = λ n e. ap (settings.is_node_up n) lines_here ∙ up_is h (take p.count (all_marks ss)) n (subst (λ (ns : List ℕ). has_node ns n ≡ true) (nodes_agree h ls w.behind) e) ∙ sym (ap (λ (x : World). (x.facts n).up) world);
     roles = λ n. ap (present_role n) lines_here ∙ role_agrees h (take p.count (all_marks ss)) n t.declared.distinct behind_here ∙ sym (ap (λ (x : World). (x.facts n).role) world);
   },
 )
@@ -102,7 +102,7 @@ calm_place h ss t i rounds e = (
     p = placed G (first h) start (all_marks ss) b.place (line.Calm rounds) w.goes (first_tied h) (first_grouped h) b.stands
 
     z : Front
-    z = after_all (first h) (take p.count (all_marks ss))
+    z = front_after_all (first h) (take p.count (all_marks ss))
 
     world : world_of z ≡ marks.after_all (opened h) (take p.count (all_marks ss))
     world = world_all (first h) (take p.count (all_marks ss))

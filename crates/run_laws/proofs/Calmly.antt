@@ -15,7 +15,7 @@ use Rattle.wire_messages.specs.Decoding.{message_of}
 use Rattle.wire_messages.specs.Spelling.{spelling}
 use Rattle.node_rules.specs.Batches.{Target, target}
 use Rattle.node_rules.specs.Facts.{Facts, list_at}
-use Rattle.node_rules.specs.Map.{master}
+use Rattle.node_rules.specs.Map.{list_master}
 use Rattle.node_rules.specs.Notes.{sent}
 use Rattle.node_rules.specs.Stamps.{numbers_at}
 use Rattle.node_rules.specs.Standing.{is_done}
@@ -28,8 +28,8 @@ use Rattle.cluster_rules.specs.Network.{posting_at, posting, has_place, landed}
 use Rattle.cluster_rules.specs.World.{new_if}
 use Rattle.cluster_laws.proofs.At.{number_same, differ, some_same, no_some}
 use Rattle.run_laws.specs.Chronicle.{Longer}
-use Rattle.run_laws.specs.Fronts.{Front, world_of, facts_at, after}
-use Rattle.run_laws.specs.LineOk.{Stands, Came, NewBatch}
+use Rattle.run_laws.specs.Fronts.{Front, world_of, facts_at, front_after}
+use Rattle.run_laws.specs.LineOk.{StandsInView, Came, NewBatch}
 use Rattle.run_laws.specs.LineDue.{SendDue, SendDueIf, AllDue}
 use Rattle.run_laws.specs.Tied.{key_in}
 use Rattle.run_laws.proofs.Carried.{posting_same}
@@ -65,7 +65,8 @@ calm_on x y z a b = record {
 
 -- ---- what may be sent
 
-stands_calm : (z y : Front) (n : ℕ) (k : ClusterKey) → Calm z y → Stands z n k → Stands y n k
+stands_calm : (z y : Front) (n : ℕ) (k : ClusterKey) → Calm z y → StandsInView z n k
+    → StandsInView y n k
 stands_calm z y n k c s = record { view = ap (λ (f : Facts). key_in f.exchange.view) (c.facts n) ∙ s.view; stays = c.closing n ∙ s.stays }
 
 batch_calm : (z y : Front) (n r : ℕ) (b : Batch) (item : Target) → Calm z y → (item.out ≡ Some b) ⊎ NewBatch (facts_at z n) item b → (item.out ≡ Some b) ⊎ NewBatch (facts_at y n) item b
@@ -112,7 +113,7 @@ send_calm z y n r (message.ReplAck k t) c ok = record {
   digest = ok.digest;
   version = ok.version;
   came = c.came r n (message.Repl k t ok.nth ok.digest ok.version) ok.came;
-  counted = subst (λ (f : Facts). r ≡ master (list_at f (partition_of ok.digest)) → contains (numbers_at f.writes (partition_of ok.digest)) ok.nth ≡ true) (sym (c.facts n)) ok.counted;
+  counted = subst (λ (f : Facts). r ≡ list_master (list_at f (partition_of ok.digest)) → contains (numbers_at f.writes (partition_of ok.digest)) ok.nth ≡ true) (sym (c.facts n)) ok.counted;
   held = subst (λ (f : Facts). AtMost f.store.by (Some ok.version) (finite.get f.store.content ok.digest)) (sym (c.facts n)) ok.held;
 }
 send_calm z y n r (message.Ask k t d) c ok = record {
@@ -177,7 +178,7 @@ plain_alike m x a p = same_test is_plain m x a sorts p
     sorts a (message.Batch b) c e f p = no_some f
     sorts a _ c e f p = refl
 
-sent_calm : (z : Front) (n i r : ℕ) (m : Message) → i ≡ length (world_of z).network.sent + 1 → is_plain m ≡ true → ReadsWell m → Calm z (after z (Writes (line.Sent i n r (spelling m))))
+sent_calm : (z : Front) (n i r : ℕ) (m : Message) → i ≡ length (world_of z).network.sent + 1 → is_plain m ≡ true → ReadsWell m → Calm z (front_after z (Writes (line.Sent i n r (spelling m))))
 sent_calm z n i r m num plain read = record {
   facts = λ j. well_cases m (λ (o : Option Message). (sent_by (record (world_of z) { network = posting (world_of z).network i (record { from = n; to = r; bytes = spelling m }) }) n r o).facts j ≡ facts_at z j) read refl
       (λ x a. same x (plain_alike m x a plain) j (n == j) refl);
@@ -203,7 +204,7 @@ sent_calm z n i r m num plain read = record {
     net_of None j = refl
     net_of (Some x) j = refl
 
-pub full_calm : (z : Front) (i : ℕ) → Calm z (after z (Writes (line.Full i)))
+pub full_calm : (z : Front) (i : ℕ) → Calm z (front_after z (Writes (line.Full i)))
 full_calm z i = record {
   facts = λ j. refl;
   closing = λ j. refl;
@@ -217,7 +218,7 @@ pub record SendsGo (z : Front) (ls : List Line) : Type 0 where
   pub due : AllDue z ls
   pub calm : Calm z (after_lines z ls)
 
-pub sent_length : (z : Front) (n i r : ℕ) (bytes : List ℕ) → length (world_of (after z (Writes (line.Sent i n r bytes)))).network.sent ≡ length (world_of z).network.sent + 1
+pub sent_length : (z : Front) (n i r : ℕ) (bytes : List ℕ) → length (world_of (front_after z (Writes (line.Sent i n r bytes)))).network.sent ≡ length (world_of z).network.sent + 1
 sent_length z n i r bytes = go (message_of bytes)
   where
     last : (xs : List Posting) (x : Posting) → length (xs ++ x ∷ []) ≡ length xs + 1
@@ -234,7 +235,7 @@ sent_length z n i r bytes = go (message_of bytes)
 pub sends_go : (z : Front) (n before flying : ℕ) (ss : List (ℕ × Message)) → z.owed ≡ None → before ≡ length (world_of z).network.sent → EachPlainly z n ss → SendsGo z (sent_lines n before flying ss)
 sends_go z n before flying [] o num h = record { due = tt; calm = calm_itself z }
 sends_go z n before flying (s ∷ ss) o num h =
-    let y : Front = after z (Writes (line.Sent (before + 1) n s.0 (spelling s.1))) in
+    let y : Front = front_after z (Writes (line.Sent (before + 1) n s.0 (spelling s.1))) in
     let c : Calm z y = sent_calm z n (before + 1) s.0 s.1 (ap (λ (i : ℕ). i + 1) num) h.0.plain h.0.read in
     let rest : SendsGo y (full_unless (before + 1) (has_place flying) ++ sent_lines n (before + 1) (one_more_if flying (has_place flying)) ss) =
     go y c (ap (λ (i : ℕ). i + 1) num ∙ sym (sent_length z n (before + 1) s.0 (spelling s.1))) (λ x b f. sends_go x n b f ss) (has_place flying) in
@@ -246,6 +247,6 @@ sends_go z n before flying (s ∷ ss) o num h =
     go : (y : Front) → Calm z y → before + 1 ≡ length (world_of y).network.sent → ((x : Front) (b f : ℕ) → x.owed ≡ None → b ≡ length (world_of x).network.sent → EachPlainly x n ss → SendsGo x (sent_lines n b f ss)) → (b : Bool) → SendsGo y (full_unless (before + 1) b ++ sent_lines n (before + 1) (one_more_if flying b) ss)
     go y c e all true = all y (before + 1) (flying + 1) (c.owed ∙ o) e (plainly_calm z y n ss c h.1)
     go y c e all false =
-        let x : Front = after y (Writes (line.Full (before + 1))) in
+        let x : Front = front_after y (Writes (line.Full (before + 1))) in
         let rest : SendsGo x (sent_lines n (before + 1) flying ss) = all x (before + 1) flying (c.owed ∙ o) e (plainly_calm z x n ss (calm_on z y x c (full_calm y (before + 1))) h.1) in
         record { due = ((c.owed ∙ o, tt), rest.due); calm = calm_on y x _ (full_calm y (before + 1)) rest.calm }

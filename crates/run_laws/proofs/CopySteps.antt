@@ -14,8 +14,8 @@ use Rattle.wire_messages.specs.declared.message.Message.TheVariants as message
 use Rattle.node_rules.specs.Copies.{Row}
 use Rattle.node_rules.specs.Effects.{to_each}
 use Rattle.node_rules.specs.Exchange.{View, Exchange, first_missing, members_of, with_row}
-use Rattle.node_rules.specs.Facts.{Facts, view_key, members, list_at}
-use Rattle.node_rules.specs.Map.{master}
+use Rattle.node_rules.specs.Facts.{Facts, view_key, members_of_view, list_at}
+use Rattle.node_rules.specs.Map.{list_master}
 use Rattle.node_rules.specs.Messages as due
 use Rattle.node_rules.specs.Messages.{finishes, answer_state, state_came, merging, repl_came, merging_all, batch_came}
 use Rattle.node_rules.specs.Notes as notes
@@ -31,14 +31,14 @@ use Rattle.cluster_laws.proofs.At.{number_same, number_here, and_left, and_right
 use Rattle.wire_messages.proofs.DecodingLaws.{what_is_read, read_back}
 use Rattle.run_laws.proofs.Reading.{reads_itself}
 use Rattle.run_laws.specs.Chronicle.{IsRowOf}
-use Rattle.run_laws.specs.Fronts.{Front, world_of, facts_at, after, owed_if}
+use Rattle.run_laws.specs.Fronts.{Front, world_of, facts_at, front_after, owed_if}
 use Rattle.run_laws.specs.LineDue.{LawOf}
 use Rattle.run_laws.specs.Steps.{RestsWith, Rests}
 use Rattle.run_laws.specs.Tied.{Each, key_in}
 use Rattle.run_laws.proofs.Arrived.{Arrived, stale_go}
 use Rattle.run_laws.proofs.Calmly.{EachPlainly}
 use Rattle.run_laws.proofs.NodeSteps.{NodeGo}
-use Rattle.run_laws.specs.Spelled.{AreRead}
+use Rattle.run_laws.specs.Spelled.{AreReadInRange}
 use Rattle.run_laws.proofs.ResolvingSteps.{view_rests}
 use Rattle.run_laws.proofs.Rows.{rows_on}
 use Rattle.run_laws.proofs.Sending.{own_said}
@@ -53,7 +53,7 @@ pub own_row_is : {by : Policy} {factor : ℕ} (z : Front) (f : Facts) (v : View)
 own_row_is z f v law i rows = own_said z.chronicle v.key f.exchange.rows f.me (law.own v i) rows
 
 state_answer : {by : Policy} {factor : ℕ} (z : Front) (f g : Facts) (from : ℕ) (k : ClusterKey) (v : Viewed f k) → LawOf by factor f → Each (λ (r : MemberRow). IsRowOf z.chronicle r.node v.view.key r.row) f.exchange.rows
-    → key_in (facts_at z f.me).exchange.view ≡ Some (view_key f) → z.closing f.me ≡ false → (wants : Bool) → AreRead (answer_state f from wants) → EachPlainly z f.me (answer_state f from wants)
+    → key_in (facts_at z f.me).exchange.view ≡ Some (view_key f) → z.closing f.me ≡ false → (wants : Bool) → AreReadInRange (answer_state f from wants) → EachPlainly z f.me (answer_state f from wants)
 state_answer z f g from k v law rows view stays false read = tt
 state_answer z f g from k v law rows view stays true read = (
   record {
@@ -65,10 +65,10 @@ state_answer z f g from k v law rows view stays true read = (
 )
 
 pub state_go : {by : Policy} {factor : ℕ} {z0 z : Front} {f : Facts} {clock from : ℕ} {k : ClusterKey} {wants : Bool} {row : Row} → Arrived by factor z0 z f clock from (message.State k wants row)
-    → AreRead (due.due_state f (reached f from (message.State k wants row)) from k wants).sends → NodeGo z f.me (due.due_state f (reached f from (message.State k wants row)) from k wants)
+    → AreReadInRange (due.due_state f (reached f from (message.State k wants row)) from k wants).sends → NodeGo z f.me (due.due_state f (reached f from (message.State k wants row)) from k wants)
 state_go {by} {factor} {z0} {z} {f} {clock} {from} {k} {wants} {row} a read = go (in_view f k) refl a.is read
   where
-    go : (b : Bool) → in_view f k ≡ b → facts_at z f.me ≡ notes.row_came f from row b → AreRead (state_came f (notes.row_came f from row b) from wants b).sends → NodeGo z f.me (state_came f (notes.row_came f from row b) from wants b)
+    go : (b : Bool) → in_view f k ≡ b → facts_at z f.me ≡ notes.row_came f from row b → AreReadInRange (state_came f (notes.row_came f from row b) from wants b).sends → NodeGo z f.me (state_came f (notes.row_came f from row b) from wants b)
     go false e is r = stale_go z f (ended_but f.me z0 z a.elsewhere a.before a.owes a.stays (subst (λ (x : Facts). Rests x) (sym is) a.rests))
     go true e is r = over (finishes f (notes.row_came f from row true)) refl
       where
@@ -110,16 +110,16 @@ state_go {by} {factor} {z0} {z} {f} {clock} {from} {k} {wants} {row} a read = go
               record {
                 stands = record { view = view_here; stays = a.stays };
                 first = ap (λ (x : Facts). x.exchange.exchanged) is ∙ not_is f.exchange.exchanged (and_right _ _ i);
-                none = ap (λ (x : Facts). first_missing x.exchange.rows (members x)) is ∙ none_is _ (and_left _ _ i);
+                none = ap (λ (x : Facts). first_missing x.exchange.rows (members_of_view x)) is ∙ none_is _ (and_left _ _ i);
               },
             ),
             tt,
           );
           sent = refl;
-          sends = state_answer (after z (Writes (line.Exchanged f.me (view_key f)))) f g from k v a.law
-              (rows_on z.chronicle (after z (Writes (line.Exchanged f.me (view_key f)))).chronicle (record { entered = λ n k e. e; lists = λ k ms e. e; rows = λ n k e. refl }) v.view.key f.exchange.rows (a.rowed v.view v.is))
+          sends = state_answer (front_after z (Writes (line.Exchanged f.me (view_key f)))) f g from k v a.law
+              (rows_on z.chronicle (front_after z (Writes (line.Exchanged f.me (view_key f)))).chronicle (record { entered = λ n k e. e; lists = λ k ms e. e; rows = λ n k e. refl }) v.view.key f.exchange.rows (a.rowed v.view v.is))
               (ap (λ (x : Facts). key_in x.exchange.view) (here (world_of z).facts f.me _) ∙ view_here) a.stays wants r;
-          ends = ended_but f.me z0 (after z (Writes (line.Exchanged f.me (view_key f)))) (elsewhere_on f.me z0 z _ a.elsewhere (record { facts = λ m x. away (world_of z).facts f.me _ m x; closing = λ m x. refl })) a.before a.owes a.stays
+          ends = ended_but f.me z0 (front_after z (Writes (line.Exchanged f.me (view_key f)))) (elsewhere_on f.me z0 z _ a.elsewhere (record { facts = λ m x. away (world_of z).facts f.me _ m x; closing = λ m x. refl })) a.before a.owes a.stays
               (subst (λ (x : Facts). Rests x) (sym (here (world_of z).facts f.me _ ∙ ap (λ (x : Facts). notes.exchanged x (view_key f)) is)) (record { idle = λ none. no_some (sym none ∙ v.is); over = λ u j none. refl }));
         }
 
@@ -160,26 +160,27 @@ record Leaves (f g : Facts) : Type 0 where
   by : g.store.by ≡ f.store.by
 
 leaves_write : (f : Facts) (from : ℕ) (k : ClusterKey) (nth : ℕ) (d : List ℕ) → Leaves f (wrote_facts f from k nth d)
-leaves_write f from k nth d = go (from == master (list_at f (partition_of d)))
+leaves_write f from k nth d = go (from == list_master (list_at f (partition_of d)))
   where
-    go : (b : Bool) → Leaves f (notes.counted_if f k (list_at f (partition_of d)) (partition_of d) nth b)
+    go : (b : Bool) → Leaves f (notes.write_counted_if f k (list_at f (partition_of d)) (partition_of d) nth b)
     go true = record { me = refl; exchange = refl; transactions = refl; content = refl; by = refl }
     go false = record { me = refl; exchange = refl; transactions = refl; content = refl; by = refl }
 
-counts_write : (f : Facts) (from : ℕ) (k : ClusterKey) (nth : ℕ) (d : List ℕ) → from ≡ master (list_at (wrote_facts f from k nth d) (partition_of d)) → contains (numbers_at (wrote_facts f from k nth d).writes (partition_of d)) nth ≡ true
-counts_write f from k nth d e = go (from == master (list_at f (partition_of d))) refl e
+counts_write : (f : Facts) (from : ℕ) (k : ClusterKey) (nth : ℕ) (d : List ℕ) → from ≡ list_master (list_at (wrote_facts f from k nth d) (partition_of d)) → contains (numbers_at (wrote_facts f from k nth d).writes (partition_of d)) nth ≡ true
+counts_write f from k nth d e = go (from == list_master (list_at f (partition_of d))) refl e
   where
-    go : (b : Bool) → (from == master (list_at f (partition_of d))) ≡ b → from ≡ master (list_at (notes.counted_if f k (list_at f (partition_of d)) (partition_of d) nth b) (partition_of d))
-        → contains (numbers_at (notes.counted_if f k (list_at f (partition_of d)) (partition_of d) nth b).writes (partition_of d)) nth ≡ true
+    go : (b : Bool) → (from == list_master (list_at f (partition_of d))) ≡ b → from ≡ list_master (list_at (notes.write_counted_if f k (list_at f (partition_of d)) (partition_of d) nth b) (partition_of d))
+        → contains (numbers_at (notes.write_counted_if f k (list_at f (partition_of d)) (partition_of d) nth b).writes (partition_of d)) nth ≡ true
     go true i q = ap (λ (ns : List ℕ). contains ns nth) (entry_or f.writes.numbers (partition_of d) (with_number (numbers_at f.writes (partition_of d)) nth) (partition_of d) []
         ∙ ap (λ (b : Bool). cond b (with_number (numbers_at f.writes (partition_of d)) nth) (numbers_at f.writes (partition_of d))) (number_here (partition_of d))) ∙ has_number (numbers_at f.writes (partition_of d)) nth
     go false i q = differ (ap (λ (m : ℕ). from == m) (sym q) ∙ number_here from) i
 
 pub repl_go : {by : Policy} {factor : ℕ} {z0 z : Front} {f : Facts} {clock from : ℕ} {k : ClusterKey} {t nth : ℕ} {d : List ℕ} {v : Version} → Arrived by factor z0 z f clock from (message.Repl k t nth d v)
-    → AreRead (due.due_repl f from k t d v).sends → NodeGo z f.me (due.due_repl f from k t d v)
+    → AreReadInRange (due.due_repl f from k t d v).sends
+    → NodeGo z f.me (due.due_repl f from k t d v)
 repl_go {by} {factor} {z0} {z} {f} {clock} {from} {k} {t} {nth} {d} {v} a read = go (in_view f k) refl a.is a.owes read
   where
-    go : (b : Bool) → in_view f k ≡ b → facts_at z f.me ≡ notes.write_came f from k nth (partition_of d) b → z.owed ≡ owed_if f f.me k d v b None → AreRead (repl_came f from k t d v b).sends → NodeGo z f.me (repl_came f from k t d v b)
+    go : (b : Bool) → in_view f k ≡ b → facts_at z f.me ≡ notes.write_came f from k nth (partition_of d) b → z.owed ≡ owed_if f f.me k d v b None → AreReadInRange (repl_came f from k t d v b).sends → NodeGo z f.me (repl_came f from k t d v b)
     go false e is o r = stale_go z f (ended_but f.me z0 z a.elsewhere a.before o a.stays (subst (λ (x : Facts). Rests x) (sym is) a.rests))
     go true e is o r = newer (is_newer f.store.by v (finite.get f.store.content d)) refl o
       where
@@ -198,14 +199,14 @@ repl_go {by} {factor} {z0} {z} {f} {clock} {from} {k} {t} {nth} {d} {v} a read =
         view_here : key_in (facts_at z f.me).exchange.view ≡ Some k
         view_here = ap (λ (x : Facts). key_in x.exchange.view) is ∙ ap (λ (x : Exchange). key_in x.view) l.exchange ∙ ap key_in u.is ∙ ap Some u.key
 
-        counted : from ≡ master (list_at (facts_at z f.me) (partition_of d)) → contains (numbers_at (facts_at z f.me).writes (partition_of d)) nth ≡ true
-        counted = subst (λ (x : Facts). from ≡ master (list_at x (partition_of d)) → contains (numbers_at x.writes (partition_of d)) nth ≡ true) (sym is) (counts_write f from k nth d)
+        counted : from ≡ list_master (list_at (facts_at z f.me) (partition_of d)) → contains (numbers_at (facts_at z f.me).writes (partition_of d)) nth ≡ true
+        counted = subst (λ (x : Facts). from ≡ list_master (list_at x (partition_of d)) → contains (numbers_at x.writes (partition_of d)) nth ≡ true) (sym is) (counts_write f from k nth d)
 
         -- the merge, and behind it the acknowledgement
         y : Front
-        y = after z (Writes (line.Merge f.me k d v))
+        y = front_after z (Writes (line.Merge f.me k d v))
 
-        merged_is : facts_at (after z (Writes (line.Merge f.me k d v))) f.me ≡ notes.merged (wrote_facts f from k nth d) k d v
+        merged_is : facts_at (front_after z (Writes (line.Merge f.me k d v))) f.me ≡ notes.merged (wrote_facts f from k nth d) k d v
         merged_is = here (world_of z).facts f.me _ ∙ ap (λ (x : Facts). notes.merged x k d v) is
 
         by_merge : z.owed ≡ Some (record { node = f.me; key = k; digest = d; version = v }) → NodeGo z f.me (record { lines = line.Merge f.me k d v ∷ []; sends = to_each (from ∷ []) (message.ReplAck k t) })
@@ -231,13 +232,13 @@ repl_go {by} {factor} {z0} {z} {f} {clock} {from} {k} {t} {nth} {d} {v} a read =
                 digest = d;
                 version = v;
                 came = record { number = a.came.number; posting = a.came.posting; sent = a.came.sent; ends = a.came.ends; message = a.came.message };
-                counted = subst (λ (x : Facts). from ≡ master (list_at x (partition_of d)) → contains (numbers_at x.writes (partition_of d)) nth ≡ true) (sym merged_is) (counts_write f from k nth d);
+                counted = subst (λ (x : Facts). from ≡ list_master (list_at x (partition_of d)) → contains (numbers_at x.writes (partition_of d)) nth ≡ true) (sym merged_is) (counts_write f from k nth d);
                 held = subst (λ (x : Facts). AtMost x.store.by (Some v) (finite.get x.store.content d)) (sym merged_is) (merged_holds (wrote_facts f from k nth d) k d v);
               };
             },
             tt,
           );
-          ends = ended_but f.me z0 (after z (Writes (line.Merge f.me k d v))) (elsewhere_on f.me z0 z _ a.elsewhere (record { facts = λ m x. away (world_of z).facts f.me _ m x; closing = λ m x. refl })) a.before refl a.stays
+          ends = ended_but f.me z0 (front_after z (Writes (line.Merge f.me k d v))) (elsewhere_on f.me z0 z _ a.elsewhere (record { facts = λ m x. away (world_of z).facts f.me _ m x; closing = λ m x. refl })) a.before refl a.stays
               (subst (λ (x : Facts). Rests x) (sym merged_is) rests);
         }
 

@@ -12,7 +12,7 @@ use Rattle.wire_messages.specs.declared.message.Message.TheVariants as message
 use Rattle.wire_messages.specs.Decoding.{message_of}
 use Rattle.node_rules.specs.Exchange.{is_member}
 use Rattle.node_rules.specs.Facts.{Facts, list_at}
-use Rattle.node_rules.specs.Map.{master}
+use Rattle.node_rules.specs.Map.{list_master}
 use Rattle.node_rules.specs.Hearing.{Heard}
 use Rattle.node_rules.specs.Keys.{same_key}
 use Rattle.node_rules.specs.Notes as notes
@@ -20,8 +20,8 @@ use Rattle.node_rules.specs.Notes.{neighbours, reached, sent, in_view}
 use Rattle.node_rules.specs.Tables.{Table, contains}
 use Rattle.cluster_rules.specs.Marks.{Writes, after_line, came, came_to, came_to_client, sent_by}
 use Rattle.journal_readings.specs.Messages.{Posting, Arrival, arrived, arrived_cut}
-use Rattle.cluster_rules.specs.Network.{posting_at, posting, client}
-use Rattle.cluster_rules.specs.World.{World, at}
+use Rattle.cluster_rules.specs.Network.{posting_at, posting}
+use Rattle.cluster_rules.specs.World.{World, changed_at}
 use Rattle.cluster_rules.proofs.AllowedLaws.{nodes_stay}
 use Rattle.cluster_laws.proofs.At.{number_same, some_same, no_some}
 use Rattle.key_laws.specs.Traced.{promised_by, listed_if}
@@ -29,7 +29,8 @@ use Rattle.key_laws.specs.Traced as traced
 use Rattle.key_laws.proofs.Frames.{at_each}
 use Rattle.key_laws.proofs.Kept.{WasPosted, was_posted}
 use Rattle.key_laws.proofs.NamedLines.{Ids, heard_put, heard_aged, AllMembers, neighbours_are, member_is}
-use Rattle.run_laws.specs.Fronts.{Front, world_of, facts_at, after}
+use Rattle.node_rules.specs.Messages.{client}
+use Rattle.run_laws.specs.Fronts.{Front, world_of, facts_at, front_after}
 use Rattle.run_laws.specs.LineOk.{IsDeclared}
 use Rattle.run_laws.specs.LineDue.{SendDueIf, LineDue, DeclaredLaw}
 use Rattle.run_laws.specs.Tied.{Each}
@@ -44,7 +45,7 @@ ids_from P (e ∷ es) h = (h.0, ids_from P es h.1)
 abbrev Hears : (ℕ → Type 0) → World → Type 0
 Hears P w = (n : ℕ) → Ids P (w.facts n).hearing.heard
 
-one : (P : ℕ → Type 0) (w : World) (n : ℕ) (g : Facts) → Hears P w → Ids P g.hearing.heard → (m : ℕ) → Ids P (at w.facts n g m).hearing.heard
+one : (P : ℕ → Type 0) (w : World) (n : ℕ) (g : Facts) → Hears P w → Ids P g.hearing.heard → (m : ℕ) → Ids P (changed_at w.facts n g m).hearing.heard
 one P w n g h x = at_each (λ (m : ℕ) (f : Facts). Ids P f.hearing.heard) w.facts n g h x
 
 -- a message of another kind says nothing of who is heard
@@ -67,12 +68,13 @@ reached_hears P f from (message.Progress k wants done handed settled) b h = by_b
     by_bool false = h
 reached_hears P f from (message.Repl k t nth d v) b h = by_bool (in_view f k)
   where
-    counted : (l : List ℕ) (p : ℕ) (q : Bool) → Ids P (notes.counted_if f k l p nth q).hearing.heard
+    counted : (l : List ℕ) (p : ℕ) (q : Bool)
+        → Ids P (notes.write_counted_if f k l p nth q).hearing.heard
     counted l p true = h
     counted l p false = h
 
     by_bool : (q : Bool) → Ids P (notes.write_came f from k nth (partition_of d) q).hearing.heard
-    by_bool true = counted (list_at f (partition_of d)) (partition_of d) (from == master (list_at f (partition_of d)))
+    by_bool true = counted (list_at f (partition_of d)) (partition_of d) (from == list_master (list_at f (partition_of d)))
     by_bool false = h
 reached_hears P f from (message.ReplAck k t) b h = by_bool (in_view f k)
   where
@@ -207,16 +209,16 @@ beats_line z l ok h i p e = λ v w hs r m. h.beats i p v w hs r e m
 
 -- ---- all of it
 
-pub declared_line : (z : Front) (l : Line) → ((n : ℕ) → (facts_at z n).me ≡ n) → LineDue z l → DeclaredLaw z → DeclaredLaw (after z (Writes l))
+pub declared_line : (z : Front) (l : Line) → ((n : ℕ) → (facts_at z n).me ≡ n) → LineDue z l → DeclaredLaw z → DeclaredLaw (front_after z (Writes l))
 declared_line z l me ok h = record {
   lists = λ k ms m e i. on m (lists_line z l me ok h k ms m e i);
   heard = λ n. all_on _ (hears_line z l h n);
   beats = λ i p v q hs r e m. on p.from (beats_line z l ok h i p e v q hs r m);
 }
   where
-    on : (m : ℕ) → IsDeclared z m → IsDeclared (after z (Writes l)) m
+    on : (m : ℕ) → IsDeclared z m → IsDeclared (front_after z (Writes l)) m
     on m d = ap (λ (ns : List ℕ). contains ns m) (nodes_stay (Writes l ∷ []) (world_of z)) ∙ d
 
-    all_on : (es : Table Heard) → Ids (IsDeclared z) es → Each (λ (e : ℕ × Heard). IsDeclared (after z (Writes l)) e.0) es
+    all_on : (es : Table Heard) → Ids (IsDeclared z) es → Each (λ (e : ℕ × Heard). IsDeclared (front_after z (Writes l)) e.0) es
     all_on [] d = tt
     all_on (e ∷ es) d = (on e.0 d.0, all_on es d.1)

@@ -9,14 +9,14 @@ use Rattle.wire_messages.specs.declared.message.Message.TheVariants as message
 use Rattle.wire_messages.specs.Decoding.{message_of}
 use Rattle.node_rules.specs.Exchange.{View, is_view}
 use Rattle.node_rules.specs.Facts.{Facts}
-use Rattle.node_rules.specs.Messages.{due_message}
+use Rattle.node_rules.specs.Messages.{due_message, client}
 use Rattle.node_rules.specs.Notes.{reached}
 use Rattle.node_rules.specs.Tables.{contains}
 use Rattle.node_rules.specs.declared.member_row.MemberRow.{MemberRow}
 use Rattle.cluster_rules.specs.DueEvents.{written, due_at_client, due_at_end, due_arrival}
 use Rattle.cluster_rules.specs.Marks.{Writes, came, came_to, came_to_client}
 use Rattle.journal_readings.specs.Messages.{Posting}
-use Rattle.cluster_rules.specs.Network.{Network, client, posting_at}
+use Rattle.cluster_rules.specs.Network.{Network, posting_at}
 use Rattle.cluster_rules.specs.World.{World, with_facts}
 use Rattle.cluster_laws.specs.Picture.{Owed}
 use Rattle.cluster_laws.proofs.At.{number_same}
@@ -25,8 +25,8 @@ use Rattle.key_laws.specs.Sound.{NodeKeys, Grows}
 use Rattle.key_laws.proofs.Kept.{WasPosted, was_posted, kept_line}
 use Rattle.key_laws.proofs.Growth.{node_grows}
 use Rattle.run_laws.specs.Chronicle.{IsRowOf}
-use Rattle.run_laws.specs.Fronts.{Front, world_of, facts_at, after, owed_by, owed_if, owed_at}
-use Rattle.run_laws.specs.LineDue.{LineDue, LineMay, LawOf, Lawful}
+use Rattle.run_laws.specs.Fronts.{Front, world_of, facts_at, front_after, owed_by, owed_if, owed_at}
+use Rattle.run_laws.specs.LineDue.{LineDue, LineMay, LawOf, LawfulFront}
 use Rattle.run_laws.specs.Spelled.{arrived_sends, ViewsDeclared}
 use Rattle.run_laws.specs.Steps.{Rests, Ended}
 use Rattle.run_laws.specs.Tied.{Each}
@@ -38,13 +38,13 @@ use Rattle.run_laws.proofs.Grounded.{outside}
 use Rattle.run_laws.proofs.Lawful.{Onward, lawful_line}
 use Rattle.run_laws.proofs.Rows.{rows_on}
 use Rattle.run_laws.proofs.NodeSteps.{NodeGo, effects_go}
-use Rattle.run_laws.specs.Spelled.{AreRead}
+use Rattle.run_laws.specs.Spelled.{AreReadInRange}
 use Rattle.run_laws.proofs.Turns.{LinesGo, here, away}
 use Rattle.run_laws.proofs.ViewSteps.{batch_ack_go, progress_go, ask_go, repl_ack_go, answer_go}
 
 -- ---- a message of any kind
 
-pub message_go : {by : Policy} {factor : ℕ} {z0 z : Front} {f : Facts} {clock from : ℕ} (m : Message) → Arrived by factor z0 z f clock from m → AreRead (due_message f clock from m).sends → NodeGo z f.me (due_message f clock from m)
+pub message_go : {by : Policy} {factor : ℕ} {z0 z : Front} {f : Facts} {clock from : ℕ} (m : Message) → Arrived by factor z0 z f clock from m → AreReadInRange (due_message f clock from m).sends → NodeGo z f.me (due_message f clock from m)
 message_go {by} {factor} {z0} {z} {f} {clock} {from} (message.Heartbeat view promised hears role) a r = nothing_go z f.me (ended_at a a.owes a.rests)
 message_go {by} {factor} {z0} {z} {f} {clock} {from} (message.Propose k ms) a r = propose_go a r
 message_go {by} {factor} {z0} {z} {f} {clock} {from} (message.Accept k) a r = accept_go a r
@@ -70,17 +70,17 @@ pub record Landing (z : Front) (l : Line) (p : Posting) (o : Option Message) : T
   pub may : LineMay z l
   pub number : ℕ
   pub posted : posting_at (world_of z).network number ≡ Some p
-  pub world : world_of (after z (Writes l)) ≡ came (world_of z) (option_map (λ m. record { from = p.from; to = p.to; message = m }) o)
-  pub owed : (after z (Writes l)).owed ≡ owed_at (world_of z) (option_map (λ m. record { from = p.from; to = p.to; message = m }) o) z.owed
-  pub closing : (after z (Writes l)).closing ≡ z.closing
+  pub world : world_of (front_after z (Writes l)) ≡ came (world_of z) (option_map (λ m. record { from = p.from; to = p.to; message = m }) o)
+  pub owed : (front_after z (Writes l)).owed ≡ owed_at (world_of z) (option_map (λ m. record { from = p.from; to = p.to; message = m }) o) z.owed
+  pub closing : (front_after z (Writes l)).closing ≡ z.closing
 
 -- ---- at a node
 
 came_world : (z : World) (f : Facts) (p : Posting) (m : Message) → p.to ≡ f.me → z.facts f.me ≡ f → came_to z (record { from = p.from; to = p.to; message = m }) false ≡ with_facts z f.me (reached f p.from m)
 came_world z f p m to is = ap (λ (n : ℕ). with_facts z n (reached (z.facts n) p.from m)) to ∙ ap (λ (g : Facts). with_facts z f.me (reached g p.from m)) is
 
-at_node : (by : Policy) (factor : ℕ) (z : Front) (l : Line) (p : Posting) (m : Message) (f : Facts) → Lawful by factor z → Ended z → ViewsDeclared (world_of z) → message_of p.bytes ≡ Some m → (p.to == client) ≡ false → p.to ≡ f.me → facts_at z f.me ≡ f
-    → Landing z l p (Some m) → Arrived by factor z (after z (Writes l)) f ((world_of z).clocks f.me) p.from m
+at_node : (by : Policy) (factor : ℕ) (z : Front) (l : Line) (p : Posting) (m : Message) (f : Facts) → LawfulFront by factor z → Ended z → ViewsDeclared (world_of z) → message_of p.bytes ≡ Some m → (p.to == client) ≡ false → p.to ≡ f.me → facts_at z f.me ≡ f
+    → Landing z l p (Some m) → Arrived by factor z (front_after z (Writes l)) f ((world_of z).clocks f.me) p.from m
 at_node by factor z l p m f law h dec read node to is g = record {
   before = h;
   elsewhere = record { facts = λ j e. ap (λ (w : World). w.facts j) world ∙ away (world_of z).facts f.me _ j e; closing = λ j e. ap (λ (c : ℕ → Bool). c j) g.closing };
@@ -88,24 +88,24 @@ at_node by factor z l p m f law h dec read node to is g = record {
   stays = ap (λ (c : ℕ → Bool). c f.me) g.closing ∙ h.stays f.me;
   owes = g.owed ∙ ap (λ (n : ℕ). owed_by ((world_of z).facts n) n m z.owed) to ∙ ap (λ (x : Facts). owed_by x f.me m z.owed) is ∙ ap (owed_by f f.me m) h.owes;
   came = record { number = g.number; posting = p; sent = ap (λ (w : World). posting_at w.network g.number) world ∙ g.posted; ends = (refl, to); message = read };
-  says = let w : WasPosted (after z (Writes l)).chronicle.traced p = was_posted (after z (Writes l)).chronicle.traced g.number p (ap (λ (w : World). posting_at w.network g.number) world ∙ g.posted) in on.lawful.sound.sent w.place p m w.stands read;
+  says = let w : WasPosted (front_after z (Writes l)).chronicle.traced p = was_posted (front_after z (Writes l)).chronicle.traced g.number p (ap (λ (w : World). posting_at w.network g.number) world ∙ g.posted) in on.lawful.sound.sent w.place p m w.stands read;
   rests = subst (λ (x : Facts). Rests x) is (h.rests f.me);
   law = subst (λ (x : Facts). LawOf by factor x) is (law.nodes f.me);
-  keys = node_grows z.chronicle.traced (after z (Writes l)).chronicle.traced grows f.me f (subst (λ (x : Facts). NodeKeys z.chronicle.traced f.me x) is (law.sound.nodes f.me));
+  keys = node_grows z.chronicle.traced (front_after z (Writes l)).chronicle.traced grows f.me f (subst (λ (x : Facts). NodeKeys z.chronicle.traced f.me x) is (law.sound.nodes f.me));
   listed = on.lawful.sound.lists;
-  rowed = λ v e. rows_on z.chronicle (after z (Writes l)).chronicle on.longer v.key f.exchange.rows (subst (λ (x : Facts). Each (λ (r : MemberRow). IsRowOf z.chronicle r.node v.key r.row) x.exchange.rows) is (law.rowed.kept f.me v (ap (λ (x : Facts). x.exchange.view) is ∙ e)));
+  rowed = λ v e. rows_on z.chronicle (front_after z (Writes l)).chronicle on.longer v.key f.exchange.rows (subst (λ (x : Facts). Each (λ (r : MemberRow). IsRowOf z.chronicle r.node v.key r.row) x.exchange.rows) is (law.rowed.kept f.me v (ap (λ (x : Facts). x.exchange.view) is ∙ e)));
   law_of = on.lawful.declared;
   time = sym (ap (λ (w : World). w.clocks f.me) world);
   declared = λ v e. ap (λ (w : World). contains w.nodes f.me) world ∙ dec f.me v (ap (λ (x : Facts). x.exchange.view) is ∙ e);
 }
   where
-    world : world_of (after z (Writes l)) ≡ with_facts (world_of z) f.me (reached f p.from m)
+    world : world_of (front_after z (Writes l)) ≡ with_facts (world_of z) f.me (reached f p.from m)
     world = g.world ∙ ap (came_to (world_of z) (record { from = p.from; to = p.to; message = m })) node ∙ came_world (world_of z) f p m to is
 
-    on : Onward by factor z (after z (Writes l))
+    on : Onward by factor z (front_after z (Writes l))
     on = lawful_line by factor z l g.key g.due law
 
-    grows : Grows z.chronicle.traced (after z (Writes l)).chronicle.traced
+    grows : Grows z.chronicle.traced (front_after z (Writes l)).chronicle.traced
     grows = (kept_line z.chronicle.traced l g.key law.sound).grows
 
 -- ---- at the client
@@ -125,16 +125,16 @@ client_goes : (z : Front) (m : Message) → Ended z → LinesGo z (due_at_client
 client_goes z (message.MapTable t) h = record { due = ((h.owes, tt), tt); ends = record { owes = h.owes; stays = h.stays; rests = h.rests } }
 client_goes z _ h = record { due = ((h.owes, tt), tt); ends = record { owes = h.owes; stays = h.stays; rests = h.rests } }
 
-at_client : (by : Policy) (factor : ℕ) (z : Front) (l : Line) (p : Posting) (m : Message) → Lawful by factor z → Ended z → (p.to == client) ≡ true → Landing z l p (Some m) → Ended (after z (Writes l))
-at_client by factor z l p m law h node g = facts_ended z (after z (Writes l)) h
+at_client : (by : Policy) (factor : ℕ) (z : Front) (l : Line) (p : Posting) (m : Message) → LawfulFront by factor z → Ended z → (p.to == client) ≡ true → Landing z l p (Some m) → Ended (front_after z (Writes l))
+at_client by factor z l p m law h node g = facts_ended z (front_after z (Writes l)) h
     (g.owed ∙ owed_outside (facts_at z p.to) p.to m z.owed (ap (λ (n : ℕ). (facts_at z n).exchange.view) (number_same p.to client node) ∙ outside z law.sound) ∙ h.owes) g.closing
     (λ n. ap (λ (w : World). w.facts n) (g.world ∙ ap (came_to (world_of z) (record { from = p.from; to = p.to; message = m })) node) ∙ client_facts (world_of z) m n)
 
 -- ---- the lines behind it
 
-pub behind_line : (by : Policy) (factor : ℕ) (z : Front) (w : World) (net : Network) (l : Line) (p : Posting) → w.facts ≡ (world_of z).facts → w.clocks ≡ (world_of z).clocks → length net.sent ≡ length (world_of z).network.sent → Lawful by factor z → Ended z → ViewsDeclared (world_of z)
-    → (o : Option Message) → message_of p.bytes ≡ o → Landing z l p o → AreRead (arrived_sends w p o) → LinesGo (after z (Writes l)) (due_arrival partition_count w net p o)
-behind_line by factor z w net l p fs cs num law h dec None read g r = record { due = tt; ends = facts_ended z (after z (Writes l)) h (g.owed ∙ h.owes) g.closing (λ n. ap (λ (x : World). x.facts n) g.world) }
+pub behind_line : (by : Policy) (factor : ℕ) (z : Front) (w : World) (net : Network) (l : Line) (p : Posting) → w.facts ≡ (world_of z).facts → w.clocks ≡ (world_of z).clocks → length net.sent ≡ length (world_of z).network.sent → LawfulFront by factor z → Ended z → ViewsDeclared (world_of z)
+    → (o : Option Message) → message_of p.bytes ≡ o → Landing z l p o → AreReadInRange (arrived_sends w p o) → LinesGo (front_after z (Writes l)) (due_arrival partition_count w net p o)
+behind_line by factor z w net l p fs cs num law h dec None read g r = record { due = tt; ends = facts_ended z (front_after z (Writes l)) h (g.owed ∙ h.owes) g.closing (λ n. ap (λ (x : World). x.facts n) g.world) }
 behind_line by factor z w net l p fs cs num law h dec (Some m) read g r = by_end (p.to == client) refl
   where
     f : Facts
@@ -149,7 +149,7 @@ behind_line by factor z w net l p fs cs num law h dec (Some m) read g r = by_end
     time : (world_of z).clocks (w.facts p.to).me ≡ w.clocks p.to
     time = ap (world_of z).clocks me ∙ ap (λ (x : ℕ → ℕ). x p.to) (sym cs)
 
-    net_same : (q : Bool) → (p.to == client) ≡ q → length net.sent ≡ length (world_of (after z (Writes l))).network.sent
+    net_same : (q : Bool) → (p.to == client) ≡ q → length net.sent ≡ length (world_of (front_after z (Writes l))).network.sent
     net_same q e = num ∙ ap length (sym (ap (λ (x : World). x.network.sent) g.world ∙ sent_same (p.to == client)))
       where
         table : (m : Message) → (came_to_client (world_of z) m).network.sent ≡ (world_of z).network.sent
@@ -160,12 +160,12 @@ behind_line by factor z w net l p fs cs num law h dec (Some m) read g r = by_end
         sent_same true = table m
         sent_same false = refl
 
-    by_end : (q : Bool) → (p.to == client) ≡ q → LinesGo (after z (Writes l)) (due_at_end partition_count w net p m q)
-    by_end true e = client_goes (after z (Writes l)) m (at_client by factor z l p m law h e g)
-    by_end false e = subst (λ (n : ℕ). LinesGo (after z (Writes l)) (written net n (due_message (w.facts p.to) (w.clocks p.to) p.from m))) me
-        (effects_go (after z (Writes l)) net (w.facts p.to).me (due_message (w.facts p.to) (w.clocks p.to) p.from m) (net_same false e)
-        (message_go m (subst (λ (t : ℕ). Arrived by factor z (after z (Writes l)) (w.facts p.to) t p.from m) time (at_node by factor z l p m (w.facts p.to) law h dec read e (sym me) is g)) r))
+    by_end : (q : Bool) → (p.to == client) ≡ q → LinesGo (front_after z (Writes l)) (due_at_end partition_count w net p m q)
+    by_end true e = client_goes (front_after z (Writes l)) m (at_client by factor z l p m law h e g)
+    by_end false e = subst (λ (n : ℕ). LinesGo (front_after z (Writes l)) (written net n (due_message (w.facts p.to) (w.clocks p.to) p.from m))) me
+        (effects_go (front_after z (Writes l)) net (w.facts p.to).me (due_message (w.facts p.to) (w.clocks p.to) p.from m) (net_same false e)
+        (message_go m (subst (λ (t : ℕ). Arrived by factor z (front_after z (Writes l)) (w.facts p.to) t p.from m) time (at_node by factor z l p m (w.facts p.to) law h dec read e (sym me) is g)) r))
 
 -- the line, and then those
-pub with_line : (z : Front) (l : Line) (ls : List Line) → LineMay z l → LinesGo (after z (Writes l)) ls → LinesGo z (l ∷ ls)
+pub with_line : (z : Front) (l : Line) (ls : List Line) → LineMay z l → LinesGo (front_after z (Writes l)) ls → LinesGo z (l ∷ ls)
 with_line z l ls ok g = record { due = (ok, g.due); ends = g.ends }

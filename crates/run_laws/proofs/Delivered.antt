@@ -9,13 +9,14 @@ use Rattle.node_rules.specs.Exchange as exchange
 use Rattle.node_rules.specs.Exchange.{View}
 use Rattle.cluster_rules.specs.Marks.{came, came_to, came_to_client}
 use Rattle.journal_readings.specs.Messages.{Posting, Arrival, arrived, arrived_cut}
-use Rattle.cluster_rules.specs.Network.{posting_at, client}
+use Rattle.cluster_rules.specs.Network.{posting_at}
 use Rattle.cluster_rules.specs.World.{World}
 use Rattle.cluster_laws.specs.Changes.{act}
-use Rattle.cluster_laws.specs.Effect.{Effect, Row_came, Told, Write_came, effect_if, is_view, batch_ack, write_ack, answer, comes, comes_if, arrives, arrives_cut}
+use Rattle.cluster_laws.specs.Effect.{Effect, Row_came, Told, Write_came, effect_if, is_view_key, batch_ack, write_ack, answer_effect, comes, comes_if, arrives, arrives_cut}
 use Rattle.cluster_laws.specs.Ground.{Ground}
 use Rattle.cluster_laws.specs.Picture.{Packet, Owed, Picture}
 use Rattle.cluster_laws.proofs.At.{number_same}
+use Rattle.node_rules.specs.Messages.{client}
 use Rattle.run_laws.specs.Tied.{key_in}
 use Rattle.run_laws.specs.Fronts.{packet_of, owed_if, owed_by, owed_at, Sane}
 use Rattle.run_laws.proofs.Arrivals.{TiedTo, reached_tied}
@@ -28,17 +29,17 @@ record Outside (z : World) (c : ℕ → Bool) (due : Option Owed) (w : Picture) 
   picture : (w.node n).view ≡ None
   tie : TiedTo z c due w
 
-no_effect : (G : Ground) {z : World} {c : ℕ → Bool} {due : Option Owed} {w : Picture} {n : ℕ} → Outside z c due w n → (k : ClusterKey) (e : Effect) → TiedTo z c due (act G (effect_if e (is_view (w.node n).view k)) w)
-no_effect G {z} {c} {due} {w} {n} h k e = subst (λ (o : Option ClusterKey). TiedTo z c due (act G (effect_if e (is_view o k)) w)) (sym h.picture) h.tie
+no_effect : (G : Ground) {z : World} {c : ℕ → Bool} {due : Option Owed} {w : Picture} {n : ℕ} → Outside z c due w n → (k : ClusterKey) (e : Effect) → TiedTo z c due (act G (effect_if e (is_view_key (w.node n).view k)) w)
+no_effect G {z} {c} {due} {w} {n} h k e = subst (λ (o : Option ClusterKey). TiedTo z c due (act G (effect_if e (is_view_key o k)) w)) (sym h.picture) h.tie
 
 at_client : (G : Ground) {z : World} {c : ℕ → Bool} {due : Option Owed} {w : Picture} {n : ℕ} → Outside z c due w n → (from : ℕ) (m : Message) → TiedTo (came_to_client z m) c (owed_by (z.facts n) n m due) (act G (comes w n from m) w)
 at_client G {z} {c} {due} {w} {n} h from (message.State k wants row) = no_effect G h k (Row_came n k from)
 at_client G {z} {c} {due} {w} {n} h from (message.BatchAck k number) = no_effect G h k (batch_ack n k from number ((w.stay n k).out from))
 at_client G {z} {c} {due} {w} {n} h from (message.Progress k wants done handed settled) = no_effect G h k (Told n k from done handed settled)
 at_client G {z} {c} {due} {w} {n} h from (message.Repl k t nth d v) =
-    subst (λ (o : Option View). TiedTo z c (owed_if (z.facts n) n k d v (exchange.is_view o k) due) (act G (effect_if (Write_came n k from nth d v) (is_view (w.node n).view k)) w)) (sym h.facts) (no_effect G h k (Write_came n k from nth d v))
+    subst (λ (o : Option View). TiedTo z c (owed_if (z.facts n) n k d v (exchange.is_view o k) due) (act G (effect_if (Write_came n k from nth d v) (is_view_key (w.node n).view k)) w)) (sym h.facts) (no_effect G h k (Write_came n k from nth d v))
 at_client G {z} {c} {due} {w} {n} h from (message.ReplAck k t) = no_effect G h k (write_ack n k from t ((w.stay n k).running t))
-at_client G {z} {c} {due} {w} {n} h from (message.Answer k t v) = no_effect G h k (answer n k from t v ((w.stay n k).running t))
+at_client G {z} {c} {due} {w} {n} h from (message.Answer k t v) = no_effect G h k (answer_effect n k from t v ((w.stay n k).running t))
 at_client G h from (message.MapTable x) = h.tie
 at_client G h from _ = h.tie
 

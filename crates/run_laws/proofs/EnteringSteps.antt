@@ -11,13 +11,13 @@ use Rattle.node_rules.specs.declared.member_row.MemberRow.{MemberRow}
 use Rattle.node_rules.specs.Copies.{Row}
 use Rattle.node_rules.specs.Entering.{closing, exchanging, entering}
 use Rattle.node_rules.specs.Exchange.{View, is_single, is_member, first_missing}
-use Rattle.node_rules.specs.Facts.{Facts, members}
+use Rattle.node_rules.specs.Facts.{Facts, members_of_view}
 use Rattle.node_rules.specs.Map.{lacks}
 use Rattle.node_rules.specs.Notes as notes
 use Rattle.node_rules.specs.Notes.{own_row}
 use Rattle.cluster_rules.specs.Marks.{Writes}
 use Rattle.cluster_laws.proofs.At.{number_here, number_same, differ, no_some, some_same, or_cases}
-use Rattle.run_laws.specs.Fronts.{Front, world_of, facts_at, after}
+use Rattle.run_laws.specs.Fronts.{Front, world_of, facts_at, front_after}
 use Rattle.run_laws.specs.LineDue.{AllDue}
 use Rattle.run_laws.specs.Steps.{Rests, Ended}
 use Rattle.run_laws.specs.Tied.{key_in}
@@ -77,7 +77,7 @@ pub record Entering (z : Front) (n : ℕ) (ls : List Line) : Type 0 where
 
 -- from the front behind the closing lines
 abbrev behind : Front → ℕ → ClusterKey → List Member → Front
-behind y n k ms = after y (Writes (line.Enter n k ms))
+behind y n k ms = front_after y (Writes (line.Enter n k ms))
 
 entered_is : (y : Front) (n : ℕ) (k : ClusterKey) (ms : List Member) → facts_at (behind y n k ms) n ≡ notes.entered (facts_at y n) k ms (own_row (facts_at y n))
 entered_is y n k ms = here (world_of y).facts n _
@@ -105,14 +105,14 @@ enter_go z0 y n k ms h el o me among falls true e = record {
         record {
           stands = record { view = ap (λ (f : Facts). key_in f.exchange.view) (entered_is y n k ms); stays = here y.closing n false };
           first = ap (λ (f : Facts). f.exchange.exchanged) (entered_is y n k ms);
-          none = ap (λ (f : Facts). first_missing f.exchange.rows (members f)) (entered_is y n k ms) ∙ subst (λ (j : ℕ). first_missing (alone j (own_row (facts_at y n))) ms ≡ None) (sym me) (single_none ms n (own_row (facts_at y n)) e among);
+          none = ap (λ (f : Facts). first_missing f.exchange.rows (members_of_view f)) (entered_is y n k ms) ∙ subst (λ (j : ℕ). first_missing (alone j (own_row (facts_at y n))) ms ≡ None) (sym me) (single_none ms n (own_row (facts_at y n)) e among);
         },
       ),
       tt,
     ),
   );
   sent = refl;
-  ends = ended_but n z0 (after (behind y n k ms) (Writes (line.Exchanged n k))) (elsewhere_on n z0 (behind y n k ms) _ (elsewhere_on n z0 y _ el (entered_elsewhere y n k ms)) (record { facts = λ m x. away (world_of (behind y n k ms)).facts n _ m x; closing = λ m x. refl })) h o (here y.closing n false)
+  ends = ended_but n z0 (front_after (behind y n k ms) (Writes (line.Exchanged n k))) (elsewhere_on n z0 (behind y n k ms) _ (elsewhere_on n z0 y _ el (entered_elsewhere y n k ms)) (record { facts = λ m x. away (world_of (behind y n k ms)).facts n _ m x; closing = λ m x. refl })) h o (here y.closing n false)
       (subst (λ (f : Facts). Rests f) (sym (here (world_of (behind y n k ms)).facts n _ ∙ ap (λ (f : Facts). notes.exchanged f k) (entered_is y n k ms))) (record {
         idle = λ i. no_some (sym i);
         over = λ v i none. refl;

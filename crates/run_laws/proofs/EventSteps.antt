@@ -15,7 +15,7 @@ use Rattle.wire_messages.specs.Requests.{IsWant}
 use Rattle.wire_messages.specs.Versions.{IsDigest}
 use Rattle.node_rules.specs.Effects.{sends_only, lines_only, to_one}
 use Rattle.node_rules.specs.Exchange.{View, first_missing}
-use Rattle.node_rules.specs.Facts.{Facts, members, list_at}
+use Rattle.node_rules.specs.Facts.{Facts, members_of_view, list_at}
 use Rattle.node_rules.specs.Map.{entry_of}
 use Rattle.node_rules.specs.Requests.{due_request, map_refusal, up_refusal, view_refusal, exchange_refusal}
 use Rattle.node_rules.specs.Standing.{acting_at}
@@ -25,27 +25,28 @@ use Rattle.cluster_rules.specs.declared.event.Event.TheVariants as event
 use Rattle.cluster_rules.specs.DueEvents.{due_of, written, due_at_named, arriving, arriving_cut, is_blocked, unless_blocked, delivery}
 use Rattle.cluster_rules.specs.Marks.{Begins, Writes, came}
 use Rattle.journal_readings.specs.Messages.{Posting, arrived, arrived_cut}
-use Rattle.cluster_rules.specs.Network.{client, posting_at, flying_at, landed}
+use Rattle.cluster_rules.specs.Network.{posting_at, flying_at, landed}
 use Rattle.cluster_rules.specs.World.{World}
 use Rattle.cluster_laws.proofs.At.{some_same, no_some}
 use Rattle.key_laws.proofs.DueSteps.{flying_posted}
+use Rattle.node_rules.specs.Messages.{client}
 use Rattle.run_laws.proofs.Reading.{reads_itself}
-use Rattle.run_laws.specs.Fronts.{Front, world_of, facts_at, after, owed_at}
-use Rattle.run_laws.specs.LineDue.{LineMay, LawOf, Lawful}
-use Rattle.run_laws.specs.Spelled.{requested, arrived_sends, flying_sends, SendsRead, ViewsDeclared}
+use Rattle.run_laws.specs.Fronts.{Front, world_of, facts_at, front_after, owed_at}
+use Rattle.run_laws.specs.LineDue.{LineMay, LawOf, LawfulFront}
+use Rattle.run_laws.specs.Spelled.{request_sends, arrived_sends, flying_sends, SendsRead, ViewsDeclared}
 use Rattle.run_laws.specs.Steps.{Ended}
 use Rattle.run_laws.proofs.Carried.{posting_same}
 use Rattle.run_laws.proofs.DeliverSteps.{Landing, behind_line, with_line, facts_ended}
 use Rattle.run_laws.proofs.Lawful.{lawful_line, lawful_begun}
 use Rattle.run_laws.proofs.NodeSteps.{Now, effects_go, stands_in}
-use Rattle.run_laws.specs.Spelled.{AreRead}
+use Rattle.run_laws.specs.Spelled.{AreReadInRange}
 use Rattle.run_laws.proofs.PlainSteps.{begins_ended}
 use Rattle.run_laws.proofs.RequestSteps.{request_go}
 use Rattle.run_laws.proofs.Turns.{LinesGo}
 
 -- ---- a message is delivered
 
-one_ended : (z : Front) (l : Line) → Ended z → LineMay z l → Ended (after z (Writes l)) → LinesGo z (l ∷ [])
+one_ended : (z : Front) (l : Line) → Ended z → LineMay z l → Ended (front_after z (Writes l)) → LinesGo z (l ∷ [])
 one_ended z l h ok e = record { due = (ok, tt); ends = e }
 
 blocked_goes : (z : Front) (i : ℕ) → Ended z → LinesGo z (line.Blocked i ∷ [])
@@ -112,83 +113,83 @@ long_is a b e = le-leb b a (ltb-false a b e)
 
 -- what a step begins with
 pub record Starts (by : Policy) (factor : ℕ) (z : Front) : Type 0 where
-  pub lawful : Lawful by factor z
+  pub lawful : LawfulFront by factor z
   pub ended : Ended z
   pub declared : ViewsDeclared (world_of z)
 
-pub begin : {by : Policy} {factor : ℕ} {z : Front} → Starts by factor z → (e : Event) → Starts by factor (after z (Begins e))
+pub begin : {by : Policy} {factor : ℕ} {z : Front} → Starts by factor z → (e : Event) → Starts by factor (front_after z (Begins e))
 begin {by} {factor} {z} s e = record { lawful = (lawful_begun by factor z e s.lawful).lawful; ended = begins_ended z e s.ended; declared = s.declared }
 
-pub deliver_goes : {by : Policy} {factor : ℕ} {z : Front} (i : ℕ) → Starts by factor z → SendsRead (world_of z) (event.Deliver i) → LinesGo (after z (Begins (event.Deliver i))) (due_of partition_count (world_of z) (event.Deliver i))
+pub deliver_goes : {by : Policy} {factor : ℕ} {z : Front} (i : ℕ) → Starts by factor z → SendsRead (world_of z) (event.Deliver i) → LinesGo (front_after z (Begins (event.Deliver i))) (due_of partition_count (world_of z) (event.Deliver i))
 deliver_goes {by} {factor} {z} i s read = go (flying_at (world_of z).network i) refl read
   where
-    t : Starts by factor (after z (Begins (event.Deliver i)))
+    t : Starts by factor (front_after z (Begins (event.Deliver i)))
     t = begin s (event.Deliver i)
 
-    comes : (p : Posting) → posting_at (world_of z).network i ≡ Some p → AreRead (arrived_sends (world_of z) p (message_of p.bytes)) → (b : Bool)
-        → LinesGo (after z (Begins (event.Deliver i))) (unless_blocked i (λ p. line.Deliver i p.from p.to ∷ arriving partition_count (world_of z) (landed (world_of z).network i) p) p b)
-    comes p posted r true = blocked_goes (after z (Begins (event.Deliver i))) i t.ended
+    comes : (p : Posting) → posting_at (world_of z).network i ≡ Some p → AreReadInRange (arrived_sends (world_of z) p (message_of p.bytes)) → (b : Bool)
+        → LinesGo (front_after z (Begins (event.Deliver i))) (unless_blocked i (λ p. line.Deliver i p.from p.to ∷ arriving partition_count (world_of z) (landed (world_of z).network i) p) p b)
+    comes p posted r true = blocked_goes (front_after z (Begins (event.Deliver i))) i t.ended
     comes p posted r false =
-        let g : Landing (after z (Begins (event.Deliver i))) (line.Deliver i p.from p.to) p (message_of p.bytes) = deliver_landing (after z (Begins (event.Deliver i))) i p t.ended (posting_same (landed (world_of z).network i) (world_of z).network refl i ∙ posted) in
-        with_line (after z (Begins (event.Deliver i))) (line.Deliver i p.from p.to) (arriving partition_count (world_of z) (landed (world_of z).network i) p) g.may
-        (behind_line by factor (after z (Begins (event.Deliver i))) (world_of z) (landed (world_of z).network i) (line.Deliver i p.from p.to) p refl refl refl t.lawful t.ended t.declared (message_of p.bytes) refl g r)
+        let g : Landing (front_after z (Begins (event.Deliver i))) (line.Deliver i p.from p.to) p (message_of p.bytes) = deliver_landing (front_after z (Begins (event.Deliver i))) i p t.ended (posting_same (landed (world_of z).network i) (world_of z).network refl i ∙ posted) in
+        with_line (front_after z (Begins (event.Deliver i))) (line.Deliver i p.from p.to) (arriving partition_count (world_of z) (landed (world_of z).network i) p) g.may
+        (behind_line by factor (front_after z (Begins (event.Deliver i))) (world_of z) (landed (world_of z).network i) (line.Deliver i p.from p.to) p refl refl refl t.lawful t.ended t.declared (message_of p.bytes) refl g r)
 
-    go : (o : Option Posting) → flying_at (world_of z).network i ≡ o → AreRead (flying_sends (world_of z) o)
-        → LinesGo (after z (Begins (event.Deliver i))) (delivery (world_of z) i (λ p. line.Deliver i p.from p.to ∷ arriving partition_count (world_of z) (landed (world_of z).network i) p) o)
-    go None e r = none_goes (after z (Begins (event.Deliver i))) i t.ended
+    go : (o : Option Posting) → flying_at (world_of z).network i ≡ o → AreReadInRange (flying_sends (world_of z) o)
+        → LinesGo (front_after z (Begins (event.Deliver i))) (delivery (world_of z) i (λ p. line.Deliver i p.from p.to ∷ arriving partition_count (world_of z) (landed (world_of z).network i) p) o)
+    go None e r = none_goes (front_after z (Begins (event.Deliver i))) i t.ended
     go (Some p) e r = comes p (flying_posted (world_of z).network i p e) r (is_blocked (world_of z) p)
 
-pub repeat_goes : {by : Policy} {factor : ℕ} {z : Front} (i : ℕ) → Starts by factor z → SendsRead (world_of z) (event.Repeat i) → LinesGo (after z (Begins (event.Repeat i))) (due_of partition_count (world_of z) (event.Repeat i))
+pub repeat_goes : {by : Policy} {factor : ℕ} {z : Front} (i : ℕ) → Starts by factor z → SendsRead (world_of z) (event.Repeat i) → LinesGo (front_after z (Begins (event.Repeat i))) (due_of partition_count (world_of z) (event.Repeat i))
 repeat_goes {by} {factor} {z} i s read = go (flying_at (world_of z).network i) refl read
   where
-    t : Starts by factor (after z (Begins (event.Repeat i)))
+    t : Starts by factor (front_after z (Begins (event.Repeat i)))
     t = begin s (event.Repeat i)
 
-    comes : (p : Posting) → posting_at (world_of z).network i ≡ Some p → AreRead (arrived_sends (world_of z) p (message_of p.bytes)) → (b : Bool)
-        → LinesGo (after z (Begins (event.Repeat i))) (unless_blocked i (λ p. line.Repeat i p.from p.to ∷ arriving partition_count (world_of z) (world_of z).network p) p b)
-    comes p posted r true = blocked_goes (after z (Begins (event.Repeat i))) i t.ended
+    comes : (p : Posting) → posting_at (world_of z).network i ≡ Some p → AreReadInRange (arrived_sends (world_of z) p (message_of p.bytes)) → (b : Bool)
+        → LinesGo (front_after z (Begins (event.Repeat i))) (unless_blocked i (λ p. line.Repeat i p.from p.to ∷ arriving partition_count (world_of z) (world_of z).network p) p b)
+    comes p posted r true = blocked_goes (front_after z (Begins (event.Repeat i))) i t.ended
     comes p posted r false =
-        let g : Landing (after z (Begins (event.Repeat i))) (line.Repeat i p.from p.to) p (message_of p.bytes) = repeat_landing (after z (Begins (event.Repeat i))) i p t.ended posted in
-        with_line (after z (Begins (event.Repeat i))) (line.Repeat i p.from p.to) (arriving partition_count (world_of z) (world_of z).network p) g.may
-        (behind_line by factor (after z (Begins (event.Repeat i))) (world_of z) (world_of z).network (line.Repeat i p.from p.to) p refl refl refl t.lawful t.ended t.declared (message_of p.bytes) refl g r)
+        let g : Landing (front_after z (Begins (event.Repeat i))) (line.Repeat i p.from p.to) p (message_of p.bytes) = repeat_landing (front_after z (Begins (event.Repeat i))) i p t.ended posted in
+        with_line (front_after z (Begins (event.Repeat i))) (line.Repeat i p.from p.to) (arriving partition_count (world_of z) (world_of z).network p) g.may
+        (behind_line by factor (front_after z (Begins (event.Repeat i))) (world_of z) (world_of z).network (line.Repeat i p.from p.to) p refl refl refl t.lawful t.ended t.declared (message_of p.bytes) refl g r)
 
-    go : (o : Option Posting) → flying_at (world_of z).network i ≡ o → AreRead (flying_sends (world_of z) o)
-        → LinesGo (after z (Begins (event.Repeat i))) (delivery (world_of z) i (λ p. line.Repeat i p.from p.to ∷ arriving partition_count (world_of z) (world_of z).network p) o)
-    go None e r = none_goes (after z (Begins (event.Repeat i))) i t.ended
+    go : (o : Option Posting) → flying_at (world_of z).network i ≡ o → AreReadInRange (flying_sends (world_of z) o)
+        → LinesGo (front_after z (Begins (event.Repeat i))) (delivery (world_of z) i (λ p. line.Repeat i p.from p.to ∷ arriving partition_count (world_of z) (world_of z).network p) o)
+    go None e r = none_goes (front_after z (Begins (event.Repeat i))) i t.ended
     go (Some p) e r = comes p (flying_posted (world_of z).network i p e) r (is_blocked (world_of z) p)
 
-pub cut_goes : {by : Policy} {factor : ℕ} {z : Front} (i size : ℕ) → Starts by factor z → SendsRead (world_of z) (event.Cut i size) → LinesGo (after z (Begins (event.Cut i size))) (due_of partition_count (world_of z) (event.Cut i size))
+pub cut_goes : {by : Policy} {factor : ℕ} {z : Front} (i size : ℕ) → Starts by factor z → SendsRead (world_of z) (event.Cut i size) → LinesGo (front_after z (Begins (event.Cut i size))) (due_of partition_count (world_of z) (event.Cut i size))
 cut_goes {by} {factor} {z} i size s read = go (flying_at (world_of z).network i) refl read
   where
-    t : Starts by factor (after z (Begins (event.Cut i size)))
+    t : Starts by factor (front_after z (Begins (event.Cut i size)))
     t = begin s (event.Cut i size)
 
-    long : (p : Posting) → posting_at (world_of z).network i ≡ Some p → AreRead (arrived_sends (world_of z) p (message_of p.bytes)) → (b : Bool) → nat_lt size (length p.bytes) ≡ b
-        → LinesGo (after z (Begins (event.Cut i size))) (line.Cut i p.from p.to size ∷ arriving_cut partition_count (world_of z) (landed (world_of z).network i) p b)
+    long : (p : Posting) → posting_at (world_of z).network i ≡ Some p → AreReadInRange (arrived_sends (world_of z) p (message_of p.bytes)) → (b : Bool) → nat_lt size (length p.bytes) ≡ b
+        → LinesGo (front_after z (Begins (event.Cut i size))) (line.Cut i p.from p.to size ∷ arriving_cut partition_count (world_of z) (landed (world_of z).network i) p b)
     long p posted r true e =
-        let g : Landing (after z (Begins (event.Cut i size))) (line.Cut i p.from p.to size) p None = cut_landing (after z (Begins (event.Cut i size))) i size p false (short_not size (length p.bytes) e) t.ended (posting_same (landed (world_of z).network i) (world_of z).network refl i ∙ posted) in
-        let h : Ended (after (after z (Begins (event.Cut i size))) (Writes (line.Cut i p.from p.to size))) = facts_ended (after z (Begins (event.Cut i size))) _ t.ended (g.owed ∙ t.ended.owes) g.closing (λ n. ap (λ (x : World). x.facts n) g.world) in
-        with_line (after z (Begins (event.Cut i size))) (line.Cut i p.from p.to size) (line.Short p.to ∷ []) g.may
+        let g : Landing (front_after z (Begins (event.Cut i size))) (line.Cut i p.from p.to size) p None = cut_landing (front_after z (Begins (event.Cut i size))) i size p false (short_not size (length p.bytes) e) t.ended (posting_same (landed (world_of z).network i) (world_of z).network refl i ∙ posted) in
+        let h : Ended (front_after (front_after z (Begins (event.Cut i size))) (Writes (line.Cut i p.from p.to size))) = facts_ended (front_after z (Begins (event.Cut i size))) _ t.ended (g.owed ∙ t.ended.owes) g.closing (λ n. ap (λ (x : World). x.facts n) g.world) in
+        with_line (front_after z (Begins (event.Cut i size))) (line.Cut i p.from p.to size) (line.Short p.to ∷ []) g.may
         (one_ended _ (line.Short p.to) h (h.owes, tt) (record { owes = h.owes; stays = h.stays; rests = h.rests }))
     long p posted r false e =
-        let g : Landing (after z (Begins (event.Cut i size))) (line.Cut i p.from p.to size) p (message_of p.bytes) = cut_landing (after z (Begins (event.Cut i size))) i size p true (long_is size (length p.bytes) e) t.ended (posting_same (landed (world_of z).network i) (world_of z).network refl i ∙ posted) in
-        with_line (after z (Begins (event.Cut i size))) (line.Cut i p.from p.to size) (arriving partition_count (world_of z) (landed (world_of z).network i) p) g.may
-        (behind_line by factor (after z (Begins (event.Cut i size))) (world_of z) (landed (world_of z).network i) (line.Cut i p.from p.to size) p refl refl refl t.lawful t.ended t.declared (message_of p.bytes) refl g r)
+        let g : Landing (front_after z (Begins (event.Cut i size))) (line.Cut i p.from p.to size) p (message_of p.bytes) = cut_landing (front_after z (Begins (event.Cut i size))) i size p true (long_is size (length p.bytes) e) t.ended (posting_same (landed (world_of z).network i) (world_of z).network refl i ∙ posted) in
+        with_line (front_after z (Begins (event.Cut i size))) (line.Cut i p.from p.to size) (arriving partition_count (world_of z) (landed (world_of z).network i) p) g.may
+        (behind_line by factor (front_after z (Begins (event.Cut i size))) (world_of z) (landed (world_of z).network i) (line.Cut i p.from p.to size) p refl refl refl t.lawful t.ended t.declared (message_of p.bytes) refl g r)
 
-    comes : (p : Posting) → posting_at (world_of z).network i ≡ Some p → AreRead (arrived_sends (world_of z) p (message_of p.bytes)) → (b : Bool)
-        → LinesGo (after z (Begins (event.Cut i size))) (unless_blocked i (λ p. line.Cut i p.from p.to size ∷ arriving_cut partition_count (world_of z) (landed (world_of z).network i) p (nat_lt size (length p.bytes))) p b)
-    comes p posted r true = blocked_goes (after z (Begins (event.Cut i size))) i t.ended
+    comes : (p : Posting) → posting_at (world_of z).network i ≡ Some p → AreReadInRange (arrived_sends (world_of z) p (message_of p.bytes)) → (b : Bool)
+        → LinesGo (front_after z (Begins (event.Cut i size))) (unless_blocked i (λ p. line.Cut i p.from p.to size ∷ arriving_cut partition_count (world_of z) (landed (world_of z).network i) p (nat_lt size (length p.bytes))) p b)
+    comes p posted r true = blocked_goes (front_after z (Begins (event.Cut i size))) i t.ended
     comes p posted r false = long p posted r (nat_lt size (length p.bytes)) refl
 
-    go : (o : Option Posting) → flying_at (world_of z).network i ≡ o → AreRead (flying_sends (world_of z) o)
-        → LinesGo (after z (Begins (event.Cut i size))) (delivery (world_of z) i (λ p. line.Cut i p.from p.to size ∷ arriving_cut partition_count (world_of z) (landed (world_of z).network i) p (nat_lt size (length p.bytes))) o)
-    go None e r = none_goes (after z (Begins (event.Cut i size))) i t.ended
+    go : (o : Option Posting) → flying_at (world_of z).network i ≡ o → AreReadInRange (flying_sends (world_of z) o)
+        → LinesGo (front_after z (Begins (event.Cut i size))) (delivery (world_of z) i (λ p. line.Cut i p.from p.to size ∷ arriving_cut partition_count (world_of z) (landed (world_of z).network i) p (nat_lt size (length p.bytes))) o)
+    go None e r = none_goes (front_after z (Begins (event.Cut i size))) i t.ended
     go (Some p) e r = comes p (flying_posted (world_of z).network i p e) r (is_blocked (world_of z) p)
 
 -- ---- requests
 
 pub at_node : {by : Policy} {factor : ℕ} {z : Front} (w : World) (n : ℕ) (d : List ℕ) (q : Want) → IsDigest d → IsWant q → Starts by factor z → (world_of z).want ≡ Some q → w.facts ≡ (world_of z).facts → w.clocks ≡ (world_of z).clocks → w.network.sent ≡ (world_of z).network.sent
-    → AreRead (due_request (w.facts n) (w.clocks n) d q).sends → LinesGo z (written w.network n (due_request (w.facts n) (w.clocks n) d q))
+    → AreReadInRange (due_request (w.facts n) (w.clocks n) d q).sends → LinesGo z (written w.network n (due_request (w.facts n) (w.clocks n) d q))
 at_node {by} {factor} {z} w n d q digest fits s want fs cs net read = subst (λ (m : ℕ). LinesGo z (written w.network m (due_request (w.facts n) (w.clocks n) d q))) me
     (effects_go z w.network (w.facts n).me (due_request (w.facts n) (w.clocks n) d q) (ap length net)
     (request_go by factor z (w.facts n) d q (w.clocks n) digest fits (subst (λ (f : Facts). LawOf by factor f) (sym here) (s.lawful.nodes n))
@@ -202,23 +203,23 @@ at_node {by} {factor} {z} w n d q digest fits s want fs cs net read = subst (λ 
     me = ap (λ (f : Facts). f.me) here ∙ (s.lawful.sound.nodes n).me
 
 pub client_goes : {by : Policy} {factor : ℕ} {z : Front} (w : World) (o : Option ℕ) (d : List ℕ) (q : Want) → IsDigest d → IsWant q → Starts by factor z → (world_of z).want ≡ Some q → w.facts ≡ (world_of z).facts → w.clocks ≡ (world_of z).clocks → w.network.sent ≡ (world_of z).network.sent
-    → AreRead (requested w o d q) → LinesGo z (due_at_named w d q o)
+    → AreReadInRange (request_sends w o d q) → LinesGo z (due_at_named w d q o)
 client_goes {by} {factor} {z} w None d q digest fits s want fs cs net read = one_ended z _ s.ended (s.ended.owes, tt) (record { owes = s.ended.owes; stays = s.ended.stays; rests = s.ended.rests })
 client_goes {by} {factor} {z} w (Some n) d q digest fits s want fs cs net read = with_line z (line.Client n d) _ (s.ended.owes, tt)
-    (at_node {z = after z (Writes (line.Client n d))} w n d q digest fits (record {
+    (at_node {z = front_after z (Writes (line.Client n d))} w n d q digest fits (record {
       lawful = (lawful_client s.lawful s.ended);
       ended = record { owes = s.ended.owes; stays = s.ended.stays; rests = s.ended.rests };
       declared = s.declared;
     }) want fs cs net read)
   where
-    lawful_client : Lawful by factor z → Ended z → Lawful by factor (after z (Writes (line.Client n d)))
+    lawful_client : LawfulFront by factor z → Ended z → LawfulFront by factor (front_after z (Writes (line.Client n d)))
     lawful_client l h = (lawful_line by factor z (line.Client n d) tt (h.owes, tt) l).lawful
 
 -- ---- the client asks
 
-pub ask_goes : {by : Policy} {factor : ℕ} {z : Front} (node : ℕ) → Starts by factor z → LinesGo (after z (Begins (event.Ask node))) (due_of partition_count (world_of z) (event.Ask node))
-ask_goes {by} {factor} {z} node s = let t : Starts by factor (after z (Begins (event.Ask node))) = begin s (event.Ask node) in
-    effects_go (after z (Begins (event.Ask node))) (world_of z).network client (sends_only (to_one node message.MapAsk)) refl
+pub ask_goes : {by : Policy} {factor : ℕ} {z : Front} (node : ℕ) → Starts by factor z → LinesGo (front_after z (Begins (event.Ask node))) (due_of partition_count (world_of z) (event.Ask node))
+ask_goes {by} {factor} {z} node s = let t : Starts by factor (front_after z (Begins (event.Ask node))) = begin s (event.Ask node) in
+    effects_go (front_after z (Begins (event.Ask node))) (world_of z).network client (sends_only (to_one node message.MapAsk)) refl
     (record { due = tt; sent = refl; sends = (record { plain = refl; read = reads_itself message.MapAsk (read_back message.MapAsk tt); due = tt }, tt); ends = t.ended })
 
 -- ---- maps
@@ -250,29 +251,29 @@ maps_go z f v (p ∷ ps) w i x h = with_line z (map_line f p (entry_of (list_at 
   record {
     stands = stands_in z f v w i;
     exchanged = ap (λ (g : Facts). g.exchange.exchanged) w.is ∙ x;
-    shown = ap (λ (g : Facts). with_roles (members g) (list_at g p)) (sym w.is);
+    shown = ap (λ (g : Facts). with_roles (members_of_view g) (list_at g p)) (sym w.is);
     acting = ap (λ (g : Facts). acting_at g (list_at g p) p) (sym w.is);
   },
 )
-    (maps_go (after z (Writes (map_line f p (entry_of (list_at f p) f.exchange.rows p)))) f v ps (record { is = w.is; stays = w.stays; owes = w.owes }) i x (record { owes = h.owes; stays = h.stays; rests = h.rests }))
+    (maps_go (front_after z (Writes (map_line f p (entry_of (list_at f p) f.exchange.rows p)))) f v ps (record { is = w.is; stays = w.stays; owes = w.owes }) i x (record { owes = h.owes; stays = h.stays; rests = h.rests }))
 
-pub map_goes : {by : Policy} {factor : ℕ} {z : Front} (node from to : ℕ) → Starts by factor z → LinesGo (after z (Begins (event.Map node from to))) (due_of partition_count (world_of z) (event.Map node from to))
+pub map_goes : {by : Policy} {factor : ℕ} {z : Front} (node from to : ℕ) → Starts by factor z → LinesGo (front_after z (Begins (event.Map node from to))) (due_of partition_count (world_of z) (event.Map node from to))
 map_goes {by} {factor} {z} node from to s = go (map_refusal (facts_at z node)) refl
   where
-    t : Starts by factor (after z (Begins (event.Map node from to)))
+    t : Starts by factor (front_after z (Begins (event.Map node from to)))
     t = begin s (event.Map node from to)
 
     me : (facts_at z node).me ≡ node
     me = (s.lawful.sound.nodes node).me
 
-    lines : (ls : List Line) → LinesGo (after z (Begins (event.Map node from to))) ls → LinesGo (after z (Begins (event.Map node from to))) (written (world_of z).network node (lines_only ls))
-    lines ls g = subst (λ (xs : List Line). LinesGo (after z (Begins (event.Map node from to))) xs) (sym (no_more ls)) g
+    lines : (ls : List Line) → LinesGo (front_after z (Begins (event.Map node from to))) ls → LinesGo (front_after z (Begins (event.Map node from to))) (written (world_of z).network node (lines_only ls))
+    lines ls g = subst (λ (xs : List Line). LinesGo (front_after z (Begins (event.Map node from to))) xs) (sym (no_more ls)) g
       where
         no_more : (xs : List Line) → xs ++ [] ≡ xs
         no_more [] = refl
         no_more (x ∷ xs) = ap (λ ys. x ∷ ys) (no_more xs)
 
-    go : (o : Option Refusal) → map_refusal (facts_at z node) ≡ o → LinesGo (after z (Begins (event.Map node from to))) (written (world_of z).network node (lines_only (map_if (facts_at z node) from to o)))
-    go (Some cause) e = lines _ (one_ended (after z (Begins (event.Map node from to))) _ t.ended (t.ended.owes, tt) (record { owes = t.ended.owes; stays = t.ended.stays; rests = t.ended.rests }))
+    go : (o : Option Refusal) → map_refusal (facts_at z node) ≡ o → LinesGo (front_after z (Begins (event.Map node from to))) (written (world_of z).network node (lines_only (map_if (facts_at z node) from to o)))
+    go (Some cause) e = lines _ (one_ended (front_after z (Begins (event.Map node from to))) _ t.ended (t.ended.owes, tt) (record { owes = t.ended.owes; stays = t.ended.stays; rests = t.ended.rests }))
     go None e = let m : Mapped (facts_at z node) = mapped (facts_at z node) e in
-        lines _ (maps_go (after z (Begins (event.Map node from to))) (facts_at z node) m.view _ (record { is = ap (facts_at z) me; stays = t.ended.stays (facts_at z node).me; owes = t.ended.owes }) m.is ((s.ended.rests node).over m.view m.is m.none) t.ended)
+        lines _ (maps_go (front_after z (Begins (event.Map node from to))) (facts_at z node) m.view _ (record { is = ap (facts_at z) me; stays = t.ended.stays (facts_at z node).me; owes = t.ended.owes }) m.is ((s.ended.rests node).over m.view m.is m.none) t.ended)

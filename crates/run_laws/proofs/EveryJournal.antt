@@ -16,7 +16,7 @@ use Rattle.cluster_rules.specs.World.{opened}
 use Rattle.cluster_rules.proofs.FrontRuns.{fronts_allowed, run_is_front, begun_is_front}
 use Rattle.cluster_rules.proofs.MarkLaws.{lines_of_run}
 use Rattle.cluster_laws.specs.Journals.{OfJournals, journal}
-use Rattle.key_laws.specs.Licences.{Licensed}
+use Rattle.key_laws.specs.Licences.{LicensedMarks}
 use Rattle.key_laws.specs.Traced.{Traced, untouched}
 use Rattle.key_laws.proofs.Kept.{licensed_append}
 use Rattle.key_laws.proofs.Licensed.{licensed_keys_rise}
@@ -73,9 +73,9 @@ every_journal P of = record {
 pub by_licences : (P : List Line → Type 0) → OfJournals P → OfEveryJournal P
 by_licences P of = every_journal P (λ h ss t. of h (ground_of h ss) (all_lines ss) (taken_is_a_journal h ss t))
 
-pub all_marks_licensed : (h : Header) (ss : List Step) → Taken h ss → Licensed (untouched (opened h)) (map Writes (header_lines h) ++ all_marks ss)
+pub all_marks_licensed : (h : Header) (ss : List Step) → Taken h ss → LicensedMarks (untouched (opened h)) (map Writes (header_lines h) ++ all_marks ss)
 all_marks_licensed h ss t = licensed_append (untouched (opened h)) (map Writes (header_lines h)) (all_marks ss) (header_ok (untouched (opened h)) h)
-    (subst (λ (u : Traced). Licensed u (all_marks ss)) (sym (header_same (untouched (opened h)) h)) (taken_walks h ss t).key)
+    (subst (λ (u : Traced). LicensedMarks u (all_marks ss)) (sym (header_same (untouched (opened h)) h)) (taken_walks h ss t).key)
 
 pub all_lines_are : (h : Header) (ss : List Step) → Rattle.cluster_rules.specs.Marks.lines_among (map Writes (header_lines h) ++ all_marks ss) ≡ journal h (all_lines ss)
 all_lines_are h ss = lines_of_run h (record { steps = ss; world = opened h })

@@ -21,13 +21,13 @@ use Rattle.node_rules.specs.Tables.{contains}
 use Rattle.cluster_rules.specs.Marks.{Mark, Begins, Writes}
 use Rattle.cluster_laws.specs.Ground.{Ground}
 use Rattle.cluster_laws.proofs.At.{or_cases, number_same, number_here, and_both, keys, differ}
-use Rattle.key_laws.specs.Licences.{Licensed}
-use Rattle.key_laws.specs.Sound.{Entered, Views, Sound}
+use Rattle.key_laws.specs.Licences.{LicensedMarks}
+use Rattle.key_laws.specs.Sound.{Entered, ViewStands, Sound}
 use Rattle.run_laws.specs.Chronicle.{Chronicle, Longer, Grounds}
 use Rattle.run_laws.specs.Tied.{RowsAgree}
-use Rattle.run_laws.specs.Fronts.{Front, world_of, facts_at, after, after_all, Sane, SaneNode}
+use Rattle.run_laws.specs.Fronts.{Front, world_of, facts_at, front_after, front_after_all, Sane, SaneNode}
 use Rattle.run_laws.specs.LineOk.{EnterOk, ExchangeOk, SendOk, SendOkIf, LineOk, Goes}
-use Rattle.run_laws.specs.LineDue.{EnterDue, ExchangeDue, SendDue, SendDueIf, LineDue, DueMarks, LawOf, Lawful}
+use Rattle.run_laws.specs.LineDue.{EnterDue, ExchangeDue, SendDue, SendDueIf, LineDue, DueMarks, LawOf, LawfulFront}
 use Rattle.run_laws.proofs.Lawful.{Onward, lawful_line, lawful_begun, strengthened}
 use Rattle.run_laws.proofs.Rows.{row_here}
 use Rattle.run_laws.proofs.Standing.{ViewAt, view_at}
@@ -36,7 +36,7 @@ use Rattle.run_laws.proofs.Agreement.{member_at, rows_agree}
 -- ---- a view is of its list
 
 pub entered_view : (z : Front) (n : ℕ) (v : View) → Sound z.chronicle.traced → (facts_at z n).exchange.view ≡ Some v → Entered z.chronicle.traced n (facts_at z n).agreement.last v
-entered_view z n v s e = subst (Views z.chronicle.traced n (facts_at z n).agreement.last) e (s.nodes n).view
+entered_view z n v s e = subst (ViewStands z.chronicle.traced n (facts_at z n).agreement.last) e (s.nodes n).view
 
 no_client : (ms : List Member) → All (λ (m : Member). IsId m.id) ms → is_member ms 0 ≡ true → ⊥
 no_client ms all e = go ms (recursion_from_All (λ (m : Member). IsId m.id) ms all) e
@@ -57,7 +57,7 @@ outside z s = go (facts_at z 0).exchange.view refl
 
 -- ---- the ground and the facts
 
-pub sane_of : (G : Ground) (by : Policy) (factor : ℕ) (z : Front) → G.by ≡ by → G.factor ≡ factor → Lawful by factor z → Grounds G z.chronicle → Sane G (world_of z)
+pub sane_of : (G : Ground) (by : Policy) (factor : ℕ) (z : Front) → G.by ≡ by → G.factor ≡ factor → LawfulFront by factor z → Grounds G z.chronicle → Sane G (world_of z)
 sane_of G by factor z sb sf h g = record { nodes = one; client = outside z h.sound }
   where
     members_are : (n : ℕ) (v : View) → (facts_at z n).exchange.view ≡ Some v → G.members v.key ≡ v.members
@@ -79,7 +79,7 @@ sane_of G by factor z sb sf h g = record { nodes = one; client = outside z h.sou
 
 -- ---- lines
 
-enter_ok : (G : Ground) (z : Front) (n : ℕ) (k : ClusterKey) (ms : List Member) → Grounds G z.chronicle → Grounds G (after z (Writes (line.Enter n k ms))).chronicle → EnterDue z n k ms → EnterOk G z n k ms
+enter_ok : (G : Ground) (z : Front) (n : ℕ) (k : ClusterKey) (ms : List Member) → Grounds G z.chronicle → Grounds G (front_after z (Writes (line.Enter n k ms))).chronicle → EnterDue z n k ms → EnterOk G z n k ms
 enter_ok G z n k ms g next ok = record {
   above = ok.above;
   members = sym (g.members k ms ok.first.list);
@@ -90,7 +90,7 @@ enter_ok G z n k ms g next ok = record {
     sooner : (a b : Bool) → a ≡ true → (a || b) ≡ true
     sooner a b e = grind arith
 
-exchange_ok : (G : Ground) (by : Policy) (factor : ℕ) (z : Front) (n : ℕ) (k : ClusterKey) → Lawful by factor z → Grounds G z.chronicle → ExchangeDue z n k → ExchangeOk G z n k
+exchange_ok : (G : Ground) (by : Policy) (factor : ℕ) (z : Front) (n : ℕ) (k : ClusterKey) → LawfulFront by factor z → Grounds G z.chronicle → ExchangeDue z n k → ExchangeOk G z n k
 exchange_ok G by factor z n k h g ok = let v : ViewAt (facts_at z n).exchange.view k = view_at (facts_at z n).exchange.view k ok.stands.view in record {
   stands = ok.stands;
   first = ok.first;
@@ -114,7 +114,7 @@ send_ok_if : (G : Ground) (z : Front) (a b : ℕ) (m : Option Message) → Groun
 send_ok_if G z a b None g ok = tt
 send_ok_if G z a b (Some m) g ok = send_ok G z a b m g ok
 
-pub line_ok : (G : Ground) (by : Policy) (factor : ℕ) (z : Front) (l : Line) → Lawful by factor z → Grounds G z.chronicle → Grounds G (after z (Writes l)).chronicle → LineDue z l → LineOk G z l
+pub line_ok : (G : Ground) (by : Policy) (factor : ℕ) (z : Front) (l : Line) → LawfulFront by factor z → Grounds G z.chronicle → Grounds G (front_after z (Writes l)).chronicle → LineDue z l → LineOk G z l
 line_ok G by factor z (line.Enter n k ms) h g next ok = (ok.0, enter_ok G z n k ms g next ok.1)
 line_ok G by factor z (line.Exchanged n k) h g next ok = (ok.0, exchange_ok G by factor z n k h g ok.1)
 line_ok G by factor z (line.Sent i a b bytes) h g next ok = (ok.0, record { number = ok.1.number; says = send_ok_if G z a b (message_of bytes) g ok.1.says })
@@ -153,23 +153,23 @@ long_on a b c x y = record {
 }
 
 -- at the end of marks
-pub onward_all : (by : Policy) (factor : ℕ) (z : Front) (ms : List Mark) → Licensed z.chronicle.traced ms → DueMarks z ms → Lawful by factor z → Onward by factor z (after_all z ms)
+pub onward_all : (by : Policy) (factor : ℕ) (z : Front) (ms : List Mark) → LicensedMarks z.chronicle.traced ms → DueMarks z ms → LawfulFront by factor z → Onward by factor z (front_after_all z ms)
 onward_all by factor z [] key due h = record { lawful = h; longer = record { entered = λ n k e. e; lists = λ k ms e. e; rows = λ n k e. refl } }
 onward_all by factor z (Begins e ∷ ms) key due h =
-    let one : Onward by factor z (after z (Begins e)) = lawful_begun by factor z e h in
-    let rest : Onward by factor (after z (Begins e)) (after_all (after z (Begins e)) ms) = onward_all by factor (after z (Begins e)) ms key.1 due one.lawful in
+    let one : Onward by factor z (front_after z (Begins e)) = lawful_begun by factor z e h in
+    let rest : Onward by factor (front_after z (Begins e)) (front_after_all (front_after z (Begins e)) ms) = onward_all by factor (front_after z (Begins e)) ms key.1 due one.lawful in
     record { lawful = rest.lawful; longer = long_on _ _ _ one.longer rest.longer }
 onward_all by factor z (Writes l ∷ ms) key due h =
-    let one : Onward by factor z (after z (Writes l)) = lawful_line by factor z l key.0 (strengthened by factor z l h key.0 due.0) h in
-    let rest : Onward by factor (after z (Writes l)) (after_all (after z (Writes l)) ms) = onward_all by factor (after z (Writes l)) ms key.1 due.1 one.lawful in
+    let one : Onward by factor z (front_after z (Writes l)) = lawful_line by factor z l key.0 (strengthened by factor z l h key.0 due.0) h in
+    let rest : Onward by factor (front_after z (Writes l)) (front_after_all (front_after z (Writes l)) ms) = onward_all by factor (front_after z (Writes l)) ms key.1 due.1 one.lawful in
     record { lawful = rest.lawful; longer = long_on _ _ _ one.longer rest.longer }
 
-pub goes_of : (G : Ground) (by : Policy) (factor : ℕ) (z : Front) (ms : List Mark) → G.by ≡ by → G.factor ≡ factor → Licensed z.chronicle.traced ms → DueMarks z ms → Lawful by factor z → Grounds G (after_all z ms).chronicle → Goes G z ms
+pub goes_of : (G : Ground) (by : Policy) (factor : ℕ) (z : Front) (ms : List Mark) → G.by ≡ by → G.factor ≡ factor → LicensedMarks z.chronicle.traced ms → DueMarks z ms → LawfulFront by factor z → Grounds G (front_after_all z ms).chronicle → Goes G z ms
 goes_of G by factor z [] sb sf key due h g = tt
-goes_of G by factor z (Begins e ∷ ms) sb sf key due h g = goes_of G by factor (after z (Begins e)) ms sb sf key.1 due (lawful_begun by factor z e h).lawful g
+goes_of G by factor z (Begins e ∷ ms) sb sf key due h g = goes_of G by factor (front_after z (Begins e)) ms sb sf key.1 due (lawful_begun by factor z e h).lawful g
 goes_of G by factor z (Writes l ∷ ms) sb sf key due h g =
-    let one : Onward by factor z (after z (Writes l)) = lawful_line by factor z l key.0 (strengthened by factor z l h key.0 due.0) h in
-    let rest : Onward by factor (after z (Writes l)) (after_all (after z (Writes l)) ms) = onward_all by factor (after z (Writes l)) ms key.1 due.1 one.lawful in
-    let next : Grounds G (after z (Writes l)).chronicle = grounds_back G _ _ rest.longer g in
+    let one : Onward by factor z (front_after z (Writes l)) = lawful_line by factor z l key.0 (strengthened by factor z l h key.0 due.0) h in
+    let rest : Onward by factor (front_after z (Writes l)) (front_after_all (front_after z (Writes l)) ms) = onward_all by factor (front_after z (Writes l)) ms key.1 due.1 one.lawful in
+    let next : Grounds G (front_after z (Writes l)).chronicle = grounds_back G _ _ rest.longer g in
     let now : Grounds G z.chronicle = grounds_back G _ _ one.longer next in
-    (sane_of G by factor z sb sf h now, line_ok G by factor z l h now next (strengthened by factor z l h key.0 due.0), goes_of G by factor (after z (Writes l)) ms sb sf key.1 due.1 one.lawful g)
+    (sane_of G by factor z sb sf h now, line_ok G by factor z l h now next (strengthened by factor z l h key.0 due.0), goes_of G by factor (front_after z (Writes l)) ms sb sf key.1 due.1 one.lawful g)

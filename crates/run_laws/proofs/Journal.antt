@@ -20,27 +20,27 @@ use Rattle.cluster_rules.specs.Marks as marks
 use Rattle.cluster_rules.specs.Marks.{Mark, Begins, Writes, lines_among}
 use Rattle.journal_readings.specs.Messages.{Posting}
 use Rattle.cluster_rules.specs.Network.{posting_at, posting_if, silent}
-use Rattle.cluster_rules.specs.Opening.{Header, declared_factor, declared_policy, declared_nodes, factor_step}
+use Rattle.cluster_rules.specs.Opening.{Header, declared_factor, declared_policy, declared_nodes, header_factor_step}
 use Rattle.cluster_rules.specs.Steps.{Step, marks_of, all_marks, all_lines}
 use Rattle.cluster_rules.specs.World.{World}
 use Rattle.cluster_rules.proofs.MarkLaws.{lines_of_steps}
 use Rattle.cluster_laws.specs.Ground.{Ground}
 use Rattle.journal_readings.specs.Shape.{is_header, AreBehind}
 use Rattle.cluster_rules.proofs.WorldReadings.{policy_agrees, factor_agrees, nodes_agree}
-use Rattle.cluster_laws.specs.Journals.{IsJournal, Fits}
+use Rattle.cluster_laws.specs.Journals.{IsJournal, FitsGround}
 use Rattle.cluster_laws.specs.Licences as licences
 use Rattle.cluster_laws.specs.Picture.{Picture, start}
 use Rattle.cluster_laws.proofs.At.{and_both, some_same, no_some, differ}
-use Rattle.key_laws.specs.Licences.{Licensed}
+use Rattle.key_laws.specs.Licences.{LicensedMarks}
 use Rattle.key_laws.specs.Traced as traced
 use Rattle.key_laws.specs.Traced.{Traced}
 use Rattle.key_laws.proofs.DueSteps.{Begun, step_ok}
 use Rattle.key_laws.proofs.Kept.{licensed_append}
 use Rattle.key_laws.proofs.Runs as runs
 use Rattle.run_laws.specs.Chronicle.{Grounds}
-use Rattle.run_laws.specs.Fronts.{Front, world_of, after, after_all, Tied, packet_of}
+use Rattle.run_laws.specs.Fronts.{Front, world_of, front_after, front_after_all, Tied, packet_of}
 use Rattle.run_laws.specs.LineOk.{Fitting, Goes}
-use Rattle.run_laws.specs.LineDue.{LineMay, DueMarks, Lawful}
+use Rattle.run_laws.specs.LineDue.{LineMay, DueMarks, LawfulFront}
 use Rattle.run_laws.specs.Premises.{Premises}
 use Rattle.run_laws.specs.Steps.{Ended, StepGoes}
 use Rattle.run_laws.proofs.AllSteps.{step_of}
@@ -52,37 +52,38 @@ use Rattle.run_laws.proofs.Runs.{all_licensed, all_fit}
 
 -- ---- marks one after another
 
-pub after_append : (z : Front) (a b : List Mark) → after_all z (a ++ b) ≡ after_all (after_all z a) b
+pub after_append : (z : Front) (a b : List Mark) → front_after_all z (a ++ b) ≡ front_after_all (front_after_all z a) b
 after_append z [] b = refl
-after_append z (m ∷ a) b = after_append (after z m) a b
+after_append z (m ∷ a) b = after_append (front_after z m) a b
 
-pub due_append : (z : Front) (a b : List Mark) → DueMarks z a → DueMarks (after_all z a) b → DueMarks z (a ++ b)
+pub due_append : (z : Front) (a b : List Mark) → DueMarks z a → DueMarks (front_after_all z a) b → DueMarks z (a ++ b)
 due_append z [] b x y = y
-due_append z (Begins e ∷ a) b x y = due_append (after z (Begins e)) a b x y
-due_append z (Writes l ∷ a) b x y = (x.0, due_append (after z (Writes l)) a b x.1 y)
+due_append z (Begins e ∷ a) b x y = due_append (front_after z (Begins e)) a b x y
+due_append z (Writes l ∷ a) b x y = (x.0, due_append (front_after z (Writes l)) a b x.1 y)
 
 -- the chronicle and the world go with the marks
-pub traced_all : (z : Front) (ms : List Mark) → (after_all z ms).chronicle.traced ≡ traced.after_all z.chronicle.traced ms
+pub traced_all : (z : Front) (ms : List Mark) → (front_after_all z ms).chronicle.traced ≡ traced.traced_after_all z.chronicle.traced ms
 traced_all z [] = refl
-traced_all z (Begins e ∷ ms) = traced_all (after z (Begins e)) ms
-traced_all z (Writes l ∷ ms) = traced_all (after z (Writes l)) ms
+traced_all z (Begins e ∷ ms) = traced_all (front_after z (Begins e)) ms
+traced_all z (Writes l ∷ ms) = traced_all (front_after z (Writes l)) ms
 
-pub world_all : (z : Front) (ms : List Mark) → world_of (after_all z ms) ≡ marks.after_all (world_of z) ms
+pub world_all : (z : Front) (ms : List Mark) → world_of (front_after_all z ms) ≡ marks.after_all (world_of z) ms
 world_all z [] = refl
-world_all z (Begins e ∷ ms) = world_all (after z (Begins e)) ms
-world_all z (Writes l ∷ ms) = world_all (after z (Writes l)) ms
+world_all z (Begins e ∷ ms) = world_all (front_after z (Begins e)) ms
+world_all z (Writes l ∷ ms) = world_all (front_after z (Writes l)) ms
 
 -- ---- how many lines stand
 
-pub more_lines : (z : Front) (ms : List Mark) → (after_all z ms).lines ≡ z.lines + length (lines_among ms)
+pub more_lines : (z : Front) (ms : List Mark) → (front_after_all z ms).lines ≡ z.lines + length (lines_among ms)
 more_lines z [] = omega arith
-more_lines z (Begins e ∷ ms) = more_lines (after z (Begins e)) ms
-more_lines z (Writes l ∷ ms) = more_lines (after z (Writes l)) ms ∙ shift z.lines (length (lines_among ms))
+more_lines z (Begins e ∷ ms) = more_lines (front_after z (Begins e)) ms
+more_lines z (Writes l ∷ ms) = more_lines (front_after z (Writes l)) ms ∙ shift z.lines (length (lines_among ms))
   where
     shift : (a b : ℕ) → a + 1 + b ≡ a + suc b
     shift a b = omega arith
 
-pub lt_after : (z : Front) (ms : List Mark) → (after_all z ms).lines < 2 ^ 32 → z.lines < 2 ^ 32
+pub lt_after : (z : Front) (ms : List Mark) → (front_after_all z ms).lines < 2 ^ 32
+    → z.lines < 2 ^ 32
 lt_after z ms lt = omega (arith, lt, more_lines z ms)
 
 -- ---- steps
@@ -93,25 +94,25 @@ begun _ p = tt
 
 pub record Walked (by : Policy) (factor : ℕ) (z : Front) (ms : List Mark) : Type 0 where
   pub due : DueMarks z ms
-  pub key : Licensed z.chronicle.traced ms
+  pub key : LicensedMarks z.chronicle.traced ms
   -- where they lead
-  pub lawful : Lawful by factor (after_all z ms)
-  pub ends : Ended (after_all z ms)
+  pub lawful : LawfulFront by factor (front_after_all z ms)
+  pub ends : Ended (front_after_all z ms)
 
-pub step_key : (z : Front) (s : Step) (by : Policy) (factor : ℕ) → Lawful by factor z → IsProperEvent s.event → IsAllowed partition_count (world_of z) s → Licensed z.chronicle.traced (marks_of s)
-step_key z s by factor h p a = subst (λ (ls : List Line). Licensed z.chronicle.traced (Begins s.event ∷ map Writes ls)) (sym a.due) (step_ok partition_count z.chronicle.traced s.event (begun s.event p) h.sound)
+pub step_key : (z : Front) (s : Step) (by : Policy) (factor : ℕ) → LawfulFront by factor z → IsProperEvent s.event → IsAllowed partition_count (world_of z) s → LicensedMarks z.chronicle.traced (marks_of s)
+step_key z s by factor h p a = subst (λ (ls : List Line). LicensedMarks z.chronicle.traced (Begins s.event ∷ map Writes ls)) (sym a.due) (step_ok partition_count z.chronicle.traced s.event (begun s.event p) h.sound)
 
-pub walked : (by : Policy) (factor : ℕ) (z : Front) (ss : List Step) → Lawful by factor z → Ended z → AllByRecursion (λ (s : Step). IsProperEvent s.event) ss → AreAllowed partition_count (world_of z) ss → (after_all z (all_marks ss)).lines < 2 ^ 32 → Premises z ss → Walked by factor z (all_marks ss)
+pub walked : (by : Policy) (factor : ℕ) (z : Front) (ss : List Step) → LawfulFront by factor z → Ended z → AllByRecursion (λ (s : Step). IsProperEvent s.event) ss → AreAllowed partition_count (world_of z) ss → (front_after_all z (all_marks ss)).lines < 2 ^ 32 → Premises z ss → Walked by factor z (all_marks ss)
 walked by factor z [] h e p a short prem = record { due = tt; key = tt; lawful = h; ends = e }
 walked by factor z (s ∷ ss) h e p a short prem =
-    let goes : StepGoes z s = step_of by factor z s h e p.0 a.0 (lt_after (after_all z (marks_of s)) (all_marks ss) (subst (λ (y : Front). y.lines < 2 ^ 32) (after_append z (marks_of s) (all_marks ss)) short)) prem.0 in
-    let key : Licensed z.chronicle.traced (marks_of s) = step_key z s by factor h p.0 a.0 in
-    let on : Onward by factor z (after_all z (marks_of s)) = onward_all by factor z (marks_of s) key goes.due h in
-    let rest : Walked by factor (after_all z (marks_of s)) (all_marks ss) = walked by factor (after_all z (marks_of s)) ss on.lawful goes.ends p.1 (subst (λ (w : World). AreAllowed partition_count w ss) (sym (world_all z (marks_of s))) a.1) (subst (λ (y : Front). y.lines < 2 ^ 32) (after_append z (marks_of s) (all_marks ss)) short) prem.1 in
+    let goes : StepGoes z s = step_of by factor z s h e p.0 a.0 (lt_after (front_after_all z (marks_of s)) (all_marks ss) (subst (λ (y : Front). y.lines < 2 ^ 32) (after_append z (marks_of s) (all_marks ss)) short)) prem.0 in
+    let key : LicensedMarks z.chronicle.traced (marks_of s) = step_key z s by factor h p.0 a.0 in
+    let on : Onward by factor z (front_after_all z (marks_of s)) = onward_all by factor z (marks_of s) key goes.due h in
+    let rest : Walked by factor (front_after_all z (marks_of s)) (all_marks ss) = walked by factor (front_after_all z (marks_of s)) ss on.lawful goes.ends p.1 (subst (λ (w : World). AreAllowed partition_count w ss) (sym (world_all z (marks_of s))) a.1) (subst (λ (y : Front). y.lines < 2 ^ 32) (after_append z (marks_of s) (all_marks ss)) short) prem.1 in
     record {
       due = due_append z (marks_of s) (all_marks ss) goes.due rest.due;
-      key = licensed_append z.chronicle.traced (marks_of s) (all_marks ss) key (subst (λ (t : Traced). Licensed t (all_marks ss)) (traced_all z (marks_of s)) rest.key);
-      lawful = subst (λ (y : Front). Lawful by factor y) (sym (after_append z (marks_of s) (all_marks ss))) rest.lawful;
+      key = licensed_append z.chronicle.traced (marks_of s) (all_marks ss) key (subst (λ (t : Traced). LicensedMarks t (all_marks ss)) (traced_all z (marks_of s)) rest.key);
+      lawful = subst (λ (y : Front). LawfulFront by factor y) (sym (after_append z (marks_of s) (all_marks ss))) rest.lawful;
       ends = subst (λ (y : Front). Ended y) (sym (after_append z (marks_of s) (all_marks ss))) rest.ends;
     }
 
@@ -140,7 +141,7 @@ first_tied h = record {
   owing = refl;
 }
 
-pub first_lawful : (h : Header) → Lawful (declared_policy h) (declared_factor h) (first h)
+pub first_lawful : (h : Header) → LawfulFront (declared_policy h) (declared_factor h) (first h)
 first_lawful h = record {
   sound = (runs.start h).sound;
   rowed = record {
@@ -186,10 +187,10 @@ not_header z _ ok = refl
 
 none_headers : (z : Front) (ms : List Mark) → DueMarks z ms → AreBehind (lines_among ms)
 none_headers z [] d = refl
-none_headers z (Begins e ∷ ms) d = none_headers (after z (Begins e)) ms d
-none_headers z (Writes l ∷ ms) d = and_both (not (is_header l)) _ (not_header z l d.0) (none_headers (after z (Writes l)) ms d.1)
+none_headers z (Begins e ∷ ms) d = none_headers (front_after z (Begins e)) ms d
+none_headers z (Writes l ∷ ms) d = and_both (not (is_header l)) _ (not_header z l d.0) (none_headers (front_after z (Writes l)) ms d.1)
 
-some_factor : (n : ℕ) (h : Header) → 0 < n → AllByRecursion IsProperHeaderLine h → 0 < fold factor_step n h
+some_factor : (n : ℕ) (h : Header) → 0 < n → AllByRecursion IsProperHeaderLine h → 0 < fold header_factor_step n h
 some_factor n [] lt a = lt
 some_factor n (header.Script v ∷ h) lt a = some_factor n h lt a.1
 some_factor n (header.Factor m ∷ h) lt a = some_factor m h a.0.0 a.1
@@ -198,19 +199,19 @@ some_factor n (header.Policy by ∷ h) lt a = some_factor n h lt a.1
 
 -- ---- each line fits
 
-each_fits : (G : Ground) (ns : List ℕ) (w : Picture) (ls : List Line) → Fitting G ns w ls → (i : ℕ) (l : Line) → slice_get ls i ≡ Some l → Fits G ns (licences.after_all G w (take i ls)) l
+each_fits : (G : Ground) (ns : List ℕ) (w : Picture) (ls : List Line) → Fitting G ns w ls → (i : ℕ) (l : Line) → slice_get ls i ≡ Some l → FitsGround G ns (licences.picture_after_all G w (take i ls)) l
 each_fits G ns w [] f i l e = no_some e
-each_fits G ns w (x ∷ ls) f zero l e = subst (Fits G ns w) (some_same e) f.0
-each_fits G ns w (x ∷ ls) f (suc i) l e = each_fits G ns (licences.after G w x) ls f.1 i l e
+each_fits G ns w (x ∷ ls) f zero l e = subst (FitsGround G ns w) (some_same e) f.0
+each_fits G ns w (x ∷ ls) f (suc i) l e = each_fits G ns (licences.picture_after G w x) ls f.1 i l e
 
 -- ---- the theorem
 
-grounds : (h : Header) (ss : List Step) → Grounds (ground_of h ss) (after_all (first h) (all_marks ss)).chronicle
+grounds : (h : Header) (ss : List Step) → Grounds (ground_of h ss) (front_after_all (first h) (all_marks ss)).chronicle
 grounds h ss = record { members = λ k ms e. ap (λ (o : Option (List Member)). unwrap_or o []) e; row = λ n k e p. refl }
 
 -- the marks of taken steps, by the ground that they make
 pub record Walks (h : Header) (ss : List Step) : Type 0 where
-  pub key : Licensed (first h).chronicle.traced (all_marks ss)
+  pub key : LicensedMarks (first h).chronicle.traced (all_marks ss)
   pub goes : Goes (ground_of h ss) (first h) (all_marks ss)
   pub behind : AreBehind (lines_among (all_marks ss))
 
@@ -218,7 +219,7 @@ none_first : (n : ℕ) → 0 + n ≡ n
 none_first n = omega arith
 
 -- as many lines stand behind the steps as they have
-pub lines_of_taken : (h : Header) (ss : List Step) → (after_all (first h) (all_marks ss)).lines ≡ length (all_lines ss)
+pub lines_of_taken : (h : Header) (ss : List Step) → (front_after_all (first h) (all_marks ss)).lines ≡ length (all_lines ss)
 lines_of_taken h ss = more_lines (first h) (all_marks ss) ∙ none_first (length (lines_among (all_marks ss))) ∙ ap length (lines_of_steps ss)
 
 pub taken_walked : (h : Header) (ss : List Step) → Taken h ss → Premises (first h) ss → Walked (declared_policy h) (declared_factor h) (first h) (all_marks ss)

@@ -10,6 +10,7 @@ use Rattle.journal_lines.specs.declared.line.Line.TheVariants as line
 use Rattle.wire_messages.specs.declared.message.Batch.{Batch}
 use Rattle.wire_messages.specs.declared.message.Message.{Message}
 use Rattle.node_rules.specs.Transactions.{Transaction}
+use Rattle.node_rules.specs.Messages.{client}
 use Rattle.run_laws.specs.Tied.{key_in}
 use Rattle.wire_messages.specs.declared.message.Message.TheVariants as message
 use Rattle.wire_messages.specs.Decoding.{message_of}
@@ -17,17 +18,17 @@ use Rattle.wire_messages.proofs.DecodingLaws.{what_is_read}
 use Rattle.node_rules.specs.Copies.{Row}
 use Rattle.node_rules.specs.Facts.{Facts, list_at}
 use Rattle.node_rules.specs.Keys.{same_key}
-use Rattle.node_rules.specs.Notes.{reached, sent, want_of}
+use Rattle.node_rules.specs.Notes.{reached, sent, request_want}
 use Rattle.cluster_types.specs.Partitions.{partition_of}
 use Rattle.cluster_rules.specs.Marks.{Begins, Writes, after_line, came, came_to, came_to_client, sent_by}
 use Rattle.cluster_rules.specs.declared.event.Event.{Event}
 use Rattle.journal_readings.specs.Messages.{Posting, arrived, arrived_cut}
-use Rattle.cluster_rules.specs.Network.{posting_at, client}
-use Rattle.cluster_rules.specs.World.{World, at}
+use Rattle.cluster_rules.specs.Network.{posting_at}
+use Rattle.cluster_rules.specs.World.{World, changed_at}
 use Rattle.cluster_rules.proofs.KeptFacts.{Kept, kept_of, own_step, is_own, marks_kept}
 use Rattle.cluster_laws.proofs.At.{number_same, key_same, or_cases, differ, some_same}
 use Rattle.key_laws.specs.Licences.{OkLine}
-use Rattle.key_laws.specs.Order.{AtMost}
+use Rattle.key_laws.specs.Order.{KeyAtMost}
 use Rattle.key_laws.specs.Sound.{Grows}
 use Rattle.key_laws.specs.Traced.{Traced, facts_of}
 use Rattle.key_laws.specs.Traced as traced
@@ -38,8 +39,8 @@ use Rattle.key_laws.proofs.KeptNodes.{Lawful as KeyLawful}
 use Rattle.key_laws.proofs.Order.{at_most_trans, at_most_eq, below_at_most, lt_below, below_lt, not_below}
 use Rattle.run_laws.specs.Chronicle.{Chronicle, Longer, Rowed, RowOk, IsRowOf, MayEnterFirst}
 use Rattle.run_laws.specs.Chronicle as chronicle
-use Rattle.run_laws.specs.Fronts.{Front, world_of, facts_at, after}
-use Rattle.run_laws.specs.LineDue.{EnterDue, SendDueIf, LineDue, LineMay, LawOf, Lawful}
+use Rattle.run_laws.specs.Fronts.{Front, world_of, facts_at, front_after}
+use Rattle.run_laws.specs.LineDue.{EnterDue, SendDueIf, LineDue, LineMay, LawOf, LawfulFront}
 use Rattle.run_laws.proofs.Carried.{taken_sent}
 use Rattle.run_laws.proofs.Declared.{declared_line}
 use Rattle.run_laws.proofs.NodeLaws.{stopped_law, entered_law, exchanged_law, opened_law, closed_law, applied_law, handed_law, settled_law, reached_law, sent_law}
@@ -50,7 +51,7 @@ use Rattle.run_laws.proofs.Rows.{enter_long, rowed_line, beside}
 abbrev Laws : Policy → ℕ → World → Type 0
 Laws by factor w = (n : ℕ) → LawOf by factor (w.facts n)
 
-one : (by : Policy) (factor : ℕ) (w : World) (n : ℕ) (g : Facts) → Laws by factor w → LawOf by factor g → (m : ℕ) → LawOf by factor (at w.facts n g m)
+one : (by : Policy) (factor : ℕ) (w : World) (n : ℕ) (g : Facts) → Laws by factor w → LawOf by factor g → (m : ℕ) → LawOf by factor (changed_at w.facts n g m)
 one by factor w n g h x = at_each (λ (m : ℕ) (f : Facts). LawOf by factor f) w.facts n g h x
 
 came_laws : (by : Policy) (factor : ℕ) (w : World) (b : ℕ) (p : Posting) → Laws by factor w → Laws by factor (came w (arrived b p))
@@ -100,7 +101,7 @@ laws_line by factor z (line.Unquiesce n) ok h = one by factor (world_of z) n _ h
 laws_line by factor z (line.Promise n k) ok h = one by factor (world_of z) n _ h (h n)
 laws_line by factor z (line.Enter n k ms) ok h = one by factor (world_of z) n _ h (entered_law by factor (facts_at z n) k ms (h n))
 laws_line by factor z (line.Exchanged n k) ok h = one by factor (world_of z) n _ h (exchanged_law by factor (facts_at z n) k ok.1.none ok.1.stands.view (h n))
-laws_line by factor z (line.Opened n k t d a) ok h = one by factor (world_of z) n _ h (opened_law by factor (facts_at z n) (list_at (facts_at z n) (partition_of d)) t d (want_of (world_of z).want a) ok.1.opens.number (h n))
+laws_line by factor z (line.Opened n k t d a) ok h = one by factor (world_of z) n _ h (opened_law by factor (facts_at z n) (list_at (facts_at z n) (partition_of d)) t d (request_want (world_of z).want a) ok.1.opens.number (h n))
 laws_line by factor z (line.Value n k t d v) ok h = one by factor (world_of z) n _ h (closed_law by factor (facts_at z n) t (h n))
 laws_line by factor z (line.Apply n k t d v) ok h = one by factor (world_of z) n _ h (applied_law by factor (facts_at z n) k t d v (λ y e. ap (λ (x : Transaction). x.digest) (some_same (sym e ∙ ok.1.applies.resolves.running)) ∙ ok.1.applies.resolves.digest) (h n))
 laws_line by factor z (line.Done n k t) ok h = one by factor (world_of z) n _ h (closed_law by factor (facts_at z n) t (h n))
@@ -131,22 +132,24 @@ last_stays w l n e = ap (λ (k : Kept). k.last) (marks_kept (Writes l ∷ []) w 
     go false = refl
 
 abbrev Visited : Traced → Type 0
-Visited t = (n : ℕ) (k : ClusterKey) → t.entered n k ≡ true → AtMost k (facts_of t n).agreement.last
+Visited t = (n : ℕ) (k : ClusterKey) → t.entered n k ≡ true
+    → KeyAtMost k (facts_of t n).agreement.last
 
-visited_enter : (t : Traced) (n : ℕ) (k : ClusterKey) (ms : List Member) → key_lt (facts_of t n).agreement.last k ≡ true → Visited t → Visited (traced.after t (Writes (line.Enter n k ms)))
-visited_enter t n k ms lt h m j e = subst (AtMost j) (sym (ap (λ (x : Kept). x.last) (marks_kept (Writes (line.Enter n k ms) ∷ []) t.world m))) (go (n == m) refl (or_cases _ (t.entered m j) e))
+visited_enter : (t : Traced) (n : ℕ) (k : ClusterKey) (ms : List Member) → key_lt (facts_of t n).agreement.last k ≡ true → Visited t → Visited (traced.traced_after t (Writes (line.Enter n k ms)))
+visited_enter t n k ms lt h m j e = subst (KeyAtMost j) (sym (ap (λ (x : Kept). x.last) (marks_kept (Writes (line.Enter n k ms) ∷ []) t.world m))) (go (n == m) refl (or_cases _ (t.entered m j) e))
   where
-    go : (b : Bool) → (n == m) ≡ b → ((b && same_key k j) ≡ true) ⊎ (t.entered m j ≡ true) → AtMost j (cond b (own_step (kept_of (facts_of t m)) (line.Enter n k ms)) (kept_of (facts_of t m))).last
+    go : (b : Bool) → (n == m) ≡ b → ((b && same_key k j) ≡ true) ⊎ (t.entered m j ≡ true) → KeyAtMost j (cond b (own_step (kept_of (facts_of t m)) (line.Enter n k ms)) (kept_of (facts_of t m))).last
     go true i c = ⊎_elim (λ x. at_most_eq (sym (key_same k j x))) (λ y. at_most_trans (h m j y) (below_at_most (lt_below _ k (ap (λ (q : ℕ). key_lt (facts_of t q).agreement.last k) (sym (number_same n m i)) ∙ lt)))) c
     go false i c = ⊎_elim (λ x. differ x refl) (λ y. h m j y) c
 
-visited_line : (z : Front) (l : Line) → LineDue z l → Visited z.chronicle.traced → Visited (traced.after z.chronicle.traced (Writes l))
+visited_line : (z : Front) (l : Line) → LineDue z l → Visited z.chronicle.traced → Visited (traced.traced_after z.chronicle.traced (Writes l))
 visited_line z (line.Enter n k ms) ok h = visited_enter z.chronicle.traced n k ms ok.1.above h
-visited_line z l ok h = λ m j e. subst (AtMost j) (sym (last_stays (world_of z) l m refl)) (h m j e)
+visited_line z l ok h = λ m j e. subst (KeyAtMost j) (sym (last_stays (world_of z) l m refl))
+    (h m j e)
 
 -- ---- what grows
 
-long_line : (z : Front) (l : Line) → LineDue z l → Grows z.chronicle.traced (traced.after z.chronicle.traced (Writes l)) → Longer z.chronicle (chronicle.after z.chronicle (Writes l))
+long_line : (z : Front) (l : Line) → LineDue z l → Grows z.chronicle.traced (traced.traced_after z.chronicle.traced (Writes l)) → Longer z.chronicle (chronicle.chronicle_after z.chronicle (Writes l))
 long_line z (line.Enter n k ms) ok g = enter_long z.chronicle n k ms ok.1.first
 long_line z l ok g = record { entered = g.entered; lists = g.lists; rows = λ n k e. refl }
 
@@ -161,13 +164,13 @@ row_ok z _ ok = tt
 -- ---- all of it
 
 pub record Onward (by : Policy) (factor : ℕ) (z y : Front) : Type 0 where
-  pub lawful : Lawful by factor y
+  pub lawful : LawfulFront by factor y
   pub longer : Longer z.chronicle y.chronicle
 
-pub lawful_line : (by : Policy) (factor : ℕ) (z : Front) (l : Line) → OkLine z.chronicle.traced l → LineDue z l → Lawful by factor z → Onward by factor z (after z (Writes l))
+pub lawful_line : (by : Policy) (factor : ℕ) (z : Front) (l : Line) → OkLine z.chronicle.traced l → LineDue z l → LawfulFront by factor z → Onward by factor z (front_after z (Writes l))
 lawful_line by factor z l key ok h =
-    let kept : Keeps z.chronicle.traced (traced.after z.chronicle.traced (Writes l)) = kept_line z.chronicle.traced l key h.sound in
-    let long : Longer z.chronicle (chronicle.after z.chronicle (Writes l)) = long_line z l ok kept.grows in
+    let kept : Keeps z.chronicle.traced (traced.traced_after z.chronicle.traced (Writes l)) = kept_line z.chronicle.traced l key h.sound in
+    let long : Longer z.chronicle (chronicle.chronicle_after z.chronicle (Writes l)) = long_line z l ok kept.grows in
     record {
       lawful = record {
         sound = kept.sound;
@@ -179,10 +182,10 @@ lawful_line by factor z l key ok h =
       longer = long;
     }
 
-pub lawful_begun : (by : Policy) (factor : ℕ) (z : Front) (e : Event) → Lawful by factor z → Onward by factor z (after z (Begins e))
+pub lawful_begun : (by : Policy) (factor : ℕ) (z : Front) (e : Event) → LawfulFront by factor z → Onward by factor z (front_after z (Begins e))
 lawful_begun by factor z e h =
-    let kept : Keeps z.chronicle.traced (traced.after z.chronicle.traced (Begins e)) = kept_begun z.chronicle.traced e h.sound in
-    let long : Longer z.chronicle (chronicle.after z.chronicle (Begins e)) = record { entered = kept.grows.entered; lists = kept.grows.lists; rows = λ n k i. refl } in
+    let kept : Keeps z.chronicle.traced (traced.traced_after z.chronicle.traced (Begins e)) = kept_begun z.chronicle.traced e h.sound in
+    let long : Longer z.chronicle (chronicle.chronicle_after z.chronicle (Begins e)) = record { entered = kept.grows.entered; lists = kept.grows.lists; rows = λ n k i. refl } in
     record {
       lawful = record {
         sound = kept.sound;
@@ -194,13 +197,13 @@ lawful_begun by factor z e h =
       longer = long;
     }
   where
-    begun_rowed : (e : Event) → Rowed (chronicle.after z.chronicle (Begins e))
-    begun_rowed e = let kept : Keeps z.chronicle.traced (traced.after z.chronicle.traced (Begins e)) = kept_begun z.chronicle.traced e h.sound in
-        beside z.chronicle (chronicle.after z.chronicle (Begins e)) (record { entered = kept.grows.entered; lists = kept.grows.lists; rows = λ n k i. refl }) refl (sym (taken_sent (world_of z).network e)) h.rowed
+    begun_rowed : (e : Event) → Rowed (chronicle.chronicle_after z.chronicle (Begins e))
+    begun_rowed e = let kept : Keeps z.chronicle.traced (traced.traced_after z.chronicle.traced (Begins e)) = kept_begun z.chronicle.traced e h.sound in
+        beside z.chronicle (chronicle.chronicle_after z.chronicle (Begins e)) (record { entered = kept.grows.entered; lists = kept.grows.lists; rows = λ n k i. refl }) refl (sym (taken_sent (world_of z).network e)) h.rowed
 
 -- ---- an entry, by the laws of keys
 
-entry_due : (by : Policy) (factor : ℕ) (z : Front) (n : ℕ) (k : ClusterKey) (ms : List Member) → Lawful by factor z → OkLine z.chronicle.traced (line.Enter n k ms) → EnterDue z n k ms
+entry_due : (by : Policy) (factor : ℕ) (z : Front) (n : ℕ) (k : ClusterKey) (ms : List Member) → LawfulFront by factor z → OkLine z.chronicle.traced (line.Enter n k ms) → EnterDue z n k ms
 entry_due by factor z n k ms h key =
     let ok : KeyLawful z.chronicle.traced n k ms = entered_as z.chronicle.traced n k ms h.sound key in
     record { first = record { first = not_yet (z.chronicle.traced.entered n k) refl ok.above; list = ok.list; among = ok.among }; above = below_lt _ k ok.above }
@@ -209,6 +212,6 @@ entry_due by factor z n k ms h key =
     not_yet true e lt = absurd (not_below lt (h.visited n k e))
     not_yet false e lt = refl
 
-pub strengthened : (by : Policy) (factor : ℕ) (z : Front) (l : Line) → Lawful by factor z → OkLine z.chronicle.traced l → LineMay z l → LineDue z l
+pub strengthened : (by : Policy) (factor : ℕ) (z : Front) (l : Line) → LawfulFront by factor z → OkLine z.chronicle.traced l → LineMay z l → LineDue z l
 strengthened by factor z (line.Enter n k ms) h key ok = (ok.0, entry_due by factor z n k ms h key)
 strengthened by factor z l h key ok = ok

@@ -11,8 +11,7 @@ use Rattle.journal_lines.specs.declared.refusal.Refusal.TheVariants as refusal
 use Rattle.journal_lines.specs.declared.line.Line.{Line}
 use Rattle.journal_lines.specs.declared.line.Line.TheVariants as line
 use Rattle.journal_readings.specs.Lines.{has_node}
-use Rattle.cluster_rules.specs.Network.{client}
-use Rattle.cluster_rules.specs.Opening.{Header, declared_nodes, header_line, header_lines}
+use Rattle.cluster_rules.specs.Opening.{Header, declared_nodes, journal_header_line, header_lines}
 use Rattle.journal_readings.specs.Shape.{Shape, end_nodes, named_nodes, names_declared, refusal_nodes}
 use Rattle.cluster_rules.specs.Steps.{Step, all_lines}
 use Rattle.cluster_rules.proofs.WorldReadings.{nodes_agree}
@@ -22,6 +21,7 @@ use Rattle.key_laws.specs.Ends.{IsOneOf, AllName, AllNodes, CauseNames, IsEnd, L
 use Rattle.key_laws.proofs.Addressed.{or_left, or_right}
 use Rattle.key_laws.proofs.Frames.{num_eq}
 use Rattle.key_laws.proofs.NamedSteps.{allowed_named}
+use Rattle.node_rules.specs.Messages.{client}
 use Rattle.run_laws.specs.Claims.{OfEveryJournal}
 use Rattle.run_laws.specs.Taken.{Taken}
 use Rattle.run_laws.proofs.EveryJournal.{every_journal}
@@ -122,7 +122,7 @@ steps_pass ns (x ∷ ls) h (suc i) l e = steps_pass ns ls h.1 i l e
 abbrev Among : List ℕ → List ℕ → Type 0
 Among ns ms = (n : ℕ) → has_node ms n ≡ true → has_node ns n ≡ true
 
-header_passes : (ns : List ℕ) (x : HeaderLine) (h : Header) → Among ns (declared_nodes (x ∷ h)) → Pass ns (named_nodes (header_line x))
+header_passes : (ns : List ℕ) (x : HeaderLine) (h : Header) → Among ns (declared_nodes (x ∷ h)) → Pass ns (named_nodes (journal_header_line x))
 unfolding named_nodes
 header_passes ns (header.Script version) h a = refl
 header_passes ns (header.Factor factor) h a = refl

@@ -20,8 +20,8 @@ use Rattle.partition_lists.specs.Lists.{replicas}
 use Rattle.node_rules.specs.Bits.{clear_row, or_rows}
 use Rattle.node_rules.specs.Copies.{Row}
 use Rattle.node_rules.specs.Exchange.{View, first_missing, with_row, members_of}
-use Rattle.node_rules.specs.Facts.{Facts, members, list_at}
-use Rattle.node_rules.specs.Map.{lacks, master}
+use Rattle.node_rules.specs.Facts.{Facts, members_of_view, list_at}
+use Rattle.node_rules.specs.Map.{lacks, list_master}
 use Rattle.node_rules.specs.Notes as notes
 use Rattle.node_rules.specs.Notes.{reached, in_view, sent, own_row}
 use Rattle.node_rules.specs.Tables.{changed_if, contains}
@@ -170,12 +170,12 @@ applied_acks by factor f t d v item h y a = let o : Of (λ (x : Transaction). ch
 abbrev Aims : Targets → Type 0
 Aims ts = (t : Target) → Among ts t → target ts t.node ≡ Some t
 
-changed_aims : (ts : Targets) (n : ℕ) (c : Target → Target) → ((x : Target) → (c x).node ≡ x.node) → Aims ts → Aims (batches.changing ts n c)
+changed_aims : (ts : Targets) (n : ℕ) (c : Target → Target) → ((x : Target) → (c x).node ≡ x.node) → Aims ts → Aims (batches.change_target ts n c)
 changed_aims ts n c keeps h y a = let o : Of (λ (x : Target). changed_if c x (x.node == n)) ts y = among_map (λ (x : Target). changed_if c x (x.node == n)) ts y a in
-    subst (λ (z : Target). target (batches.changing ts n c) z.node ≡ Some z) o.made (go o.from (h o.from o.there) (o.from.node == n) refl)
+    subst (λ (z : Target). target (batches.change_target ts n c) z.node ≡ Some z) o.made (go o.from (h o.from o.there) (o.from.node == n) refl)
   where
-    go : (x : Target) → target ts x.node ≡ Some x → (b : Bool) → (x.node == n) ≡ b → target (batches.changing ts n c) (changed_if c x b).node ≡ Some (changed_if c x b)
-    go x e true i = ap (target (batches.changing ts n c)) (keeps x) ∙ target_changed ts n c x.node keeps ∙ ap (λ (b : Bool). cond b (option_map c (target ts x.node)) (target ts x.node)) (ap (λ (m : ℕ). m == x.node) (sym (number_same x.node n i)) ∙ number_here x.node) ∙ ap (option_map c) e
+    go : (x : Target) → target ts x.node ≡ Some x → (b : Bool) → (x.node == n) ≡ b → target (batches.change_target ts n c) (changed_if c x b).node ≡ Some (changed_if c x b)
+    go x e true i = ap (target (batches.change_target ts n c)) (keeps x) ∙ target_changed ts n c x.node keeps ∙ ap (λ (b : Bool). cond b (option_map c (target ts x.node)) (target ts x.node)) (ap (λ (m : ℕ). m == x.node) (sym (number_same x.node n i)) ∙ number_here x.node) ∙ ap (option_map c) e
     go x e false i = target_changed ts n c x.node keeps ∙ ap (λ (b : Bool). cond b (option_map c (target ts x.node)) (target ts x.node)) (apart n x.node (λ q. differ (ap (λ (m : ℕ). x.node == m) q ∙ number_here x.node) i)) ∙ e
 
 new_aims : (f : Facts) (ns : List ℕ) (t : Target) → Among (map (notes.target_for f) ns) t → target (map (notes.target_for f) ns) t.node ≡ Some t
@@ -256,7 +256,7 @@ entered_law by factor f k ms h = record {
   inside = λ e. refl;
 }
 
-pub exchanged_law : (by : Policy) (factor : ℕ) (f : Facts) (k : ClusterKey) → first_missing f.exchange.rows (members f) ≡ None → key_in f.exchange.view ≡ Some k → LawOf by factor f → LawOf by factor (notes.exchanged f k)
+pub exchanged_law : (by : Policy) (factor : ℕ) (f : Facts) (k : ClusterKey) → first_missing f.exchange.rows (members_of_view f) ≡ None → key_in f.exchange.view ≡ Some k → LawOf by factor f → LawOf by factor (notes.exchanged f k)
 exchanged_law by factor f k none seen h = record {
   same_by = h.same_by;
   same_factor = h.same_factor;
@@ -281,7 +281,7 @@ not_next o t u e lt = apart t u (λ i. absurd (omega (arith, e, lt, i)))
 below_next : (o u : ℕ) → o + 1 < u → o < u
 below_next o u lt = omega (arith, lt)
 
-pub opened_law : (by : Policy) (factor : ℕ) (f : Facts) (l : List ℕ) (t : ℕ) (d : List ℕ) (w : Want) → t ≡ f.transactions.opened + 1 → LawOf by factor f → LawOf by factor (notes.opened f l t d w)
+pub opened_law : (by : Policy) (factor : ℕ) (f : Facts) (l : List ℕ) (t : ℕ) (d : List ℕ) (w : Want) → t ≡ f.transactions.opened + 1 → LawOf by factor f → LawOf by factor (notes.transaction_opened f l t d w)
 opened_law by factor f l t d w e h = record {
   same_by = h.same_by;
   same_factor = h.same_factor;
@@ -292,9 +292,9 @@ opened_law by factor f l t d w e h = record {
   own_handed_places = h.own_handed_places;
   settled_places = h.settled_places;
   own_settled_places = h.own_settled_places;
-  counted = λ u lt. added_none f.transactions.running (notes.new_transaction f l t d w) u (h.counted u (below_next f.transactions.opened u lt)) (not_next f.transactions.opened t u e lt);
-  runs = λ y a. opened_runs by factor f (notes.new_transaction f l t d w) e h y a;
-  acks = λ y a. ⊎_elim (λ r. h.acks y r) (λ z v i. no_some (ap (λ (x : Transaction). x.applied) z ∙ i)) (among_last f.transactions.running (notes.new_transaction f l t d w) y a);
+  counted = λ u lt. added_none f.transactions.running (notes.opening_transaction f l t d w) u (h.counted u (below_next f.transactions.opened u lt)) (not_next f.transactions.opened t u e lt);
+  runs = λ y a. opened_runs by factor f (notes.opening_transaction f l t d w) e h y a;
+  acks = λ y a. ⊎_elim (λ r. h.acks y r) (λ z v i. no_some (ap (λ (x : Transaction). x.applied) z ∙ i)) (among_last f.transactions.running (notes.opening_transaction f l t d w) y a);
   aims = h.aims;
   outs = h.outs;
   inside = h.inside;
@@ -320,7 +320,7 @@ closed_law by factor f t h = record {
   inside = h.inside;
 }
 
-pub applied_law : (by : Policy) (factor : ℕ) (f : Facts) (k : ClusterKey) (t : ℕ) (d : List ℕ) (v : Version) → ((y : Transaction) → transaction f.transactions t ≡ Some y → y.digest ≡ d) → LawOf by factor f → LawOf by factor (notes.applied f k (list_at f (partition_of d)) t d v)
+pub applied_law : (by : Policy) (factor : ℕ) (f : Facts) (k : ClusterKey) (t : ℕ) (d : List ℕ) (v : Version) → ((y : Transaction) → transaction f.transactions t ≡ Some y → y.digest ≡ d) → LawOf by factor f → LawOf by factor (notes.write_applied f k (list_at f (partition_of d)) t d v)
 applied_law by factor f k t d v item h = record {
   same_by = h.same_by;
   same_factor = h.same_factor;
@@ -439,13 +439,13 @@ progress_law by factor f from done handed settled true x y h = record {
   inside = h.inside;
 }
 
-counted_law : (by : Policy) (factor : ℕ) (f : Facts) (k : ClusterKey) (l : List ℕ) (p nth : ℕ) (b : Bool) → LawOf by factor f → LawOf by factor (notes.counted_if f k l p nth b)
+counted_law : (by : Policy) (factor : ℕ) (f : Facts) (k : ClusterKey) (l : List ℕ) (p nth : ℕ) (b : Bool) → LawOf by factor f → LawOf by factor (notes.write_counted_if f k l p nth b)
 counted_law by factor f k l p nth true h = h
 counted_law by factor f k l p nth false h = h
 
 write_law : (by : Policy) (factor : ℕ) (f : Facts) (from : ℕ) (k : ClusterKey) (nth p : ℕ) (b : Bool) → LawOf by factor f → LawOf by factor (notes.write_came f from k nth p b)
 write_law by factor f from k nth p false h = h
-write_law by factor f from k nth p true h = counted_law by factor f k (list_at f p) p nth (from == master (list_at f p)) h
+write_law by factor f from k nth p true h = counted_law by factor f k (list_at f p) p nth (from == list_master (list_at f p)) h
 
 changing_law : (by : Policy) (factor : ℕ) (f : Facts) (t : ℕ) (c : Transaction → Transaction) (test : Transaction → Bool) → ((z : Transaction) → (c z).number ≡ z.number) → ((x : Transaction) → test x ≡ true → AcksOf f x → AcksOf f (c x)) → LawOf by factor f
     → LawOf by factor (record f { transactions = transactions.changing f.transactions t (λ x. changed_if c x (test x)) })

@@ -18,12 +18,12 @@ use Rattle.node_rules.specs.Transactions.{Transaction, transaction}
 use Rattle.cluster_laws.specs.Changed.{at_number}
 use Rattle.cluster_laws.specs.Changes as changes
 use Rattle.cluster_laws.specs.Changes.{beginning, asks_now}
-use Rattle.cluster_laws.specs.Ground.{Ground, is_member, asks}
+use Rattle.cluster_laws.specs.Ground.{Ground, is_view_member, asks}
 use Rattle.cluster_laws.specs.Picture.{Seen}
 use Rattle.cluster_laws.specs.Stay.{Stay, Running}
 use Rattle.cluster_laws.proofs.At.{number_same, number_here, number_cases, differ}
 use Rattle.cluster_laws.proofs.GroundLaws.{apart}
-use Rattle.run_laws.specs.Tied.{Seens, Stays, Views, RowsAgree, has_pending, batches_of, shown}
+use Rattle.run_laws.specs.Tied.{Seens, Stays, Views, RowsAgree, has_pending, batches_of, running_from}
 use Rattle.run_laws.proofs.Classes.{asks_tied, empty_tied}
 
 -- ---- `opened`
@@ -31,7 +31,7 @@ use Rattle.run_laws.proofs.Classes.{asks_tied, empty_tied}
 none_if : (p q r : Bool) (a b : List ℕ) → p ≡ q → a ≡ b → r ≡ true → (e : Bool) → (if p || e then [] else a) ≡ (if q || (r && e) then [] else b)
 none_if p q r a b i j k e = ap₂ (λ (x : Bool) (l : List ℕ). if x || e then [] else l) i j ∙ ap (λ (x : Bool). if q || (x && e) then [] else b) (sym k)
 
-asked_tied : (G : Ground) (k : ClusterKey) (f : Facts) (s : Stay) (p : ℕ) → Views G k f → RowsAgree G k f.exchange.rows → is_member G k f.me ≡ true → f.exchange.exchanged ≡ true → Stays f s → asks_now G k f.me s p ≡ asked f (list_at f p) p
+asked_tied : (G : Ground) (k : ClusterKey) (f : Facts) (s : Stay) (p : ℕ) → Views G k f → RowsAgree G k f.exchange.rows → is_view_member G k f.me ≡ true → f.exchange.exchanged ≡ true → Stays f s → asks_now G k f.me s p ≡ asked f (list_at f p) p
 asked_tied G k f s p v a mem x h =
     ap (λ (e : Bool). if s.settled p || e then [] else asks G k p f.me) (sym (empty_tied G k f p v a))
     ∙ none_if (s.settled p) (bit f.bits.settled p) f.exchange.exchanged (asks G k p f.me) _ (h.settled p) (sym (asks_tied G k f p f.me v a mem)) x (is_all_empty f p)
@@ -48,12 +48,12 @@ found_last (x ∷ xs) y u e = go (x.number == y.number) (x.number == u) refl ref
     go false false i j z rest = rest z
     go false true i j z rest = sym (ap (λ (c : Bool). cond c (Some y) (Some x)) (apart y.number u (λ q. differ (ap (λ (n : ℕ). x.number == n) q ∙ j) i)))
 
-shown_if : (b : Bool) (y : Transaction) (o : Option Transaction) → cond b (Some (shown y)) (option_map shown o) ≡ option_map shown (cond b (Some y) o)
+shown_if : (b : Bool) (y : Transaction) (o : Option Transaction) → cond b (Some (running_from y)) (option_map running_from o) ≡ option_map running_from (cond b (Some y) o)
 shown_if true y o = refl
 shown_if false y o = refl
 
-pub opened_tied : (G : Ground) (k : ClusterKey) (f : Facts) (x : Seen) (s : Stay) (t : ℕ) (d : List ℕ) (w : Want) → Views G k f → RowsAgree G k f.exchange.rows → is_member G k f.me ≡ true → f.exchange.exchanged ≡ true
-    → transaction f.transactions t ≡ None → Seens f x → Stays f s → Stays (notes.opened f (list_at f (partition_of d)) t d w) (beginning G f.me k t d x.content s)
+pub opened_tied : (G : Ground) (k : ClusterKey) (f : Facts) (x : Seen) (s : Stay) (t : ℕ) (d : List ℕ) (w : Want) → Views G k f → RowsAgree G k f.exchange.rows → is_view_member G k f.me ≡ true → f.exchange.exchanged ≡ true
+    → transaction f.transactions t ≡ None → Seens f x → Stays f s → Stays (notes.transaction_opened f (list_at f (partition_of d)) t d w) (beginning G f.me k t d x.content s)
 opened_tied G k f x s t d w v a mem e none sn h = record {
   entered = h.entered;
   exchanged = h.exchanged;
@@ -63,9 +63,9 @@ opened_tied G k f x s t d w v a mem e none sn h = record {
   batches = h.batches;
   opened = ap (λ (n : ℕ). n + 1) h.opened;
   running = λ u. ap₂ (λ (o : Option Version) (l : List ℕ). cond (t == u) (Some (record { digest = d; best = o; asked = l; awaiting = l; applied = None })) (s.running u)) (sn.content d) (asked_tied G k f s (partition_of d) v a mem e h)
-      ∙ ap (λ (o : Option Running). cond (t == u) (Some (shown y)) o) (h.running u)
+      ∙ ap (λ (o : Option Running). cond (t == u) (Some (running_from y)) o) (h.running u)
       ∙ shown_if (t == u) y (transaction f.transactions u)
-      ∙ ap (option_map shown) (sym (found_last f.transactions.running y u none));
+      ∙ ap (option_map running_from) (sym (found_last f.transactions.running y u none));
   applies = h.applies;
   numbers = h.numbers;
   handed = h.handed;
@@ -76,7 +76,7 @@ opened_tied G k f x s t d w v a mem e none sn h = record {
 }
   where
     y : Transaction
-    y = notes.new_transaction f (list_at f (partition_of d)) t d w
+    y = notes.opening_transaction f (list_at f (partition_of d)) t d w
 
 -- ---- a batch is sent
 
@@ -110,7 +110,7 @@ pub record HasTarget (ts : Targets) (r : ℕ) : Type 0 where
   pub item : Target
   pub there : target ts r ≡ Some item
 
-pub batch_tied : (f : Facts) (s : Stay) (to : ℕ) (b : Batch) → HasTarget f.batches to → Stays f s → Stays (notes.sent f to (message.Batch b)) (changes.sending to b s)
+pub batch_tied : (f : Facts) (s : Stay) (to : ℕ) (b : Batch) → HasTarget f.batches to → Stays f s → Stays (notes.sent f to (message.Batch b)) (changes.stay_after_batch to b s)
 batch_tied f s to b has h = record {
   entered = h.entered;
   exchanged = h.exchanged;

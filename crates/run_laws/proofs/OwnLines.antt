@@ -15,12 +15,12 @@ use Rattle.node_rules.specs.Facts.{Facts, list_at, view_key}
 use Rattle.node_rules.specs.Notes.{note, noted, neighbours}
 use Rattle.node_rules.specs.Settling.{may_hand, may_settle}
 use Rattle.node_rules.specs.Standing.{is_to_learn, is_to_drop}
-use Rattle.node_rules.specs.Tick.{proposing_to, propose_new, propose_with, propose, is_candidate}
+use Rattle.node_rules.specs.Tick.{proposal_effects, propose_new, propose_with, propose, is_candidate}
 use Rattle.node_rules.specs.Transactions.{Transaction, Write}
 use Rattle.cluster_rules.specs.Marks.{Writes}
-use Rattle.cluster_rules.specs.World.{at}
+use Rattle.cluster_rules.specs.World.{changed_at}
 use Rattle.run_laws.specs.Due.{Passes, SettleOk, Along}
-use Rattle.run_laws.specs.Fronts.{Front, world_of, facts_at, after}
+use Rattle.run_laws.specs.Fronts.{Front, world_of, facts_at, front_after}
 use Rattle.run_laws.specs.LineOk.{IsDeclared}
 use Rattle.run_laws.specs.LineDue.{SendDue, LineMay, AllDue}
 use Rattle.run_laws.specs.Steps.{Rests, Ended}
@@ -54,10 +54,10 @@ pub record Ownly (n : ℕ) (z y : Front) (g : Facts) : Type 0 where
   pub net : (world_of y).network ≡ (world_of z).network
 
 -- a node's line, where its number is another name of the node
-renamed : (fs : ℕ → Facts) (m n : ℕ) (change : Facts → Facts) → m ≡ n → at fs m (change (fs m)) n ≡ change (fs n)
-renamed fs m n change e = subst (λ (j : ℕ). at fs j (change (fs j)) n ≡ change (fs n)) (sym e) (here fs n (change (fs n)))
+renamed : (fs : ℕ → Facts) (m n : ℕ) (change : Facts → Facts) → m ≡ n → changed_at fs m (change (fs m)) n ≡ change (fs n)
+renamed fs m n change e = subst (λ (j : ℕ). changed_at fs j (change (fs j)) n ≡ change (fs n)) (sym e) (here fs n (change (fs n)))
 
-own_after : (z : Front) (n : ℕ) (l : Line) → IsOwn n l → Ownly n z (after z (Writes l)) (note None (facts_at z n) l)
+own_after : (z : Front) (n : ℕ) (l : Line) → IsOwn n l → Ownly n z (front_after z (Writes l)) (note None (facts_at z n) l)
 own_after z n (line.Tick m) e = record { is = renamed (world_of z).facts m n (λ f. note None f (line.Tick m)) e; net = refl }
 own_after z n (line.Promise m k) e = record { is = renamed (world_of z).facts m n (λ f. note None f (line.Promise m k)) e; net = refl }
 own_after z n (line.Enter m k ms) e = record { is = renamed (world_of z).facts m n (λ f. note None f (line.Enter m k ms)) e; net = refl }
@@ -73,8 +73,9 @@ own_after z n _ e = absurd e
 pub all_own : (z : Front) (n : ℕ) (ls : List Line) → Each (IsOwn n) ls → Ownly n z (after_lines z ls) (noted None (facts_at z n) ls)
 all_own z n [] h = record { is = refl; net = refl }
 all_own z n (l ∷ ls) h =
-    let one : Ownly n z (after z (Writes l)) (note None (facts_at z n) l) = own_after z n l h.0 in
-    let rest : Ownly n (after z (Writes l)) (after_lines (after z (Writes l)) ls) (noted None (facts_at (after z (Writes l)) n) ls) = all_own (after z (Writes l)) n ls h.1 in
+    let one : Ownly n z (front_after z (Writes l))
+    (note None (facts_at z n) l) = own_after z n l h.0 in
+    let rest : Ownly n (front_after z (Writes l)) (after_lines (front_after z (Writes l)) ls) (noted None (facts_at (front_after z (Writes l)) n) ls) = all_own (front_after z (Writes l)) n ls h.1 in
     record { is = rest.is ∙ ap (λ (f : Facts). noted None f ls) one.is; net = rest.net ∙ one.net }
 
 -- ---- settling
@@ -83,9 +84,9 @@ record Settles (z : Front) (n : ℕ) (f : Facts) (l : Line) : Type 0 where
   may : LineMay z l
   own : IsOwn n l
   me : (note None f l).me ≡ f.me
-  owed : (after z (Writes l)).owed ≡ z.owed
-  closing : (after z (Writes l)).closing ≡ z.closing
-  elsewhere : Elsewhere n z (after z (Writes l))
+  owed : (front_after z (Writes l)).owed ≡ z.owed
+  closing : (front_after z (Writes l)).closing ≡ z.closing
+  elsewhere : Elsewhere n z (front_after z (Writes l))
 
 settles_one : (z : Front) (n : ℕ) (f : Facts) (l : Line) → facts_at z n ≡ f → n ≡ f.me → z.owed ≡ None → z.closing n ≡ false → SettleOk f l → Settles z n f l
 settles_one z n f l is me o c ok = go l ok
@@ -96,7 +97,7 @@ settles_one z n f l is me o c ok = go l ok
     same : (m : ℕ) → m ≡ f.me → m ≡ n
     same m e = e ∙ sym me
 
-    moves : (m : ℕ) (g : Facts) (w : Front) → m ≡ f.me → (world_of w).facts ≡ at (world_of z).facts m g → w.closing ≡ z.closing → Elsewhere n z w
+    moves : (m : ℕ) (g : Facts) (w : Front) → m ≡ f.me → (world_of w).facts ≡ changed_at (world_of z).facts m g → w.closing ≡ z.closing → Elsewhere n z w
     moves m g w e fs cs = record { facts = λ j x. ap (λ (h : ℕ → Facts). h j) fs ∙ away (world_of z).facts m g j (ap (λ (q : ℕ). q == j) (same m e) ∙ x); closing = λ j x. ap (λ (h : ℕ → Bool). h j) cs }
 
     go : (l : Line) → SettleOk f l → Settles z n f l
@@ -145,8 +146,8 @@ pub settles_all : (z : Front) (n : ℕ) (f : Facts) (ls : List Line) → facts_a
 settles_all z n f [] is me o c h = record { due = tt; own = tt; owed = refl; closing = refl; elsewhere = nothing_moves n z }
 settles_all z n f (l ∷ ls) is me o c h =
     let one : Settles z n f l = settles_one z n f l is me o c h.0 in
-    let rest : SettlesAll (after z (Writes l)) n ls = settles_all (after z (Writes l)) n (note None f l) ls ((own_after z n l one.own).is ∙ ap (λ (g : Facts). note None g l) is) (me ∙ sym one.me) (one.owed ∙ o) (ap (λ (q : ℕ → Bool). q n) one.closing ∙ c) h.1 in
-    record { due = (one.may, rest.due); own = (one.own, rest.own); owed = rest.owed ∙ one.owed; closing = rest.closing ∙ one.closing; elsewhere = elsewhere_on n z (after z (Writes l)) _ one.elsewhere rest.elsewhere }
+    let rest : SettlesAll (front_after z (Writes l)) n ls = settles_all (front_after z (Writes l)) n (note None f l) ls ((own_after z n l one.own).is ∙ ap (λ (g : Facts). note None g l) is) (me ∙ sym one.me) (one.owed ∙ o) (ap (λ (q : ℕ → Bool). q n) one.closing ∙ c) h.1 in
+    record { due = (one.may, rest.due); own = (one.own, rest.own); owed = rest.owed ∙ one.owed; closing = rest.closing ∙ one.closing; elsewhere = elsewhere_on n z (front_after z (Writes l)) _ one.elsewhere rest.elsewhere }
 
 -- ---- a proposal
 
@@ -187,13 +188,13 @@ propose_goes z f h is among falls dec again next = go f.agreement.proposal refl
     nobody : ProposeGo z f nothing
     nobody = record { due = tt; own = tt; ends = h; free = tt }
 
-    promise_ends : Ended (after z (Writes (line.Promise f.me (next_key f.me f.agreement))))
+    promise_ends : Ended (front_after z (Writes (line.Promise f.me (next_key f.me f.agreement))))
     promise_ends = beside_ended z _ f.me _ h refl refl (λ m. refl) refl refl
 
-    to : (ns : List ℕ) → has_round f.agreement ≡ true → ProposeGo z f (proposing_to f (next_key f.me f.agreement) (neighbours f) ns)
+    to : (ns : List ℕ) → has_round f.agreement ≡ true → ProposeGo z f (proposal_effects f (next_key f.me f.agreement) (neighbours f) ns)
     to [] round =
-        let e : Entering (after z (Writes (line.Promise f.me (next_key f.me f.agreement)))) f.me (entering f (next_key f.me f.agreement) (neighbours f)) =
-        entering_go z (after z (Writes (line.Promise f.me (next_key f.me f.agreement)))) (note None f (line.Promise f.me (next_key f.me f.agreement))) (next_key f.me f.agreement) (neighbours f) h
+        let e : Entering (front_after z (Writes (line.Promise f.me (next_key f.me f.agreement)))) f.me (entering f (next_key f.me f.agreement) (neighbours f)) =
+        entering_go z (front_after z (Writes (line.Promise f.me (next_key f.me f.agreement)))) (note None f (line.Promise f.me (next_key f.me f.agreement))) (next_key f.me f.agreement) (neighbours f) h
         (record { facts = λ m x. away (world_of z).facts f.me _ m x; closing = λ m x. refl }) (here (world_of z).facts f.me _ ∙ ap (λ (g : Facts). note None g (line.Promise f.me (next_key f.me f.agreement))) is) h.owes (subst (λ (g : Facts). Rests g) is (h.rests f.me)) among falls in
         record {
           due = ((h.owes, λ i. dec), e.due);
@@ -204,7 +205,7 @@ propose_goes z f h is among falls dec again next = go f.agreement.proposal refl
     to (n ∷ ns) round = record { due = ((h.owes, λ i. dec), tt); own = (refl, tt); ends = promise_ends; free = free_each f.me _ (n ∷ ns) refl (λ y r. tt) (next round) }
 
     new : (b : Bool) → (is_candidate f && has_round f.agreement) ≡ b → ProposeGo z f (propose_new f b)
-    new true e = to (agreement.others f.me (neighbours f)) (and_right (is_candidate f) _ e)
+    new true e = to (agreement.others_among f.me (neighbours f)) (and_right (is_candidate f) _ e)
     new false e = nobody
 
     go : (o : Option Proposal) → f.agreement.proposal ≡ o → ProposeGo z f (propose_with f o)

@@ -14,8 +14,8 @@ use Rattle.cluster_rules.specs.declared.event.Event.TheVariants as event
 use Rattle.cluster_rules.specs.Marks as marks
 use Rattle.cluster_rules.specs.Marks.{Mark, Begins, Writes, lines_among}
 use Rattle.journal_readings.specs.Messages.{Arrival, arrived, arrived_cut}
-use Rattle.cluster_rules.specs.Network.{Network, client, posting_at}
-use Rattle.cluster_rules.specs.Opening.{Header, header_line, header_lines}
+use Rattle.cluster_rules.specs.Network.{Network, posting_at}
+use Rattle.cluster_rules.specs.Opening.{Header, journal_header_line, header_lines}
 use Rattle.journal_readings.specs.Shape.{is_header}
 use Rattle.cluster_rules.specs.World.{World}
 use Rattle.cluster_rules.proofs.AllowedLaws.{nodes_stay}
@@ -23,7 +23,8 @@ use Rattle.cluster_laws.specs.Ground.{Ground}
 use Rattle.cluster_laws.specs.Licences as licences
 use Rattle.cluster_laws.specs.Picture.{Picture}
 use Rattle.cluster_laws.proofs.At.{differ, some_same, no_some}
-use Rattle.run_laws.specs.Fronts.{Front, world_of, after, after_all, Tied, Sane}
+use Rattle.node_rules.specs.Messages.{client}
+use Rattle.run_laws.specs.Fronts.{Front, world_of, front_after, front_after_all, Tied, Sane}
 use Rattle.run_laws.specs.LineOk.{AreGrouped, LineOk, Goes}
 use Rattle.run_laws.proofs.Carried.{line_tied, begun_tied}
 
@@ -66,11 +67,11 @@ line_groups w (line.Cut i a b size) e = came_groups w (option_and_then (arrived_
 line_groups w (line.Sent i a b bytes) e = sent_groups _ a b (message_of bytes)
 line_groups w _ e = refl
 
-pub grouped_line : (G : Ground) (z : Front) (l : Line) → LineOk G z l → Grouped (world_of z) → Grouped (world_of (after z (Writes l)))
+pub grouped_line : (G : Ground) (z : Front) (l : Line) → LineOk G z l → Grouped (world_of z) → Grouped (world_of (front_after z (Writes l)))
 grouped_line G z (line.Groups groups) ok h = ok.1
 grouped_line G z l ok h = subst₂ (λ (ns : List ℕ) (groups : List (List ℕ)). names_known ns (event.Groups groups) ≡ true) (sym (nodes_stay (Writes l ∷ []) (world_of z))) (sym (line_groups (world_of z) l refl)) h
 
-pub grouped_begun : (z : Front) (e : Event) → Grouped (world_of z) → Grouped (world_of (after z (Begins e)))
+pub grouped_begun : (z : Front) (e : Event) → Grouped (world_of z) → Grouped (world_of (front_after z (Begins e)))
 grouped_begun z e h = subst₂ (λ (ns : List ℕ) (groups : List (List ℕ)). names_known ns (event.Groups groups) ≡ true) refl (sym (taken_groups (world_of z).network e)) h
 
 -- ---- the front behind the lines before
@@ -79,19 +80,20 @@ pub record Placed (G : Ground) (z : Front) (w : Picture) (ms : List Mark) (i : �
   -- so many marks stand before
   pub count : ℕ
   pub before : take i (lines_among ms) ≡ lines_among (take count ms)
-  pub sane : Sane G (world_of (after_all z (take count ms)))
-  pub ok : LineOk G (after_all z (take count ms)) l
-  pub tied : Tied (after_all z (take count ms)) (licences.after_all G w (take i (lines_among ms)))
-  pub grouped : Grouped (world_of (after_all z (take count ms)))
+  pub sane : Sane G (world_of (front_after_all z (take count ms)))
+  pub ok : LineOk G (front_after_all z (take count ms)) l
+  pub tied : Tied (front_after_all z (take count ms))
+      (licences.picture_after_all G w (take i (lines_among ms)))
+  pub grouped : Grouped (world_of (front_after_all z (take count ms)))
 
 pub placed : (G : Ground) (z : Front) (w : Picture) (ms : List Mark) (i : ℕ) (l : Line) → Goes G z ms → Tied z w → Grouped (world_of z) → slice_get (lines_among ms) i ≡ Some l → Placed G z w ms i l
 placed G z w [] i l g t h e = no_some e
 placed G z w (Begins x ∷ ms) i l g t h e =
-    let p : Placed G (after z (Begins x)) w ms i l = placed G (after z (Begins x)) w ms i l g (begun_tied z w x t) (grouped_begun z x h) e in
+    let p : Placed G (front_after z (Begins x)) w ms i l = placed G (front_after z (Begins x)) w ms i l g (begun_tied z w x t) (grouped_begun z x h) e in
     record { count = suc p.count; before = p.before; sane = p.sane; ok = p.ok; tied = p.tied; grouped = p.grouped }
 placed G z w (Writes x ∷ ms) zero l g t h e = record { count = 0; before = refl; sane = g.0; ok = subst (LineOk G z) (some_same e) g.1; tied = t; grouped = h }
 placed G z w (Writes x ∷ ms) (suc i) l g t h e =
-    let p : Placed G (after z (Writes x)) (licences.after G w x) ms i l = placed G (after z (Writes x)) (licences.after G w x) ms i l g.2 (line_tied G z w x g.0 g.1 t) (grouped_line G z x g.1 h) e in
+    let p : Placed G (front_after z (Writes x)) (licences.picture_after G w x) ms i l = placed G (front_after z (Writes x)) (licences.picture_after G w x) ms i l g.2 (line_tied G z w x g.0 g.1 t) (grouped_line G z x g.1 h) e in
     record { count = suc p.count; before = ap (λ (ls : List Line). x ∷ ls) p.before; sane = p.sane; ok = p.ok; tied = p.tied; grouped = p.grouped }
 
 -- ---- behind the header
@@ -101,7 +103,7 @@ pub record Behind (h : Header) (ls : List Line) (i : ℕ) (l : Line) : Type 0 wh
   pub stands : slice_get ls place ≡ Some l
   pub before : take i (header_lines h ++ ls) ≡ header_lines h ++ take place ls
 
-pub header_is : (x : HeaderLine) → is_header (header_line x) ≡ true
+pub header_is : (x : HeaderLine) → is_header (journal_header_line x) ≡ true
 header_is (header.Script version) = refl
 header_is (header.Factor factor) = refl
 header_is (header.Node n rack) = refl
@@ -110,10 +112,10 @@ header_is (header.Policy by) = refl
 pub behind : (h : Header) (ls : List Line) (i : ℕ) (l : Line) → is_header l ≡ false → slice_get (header_lines h ++ ls) i ≡ Some l → Behind h ls i l
 behind [] ls i l other e = record { place = i; stands = e; before = refl }
 behind (x ∷ h) ls zero l other e = differ (sym (ap is_header (some_same e)) ∙ header_is x) other
-behind (x ∷ h) ls (suc i) l other e = let r : Behind h ls i l = behind h ls i l other e in record { place = r.place; stands = r.stands; before = ap (λ (xs : List Line). header_line x ∷ xs) r.before }
+behind (x ∷ h) ls (suc i) l other e = let r : Behind h ls i l = behind h ls i l other e in record { place = r.place; stands = r.stands; before = ap (λ (xs : List Line). journal_header_line x ∷ xs) r.before }
 
 -- the header's lines do nothing to the picture
-pub header_passes : (G : Ground) (w : Picture) (h : Header) (ls : List Line) → licences.after_all G w (header_lines h ++ ls) ≡ licences.after_all G w ls
+pub header_passes : (G : Ground) (w : Picture) (h : Header) (ls : List Line) → licences.picture_after_all G w (header_lines h ++ ls) ≡ licences.picture_after_all G w ls
 header_passes G w [] ls = refl
 header_passes G w (header.Script version ∷ h) ls = header_passes G w h ls
 header_passes G w (header.Factor factor ∷ h) ls = header_passes G w h ls

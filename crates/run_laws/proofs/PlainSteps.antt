@@ -6,7 +6,7 @@ use Rattle.cluster_types.specs.Partitions.{partition_count}
 use Rattle.journal_lines.specs.declared.line.Line.{Line}
 use Rattle.journal_lines.specs.declared.line.Line.TheVariants as line
 use Rattle.node_rules.specs.Entering.{ending, closing}
-use Rattle.node_rules.specs.Exchange.{View, Exchange, key_of}
+use Rattle.node_rules.specs.Exchange.{View, Exchange, exchange_key}
 use Rattle.node_rules.specs.Facts.{Facts, view_key}
 use Rattle.node_rules.specs.Notes as notes
 use Rattle.node_rules.specs.Requests.{stop_if, start_if}
@@ -18,11 +18,11 @@ use Rattle.cluster_rules.specs.DueEvents.{due_of, losing, written}
 use Rattle.cluster_rules.specs.Marks.{Begins, Writes}
 use Rattle.journal_readings.specs.Messages.{Posting}
 use Rattle.cluster_rules.specs.Network.{Network, flying_at}
-use Rattle.cluster_rules.specs.World.{World, at, new_if}
+use Rattle.cluster_rules.specs.World.{World, changed_at, new_if}
 use Rattle.cluster_laws.proofs.At.{and_left, and_right, differ, no_some}
 use Rattle.run_laws.specs.Taken.{IsProperEvent}
-use Rattle.run_laws.specs.Fronts.{Front, world_of, facts_at, after}
-use Rattle.run_laws.specs.LineDue.{LineMay, AllDue, Lawful}
+use Rattle.run_laws.specs.Fronts.{Front, world_of, facts_at, front_after}
+use Rattle.run_laws.specs.LineDue.{LineMay, AllDue, LawfulFront}
 use Rattle.run_laws.specs.Steps.{RestsWith, Rests, Ended, Steps}
 use Rattle.run_laws.specs.Tied.{key_in}
 use Rattle.run_laws.proofs.Turns.{LinesGo, after_lines, lines_append, all_append, step_goes, Elsewhere, nothing_moves, elsewhere_on, ended_but, here, away}
@@ -30,11 +30,11 @@ use Rattle.run_laws.proofs.Turns.{LinesGo, after_lines, lines_append, all_append
 -- ---- lines that add nothing, or only beside exchange and transactions
 
 -- the front begins a step as it ended the last one
-pub begins_ended : (z : Front) (e : Event) → Ended z → Ended (after z (Begins e))
+pub begins_ended : (z : Front) (e : Event) → Ended z → Ended (front_after z (Begins e))
 begins_ended z e h = record { owes = h.owes; stays = h.stays; rests = h.rests }
 
 -- a node's facts change beside its exchange and its transactions
-pub beside_ended : (z y : Front) (n : ℕ) (g : Facts) → Ended z → y.owed ≡ z.owed → y.closing ≡ z.closing → ((m : ℕ) → facts_at y m ≡ at (world_of z).facts n g m) → g.exchange ≡ (facts_at z n).exchange → g.transactions ≡ (facts_at z n).transactions → Ended y
+pub beside_ended : (z y : Front) (n : ℕ) (g : Facts) → Ended z → y.owed ≡ z.owed → y.closing ≡ z.closing → ((m : ℕ) → facts_at y m ≡ changed_at (world_of z).facts n g m) → g.exchange ≡ (facts_at z n).exchange → g.transactions ≡ (facts_at z n).transactions → Ended y
 beside_ended z y n g h o c fs e t = record {
   owes = o ∙ h.owes;
   stays = λ m. ap (λ (q : ℕ → Bool). q m) c ∙ h.stays m;
@@ -75,10 +75,10 @@ closed_on n x y z a b = record {
   entered = λ m k. b.entered m k ∙ a.entered m k;
 }
 
-closed_one : (z : Front) (n t : ℕ) (k : ClusterKey) (o : Option Write) → Closed n z (after z (Writes (ending n k t o)))
+closed_one : (z : Front) (n t : ℕ) (k : ClusterKey) (o : Option Write) → Closed n z (front_after z (Writes (ending n k t o)))
 closed_one z n t k o = go o
   where
-    one : (y : Front) → world_of y ≡ record (world_of z) { facts = at (world_of z).facts n (notes.closed (facts_at z n) t) } → y.closing ≡ at z.closing n true → y.owed ≡ z.owed → y.chronicle.traced.lists ≡ z.chronicle.traced.lists → ((m : ℕ) (j : ClusterKey) → y.chronicle.traced.entered m j ≡ z.chronicle.traced.entered m j) → Closed n z y
+    one : (y : Front) → world_of y ≡ record (world_of z) { facts = changed_at (world_of z).facts n (notes.closed (facts_at z n) t) } → y.closing ≡ changed_at z.closing n true → y.owed ≡ z.owed → y.chronicle.traced.lists ≡ z.chronicle.traced.lists → ((m : ℕ) (j : ClusterKey) → y.chronicle.traced.entered m j ≡ z.chronicle.traced.entered m j) → Closed n z y
     one y w c ow ls es = record {
       elsewhere = record { facts = λ m e. ap (λ (x : World). x.facts m) w ∙ away (world_of z).facts n _ m e; closing = λ m e. ap (λ (q : ℕ → Bool). q m) c ∙ away z.closing n true m e };
       owed = ow;
@@ -91,7 +91,7 @@ closed_one z n t k o = go o
       entered = es;
     }
 
-    go : (o : Option Write) → Closed n z (after z (Writes (ending n k t o)))
+    go : (o : Option Write) → Closed n z (front_after z (Writes (ending n k t o)))
     go None = one _ refl refl refl refl (λ m j. refl)
     go (Some w) = one _ refl refl refl refl (λ m j. refl)
 
@@ -103,9 +103,9 @@ pub record Closing (n : ℕ) (z : Front) (ls : List Line) : Type 0 where
 pub closing_due : (z : Front) (n : ℕ) (k : ClusterKey) (ts : List Transaction) → z.owed ≡ None → key_in (facts_at z n).exchange.view ≡ Some k → Closing n z (map (λ t. ending n k t.number t.applied) ts)
 closing_due z n k [] o v = record { due = tt; closed = closed_itself n z }
 closing_due z n k (t ∷ ts) o v =
-    let one : Closed n z (after z (Writes (ending n k t.number t.applied))) = closed_one z n t.number k t.applied in
-    let rest : Closing n (after z (Writes (ending n k t.number t.applied))) (map (λ t. ending n k t.number t.applied) ts) =
-    closing_due (after z (Writes (ending n k t.number t.applied))) n k ts (one.owed ∙ o) (ap (λ (x : Exchange). key_in x.view) one.exchange ∙ v) in
+    let one : Closed n z (front_after z (Writes (ending n k t.number t.applied))) = closed_one z n t.number k t.applied in
+    let rest : Closing n (front_after z (Writes (ending n k t.number t.applied))) (map (λ t. ending n k t.number t.applied) ts) =
+    closing_due (front_after z (Writes (ending n k t.number t.applied))) n k ts (one.owed ∙ o) (ap (λ (x : Exchange). key_in x.view) one.exchange ∙ v) in
     record { due = (go t.applied, rest.due); closed = closed_on n z _ _ one rest.closed }
   where
     go : (w : Option Write) → LineMay z (ending n k t.number w)
@@ -118,7 +118,7 @@ all_closing z n me o r = subst (λ (m : ℕ). Closing n z (map (λ t. ending m (
   where
     go : (v : Option View) → (facts_at z n).exchange.view ≡ v → Closing n z (map (λ t. ending n (view_key (facts_at z n)) t.number t.applied) (facts_at z n).transactions.running)
     go None e = subst (λ (ts : List Transaction). Closing n z (map (λ t. ending n (view_key (facts_at z n)) t.number t.applied) ts)) (sym (r.idle e)) (record { due = tt; closed = closed_itself n z })
-    go (Some v) e = closing_due z n (view_key (facts_at z n)) (facts_at z n).transactions.running o (ap key_in e ∙ ap (λ (x : Option View). Some (key_of x)) (sym e))
+    go (Some v) e = closing_due z n (view_key (facts_at z n)) (facts_at z n).transactions.running o (ap key_in e ∙ ap (λ (x : Option View). Some (exchange_key x)) (sym e))
 
 stopped_rests : (f : Facts) → Rests (notes.stopped f)
 stopped_rests f = record { idle = λ e. refl; over = λ v e x. no_some e }
@@ -130,15 +130,15 @@ stop_goes z net n true me h =
     subst (λ (ls : List Line). LinesGo z ls) (sym (no_more (closing (facts_at z n) ++ line.Stop (facts_at z n).me ∷ []))) (record {
       due = all_append z (closing (facts_at z n)) (line.Stop (facts_at z n).me ∷ []) c.due ((c.closed.owed ∙ h.owes, tt), tt);
       ends = subst (λ (y : Front). Ended y) (sym (lines_append z (closing (facts_at z n)) (line.Stop (facts_at z n).me ∷ [])))
-          (subst (λ (m : ℕ). Ended (after (after_lines z (closing (facts_at z n))) (Writes (line.Stop m)))) (sym me) (stops (after_lines z (closing (facts_at z n))) c.closed));
+          (subst (λ (m : ℕ). Ended (front_after (after_lines z (closing (facts_at z n))) (Writes (line.Stop m)))) (sym me) (stops (after_lines z (closing (facts_at z n))) c.closed));
     })
   where
     no_more : (ls : List Line) → ls ++ [] ≡ ls
     no_more [] = refl
     no_more (l ∷ ls) = ap (λ xs. l ∷ xs) (no_more ls)
 
-    stops : (y : Front) → Closed n z y → Ended (after y (Writes (line.Stop n)))
-    stops y c = ended_but n z (after y (Writes (line.Stop n))) (elsewhere_on n z y (after y (Writes (line.Stop n))) c.elsewhere (record { facts = λ m e. away (world_of y).facts n _ m e; closing = λ m e. away y.closing n false m e })) h
+    stops : (y : Front) → Closed n z y → Ended (front_after y (Writes (line.Stop n)))
+    stops y c = ended_but n z (front_after y (Writes (line.Stop n))) (elsewhere_on n z y (front_after y (Writes (line.Stop n))) c.elsewhere (record { facts = λ m e. away (world_of y).facts n _ m e; closing = λ m e. away y.closing n false m e })) h
         (c.owed ∙ h.owes) (here y.closing n false) (subst (λ (f : Facts). Rests f) (sym (here (world_of y).facts n _)) (stopped_rests (facts_at y n)))
 
 -- ---- all steps of one line
@@ -147,7 +147,7 @@ pub start_goes : (z : Front) (net : Network) (n : ℕ) (b : Bool) → (facts_at 
 start_goes z net n true me h = record { due = ((h.owes, tt), tt); ends = record { owes = h.owes; stays = h.stays; rests = h.rests } }
 start_goes z net n false me h = record {
   due = ((h.owes, tt), tt);
-  ends = subst (λ (m : ℕ). Ended (after z (Writes (line.Start m)))) (sym me) (beside_ended z (after z (Writes (line.Start n))) n (notes.started (facts_at z n)) h refl refl (λ m. refl) refl refl);
+  ends = subst (λ (m : ℕ). Ended (front_after z (Writes (line.Start m)))) (sym me) (beside_ended z (front_after z (Writes (line.Start n))) n (notes.started (facts_at z n)) h refl refl (λ m. refl) refl refl);
 }
 
 lose_goes : (z : Front) (i : ℕ) (o : Option Posting) → Ended z → LinesGo z (losing i o)
@@ -155,7 +155,7 @@ lose_goes z i None h = record { due = ((h.owes, tt), tt); ends = record { owes =
 lose_goes z i (Some p) h = record { due = ((h.owes, tt), tt); ends = record { owes = h.owes; stays = h.stays; rests = h.rests } }
 
 -- a line that changes no facts
-one_line : (z : Front) (l : Line) → Ended z → LineMay z l → Ended (after z (Writes l)) → LinesGo z (l ∷ [])
+one_line : (z : Front) (l : Line) → Ended z → LineMay z l → Ended (front_after z (Writes l)) → LinesGo z (l ∷ [])
 one_line z l h d e = record { due = (d, tt); ends = e }
 
 -- the event's step goes whatever stands
@@ -173,20 +173,20 @@ IsPlain (event.Unquiesce node) = true
 IsPlain (event.Calmed rounds) = true
 IsPlain _ = false
 
-plain_lines : (by : Policy) (factor : ℕ) (z : Front) (e : Event) → IsPlain e ≡ true → IsProperEvent e → may_come partition_count (world_of z) e ≡ true → Lawful by factor z → Ended z → LinesGo (after z (Begins e)) (due_of partition_count (world_of z) e)
+plain_lines : (by : Policy) (factor : ℕ) (z : Front) (e : Event) → IsPlain e ≡ true → IsProperEvent e → may_come partition_count (world_of z) e ≡ true → LawfulFront by factor z → Ended z → LinesGo (front_after z (Begins e)) (due_of partition_count (world_of z) e)
 plain_lines by factor z (event.Clock node time) p r a l h = one_line _ _ (begins_ended z _ h) (h.owes, r) (record { owes = h.owes; stays = h.stays; rests = h.rests })
 plain_lines by factor z (event.Groups groups) p r a l h = one_line _ _ (begins_ended z _ h)
     (h.owes, and_left _ (ends_calm partition_count (world_of z) (event.Groups groups)) a) (record { owes = h.owes; stays = h.stays; rests = h.rests })
-plain_lines by factor z (event.Stop node) p r a l h = stop_goes (after z (Begins (event.Stop node))) (world_of z).network node (facts_at z node).up (l.sound.nodes node).me (begins_ended z _ h)
-plain_lines by factor z (event.Start node) p r a l h = start_goes (after z (Begins (event.Start node))) (world_of z).network node (facts_at z node).up (l.sound.nodes node).me (begins_ended z _ h)
-plain_lines by factor z (event.Lose i) p r a l h = lose_goes (after z (Begins (event.Lose i))) i (flying_at (world_of z).network i) (begins_ended z _ h)
+plain_lines by factor z (event.Stop node) p r a l h = stop_goes (front_after z (Begins (event.Stop node))) (world_of z).network node (facts_at z node).up (l.sound.nodes node).me (begins_ended z _ h)
+plain_lines by factor z (event.Start node) p r a l h = start_goes (front_after z (Begins (event.Start node))) (world_of z).network node (facts_at z node).up (l.sound.nodes node).me (begins_ended z _ h)
+plain_lines by factor z (event.Lose i) p r a l h = lose_goes (front_after z (Begins (event.Lose i))) i (flying_at (world_of z).network i) (begins_ended z _ h)
 plain_lines by factor z (event.Place p) q r a l h = one_line _ _ (begins_ended z _ h) (h.owes, tt) (record { owes = h.owes; stays = h.stays; rests = h.rests })
 plain_lines by factor z (event.Hash d) p r a l h = one_line _ _ (begins_ended z _ h) (h.owes, tt) (record { owes = h.owes; stays = h.stays; rests = h.rests })
 plain_lines by factor z (event.Show node d) p r a l h = one_line _ _ (begins_ended z _ h) (h.owes, tt) (record { owes = h.owes; stays = h.stays; rests = h.rests })
 plain_lines by factor z (event.Quiesce node) p r a l h = one_line _ _ (begins_ended z _ h) (h.owes, tt)
-    (beside_ended (after z (Begins (event.Quiesce node))) _ node (notes.marked (facts_at z node) true) (begins_ended z _ h) refl refl (λ m. refl) refl refl)
+    (beside_ended (front_after z (Begins (event.Quiesce node))) _ node (notes.marked (facts_at z node) true) (begins_ended z _ h) refl refl (λ m. refl) refl refl)
 plain_lines by factor z (event.Unquiesce node) p r a l h = one_line _ _ (begins_ended z _ h) (h.owes, tt)
-    (beside_ended (after z (Begins (event.Unquiesce node))) _ node (notes.marked (facts_at z node) false) (begins_ended z _ h) refl refl (λ m. refl) refl refl)
+    (beside_ended (front_after z (Begins (event.Unquiesce node))) _ node (notes.marked (facts_at z node) false) (begins_ended z _ h) refl refl (λ m. refl) refl refl)
 plain_lines by factor z (event.Calmed rounds) p r a l h = one_line _ _ (begins_ended z _ h)
     (h.owes, record { calm = and_right (names_known (world_of z).nodes (event.Calmed rounds)) _ a; stays = h.stays }) (record { owes = h.owes; stays = h.stays; rests = h.rests })
 plain_lines by factor z _ p r a l h = differ p refl

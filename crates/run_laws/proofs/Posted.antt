@@ -12,10 +12,10 @@ use Rattle.node_rules.specs.Notes.{sent}
 use Rattle.cluster_rules.specs.Marks.{posted_by, sent_by}
 use Rattle.journal_readings.specs.Messages.{Posting}
 use Rattle.cluster_rules.specs.Network.{Network, posting_at, posting_if, posting}
-use Rattle.cluster_rules.specs.World.{at}
+use Rattle.cluster_rules.specs.World.{changed_at}
 use Rattle.cluster_laws.specs.Changed.{at_number, at_key}
 use Rattle.cluster_laws.specs.Changes as changes
-use Rattle.cluster_laws.specs.Changes.{sends, sends_message}
+use Rattle.cluster_laws.specs.Changes.{sends_packet, sends_message}
 use Rattle.cluster_laws.specs.Ground.{Ground}
 use Rattle.cluster_laws.specs.Picture.{Packet, Picture}
 use Rattle.cluster_laws.proofs.At.{numbers, changed_here, changed_other, number_cases}
@@ -79,14 +79,14 @@ proposed_last a p true = refl
 proposed_last a p false = refl
 
 abbrev Sends : Front → Picture → ℕ → ℕ → Message → Type 0
-Sends z w a b m = Ties (at (world_of z).facts a (sent (facts_at z a) b m)) (world_of z).clocks z.closing (world_of z).network z.owed w.node (sends_message a b (Some m) w.stay) w.packet w.owed
+Sends z w a b m = Ties (changed_at (world_of z).facts a (sent (facts_at z a) b m)) (world_of z).clocks z.closing (world_of z).network z.owed w.node (sends_message a b (Some m) w.stay) w.packet w.owed
 
-says_nothing : (z : Front) (w : Picture) (a : ℕ) → Tied z w → Ties (at (world_of z).facts a (facts_at z a)) (world_of z).clocks z.closing (world_of z).network z.owed w.node w.stay w.packet w.owed
+says_nothing : (z : Front) (w : Picture) (a : ℕ) → Tied z w → Ties (changed_at (world_of z).facts a (facts_at z a)) (world_of z).clocks z.closing (world_of z).network z.owed w.node w.stay w.packet w.owed
 says_nothing z w a t = facts_only (world_of z).facts (world_of z).clocks z.closing z.closing (world_of z).network z.owed w.node w.stay w.packet w.owed a (facts_at z a) (unmoved a z.closing) (t.nodes a) t
 
 batch_sent : (z : Front) (w : Picture) (a r : ℕ) (b : Batch) → Tied z w → BatchOk z a r b → Sends z w a r (message.Batch b)
-batch_sent z w a r b t ok = with_stay (world_of z).facts (world_of z).clocks z.closing z.closing (world_of z).network z.owed w.node w.stay w.packet w.owed a (sent (facts_at z a) r (message.Batch b)) (at_key (w.stay a) b.key (changes.sending r b (w.stay a b.key))) (unmoved a z.closing)
-    (in_view (sent (facts_at z a) r (message.Batch b)) (w.node a) (w.stay a) b.key (changes.sending r b (w.stay a b.key)) ((world_of z).clocks a) (z.closing a) ok.stands.view
+batch_sent z w a r b t ok = with_stay (world_of z).facts (world_of z).clocks z.closing z.closing (world_of z).network z.owed w.node w.stay w.packet w.owed a (sent (facts_at z a) r (message.Batch b)) (at_key (w.stay a) b.key (changes.stay_after_batch r b (w.stay a b.key))) (unmoved a z.closing)
+    (in_view (sent (facts_at z a) r (message.Batch b)) (w.node a) (w.stay a) b.key (changes.stay_after_batch r b (w.stay a b.key)) ((world_of z).clocks a) (z.closing a) ok.stands.view
     (record { view = (t.nodes a).seen.view; last = (t.nodes a).seen.last; content = (t.nodes a).seen.content; stamp = (t.nodes a).seen.stamp }) (t.nodes a).clock
     (batch_tied (facts_at z a) (w.stay a b.key) r b (record { item = ok.item; there = ok.there }) (stay_in (facts_at z a) (w.node a) (w.stay a) ((world_of z).clocks a) (z.closing a) b.key (t.nodes a) ok.stands.view))
     (closing_in (facts_at z a) (w.node a) (w.stay a) ((world_of z).clocks a) (z.closing a) b.key (t.nodes a) ok.stands.view)) t
@@ -98,8 +98,8 @@ sender_tied G z w a r (message.Propose k ms) t ok = facts_only (world_of z).fact
 sender_tied G z w a r _ t ok = says_nothing z w a t
 
 pub posted_tied : (G : Ground) (z : Front) (w : Picture) (i a b : ℕ) (bytes : List ℕ) → Tied z w → SentOk G z i a b bytes
-    → TiedTo (posted_by (world_of z) i (record { from = a; to = b; bytes = bytes })) z.closing z.owed (sends i (record { from = a; to = b; size = length bytes; message = message_of bytes }) w)
-posted_tied G z w i a b bytes t ok = subst (λ (j : ℕ). TiedTo (posted_by (world_of z) j (record { from = a; to = b; bytes = bytes })) z.closing z.owed (sends j (record { from = a; to = b; size = length bytes; message = message_of bytes }) w)) (sym ok.number) (go (message_of bytes) refl ok.says)
+    → TiedTo (posted_by (world_of z) i (record { from = a; to = b; bytes = bytes })) z.closing z.owed (sends_packet i (record { from = a; to = b; size = length bytes; message = message_of bytes }) w)
+posted_tied G z w i a b bytes t ok = subst (λ (j : ℕ). TiedTo (posted_by (world_of z) j (record { from = a; to = b; bytes = bytes })) z.closing z.owed (sends_packet j (record { from = a; to = b; size = length bytes; message = message_of bytes }) w)) (sym ok.number) (go (message_of bytes) refl ok.says)
   where
     p : Posting
     p = record { from = a; to = b; bytes = bytes }

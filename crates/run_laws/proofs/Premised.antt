@@ -19,9 +19,9 @@ use Rattle.cluster_rules.specs.World.{World}
 use Rattle.cluster_rules.proofs.MarkLaws.{lines_of_steps}
 use Rattle.cluster_laws.specs.Journals.{IsJournal}
 use Rattle.cluster_laws.proofs.At.{no_some}
-use Rattle.key_laws.specs.Licences.{Licensed}
-use Rattle.run_laws.specs.Fronts.{Front, world_of, after, after_all}
-use Rattle.run_laws.specs.LineDue.{DueMarks, Lawful}
+use Rattle.key_laws.specs.Licences.{LicensedMarks}
+use Rattle.run_laws.specs.Fronts.{Front, world_of, front_after, front_after_all}
+use Rattle.run_laws.specs.LineDue.{DueMarks, LawfulFront}
 use Rattle.run_laws.specs.Premises.{StepPremises, Premises}
 use Rattle.run_laws.specs.Ranges.{Ranged}
 use Rattle.run_laws.specs.Steps.{Ended, StepGoes}
@@ -35,33 +35,34 @@ use Rattle.run_laws.proofs.ReadSteps.{HasLine, sends_read}
 
 -- ---- ranges over marks
 
-ranged_all : (by : Policy) (factor : ℕ) (z : Front) (ms : List Mark) → Licensed z.chronicle.traced ms → DueMarks z ms → (after_all z ms).lines < 2 ^ 32 → Lawful by factor z → Ranged z → Ranged (after_all z ms)
+ranged_all : (by : Policy) (factor : ℕ) (z : Front) (ms : List Mark) → LicensedMarks z.chronicle.traced ms → DueMarks z ms → (front_after_all z ms).lines < 2 ^ 32 → LawfulFront by factor z → Ranged z → Ranged (front_after_all z ms)
 ranged_all by factor z [] key due lt h r = r
-ranged_all by factor z (Begins e ∷ ms) key due lt h r = ranged_all by factor (after z (Begins e)) ms key.1 due lt (lawful_begun by factor z e h).lawful (ranged_begun z e r)
+ranged_all by factor z (Begins e ∷ ms) key due lt h r = ranged_all by factor (front_after z (Begins e)) ms key.1 due lt (lawful_begun by factor z e h).lawful (ranged_begun z e r)
 ranged_all by factor z (Writes l ∷ ms) key due lt h r =
-    ranged_all by factor (after z (Writes l)) ms key.1 due.1 lt (lawful_line by factor z l key.0 (strengthened by factor z l h key.0 due.0) h).lawful
-    (ranged_line z l h.sound (strengthened by factor z l h key.0 due.0) (lt_after (after z (Writes l)) ms lt) r)
+    ranged_all by factor (front_after z (Writes l)) ms key.1 due.1 lt (lawful_line by factor z l key.0 (strengthened by factor z l h key.0 due.0) h).lawful
+    (ranged_line z l h.sound (strengthened by factor z l h key.0 due.0) (lt_after (front_after z (Writes l)) ms lt) r)
 
 -- ---- steps
 
 -- a step that writes a line leaves room for one more
-few_lines : (z : Front) (s : Step) → IsAllowed partition_count (world_of z) s → (after_all z (marks_of s)).lines < 2 ^ 32 → HasLine (due_of partition_count (world_of z) s.event) → z.lines + 1 < 2 ^ 32
+few_lines : (z : Front) (s : Step) → IsAllowed partition_count (world_of z) s → (front_after_all z (marks_of s)).lines < 2 ^ 32 → HasLine (due_of partition_count (world_of z) s.event) → z.lines + 1 < 2 ^ 32
 few_lines z s a lt some = go s.lines (subst HasLine (sym a.due) some) lt
   where
-    go : (ls : List Line) → HasLine ls → (after_all z (Begins s.event ∷ map Writes ls)).lines < 2 ^ 32 → z.lines + 1 < 2 ^ 32
+    go : (ls : List Line) → HasLine ls → (front_after_all z (Begins s.event ∷ map Writes ls)).lines < 2 ^ 32 → z.lines + 1 < 2 ^ 32
     go [] h lt = absurd h
-    go (l ∷ ls) h lt = lt_after (after (after z (Begins s.event)) (Writes l)) (map Writes ls) lt
+    go (l ∷ ls) h lt = lt_after (front_after (front_after z (Begins s.event)) (Writes l))
+        (map Writes ls) lt
 
-premises_hold : (by : Policy) (factor : ℕ) (z : Front) (ss : List Step) → Lawful by factor z → Ended z → Ranged z → AllByRecursion (λ (s : Step). IsProperEvent s.event) ss → AreAllowed partition_count (world_of z) ss → (after_all z (all_marks ss)).lines < 2 ^ 32 → Premises z ss
+premises_hold : (by : Policy) (factor : ℕ) (z : Front) (ss : List Step) → LawfulFront by factor z → Ended z → Ranged z → AllByRecursion (λ (s : Step). IsProperEvent s.event) ss → AreAllowed partition_count (world_of z) ss → (front_after_all z (all_marks ss)).lines < 2 ^ 32 → Premises z ss
 premises_hold by factor z [] h e r p a short = tt
 premises_hold by factor z (s ∷ ss) h e r p a short =
-    let rest : (after_all (after_all z (marks_of s)) (all_marks ss)).lines < 2 ^ 32 = subst (λ (y : Front). y.lines < 2 ^ 32) (after_append z (marks_of s) (all_marks ss)) short in
-    let lt : (after_all z (marks_of s)).lines < 2 ^ 32 = lt_after (after_all z (marks_of s)) (all_marks ss) rest in
+    let rest : (front_after_all (front_after_all z (marks_of s)) (all_marks ss)).lines < 2 ^ 32 = subst (λ (y : Front). y.lines < 2 ^ 32) (after_append z (marks_of s) (all_marks ss)) short in
+    let lt : (front_after_all z (marks_of s)).lines < 2 ^ 32 = lt_after (front_after_all z (marks_of s)) (all_marks ss) rest in
     let one : StepPremises z s = record { reads = sends_read by factor z s.event h e r p.0 (few_lines z s a.0 lt) } in
     let goes : StepGoes z s = step_of by factor z s h e p.0 a.0 lt one in
-    let key : Licensed z.chronicle.traced (marks_of s) = step_key z s by factor h p.0 a.0 in
-    let on : Onward by factor z (after_all z (marks_of s)) = onward_all by factor z (marks_of s) key goes.due h in
-    (one, premises_hold by factor (after_all z (marks_of s)) ss on.lawful goes.ends (ranged_all by factor z (marks_of s) key goes.due lt h r) p.1 (subst (λ (w : World). AreAllowed partition_count w ss) (sym (world_all z (marks_of s))) a.1) rest)
+    let key : LicensedMarks z.chronicle.traced (marks_of s) = step_key z s by factor h p.0 a.0 in
+    let on : Onward by factor z (front_after_all z (marks_of s)) = onward_all by factor z (marks_of s) key goes.due h in
+    (one, premises_hold by factor (front_after_all z (marks_of s)) ss on.lawful goes.ends (ranged_all by factor z (marks_of s) key goes.due lt h r) p.1 (subst (λ (w : World). AreAllowed partition_count w ss) (sym (world_all z (marks_of s))) a.1) rest)
 
 -- ---- from the beginning
 
@@ -87,7 +88,7 @@ pub taken_leads : (h : Header) (ss : List Step) → Taken h ss → Walked (decla
 taken_leads h ss t = taken_walked h ss t (premises_of h ss t)
 
 -- what nodes keep behind the steps has its ranges
-pub taken_ranged : (h : Header) (ss : List Step) → Taken h ss → Ranged (after_all (first h) (all_marks ss))
+pub taken_ranged : (h : Header) (ss : List Step) → Taken h ss → Ranged (front_after_all (first h) (all_marks ss))
 taken_ranged h ss t = let w : Walked (declared_policy h) (declared_factor h) (first h) (all_marks ss) = taken_leads h ss t in
     ranged_all (declared_policy h) (declared_factor h) (first h) (all_marks ss) w.key w.due (subst (λ (n : ℕ). n < 2 ^ 32) (sym (lines_of_taken h ss)) t.short) (first_lawful h) (first_ranged h)
 

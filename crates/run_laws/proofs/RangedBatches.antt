@@ -24,7 +24,7 @@ use Rattle.node_rules.specs.Facts.{Facts}
 use Rattle.node_rules.specs.Notes as notes
 use Rattle.node_rules.specs.Tables.{changed_if}
 use Rattle.cluster_laws.proofs.At.{some_same, no_some, digests as digest_tells}
-use Rattle.run_laws.specs.Ranges.{FitsContent, Rises, FitsBatch, FitsOut, FitsTarget, FitsTargets}
+use Rattle.run_laws.specs.Ranges.{FitsContent, RisesByDigest, FitsBatch, FitsOut, FitsTarget, FitsTargets}
 use Rattle.run_laws.specs.Tied.{Among}
 use Rattle.run_laws.proofs.Among.{Of, among_map, among_filter}
 use Rattle.run_laws.proofs.Settling.{any_among}
@@ -43,11 +43,12 @@ above_filter test d (e ∷ ds) h = go (test e) (above_filter test d ds h.1)
     go true r = (h.0, r)
     go false r = r
 
-pub rises_filter : (test : List ℕ → Bool) (ds : List (List ℕ)) → Rises ds → Rises (filter test ds)
+pub rises_filter : (test : List ℕ → Bool) (ds : List (List ℕ)) → RisesByDigest ds
+    → RisesByDigest (filter test ds)
 rises_filter test [] h = tt
 rises_filter test (d ∷ ds) h = go (test d) (rises_filter test ds h.1)
   where
-    go : (b : Bool) → Rises (filter test ds) → Rises (if b then d ∷ filter test ds else filter test ds)
+    go : (b : Bool) → RisesByDigest (filter test ds) → RisesByDigest (if b then d ∷ filter test ds else filter test ds)
     go true r = (above_filter test d ds h.0, r)
     go false r = r
 
@@ -56,7 +57,7 @@ above_take zero d ds h = tt
 above_take (suc n) d [] h = tt
 above_take (suc n) d (e ∷ ds) h = (h.0, above_take n d ds h.1)
 
-rises_take : (n : ℕ) (ds : List (List ℕ)) → Rises ds → Rises (take n ds)
+rises_take : (n : ℕ) (ds : List (List ℕ)) → RisesByDigest ds → RisesByDigest (take n ds)
 rises_take zero ds h = tt
 rises_take (suc n) [] h = tt
 rises_take (suc n) (d ∷ ds) h = (above_take n d ds h.0, rises_take n ds h.1)
@@ -74,11 +75,11 @@ above_keys : (d : List ℕ) (es : List (List ℕ × Version)) → T (below_all (
 above_keys d [] h = tt
 above_keys d (e ∷ es) h = let p : T (is_lt (slice_cmp nat_cmp d e.0)) × T (below_all (slice_cmp nat_cmp) d es) = both_true _ _ h in (is_less _ p.0, above_keys d es p.1)
 
-rises_keys : (es : List (List ℕ × Version)) → T (is_sorted (slice_cmp nat_cmp) es) → Rises (map (λ (e : List ℕ × Version). e.0) es)
+rises_keys : (es : List (List ℕ × Version)) → T (is_sorted (slice_cmp nat_cmp) es) → RisesByDigest (map (λ (e : List ℕ × Version). e.0) es)
 rises_keys [] h = tt
 rises_keys (e ∷ es) h = let p : T (below_all (slice_cmp nat_cmp) e.0 es) × T (is_sorted (slice_cmp nat_cmp) es) = both_true _ _ h in (above_keys e.0 es p.0, rises_keys es p.1)
 
-digests_rise : (c : Content) → Rises (finite.keys c)
+digests_rise : (c : Content) → RisesByDigest (finite.keys c)
 digests_rise c = rises_keys (finite.entries c) (entries_sorted c)
 
 key_held : (c : Content) (d : List ℕ) → Among (finite.keys c) d → is_some (finite.get c d) ≡ true
@@ -104,7 +105,7 @@ higher_records c d (e ∷ ds) h = go (finite.get c e) (higher_records c d ds h.1
     go None r = r
     go (Some v) r = (h.0, r)
 
-records_rise : (c : Content) (ds : List (List ℕ)) → Rises ds → RecordsRise (records_of c ds)
+records_rise : (c : Content) (ds : List (List ℕ)) → RisesByDigest ds → RecordsRise (records_of c ds)
 records_rise c [] h = tt
 records_rise c (d ∷ ds) h = go (finite.get c d) (records_rise c ds h.1)
   where

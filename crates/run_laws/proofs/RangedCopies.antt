@@ -16,12 +16,12 @@ use Rattle.cluster_types.specs.Partitions.{partition_count}
 use Rattle.wire_messages.specs.Keys.{IsKeyField}
 use Rattle.wire_messages.specs.Rows.{FitsState, IsStateRowField}
 use Rattle.wire_messages.specs.Versions.{IsDigest, IsVersion, IsOptionVersion}
-use Rattle.node_rules.specs.Copies.{Content, Row, Stamp, Stamps, Store, joined, is_of, digests_of, state_with, copy_state, with_state, row_from}
+use Rattle.node_rules.specs.Copies.{Content, Row, Stamp, Stamps, Store, joined, is_of, digests_of, state_with, store_state, with_state, row_from}
 use Rattle.node_rules.specs.Facts.{Facts, list_at}
 use Rattle.node_rules.specs.Keys.{same_key}
 use Rattle.node_rules.specs.Notes.{own_row, stamped_if, stamped_at, stamped_from, count_in}
 use Rattle.node_rules.specs.Stamps.{Writes, Numbers, applies_at, numbers_at, count_at, count_of, have_no_gap, no_class, recounted, spoiled, changed_stamps, with_number, applying, hearing_write}
-use Rattle.node_rules.specs.Standing.{is_all_empty, is_replica}
+use Rattle.node_rules.specs.Standing.{is_all_empty, is_own_replica}
 use Rattle.node_rules.proofs.Partitions.{row_is_row}
 use Rattle.cluster_laws.proofs.At.{some_same, no_some, digests}
 use Rattle.run_laws.specs.Ranges.{FitsRecord, FitsContent, FitsStamp, FitsStamps, FitsWrites}
@@ -177,7 +177,7 @@ pub stamped_fits : (f : Facts) (k : ClusterKey) (stamps : Stamps) (n p : ℕ) �
 unfolding stamped_from
 stamped_fits f k stamps zero p key lt h = h
 stamped_fits f k stamps (suc n) p key lt h =
-    stamped_fits f k (stamped_at f k (list_at f p) p stamps) n (p + 1) key lt (stamped_if_fits f k (list_at f p) p stamps (is_all_empty f p && is_replica f (list_at f p)) key (lt (list_at f p) p) h)
+    stamped_fits f k (stamped_at f k (list_at f p) p stamps) n (p + 1) key lt (stamped_if_fits f k (list_at f p) p stamps (is_all_empty f p && is_own_replica f (list_at f p)) key (lt (list_at f p) p) h)
 
 -- ---- rows
 
@@ -197,7 +197,7 @@ with_state_fits p (Whole k writes) row h i = (h, i)
 row_fits : (s : Store) (n p : ℕ) → FitsStamps s.stamps → FitsEach (row_from s n p)
 unfolding row_from
 row_fits s zero p h = tt
-row_fits s (suc n) p h = with_state_fits p (copy_state s p) (row_from s n (p + 1)) (state_fits (digests_of s.content p) (finite.get s.stamps p) (λ x e. h.each p x e)) (row_fits s n (p + 1) h)
+row_fits s (suc n) p h = with_state_fits p (store_state s p) (row_from s n (p + 1)) (state_fits (digests_of s.content p) (finite.get s.stamps p) (λ x e. h.each p x e)) (row_fits s n (p + 1) h)
 
 pub own_row_fits : (f : Facts) → FitsStamps f.store.stamps → IsStateRowField (own_row f)
 own_row_fits f h = record { states = row_is_row f.store partition_count (omega arith); fit = All-from_recursion (λ (e : ℕ × CopyState). FitsState e.1) (own_row f) (row_fits f.store partition_count 0 h) }

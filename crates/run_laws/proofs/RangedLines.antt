@@ -19,18 +19,19 @@ use Rattle.wire_messages.proofs.DecodingLaws.{what_is_read}
 use Rattle.node_rules.specs.Batches.{Target, is_pending}
 use Rattle.node_rules.specs.Copies.{is_of}
 use Rattle.node_rules.specs.Facts.{Facts, list_at}
-use Rattle.node_rules.specs.Notes.{reached, sent, want_of}
+use Rattle.node_rules.specs.Notes.{reached, sent, request_want}
 use Rattle.node_rules.specs.Standing.{is_to_drop, is_done, has_settled_bit}
 use Rattle.node_rules.specs.Transactions.{Transaction}
 use Rattle.cluster_rules.specs.Marks.{Begins, Writes, after_line, came, came_to, came_to_client, sent_by}
 use Rattle.cluster_rules.specs.declared.event.Event.{Event}
 use Rattle.journal_readings.specs.Messages.{Posting, Arrival, arrived, arrived_cut}
-use Rattle.cluster_rules.specs.Network.{posting_at, client}
-use Rattle.cluster_rules.specs.World.{World, at}
+use Rattle.cluster_rules.specs.Network.{posting_at}
+use Rattle.cluster_rules.specs.World.{World, changed_at}
 use Rattle.cluster_laws.proofs.At.{some_same, no_some, and_left, and_right}
 use Rattle.key_laws.specs.Sound.{Sound}
 use Rattle.key_laws.proofs.Frames.{at_each}
-use Rattle.run_laws.specs.Fronts.{Front, world_of, facts_at, after}
+use Rattle.node_rules.specs.Messages.{client}
+use Rattle.run_laws.specs.Fronts.{Front, world_of, facts_at, front_after}
 use Rattle.run_laws.specs.LineOk.{ApplyOk, BatchOk, Brings}
 use Rattle.run_laws.specs.LineDue.{ApplyDue, SendDueIf, LineDue}
 use Rattle.run_laws.specs.Ranges.{FitsRecord, FitsTransaction, FitsBatch, FitsOut, FitsTarget, FitsFacts, Ranged}
@@ -121,7 +122,7 @@ AllFit lines w = (n : ℕ) → FitsFacts lines (w.facts n)
 all_more : (lines : ℕ) (w : World) → AllFit lines w → AllFit (lines + 1) w
 all_more lines w h n = fits_more lines (w.facts n) (h n)
 
-one : (lines : ℕ) (w : World) (n : ℕ) (g : Facts) → AllFit lines w → FitsFacts (lines + 1) g → (m : ℕ) → FitsFacts (lines + 1) (at w.facts n g m)
+one : (lines : ℕ) (w : World) (n : ℕ) (g : Facts) → AllFit lines w → FitsFacts (lines + 1) g → (m : ℕ) → FitsFacts (lines + 1) (changed_at w.facts n g m)
 one lines w n g h x = at_each (λ (m : ℕ) (f : Facts). FitsFacts (lines + 1) f) w.facts n g (all_more lines w h) x
 
 came_fits : (lines : ℕ) (w : World) (b : ℕ) (p : Posting) → lines + 1 < 2 ^ 32 → AllFit lines w → AllFit (lines + 1) (came w (arrived b p))
@@ -168,7 +169,7 @@ fits_line z (line.Unquiesce n) s ok lt h = one z.lines (world_of z) n _ h.nodes 
 fits_line z (line.Promise n k) s ok lt h = one z.lines (world_of z) n _ h.nodes (fits_more z.lines (facts_at z n) (h.nodes n))
 fits_line z (line.Enter n k ms) s ok lt h = one z.lines (world_of z) n _ h.nodes (entered_fits (z.lines + 1) (facts_at z n) k ms (fits_more z.lines (facts_at z n) (h.nodes n)))
 fits_line z (line.Exchanged n k) s ok lt h = one z.lines (world_of z) n _ h.nodes (exchanged_fits (z.lines + 1) (facts_at z n) k lt (key_fits z n k s ok.1.stands.view) (fits_more z.lines (facts_at z n) (h.nodes n)))
-fits_line z (line.Opened n k t d a) s ok lt h = one z.lines (world_of z) n _ h.nodes (opened_fits z.lines (facts_at z n) (list_at (facts_at z n) (partition_of d)) t d (want_of (world_of z).want a) ok.1.opens.number ok.1.digest (ok.1.wanted a) (h.nodes n))
+fits_line z (line.Opened n k t d a) s ok lt h = one z.lines (world_of z) n _ h.nodes (opened_fits z.lines (facts_at z n) (list_at (facts_at z n) (partition_of d)) t d (request_want (world_of z).want a) ok.1.opens.number ok.1.digest (ok.1.wanted a) (h.nodes n))
 fits_line z (line.Value n k t d v) s ok lt h = one z.lines (world_of z) n _ h.nodes (closed_fits (z.lines + 1) (facts_at z n) t (fits_more z.lines (facts_at z n) (h.nodes n)))
 fits_line z (line.Apply n k t d v) s ok lt h = let r : FitsRecord d v = written_fits z n k t d v h ok.1 in one z.lines (world_of z) n _ h.nodes (applied_fits z.lines (facts_at z n) k (list_at (facts_at z n) (partition_of d)) t d v lt (key_fits z n k s ok.1.applies.resolves.stands.view) r.digest r.version (h.nodes n))
 fits_line z (line.Done n k t) s ok lt h = one z.lines (world_of z) n _ h.nodes (closed_fits (z.lines + 1) (facts_at z n) t (fits_more z.lines (facts_at z n) (h.nodes n)))
@@ -212,8 +213,8 @@ clocks_line z _ ok h n = h n
 
 -- ---- all of it
 
-pub ranged_line : (z : Front) (l : Line) → Sound z.chronicle.traced → LineDue z l → z.lines + 1 < 2 ^ 32 → Ranged z → Ranged (after z (Writes l))
+pub ranged_line : (z : Front) (l : Line) → Sound z.chronicle.traced → LineDue z l → z.lines + 1 < 2 ^ 32 → Ranged z → Ranged (front_after z (Writes l))
 ranged_line z l s ok lt h = record { nodes = fits_line z l s ok lt h; clocks = clocks_line z l ok h.clocks }
 
-pub ranged_begun : (z : Front) (e : Event) → Ranged z → Ranged (after z (Begins e))
+pub ranged_begun : (z : Front) (e : Event) → Ranged z → Ranged (front_after z (Begins e))
 ranged_begun z e h = record { nodes = h.nodes; clocks = h.clocks }

@@ -18,7 +18,7 @@ use Rattle.node_rules.specs.Batches.{Target}
 use Rattle.node_rules.specs.Copies.{Row, is_of}
 use Rattle.node_rules.specs.Exchange.{with_row_if}
 use Rattle.node_rules.specs.Facts.{Facts, list_at}
-use Rattle.node_rules.specs.Map.{lacks, master}
+use Rattle.node_rules.specs.Map.{lacks, list_master}
 use Rattle.node_rules.specs.Notes as notes
 use Rattle.node_rules.specs.Notes.{reached, sent, in_view, own_row, next_nth, count_in}
 use Rattle.node_rules.specs.Stamps.{Writes, applies_at, numbers_at, applying, count_at, hearing_write, spoiled}
@@ -68,13 +68,13 @@ exchanged_fits lines f k lt key h = record {
   each_target = new_targets lines f (others f);
 }
 
-pub opened_fits : (lines : ℕ) (f : Facts) (l : List ℕ) (t : ℕ) (d : List ℕ) (w : Want) → t ≡ f.transactions.opened + 1 → IsDigest d → IsWant w → FitsFacts lines f → FitsFacts (lines + 1) (notes.opened f l t d w)
+pub opened_fits : (lines : ℕ) (f : Facts) (l : List ℕ) (t : ℕ) (d : List ℕ) (w : Want) → t ≡ f.transactions.opened + 1 → IsDigest d → IsWant w → FitsFacts lines f → FitsFacts (lines + 1) (notes.transaction_opened f l t d w)
 opened_fits lines f l t d w e digest want h = record {
   each_row = h.each_row;
   content = h.content;
   stamps = h.stamps;
   writes = writes_more lines f.writes h.writes;
-  transactions = opening_fits lines f.transactions (notes.new_transaction f l t d w) (record {
+  transactions = opening_fits lines f.transactions (notes.opening_transaction f l t d w) (record {
     above = first f.transactions.opened t e;
     number = below f.transactions.opened t e h.transactions.opened;
     digest = digest;
@@ -94,7 +94,7 @@ opened_fits lines f l t d w e digest want h = record {
 pub closed_fits : (lines : ℕ) (f : Facts) (t : ℕ) → FitsFacts lines f → FitsFacts lines (notes.closed f t)
 closed_fits lines f t h = record { each_row = h.each_row; content = h.content; stamps = h.stamps; writes = h.writes; transactions = closing_fits lines f.transactions t h.transactions; each_target = h.each_target }
 
-pub applied_fits : (lines : ℕ) (f : Facts) (k : ClusterKey) (l : List ℕ) (t : ℕ) (d : List ℕ) (v : Version) → lines + 1 < 2 ^ 32 → IsKeyField k → IsDigest d → IsVersion v → FitsFacts lines f → FitsFacts (lines + 1) (notes.applied f k l t d v)
+pub applied_fits : (lines : ℕ) (f : Facts) (k : ClusterKey) (l : List ℕ) (t : ℕ) (d : List ℕ) (v : Version) → lines + 1 < 2 ^ 32 → IsKeyField k → IsDigest d → IsVersion v → FitsFacts lines f → FitsFacts (lines + 1) (notes.write_applied f k l t d v)
 applied_fits lines f k l t d v lt key digest fits h = record {
   each_row = h.each_row;
   content = content_joined f.store.by f.store.content d v digest fits h.content;
@@ -164,7 +164,7 @@ progress_fits : (lines : ℕ) (f : Facts) (from : ℕ) (done handed settled : Li
 progress_fits lines f from done handed settled false h = h
 progress_fits lines f from done handed settled true h = record { each_row = h.each_row; content = h.content; stamps = h.stamps; writes = h.writes; transactions = h.transactions; each_target = h.each_target }
 
-counted_fits : (lines : ℕ) (f : Facts) (k : ClusterKey) (l : List ℕ) (p nth : ℕ) (b : Bool) → lines + 1 < 2 ^ 32 → IsKeyField k → FitsFacts lines f → FitsFacts (lines + 1) (notes.counted_if f k l p nth b)
+counted_fits : (lines : ℕ) (f : Facts) (k : ClusterKey) (l : List ℕ) (p nth : ℕ) (b : Bool) → lines + 1 < 2 ^ 32 → IsKeyField k → FitsFacts lines f → FitsFacts (lines + 1) (notes.write_counted_if f k l p nth b)
 counted_fits lines f k l p nth false lt key h = fits_more lines f h
 counted_fits lines f k l p nth true lt key h = record {
   each_row = h.each_row;
@@ -180,7 +180,7 @@ counted_fits lines f k l p nth true lt key h = record {
 
 write_fits : (lines : ℕ) (f : Facts) (from : ℕ) (k : ClusterKey) (nth p : ℕ) (b : Bool) → lines + 1 < 2 ^ 32 → IsKeyField k → FitsFacts lines f → FitsFacts (lines + 1) (notes.write_came f from k nth p b)
 write_fits lines f from k nth p false lt key h = fits_more lines f h
-write_fits lines f from k nth p true lt key h = counted_fits lines f k (list_at f p) p nth (from == master (list_at f p)) lt key h
+write_fits lines f from k nth p true lt key h = counted_fits lines f k (list_at f p) p nth (from == list_master (list_at f p)) lt key h
 
 repl_ack_fits : (lines : ℕ) (f : Facts) (from t : ℕ) (b : Bool) → FitsFacts lines f → FitsFacts lines (notes.write_acked f from t b)
 repl_ack_fits lines f from t false h = h

@@ -26,12 +26,12 @@ use Rattle.node_rules.specs.Agreement.{Proposal, proposes, without_missing}
 use Rattle.node_rules.specs.Batches.{Targets, out_to, has_number}
 use Rattle.node_rules.specs.Copies.{Store, is_nil}
 use Rattle.node_rules.specs.Effects.{to_each}
-use Rattle.node_rules.specs.Exchange.{View, Exchange, key_of}
+use Rattle.node_rules.specs.Exchange.{View, Exchange, exchange_key}
 use Rattle.node_rules.specs.Facts.{Facts, view_key, list_at}
-use Rattle.node_rules.specs.Map.{row_of}
-use Rattle.node_rules.specs.Messages.{due_message, voting, committing, counting, unless_stale, entering_if, may_enter, state_came, answer_state, batch_came, batch_ack_came, unless_spent, progress_came, answer_progress, repl_came, repl_ack_came, ack_of, done_by, ask_came, answer_came, answer_of, answered_by, resolving_if, table_if}
-use Rattle.node_rules.specs.Notes.{reached, in_view, next_nth, new_transaction}
-use Rattle.node_rules.specs.Requests.{due_request, request_if, asking, refusal_of}
+use Rattle.node_rules.specs.Map.{row_of_member}
+use Rattle.node_rules.specs.Messages.{due_message, vote_effects, commit_effects, accept_effects, unless_stale, entry_effects_if, may_enter_view, state_came, answer_state, batch_came, batch_ack_came, unless_spent, progress_effects_if, answer_progress, repl_came, repl_ack_came, ack_of, done_by, ask_came, answer_effects_if, answer_of, answered_by, resolving_if, table_if}
+use Rattle.node_rules.specs.Notes.{reached, in_view, next_nth, opening_transaction}
+use Rattle.node_rules.specs.Requests.{due_request, request_if, asking, request_refusal}
 use Rattle.node_rules.specs.Resolving.{repl, resolving, resolving_want, writing_body}
 use Rattle.node_rules.specs.Stamps.{Writes, applies_at}
 use Rattle.node_rules.specs.Standing.{other_replicas, asked, knows_all_settled}
@@ -40,8 +40,8 @@ use Rattle.node_rules.specs.Transactions as transactions
 use Rattle.node_rules.specs.Transactions.{Transaction, Transactions, Write, transaction, awaits_answer, awaits_ack, is_last_awaited}
 use Rattle.cluster_types.specs.ClusterKeys.{key_lt}
 use Rattle.cluster_laws.proofs.At.{differ}
-use Rattle.run_laws.specs.Ranges.{FitsTransaction, Fits, FitsFacts}
-use Rattle.run_laws.specs.Spelled.{AreRead, is_ranged}
+use Rattle.run_laws.specs.Ranges.{FitsTransaction, FitsRanges, FitsFacts}
+use Rattle.run_laws.specs.Spelled.{AreReadInRange, is_ranged}
 use Rattle.run_laws.specs.Tied.{Each}
 use Rattle.run_laws.proofs.RangedCopies.{join_fits, version_held}
 use Rattle.run_laws.proofs.RangedLines.{found_among}
@@ -52,8 +52,8 @@ use Rattle.run_laws.proofs.ViewSteps.{Viewed, view_of}
 -- ---- facts in their ranges, with the key of the view
 
 pub record Stood (lines : ℕ) (e : Exchange) (s : Store) (w : Writes) (ts : Transactions) (targets : Targets) : Type 0 where
-  pub fits : Fits lines e.rows s w ts targets
-  pub key : (v : View) → e.view ≡ Some v → IsKeyField (key_of e.view)
+  pub fits : FitsRanges lines e.rows s w ts targets
+  pub key : (v : View) → e.view ≡ Some v → IsKeyField (exchange_key e.view)
   -- out of a view nothing runs and nothing is handed on
   pub idle : e.view ≡ None → ts.running ≡ []
   pub quiet : e.view ≡ None → targets ≡ []
@@ -63,16 +63,17 @@ StoodFacts lines f = Stood lines f.exchange f.store f.writes f.transactions f.ba
 
 -- ---- messages to some
 
-pub each_read : (ns : List ℕ) (m : Message) → IsProper m → AreRead (to_each ns m)
+pub each_read : (ns : List ℕ) (m : Message) → IsProper m → AreReadInRange (to_each ns m)
 each_read [] m p = tt
 each_read (n ∷ ns) m p = ((λ e. read_back m p), each_read ns m p)
 
 -- a kind of which nothing is asked
-pub free_read : (ns : List ℕ) (m : Message) → is_ranged m ≡ false → AreRead (to_each ns m)
+pub free_read : (ns : List ℕ) (m : Message) → is_ranged m ≡ false → AreReadInRange (to_each ns m)
 free_read [] m e = tt
 free_read (n ∷ ns) m e = ((λ q. differ q e), free_read ns m e)
 
-pub append_read : (a b : List (ℕ × Message)) → AreRead a → AreRead b → AreRead (a ++ b)
+pub append_read : (a b : List (ℕ × Message)) → AreReadInRange a → AreReadInRange b
+    → AreReadInRange (a ++ b)
 append_read [] b x y = y
 append_read (s ∷ a) b x y = (x.0, append_read a b x.1 y)
 
@@ -91,11 +92,11 @@ no_row = record {
   fit = All-nil (λ (e : ℕ × CopyState). FitsState e.1);
 }
 
-row_at : (rows : List MemberRow) (n : ℕ) → Each (λ (r : MemberRow). IsStateRowField r.row) rows → IsStateRowField (unwrap_or (row_of rows n) [])
+row_at : (rows : List MemberRow) (n : ℕ) → Each (λ (r : MemberRow). IsStateRowField r.row) rows → IsStateRowField (unwrap_or (row_of_member rows n) [])
 row_at [] n h = no_row
 row_at (r ∷ rows) n h = go (r.node == n) (row_at rows n h.1)
   where
-    go : (b : Bool) → IsStateRowField (unwrap_or (row_of rows n) []) → IsStateRowField (unwrap_or (option_map (λ (x : MemberRow). x.row) (if b then Some r else find (λ (x : MemberRow). x.node == n) rows)) [])
+    go : (b : Bool) → IsStateRowField (unwrap_or (row_of_member rows n) []) → IsStateRowField (unwrap_or (option_map (λ (x : MemberRow). x.row) (if b then Some r else find (λ (x : MemberRow). x.node == n) rows)) [])
     go true rest = h.0
     go false rest = rest
 
@@ -107,13 +108,13 @@ state_proper lines f wants v h e = (h.key v e, row_at f.exchange.rows f.me h.fit
 pub ask_proper : (lines : ℕ) (f : Facts) (y : Transaction) → lines + 1 < 2 ^ 32 → IsKeyField (view_key f) → FitsTransaction (lines + 1) y → IsProper (message.Ask (view_key f) y.number y.digest)
 ask_proper lines f y lt key h = (key, is_number lines y.number lt h.above h.number, h.digest)
 
-pub resolving_read : (lines : ℕ) (f : Facts) (clock : ℕ) (l : List ℕ) (t : Transaction) → lines + 1 < 2 ^ 32 → clock < 2 ^ 64 → IsKeyField (view_key f) → FitsFacts lines f → FitsTransaction (lines + 1) t → AreRead (resolving f clock l t).sends
+pub resolving_read : (lines : ℕ) (f : Facts) (clock : ℕ) (l : List ℕ) (t : Transaction) → lines + 1 < 2 ^ 32 → clock < 2 ^ 64 → IsKeyField (view_key f) → FitsFacts lines f → FitsTransaction (lines + 1) t → AreReadInRange (resolving f clock l t).sends
 resolving_read lines f clock l t lt time key h y = go t.want refl
   where
     next_one : (a : ℕ) → a ≤ lines → a + 1 ≤ lines + 1
     next_one a le = omega (arith, le)
 
-    writes : (b : Body) → IsBody b → AreRead (writing_body f clock l t b).sends
+    writes : (b : Body) → IsBody b → AreReadInRange (writing_body f clock l t b).sends
     writes b fits = each_read (other_replicas f l) (repl f t (record { version = next t.best clock b; nth = next_nth f (partition_of t.digest) })) (
       key,
       is_number lines t.number lt y.above y.number,
@@ -122,18 +123,18 @@ resolving_read lines f clock l t lt time key h y = go t.want refl
       next_fits t.best clock b y.best time fits,
     )
 
-    go : (q : Want) → t.want ≡ q → AreRead (resolving_want f clock l t q).sends
+    go : (q : Want) → t.want ≡ q → AreReadInRange (resolving_want f clock l t q).sends
     go want.Get e = tt
     go (want.Put bytes) e = writes (body.Value bytes) (subst IsWant e y.want)
     go want.Del e = writes body.Tombstone tt
 
 -- ---- a request
 
-pub request_read : (lines : ℕ) (f : Facts) (clock : ℕ) (d : List ℕ) (q : Want) → lines + 1 < 2 ^ 32 → clock < 2 ^ 64 → IsDigest d → IsWant q → StoodFacts lines f → AreRead (due_request f clock d q).sends
-request_read lines f clock d q lt time digest wanted h = go (refusal_of f (list_at f (partition_of d)) d) refl
+pub request_read : (lines : ℕ) (f : Facts) (clock : ℕ) (d : List ℕ) (q : Want) → lines + 1 < 2 ^ 32 → clock < 2 ^ 64 → IsDigest d → IsWant q → StoodFacts lines f → AreReadInRange (due_request f clock d q).sends
+request_read lines f clock d q lt time digest wanted h = go (request_refusal f (list_at f (partition_of d)) d) refl
   where
     t : Transaction
-    t = new_transaction f (list_at f (partition_of d)) (f.transactions.opened + 1) d q
+    t = opening_transaction f (list_at f (partition_of d)) (f.transactions.opened + 1) d q
 
     above : (o : ℕ) → 0 < o + 1
     above o = omega arith
@@ -141,66 +142,67 @@ request_read lines f clock d q lt time digest wanted h = go (refusal_of f (list_
     next_one : (o : ℕ) → o ≤ lines → o + 1 ≤ lines + 1
     next_one o le = omega (arith, le)
 
-    fits : FitsTransaction (lines + 1) (new_transaction f (list_at f (partition_of d)) (f.transactions.opened + 1) d q)
+    fits : FitsTransaction (lines + 1) (opening_transaction f (list_at f (partition_of d)) (f.transactions.opened + 1) d q)
     fits = record { above = above f.transactions.opened; number = next_one f.transactions.opened h.fits.transactions.opened; digest = digest; want = wanted; best = version_held f.store.content d h.fits.content; applied = tt }
 
-    asks : IsKeyField (view_key f) → (ns : List ℕ) → AreRead (asking f clock (list_at f (partition_of d)) (new_transaction f (list_at f (partition_of d)) (f.transactions.opened + 1) d q) ns).sends
+    asks : IsKeyField (view_key f) → (ns : List ℕ) → AreReadInRange (asking f clock (list_at f (partition_of d)) (opening_transaction f (list_at f (partition_of d)) (f.transactions.opened + 1) d q) ns).sends
     asks key [] = resolving_read lines f clock (list_at f (partition_of d)) t lt time key h.fits fits
     asks key (n ∷ ns) = each_read (n ∷ ns) (message.Ask (view_key f) (f.transactions.opened + 1) d) (ask_proper lines f t lt key fits)
 
-    go : (o : Option Refusal) → refusal_of f (list_at f (partition_of d)) d ≡ o → AreRead (request_if f clock (list_at f (partition_of d)) d q o).sends
+    go : (o : Option Refusal) → request_refusal f (list_at f (partition_of d)) d ≡ o → AreReadInRange (request_if f clock (list_at f (partition_of d)) d q o).sends
     go (Some cause) e = tt
     go None e = let ok : Accepts f d = accepts f d e in asks (h.key ok.view ok.is) (asked f (list_at f (partition_of d)) (partition_of d))
 
 -- ---- a message
 
-pub message_read : (lines : ℕ) (f : Facts) (clock from : ℕ) (m : Message) → lines + 1 < 2 ^ 32 → clock < 2 ^ 64 → IsProper m → StoodFacts lines f → AreRead (due_message f clock from m).sends
+pub message_read : (lines : ℕ) (f : Facts) (clock from : ℕ) (m : Message) → lines + 1 < 2 ^ 32 → clock < 2 ^ 64 → IsProper m → StoodFacts lines f → AreReadInRange (due_message f clock from m).sends
 message_read lines f clock from (message.Propose k ms) lt time p h = go (key_lt k f.agreement.promised)
   where
-    go : (b : Bool) → AreRead (voting f from k b).sends
+    go : (b : Bool) → AreReadInRange (vote_effects f from k b).sends
     go true = free_read (from ∷ []) (message.Refuse k f.agreement.promised) refl
     go false = free_read (from ∷ []) (message.Accept k) refl
 message_read lines f clock from (message.Accept k) lt time p h = go f.agreement.proposal (proposes f.agreement.proposal k)
   where
-    commits : (x : Proposal) (b : Bool) → AreRead (committing f x b).sends
-    commits x true = free_read (agreement.others f.me x.members) (message.Commit x.key x.members) refl
+    commits : (x : Proposal) (b : Bool) → AreReadInRange (commit_effects f x b).sends
+    commits x true = free_read (agreement.others_among f.me x.members) (message.Commit x.key x.members) refl
     commits x false = tt
 
-    go : (o : Option Proposal) (b : Bool) → AreRead (counting f from k o b).sends
+    go : (o : Option Proposal) (b : Bool) → AreReadInRange (accept_effects f from k o b).sends
     go (Some x) true = commits x (is_nil (without_missing x from).missing)
     go (Some x) false = tt
     go None b = tt
 message_read lines f clock from (message.Refuse k promised) lt time p h = go (proposes f.agreement.proposal k)
   where
-    go : (b : Bool) → AreRead (unless_stale f b).sends
+    go : (b : Bool) → AreReadInRange (unless_stale f b).sends
     go true = tt
     go false = tt
-message_read lines f clock from (message.Commit k ms) lt time p h = go (may_enter f k ms)
+message_read lines f clock from (message.Commit k ms) lt time p h = go (may_enter_view f k ms)
   where
-    go : (b : Bool) → AreRead (entering_if f k ms b).sends
+    go : (b : Bool) → AreReadInRange (entry_effects_if f k ms b).sends
     go true = tt
     go false = tt
 message_read lines f clock from (message.State k wants row) lt time p h = go (in_view f k) refl
   where
-    answers : (v : View) → f.exchange.view ≡ Some v → (b : Bool) → AreRead (answer_state f from b)
+    answers : (v : View) → f.exchange.view ≡ Some v → (b : Bool)
+        → AreReadInRange (answer_state f from b)
     answers v e true = each_read (from ∷ []) (state f false) (state_proper lines f false v h e)
     answers v e false = tt
 
-    go : (b : Bool) → in_view f k ≡ b → AreRead (state_came f (reached f from (message.State k wants row)) from wants b).sends
+    go : (b : Bool) → in_view f k ≡ b → AreReadInRange (state_came f (reached f from (message.State k wants row)) from wants b).sends
     go true e = let v : Viewed f k = view_of f k e in answers v.view v.is wants
     go false e = tt
 message_read lines f clock from (message.Batch x) lt time p h = go (in_view f x.key)
   where
-    go : (b : Bool) → AreRead (batch_came f from x b).sends
+    go : (b : Bool) → AreReadInRange (batch_came f from x b).sends
     go true = free_read (from ∷ []) (message.BatchAck x.key x.number) refl
     go false = tt
 message_read lines f clock from (message.BatchAck k number) lt time p h = go (in_view f k)
   where
-    rests : (b : Bool) → AreRead (unless_spent f b).sends
+    rests : (b : Bool) → AreReadInRange (unless_spent f b).sends
     rests true = tt
     rests false = tt
 
-    go : (b : Bool) → AreRead (batch_ack_came f from number b).sends
+    go : (b : Bool) → AreReadInRange (batch_ack_came f from number b).sends
     go true = rests (has_number (out_to f.batches from) number)
     go false = tt
 message_read lines f clock from (message.Progress k wants done handed settled) lt time p h = go (in_view f k)
@@ -208,57 +210,58 @@ message_read lines f clock from (message.Progress k wants done handed settled) l
     now : Facts
     now = reached f from (message.Progress k wants done handed settled)
 
-    answers : (g : Facts) (b : Bool) → AreRead (answer_progress partition_count g from b).sends
+    answers : (g : Facts) (b : Bool)
+        → AreReadInRange (answer_progress partition_count g from b).sends
     answers g true = free_read (from ∷ []) _ refl
     answers g false = tt
 
-    go : (b : Bool) → AreRead (progress_came partition_count f (reached f from (message.Progress k wants done handed settled)) from wants b).sends
+    go : (b : Bool) → AreReadInRange (progress_effects_if partition_count f (reached f from (message.Progress k wants done handed settled)) from wants b).sends
     go true = answers now (wants && knows_all_settled now partition_count 0)
     go false = tt
 message_read lines f clock from (message.Repl k t nth d v) lt time p h = go (in_view f k)
   where
-    go : (b : Bool) → AreRead (repl_came f from k t d v b).sends
+    go : (b : Bool) → AreReadInRange (repl_came f from k t d v b).sends
     go true = free_read (from ∷ []) (message.ReplAck k t) refl
     go false = tt
 message_read lines f clock from (message.ReplAck k t) lt time p h = go (in_view f k)
   where
-    awaits : (y : Transaction) (b : Bool) → AreRead (done_by f y from b).sends
+    awaits : (y : Transaction) (b : Bool) → AreReadInRange (done_by f y from b).sends
     awaits y true = tt
     awaits y false = tt
 
-    opens : (o : Option Transaction) → AreRead (ack_of f from o).sends
+    opens : (o : Option Transaction) → AreReadInRange (ack_of f from o).sends
     opens None = tt
     opens (Some y) = awaits y (awaits_ack y from)
 
-    go : (b : Bool) → AreRead (repl_ack_came f from t b).sends
+    go : (b : Bool) → AreReadInRange (repl_ack_came f from t b).sends
     go true = opens (transaction f.transactions t)
     go false = tt
 message_read lines f clock from (message.Ask k t d) lt time p h = go (in_view f k)
   where
-    go : (b : Bool) → AreRead (ask_came f from k t d b).sends
+    go : (b : Bool) → AreReadInRange (ask_came f from k t d b).sends
     go true = each_read (from ∷ []) (message.Answer k t (finite.get f.store.content d)) (p.0, p.1, version_held f.store.content d h.fits.content)
     go false = tt
 message_read lines f clock from (message.Answer k t v) lt time p h = go (in_view f k) refl
   where
-    last : Viewed f k → (y : Transaction) → FitsTransaction lines y → (b : Bool) → AreRead (resolving_if f clock (transactions.answered f.store.by from v y) b).sends
+    last : Viewed f k → (y : Transaction) → FitsTransaction lines y → (b : Bool) → AreReadInRange (resolving_if f clock (transactions.answered f.store.by from v y) b).sends
     last x y r false = tt
     last x y r true = resolving_read lines f clock (list_at f (partition_of y.digest)) (transactions.answered f.store.by from v y) lt time (h.key x.view x.is) h.fits
         (transaction_more lines (transactions.answered f.store.by from v y) (record { above = r.above; number = r.number; digest = r.digest; want = r.want; best = join_fits f.store.by y.best v r.best p.2; applied = r.applied }))
 
-    awaited : Viewed f k → (y : Transaction) → FitsTransaction lines y → (b : Bool) → AreRead (answered_by f clock y from v b).sends
+    awaited : Viewed f k → (y : Transaction) → FitsTransaction lines y → (b : Bool) → AreReadInRange (answered_by f clock y from v b).sends
     awaited x y r true = last x y r (is_last_awaited y from)
     awaited x y r false = tt
 
-    opens : Viewed f k → (o : Option Transaction) → transaction f.transactions t ≡ o → AreRead (answer_of f clock from v o).sends
+    opens : Viewed f k → (o : Option Transaction) → transaction f.transactions t ≡ o → AreReadInRange (answer_of f clock from v o).sends
     opens x None i = tt
     opens x (Some y) i = awaited x y (h.fits.transactions.running y (found_among (λ (u : Transaction). u.number == t) f.transactions.running y i)) (awaits_answer y from)
 
-    go : (b : Bool) → in_view f k ≡ b → AreRead (answer_came f clock from t v b).sends
+    go : (b : Bool) → in_view f k ≡ b → AreReadInRange (answer_effects_if f clock from t v b).sends
     go true e = opens (view_of f k e) (transaction f.transactions t) refl
     go false e = tt
 message_read lines f clock from message.MapAsk lt time p h = go f.exchange.exchanged
   where
-    go : (b : Bool) → AreRead (table_if f b).sends
+    go : (b : Bool) → AreReadInRange (table_if f b).sends
     go true = free_read (0 ∷ []) _ refl
     go false = tt
 message_read lines f clock from (message.Heartbeat view promised hears role) lt time p h = tt

@@ -26,12 +26,12 @@ use Rattle.node_rules.specs.Notes as notes
 use Rattle.node_rules.specs.Notes.{note, noted, neighbours, after_ages, own_row}
 use Rattle.node_rules.specs.Resolving.{repl}
 use Rattle.node_rules.specs.Standing.{others, knows_all_settled}
-use Rattle.node_rules.specs.Tick.{beat, is_candidate, propose, propose_with, propose_new, proposing_to, state, rows, sends_again, transactions, batch_to, batches, progress, progress_if, progress_message, tick_if}
+use Rattle.node_rules.specs.Tick.{beat, is_candidate, propose, propose_with, propose_new, proposal_effects, state, rows, sends_again, transactions, batch_to, batches, progress, progress_if, progress_message, tick_if}
 use Rattle.node_rules.specs.Transactions.{Transaction, Write}
 use Rattle.cluster_laws.proofs.At.{no_some, and_right}
 use Rattle.key_laws.proofs.DueTick.{next_is_key}
 use Rattle.run_laws.specs.Ranges.{FitsApplied, FitsTransaction, FitsFacts}
-use Rattle.run_laws.specs.Spelled.{AreRead}
+use Rattle.run_laws.specs.Spelled.{AreReadInRange}
 use Rattle.run_laws.specs.Tied.{Among}
 use Rattle.run_laws.proofs.RangedBatches.{next_batch_fits}
 use Rattle.run_laws.proofs.RangedNodes.{entered_fits, exchanged_fits, closed_fits}
@@ -40,34 +40,35 @@ use Rattle.run_laws.proofs.RangedTransactions.{transaction_more}
 
 -- ---- rows
 
-rows_read : (lines : ℕ) (g : Facts) → StoodFacts lines g → AreRead (rows g).sends
+rows_read : (lines : ℕ) (g : Facts) → StoodFacts lines g → AreReadInRange (rows g).sends
 rows_read lines g h = go g.exchange.view refl
   where
     nobody : g.exchange.view ≡ None → filter (lacks g.exchange.rows) (others g) ≡ []
-    nobody e = ap (λ (o : Option View). filter (lacks g.exchange.rows) (agreement.others g.me (members_of o))) e
+    nobody e = ap (λ (o : Option View). filter (lacks g.exchange.rows) (agreement.others_among g.me (members_of o))) e
 
-    go : (o : Option View) → g.exchange.view ≡ o → AreRead (rows g).sends
-    go None e = subst (λ (ns : List ℕ). AreRead (to_each ns (state g true))) (sym (nobody e)) tt
+    go : (o : Option View) → g.exchange.view ≡ o → AreReadInRange (rows g).sends
+    go None e = subst (λ (ns : List ℕ). AreReadInRange (to_each ns (state g true)))
+        (sym (nobody e)) tt
     go (Some v) e = each_read (filter (lacks g.exchange.rows) (others g)) (state g true) (state_proper lines g true v h e)
 
 -- ---- transactions
 
-again_read : (lines : ℕ) (g : Facts) (y : Transaction) (o : Option Write) → lines + 1 < 2 ^ 32 → IsKeyField (view_key g) → FitsTransaction lines y → FitsApplied lines o → AreRead (sends_again g y o)
+again_read : (lines : ℕ) (g : Facts) (y : Transaction) (o : Option Write) → lines + 1 < 2 ^ 32 → IsKeyField (view_key g) → FitsTransaction lines y → FitsApplied lines o → AreReadInRange (sends_again g y o)
 again_read lines g y None lt key r w = each_read y.awaiting (message.Ask (view_key g) y.number y.digest) (ask_proper lines g y lt key (transaction_more lines y r))
 again_read lines g y (Some x) lt key r w = each_read y.awaiting (repl g y x) (key, is_number lines y.number lt r.above (more y.number r.number), is_number lines x.nth lt w.above (more x.nth w.nth), r.digest, w.version)
   where
     more : (n : ℕ) → n ≤ lines → n ≤ lines + 1
     more n le = omega (arith, le)
 
-all_again : (lines : ℕ) (g : Facts) (ys : List Transaction) → lines + 1 < 2 ^ 32 → IsKeyField (view_key g) → ((y : Transaction) → Among ys y → FitsTransaction lines y) → AreRead (flat_map (λ t. sends_again g t t.applied) ys)
+all_again : (lines : ℕ) (g : Facts) (ys : List Transaction) → lines + 1 < 2 ^ 32 → IsKeyField (view_key g) → ((y : Transaction) → Among ys y → FitsTransaction lines y) → AreReadInRange (flat_map (λ t. sends_again g t t.applied) ys)
 all_again lines g [] lt key h = tt
 all_again lines g (y ∷ ys) lt key h = append_read (sends_again g y y.applied) _ (again_read lines g y y.applied lt key (h y (inl refl)) (h y (inl refl)).applied) (all_again lines g ys lt key (λ x a. h x (inr a)))
 
-transactions_read : (lines : ℕ) (g : Facts) → lines + 1 < 2 ^ 32 → StoodFacts lines g → AreRead (transactions g).sends
+transactions_read : (lines : ℕ) (g : Facts) → lines + 1 < 2 ^ 32 → StoodFacts lines g → AreReadInRange (transactions g).sends
 transactions_read lines g lt h = go g.exchange.view refl
   where
-    go : (o : Option View) → g.exchange.view ≡ o → AreRead (transactions g).sends
-    go None e = subst (λ (ys : List Transaction). AreRead (flat_map (λ t. sends_again g t t.applied) ys)) (sym (h.idle e)) tt
+    go : (o : Option View) → g.exchange.view ≡ o → AreReadInRange (transactions g).sends
+    go None e = subst (λ (ys : List Transaction). AreReadInRange (flat_map (λ t. sends_again g t t.applied) ys)) (sym (h.idle e)) tt
     go (Some v) e = all_again lines g g.transactions.running lt (h.key v e) h.fits.transactions.running
 
 -- ---- batches
@@ -75,26 +76,26 @@ transactions_read lines g lt h = go g.exchange.view refl
 abbrev Sent : Facts → List Target → List (ℕ × Message)
 Sent g ts = filter_map (λ t. batch_to t.node (next_batch (view_key g) g.store.content t)) ts
 
-all_batches : (lines : ℕ) (g : Facts) (ts : List Target) → lines + 1 < 2 ^ 32 → IsKeyField (view_key g) → FitsFacts lines g → ((t : Target) → Among ts t → Among g.batches t) → AreRead (Sent g ts)
+all_batches : (lines : ℕ) (g : Facts) (ts : List Target) → lines + 1 < 2 ^ 32 → IsKeyField (view_key g) → FitsFacts lines g → ((t : Target) → Among ts t → Among g.batches t) → AreReadInRange (Sent g ts)
 all_batches lines g [] lt key h among = tt
 all_batches lines g (t ∷ ts) lt key h among = go (next_batch (view_key g) g.store.content t) refl (all_batches lines g ts lt key h (λ u a. among u (inr a)))
   where
-    go : (o : Option Batch) → next_batch (view_key g) g.store.content t ≡ o → AreRead (Sent g ts) → AreRead (cons_option (batch_to t.node o) (Sent g ts))
+    go : (o : Option Batch) → next_batch (view_key g) g.store.content t ≡ o → AreReadInRange (Sent g ts) → AreReadInRange (cons_option (batch_to t.node o) (Sent g ts))
     go None e rest = rest
     go (Some b) e rest = ((λ q. read_back (message.Batch b) (next_batch_fits lines (view_key g) g.store.content t b lt key h.content (h.each_target t (among t (inl refl))) e)), rest)
 
-batches_read : (lines : ℕ) (g : Facts) → lines + 1 < 2 ^ 32 → StoodFacts lines g → AreRead (batches g).sends
+batches_read : (lines : ℕ) (g : Facts) → lines + 1 < 2 ^ 32 → StoodFacts lines g → AreReadInRange (batches g).sends
 batches_read lines g lt h = go g.exchange.view refl
   where
-    go : (o : Option View) → g.exchange.view ≡ o → AreRead (batches g).sends
-    go None e = subst (λ (ts : List Target). AreRead (Sent g ts)) (sym (h.quiet e)) tt
+    go : (o : Option View) → g.exchange.view ≡ o → AreReadInRange (batches g).sends
+    go None e = subst (λ (ts : List Target). AreReadInRange (Sent g ts)) (sym (h.quiet e)) tt
     go (Some v) e = all_batches lines g g.batches lt (h.key v e) h.fits (λ t a. a)
 
 -- ---- a proposal
 
 -- what it sends, and the facts behind its lines
 record Proposes (lines : ℕ) (f : Facts) (e : Effects) : Type 0 where
-  sends : AreRead e.sends
+  sends : AreReadInRange e.sends
   stood : StoodFacts lines (noted None f e.lines)
 
 noted_append : (f : Facts) (a b : List Line) → noted None f (a ++ b) ≡ noted None (noted None f a) b
@@ -126,12 +127,12 @@ propose_read lines f lt id h = go f.agreement.proposal
     enters key = subst (λ (g : Facts). StoodFacts lines g) (sym (noted_append promised (closing f) (line.Enter f.me (next_key f.me f.agreement) (neighbours f) ∷ exchanging f.me (next_key f.me f.agreement) (is_single (neighbours f)))))
         (entered_stood lines f.me (noted None promised (closing f)) (next_key f.me f.agreement) (neighbours f) lt key (endings_fit lines f.me (view_key f) f.transactions.running promised h.fits) (is_single (neighbours f)))
 
-    to : (ns : List ℕ) → has_round f.agreement ≡ true → Proposes lines f (proposing_to f (next_key f.me f.agreement) (neighbours f) ns)
+    to : (ns : List ℕ) → has_round f.agreement ≡ true → Proposes lines f (proposal_effects f (next_key f.me f.agreement) (neighbours f) ns)
     to [] e = record { sends = tt; stood = enters (next_is_key f.me f.agreement id e) }
     to (n ∷ ns) e = record { sends = free_read (n ∷ ns) (message.Propose (next_key f.me f.agreement) (neighbours f)) refl; stood = record { fits = h.fits; key = h.key; idle = h.idle; quiet = h.quiet } }
 
     new : (b : Bool) → (is_candidate f && has_round f.agreement) ≡ b → Proposes lines f (propose_new f b)
-    new true e = to (agreement.others f.me (neighbours f)) (and_right (is_candidate f) _ e)
+    new true e = to (agreement.others_among f.me (neighbours f)) (and_right (is_candidate f) _ e)
     new false e = record { sends = tt; stood = stands }
 
     go : (o : Option Proposal) → Proposes lines f (propose_with f o)
@@ -140,12 +141,12 @@ propose_read lines f lt id h = go f.agreement.proposal
 
 -- ---- a tick
 
-progress_read : (i : Facts) (q : Bool) → AreRead (progress_if partition_count i q).sends
+progress_read : (i : Facts) (q : Bool) → AreReadInRange (progress_if partition_count i q).sends
 progress_read i true = free_read (others i) (progress_message partition_count i true) refl
 progress_read i false = tt
 
 sends_read : (lines : ℕ) (f : Facts) (fe : Effects) (i : Facts) → lines + 1 < 2 ^ 32 → Proposes lines f fe
-    → AreRead ((beat f).sends ++ (fe.sends ++ ((rows (noted None f fe.lines)).sends ++ ((transactions (noted None f fe.lines)).sends ++ ((batches (noted None f fe.lines)).sends ++ ((progress partition_count i).sends ++ []))))))
+    → AreReadInRange ((beat f).sends ++ (fe.sends ++ ((rows (noted None f fe.lines)).sends ++ ((transactions (noted None f fe.lines)).sends ++ ((batches (noted None f fe.lines)).sends ++ ((progress partition_count i).sends ++ []))))))
 sends_read lines f fe i lt p =
     append_read (beat f).sends _ (free_read f.peers (message.Heartbeat (view_key f) f.agreement.promised (heard_ids f.hearing.heard) f.role) refl)
     (append_read fe.sends _ p.sends
@@ -157,7 +158,7 @@ sends_read lines f fe i lt p =
     g : Facts
     g = noted None f fe.lines
 
-pub tick_read : (lines : ℕ) (f : Facts) → lines + 1 < 2 ^ 32 → IsId f.me → StoodFacts lines f → (b : Bool) → AreRead (tick_if partition_count f b).sends
+pub tick_read : (lines : ℕ) (f : Facts) → lines + 1 < 2 ^ 32 → IsId f.me → StoodFacts lines f → (b : Bool) → AreReadInRange (tick_if partition_count f b).sends
 tick_read lines f lt id h false = tt
 tick_read lines f lt id h true = sends_read lines (after_ages f) (propose (after_ages f)) _ lt (propose_read lines (after_ages f) (less lt) id (record { fits = h.fits; key = h.key; idle = h.idle; quiet = h.quiet }))
   where

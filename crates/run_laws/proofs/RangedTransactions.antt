@@ -38,7 +38,7 @@ opening_fits lines ts y new h = record {
     next_one : (a : ℕ) → a ≤ lines → a + 1 ≤ lines + 1
     next_one a le = omega (arith, le)
 
-pub closing_fits : (lines : ℕ) (ts : Transactions) (t : ℕ) → FitsTransactions lines ts → FitsTransactions lines (transactions.closing ts t)
+pub closing_fits : (lines : ℕ) (ts : Transactions) (t : ℕ) → FitsTransactions lines ts → FitsTransactions lines (transactions.without_transaction ts t)
 closing_fits lines ts t h = record { opened = h.opened; running = λ y a. h.running y (among_filter (λ (x : Transaction). not (x.number == t)) ts.running y a).there }
 
 pub changing_fits : (lines : ℕ) (ts : Transactions) (t : ℕ) (c : Transaction → Transaction) → ((x : Transaction) → FitsTransaction lines x → FitsTransaction lines (c x)) → FitsTransactions lines ts → FitsTransactions lines (transactions.changing ts t c)

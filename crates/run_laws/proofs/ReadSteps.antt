@@ -15,9 +15,9 @@ use Rattle.wire_messages.specs.Nodes.{IsId}
 use Rattle.wire_messages.specs.Requests.{IsWant}
 use Rattle.wire_messages.specs.Versions.{IsDigest}
 use Rattle.wire_messages.proofs.DecodingLaws.{what_is_read}
-use Rattle.node_rules.specs.Exchange.{key_of}
+use Rattle.node_rules.specs.Exchange.{exchange_key}
 use Rattle.node_rules.specs.Facts.{Facts, list_at}
-use Rattle.node_rules.specs.Requests.{due_request, request_if, refusal_of}
+use Rattle.node_rules.specs.Requests.{due_request, request_if, request_refusal}
 use Rattle.node_rules.specs.Tick.{tick_if}
 use Rattle.cluster_rules.specs.declared.event.Event.{Event}
 use Rattle.cluster_rules.specs.declared.event.Event.TheVariants as event
@@ -27,9 +27,9 @@ use Rattle.journal_readings.specs.Messages.{Posting}
 use Rattle.cluster_rules.specs.Network.{Network, landed, flying_at}
 use Rattle.cluster_rules.specs.World.{World}
 use Rattle.run_laws.specs.Fronts.{Front, world_of, facts_at}
-use Rattle.run_laws.specs.LineDue.{Lawful}
+use Rattle.run_laws.specs.LineDue.{LawfulFront}
 use Rattle.run_laws.specs.Ranges.{Ranged}
-use Rattle.run_laws.specs.Spelled.{AreRead, SendsRead, requested, arrived_sends, flying_sends}
+use Rattle.run_laws.specs.Spelled.{AreReadInRange, SendsRead, request_sends, arrived_sends, flying_sends}
 use Rattle.run_laws.specs.Steps.{Ended}
 use Rattle.run_laws.specs.Taken.{IsProperEvent}
 use Rattle.run_laws.specs.Tied.{key_in}
@@ -44,7 +44,7 @@ HasLine [] = ⊥
 HasLine (l ∷ ls) = Unit {0}
 
 request_line : (net : Network) (n : ℕ) (f : Facts) (clock : ℕ) (d : List ℕ) (q : Want) → HasLine (written net n (due_request f clock d q))
-request_line net n f clock d q = go (refusal_of f (list_at f (partition_of d)) d)
+request_line net n f clock d q = go (request_refusal f (list_at f (partition_of d)) d)
   where
     go : (o : Option Refusal) → HasLine (written net n (request_if f clock (list_at f (partition_of d)) d q o))
     go (Some cause) = tt
@@ -68,31 +68,33 @@ delivery_line w i first rest (Some p) = go (is_blocked w p)
 
 -- ---- between steps
 
-pub stood : {by : Policy} {factor : ℕ} {z : Front} → Lawful by factor z → Ended z → Ranged z → (n : ℕ) → StoodFacts z.lines (facts_at z n)
+pub stood : {by : Policy} {factor : ℕ} {z : Front} → LawfulFront by factor z → Ended z → Ranged z → (n : ℕ) → StoodFacts z.lines (facts_at z n)
 stood {by} {factor} {z} l h r n = record {
   fits = r.nodes n;
-  key = λ v e. subst IsKeyField (sym (ap key_of e)) (key_fits z n v.key l.sound (ap key_in e));
+  key = λ v e. subst IsKeyField (sym (ap exchange_key e))
+      (key_fits z n v.key l.sound (ap key_in e));
   idle = λ e. (h.rests n).idle e;
   quiet = λ e. (l.nodes n).quiet ((l.nodes n).inside e);
 }
 
 -- ---- each event
 
-pub sends_read : (by : Policy) (factor : ℕ) (z : Front) (e : Event) → Lawful by factor z → Ended z → Ranged z → IsProperEvent e → (HasLine (due_of partition_count (world_of z) e) → z.lines + 1 < 2 ^ 32) → SendsRead (world_of z) e
+pub sends_read : (by : Policy) (factor : ℕ) (z : Front) (e : Event) → LawfulFront by factor z → Ended z → Ranged z → IsProperEvent e → (HasLine (due_of partition_count (world_of z) e) → z.lines + 1 < 2 ^ 32) → SendsRead (world_of z) e
 sends_read by factor z e l h r = go e
   where
-    asks : (n : ℕ) (d : List ℕ) (q : Want) → IsDigest d → IsWant q → z.lines + 1 < 2 ^ 32 → AreRead (requested (world_of z) (Some n) d q)
+    asks : (n : ℕ) (d : List ℕ) (q : Want) → IsDigest d → IsWant q → z.lines + 1 < 2 ^ 32 → AreReadInRange (request_sends (world_of z) (Some n) d q)
     asks n d q digest fits lt = request_read z.lines (facts_at z n) ((world_of z).clocks n) d q lt (r.clocks n) digest fits (stood l h r n)
 
-    named : (o : Option ℕ) (d : List ℕ) (q : Want) → IsDigest d → IsWant q → z.lines + 1 < 2 ^ 32 → AreRead (requested (world_of z) o d q)
+    named : (o : Option ℕ) (d : List ℕ) (q : Want) → IsDigest d → IsWant q → z.lines + 1 < 2 ^ 32 → AreReadInRange (request_sends (world_of z) o d q)
     named None d q digest fits lt = tt
     named (Some n) d q digest fits lt = asks n d q digest fits lt
 
-    comes : (p : Posting) → z.lines + 1 < 2 ^ 32 → (o : Option Message) → message_of p.bytes ≡ o → AreRead (arrived_sends (world_of z) p o)
+    comes : (p : Posting) → z.lines + 1 < 2 ^ 32 → (o : Option Message) → message_of p.bytes ≡ o → AreReadInRange (arrived_sends (world_of z) p o)
     comes p lt None i = tt
     comes p lt (Some m) i = message_read z.lines (facts_at z p.to) ((world_of z).clocks p.to) p.from m lt (r.clocks p.to) (what_is_read p.bytes m i).0 (stood l h r p.to)
 
-    flies : (o : Option Posting) → z.lines + 1 < 2 ^ 32 → AreRead (flying_sends (world_of z) o)
+    flies : (o : Option Posting) → z.lines + 1 < 2 ^ 32
+        → AreReadInRange (flying_sends (world_of z) o)
     flies None lt = tt
     flies (Some p) lt = comes p lt (message_of p.bytes) refl
 

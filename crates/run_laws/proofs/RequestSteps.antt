@@ -15,21 +15,21 @@ use Rattle.node_rules.specs.Effects.{Effects, to_each}
 use Rattle.node_rules.specs.Exchange.{View, first_missing}
 use Rattle.node_rules.specs.Facts.{Facts, view_key, list_at}
 use Rattle.node_rules.specs.Notes as notes
-use Rattle.node_rules.specs.Notes.{new_transaction, want_of}
-use Rattle.node_rules.specs.Requests.{up_refusal, view_refusal, exchange_refusal, busy_refusal, acting_refusal, refusal_after, refusal_of, asking, opening, request_if, due_request}
+use Rattle.node_rules.specs.Notes.{opening_transaction, request_want}
+use Rattle.node_rules.specs.Requests.{up_refusal, view_refusal, exchange_refusal, busy_refusal, acting_refusal, refusal_after, request_refusal, asking, opening_effects, request_if, due_request}
 use Rattle.node_rules.specs.Standing.{acts}
 use Rattle.node_rules.specs.Transactions as transactions
 use Rattle.node_rules.specs.Transactions.{Transaction, Transactions, transaction, transaction_on}
 use Rattle.cluster_rules.specs.Marks.{Writes}
 use Rattle.cluster_laws.proofs.At.{number_here, no_some}
 use Rattle.run_laws.proofs.Reading.{reads_itself}
-use Rattle.run_laws.specs.Fronts.{Front, world_of, facts_at, after}
+use Rattle.run_laws.specs.Fronts.{Front, world_of, facts_at, front_after}
 use Rattle.run_laws.specs.LineOk.{IsDeclared}
 use Rattle.run_laws.specs.LineDue.{LineMay, LawOf}
 use Rattle.run_laws.specs.Steps.{Ended}
 use Rattle.run_laws.proofs.Calmly.{EachPlainly}
 use Rattle.run_laws.proofs.NodeSteps.{NodeGo, Now, stands_in}
-use Rattle.run_laws.specs.Spelled.{AreRead}
+use Rattle.run_laws.specs.Spelled.{AreReadInRange}
 use Rattle.run_laws.proofs.Opened.{found_last}
 use Rattle.run_laws.proofs.ResolvingSteps.{own_ends, resolving_go}
 use Rattle.run_laws.proofs.Turns.{here, away}
@@ -42,7 +42,7 @@ pub record Accepts (f : Facts) (d : List ℕ) : Type 0 where
   pub acts : acts f (list_at f (partition_of d)) (partition_of d) ≡ true
   pub free : transaction_on f.transactions d ≡ None
 
-pub accepts : (f : Facts) (d : List ℕ) → refusal_of f (list_at f (partition_of d)) d ≡ None → Accepts f d
+pub accepts : (f : Facts) (d : List ℕ) → request_refusal f (list_at f (partition_of d)) d ≡ None → Accepts f d
 accepts f d e = up f.up e
   where
     l : List ℕ
@@ -78,7 +78,7 @@ new_runs by factor f y law e = found_last f.transactions.running y y.number (law
     ∙ ap (λ (b : Bool). cond b (Some y) (find (λ (x : Transaction). x.number == y.number) f.transactions.running)) (number_here y.number)
 
 asks_plain : (y : Front) (f : Facts) (ts : Transactions) (t : Transaction) (u : View) (rs : List ℕ) → Now y (record f { transactions = ts }) → f.exchange.view ≡ Some u → transaction ts t.number ≡ Some t
-    → AreRead (to_each rs (message.Ask (view_key f) t.number t.digest)) → EachPlainly y f.me (to_each rs (message.Ask (view_key f) t.number t.digest))
+    → AreReadInRange (to_each rs (message.Ask (view_key f) t.number t.digest)) → EachPlainly y f.me (to_each rs (message.Ask (view_key f) t.number t.digest))
 asks_plain y f ts t u [] w i e read = tt
 asks_plain y f ts t u (r ∷ rs) w i e read = (
   record {
@@ -90,17 +90,17 @@ asks_plain y f ts t u (r ∷ rs) w i e read = (
 )
 
 asking_go : (y : Front) (f : Facts) (ts : Transactions) (t : Transaction) (clock : ℕ) (u : View) → Now y (record f { transactions = ts }) → f.exchange.view ≡ Some u → Ended y → transaction ts t.number ≡ Some t → t.applied ≡ None
-    → clock ≡ (world_of y).clocks f.me → IsDeclared y f.me → (rs : List ℕ) → t.awaiting ≡ rs → AreRead (asking f clock (list_at f (partition_of t.digest)) t rs).sends → NodeGo y f.me (asking f clock (list_at f (partition_of t.digest)) t rs)
+    → clock ≡ (world_of y).clocks f.me → IsDeclared y f.me → (rs : List ℕ) → t.awaiting ≡ rs → AreReadInRange (asking f clock (list_at f (partition_of t.digest)) t rs).sends → NodeGo y f.me (asking f clock (list_at f (partition_of t.digest)) t rs)
 asking_go y f ts t clock u w i h run none time declared [] e read = resolving_go y f ts t clock u w i h run none e time declared read
 asking_go y f ts t clock u w i h run none time declared (r ∷ rs) e read = record { due = tt; sent = refl; sends = asks_plain y f ts t u (r ∷ rs) w i run read; ends = h }
 
 -- lines and then what goes from the front behind them
-then_go : (z : Front) (n : ℕ) (l : Line) (e : Effects) → LineMay z l → (world_of (after z (Writes l))).network.sent ≡ (world_of z).network.sent → NodeGo (after z (Writes l)) n e → NodeGo z n (record { lines = l ∷ e.lines; sends = e.sends })
+then_go : (z : Front) (n : ℕ) (l : Line) (e : Effects) → LineMay z l → (world_of (front_after z (Writes l))).network.sent ≡ (world_of z).network.sent → NodeGo (front_after z (Writes l)) n e → NodeGo z n (record { lines = l ∷ e.lines; sends = e.sends })
 then_go z n l e ok net g = record { due = (ok, g.due); sent = g.sent ∙ net; sends = g.sends; ends = g.ends }
 
 opening_go : (by : Policy) (factor : ℕ) (z : Front) (f : Facts) (d : List ℕ) (w : Want) (clock : ℕ) → IsDigest d → IsWant w → LawOf by factor f → Now z f → Ended z → (world_of z).want ≡ Some w → clock ≡ (world_of z).clocks f.me → IsDeclared z f.me → Accepts f d
-    → AreRead (opening f clock (list_at f (partition_of d)) (new_transaction f (list_at f (partition_of d)) (f.transactions.opened + 1) d w)).sends
-    → NodeGo z f.me (opening f clock (list_at f (partition_of d)) (new_transaction f (list_at f (partition_of d)) (f.transactions.opened + 1) d w))
+    → AreReadInRange (opening_effects f clock (list_at f (partition_of d)) (opening_transaction f (list_at f (partition_of d)) (f.transactions.opened + 1) d w)).sends
+    → NodeGo z f.me (opening_effects f clock (list_at f (partition_of d)) (opening_transaction f (list_at f (partition_of d)) (f.transactions.opened + 1) d w))
 opening_go by factor z f d w clock digest fits law now h want time declared ok read = then_go z f.me (line.Opened f.me (view_key f) (f.transactions.opened + 1) d (action_of w)) (asking f clock (list_at f (partition_of d)) t t.awaiting) (
   now.owes,
   record {
@@ -111,33 +111,34 @@ opening_go by factor z f d w clock digest fits law now h want time declared ok r
       free = ap (λ (x : Facts). transaction_on x.transactions d) now.is ∙ ok.free;
     };
     digest = digest;
-    wanted = λ a. subst (λ (q : Option Want). IsWant (want_of q a)) (sym want) fits;
+    wanted = λ a. subst (λ (q : Option Want). IsWant (request_want q a)) (sym want) fits;
   },
 ) refl
     (asking_go y f (transactions.opening f.transactions t) t clock ok.view next ok.is ends (new_runs by factor f t law refl) refl time declared t.awaiting refl read)
   where
     t : Transaction
-    t = new_transaction f (list_at f (partition_of d)) (f.transactions.opened + 1) d w
+    t = opening_transaction f (list_at f (partition_of d)) (f.transactions.opened + 1) d w
 
     y : Front
-    y = after z (Writes (line.Opened f.me (view_key f) (f.transactions.opened + 1) d (action_of w)))
+    y = front_after z
+        (Writes (line.Opened f.me (view_key f) (f.transactions.opened + 1) d (action_of w)))
 
-    is : facts_at (after z (Writes (line.Opened f.me (view_key f) (f.transactions.opened + 1) d (action_of w)))) f.me ≡ record f { transactions = transactions.opening f.transactions (new_transaction f (list_at f (partition_of d)) (f.transactions.opened + 1) d w) }
-    is = here (world_of z).facts f.me _ ∙ ap₂ (λ (x : Facts) (q : Option Want). notes.opened x (list_at x (partition_of d)) (f.transactions.opened + 1) d (want_of q (action_of w))) now.is want
+    is : facts_at (front_after z (Writes (line.Opened f.me (view_key f) (f.transactions.opened + 1) d (action_of w)))) f.me ≡ record f { transactions = transactions.opening f.transactions (opening_transaction f (list_at f (partition_of d)) (f.transactions.opened + 1) d w) }
+    is = here (world_of z).facts f.me _ ∙ ap₂ (λ (x : Facts) (q : Option Want). notes.transaction_opened x (list_at x (partition_of d)) (f.transactions.opened + 1) d (request_want q (action_of w))) now.is want
 
-    next : Now (after z (Writes (line.Opened f.me (view_key f) (f.transactions.opened + 1) d (action_of w)))) (record f { transactions = transactions.opening f.transactions (new_transaction f (list_at f (partition_of d)) (f.transactions.opened + 1) d w) })
+    next : Now (front_after z (Writes (line.Opened f.me (view_key f) (f.transactions.opened + 1) d (action_of w)))) (record f { transactions = transactions.opening f.transactions (opening_transaction f (list_at f (partition_of d)) (f.transactions.opened + 1) d w) })
     next = record { is = is; stays = now.stays; owes = now.owes }
 
-    ends : Ended (after z (Writes (line.Opened f.me (view_key f) (f.transactions.opened + 1) d (action_of w))))
-    ends = own_ends z (after z (Writes (line.Opened f.me (view_key f) (f.transactions.opened + 1) d (action_of w)))) f (record f { transactions = transactions.opening f.transactions (new_transaction f (list_at f (partition_of d)) (f.transactions.opened + 1) d w) }) ok.view now ok.is h refl refl
+    ends : Ended (front_after z (Writes (line.Opened f.me (view_key f) (f.transactions.opened + 1) d (action_of w))))
+    ends = own_ends z (front_after z (Writes (line.Opened f.me (view_key f) (f.transactions.opened + 1) d (action_of w)))) f (record f { transactions = transactions.opening f.transactions (opening_transaction f (list_at f (partition_of d)) (f.transactions.opened + 1) d w) }) ok.view now ok.is h refl refl
         (λ m x. away (world_of z).facts f.me _ m x) is refl
 
 -- ---- a request
 
 pub request_go : (by : Policy) (factor : ℕ) (z : Front) (f : Facts) (d : List ℕ) (w : Want) (clock : ℕ) → IsDigest d → IsWant w → LawOf by factor f → Now z f → Ended z → (world_of z).want ≡ Some w → clock ≡ (world_of z).clocks f.me
-    → ((u : View) → f.exchange.view ≡ Some u → IsDeclared z f.me) → AreRead (due_request f clock d w).sends → NodeGo z f.me (due_request f clock d w)
-request_go by factor z f d w clock digest fits law now h want time declared read = go (refusal_of f (list_at f (partition_of d)) d) refl read
+    → ((u : View) → f.exchange.view ≡ Some u → IsDeclared z f.me) → AreReadInRange (due_request f clock d w).sends → NodeGo z f.me (due_request f clock d w)
+request_go by factor z f d w clock digest fits law now h want time declared read = go (request_refusal f (list_at f (partition_of d)) d) refl read
   where
-    go : (o : Option Refusal) → refusal_of f (list_at f (partition_of d)) d ≡ o → AreRead (request_if f clock (list_at f (partition_of d)) d w o).sends → NodeGo z f.me (request_if f clock (list_at f (partition_of d)) d w o)
+    go : (o : Option Refusal) → request_refusal f (list_at f (partition_of d)) d ≡ o → AreReadInRange (request_if f clock (list_at f (partition_of d)) d w o).sends → NodeGo z f.me (request_if f clock (list_at f (partition_of d)) d w o)
     go (Some cause) e r = record { due = ((now.owes, tt), tt); sent = refl; sends = tt; ends = record { owes = h.owes; stays = h.stays; rests = h.rests } }
     go None e r = let ok : Accepts f d = accepts f d e in opening_go by factor z f d w clock digest fits law now h want time (declared ok.view ok.is) ok r

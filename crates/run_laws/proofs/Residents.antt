@@ -11,7 +11,7 @@ use Rattle.cluster_types.specs.Partitions.{partition_count, partition_of}
 use Rattle.partition_lists.proofs.InOrderLaws.{Has, has_at, any_has, map_has, in_order_has, has_filter}
 use Rattle.node_rules.specs.Copies.{Store, is_nil, digests_of, holds_of}
 use Rattle.node_rules.specs.Exchange.{View, is_view}
-use Rattle.node_rules.specs.Facts.{Facts, list_at, members, view_key, has_exchanged_in}
+use Rattle.node_rules.specs.Facts.{Facts, list_at, members_of_view, view_key, has_exchanged_in}
 use Rattle.node_rules.specs.Standing.{knows_settled, knows_all_settled, is_to_learn, is_to_drop, has_nothing_to_learn_or_drop, is_at_rest_of}
 use Rattle.node_rules.specs.Tables.{contains}
 use Rattle.node_rules.specs.Transactions.{Transaction}
@@ -64,7 +64,7 @@ none_of_part s p d e i = none_held s p (empty (digests_of s.content p) e) d i
 pub record Resident (k : ClusterKey) (set : List Member) (f : Facts) : Type 0 where
   pub exchanged : f.exchange.exchanged ≡ true
   pub view : key_in f.exchange.view ≡ Some k
-  pub members : members f ≡ set
+  pub members : members_of_view f ≡ set
   pub settled : (p : ℕ) → p < partition_count → knows_settled f p ≡ true
   pub dropped : (p : ℕ) → p < partition_count → is_to_drop f (list_at f p) p ≡ false
   pub idle : f.transactions.running ≡ []
@@ -73,7 +73,7 @@ resident : (k : ClusterKey) (set : List Member) (f : Facts) → has_exchanged_in
 resident k set f e r = record {
   exchanged = and_left f.exchange.exchanged _ e;
   view = in_view f.exchange.view (and_left (is_view f.exchange.view k) _ (and_right f.exchange.exchanged _ e));
-  members = (same_members_decides (members f) set).0 (and_right (is_view f.exchange.view k) _ (and_right f.exchange.exchanged _ e));
+  members = (same_members_decides (members_of_view f) set).0 (and_right (is_view f.exchange.view k) _ (and_right f.exchange.exchanged _ e));
   settled = λ p below. all_settled f partition_count 0 (and_left (knows_all_settled f partition_count 0) _ (and_right f.exchange.exchanged _ r)) p (omega arith) (omega (arith, below));
   dropped = λ p below. neither (is_to_learn f (list_at f p) p) _ (none_left f partition_count 0 (and_left (has_nothing_to_learn_or_drop f partition_count 0) _ (and_right (knows_all_settled f partition_count 0) _ (and_right f.exchange.exchanged _ r))) p (omega arith) (omega (arith, below)));
   idle = nothing f.transactions.running (and_right (has_nothing_to_learn_or_drop f partition_count 0) _ (and_right (knows_all_settled f partition_count 0) _ (and_right f.exchange.exchanged _ r)));

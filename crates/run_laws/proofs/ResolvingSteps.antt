@@ -29,13 +29,13 @@ use Rattle.cluster_rules.specs.Marks.{Writes}
 use Rattle.cluster_laws.proofs.At.{number_here, no_some}
 use Rattle.cluster_laws.proofs.Lists.{in_without}
 use Rattle.run_laws.proofs.Reading.{reads_itself}
-use Rattle.run_laws.specs.Fronts.{Front, world_of, facts_at, after}
+use Rattle.run_laws.specs.Fronts.{Front, world_of, facts_at, front_after}
 use Rattle.run_laws.specs.LineOk.{IsDeclared, Resolves}
 use Rattle.run_laws.specs.LineDue.{LineMay}
 use Rattle.run_laws.specs.Steps.{RestsWith, Rests, Ended}
 use Rattle.run_laws.proofs.Calmly.{EachPlainly, Plainly}
 use Rattle.run_laws.proofs.NodeSteps.{NodeGo, Now, stands_in}
-use Rattle.run_laws.specs.Spelled.{AreRead}
+use Rattle.run_laws.specs.Spelled.{AreReadInRange}
 use Rattle.run_laws.proofs.Tables.{changing_at}
 use Rattle.run_laws.proofs.Words.{not_itself}
 use Rattle.run_laws.proofs.Turns.{ended_but, here, away}
@@ -54,7 +54,7 @@ own_ends z y f g v w i h o c fs is e = ended_but f.me z y (record { facts = fs; 
 
 -- the facts with the write
 abbrev written_facts : Facts → Transactions → Transaction → Version → Facts
-written_facts f ts t v = notes.applied (record f { transactions = ts }) (view_key f) (list_at f (partition_of t.digest)) t.number t.digest v
+written_facts f ts t v = notes.write_applied (record f { transactions = ts }) (view_key f) (list_at f (partition_of t.digest)) t.number t.digest v
 
 applied_is : (f : Facts) (ts : Transactions) (t : Transaction) (v : Version) → transaction ts t.number ≡ Some t
     → transaction (written_facts f ts t v).transactions t.number ≡ Some (transactions.with_write v (next_nth f (partition_of t.digest)) (other_replicas f (list_at f (partition_of t.digest))) t)
@@ -68,15 +68,15 @@ record Wrote (z : Front) (f : Facts) (ts : Transactions) (t : Transaction) (v : 
   ends : Ended y
   sent : (world_of y).network.sent ≡ (world_of z).network.sent
 
-wrote : (z : Front) (f : Facts) (ts : Transactions) (t : Transaction) (v : Version) (u : View) → Now z (record f { transactions = ts }) → f.exchange.view ≡ Some u → Ended z → Wrote z f ts t v (after z (Writes (line.Apply f.me (view_key f) t.number t.digest v)))
+wrote : (z : Front) (f : Facts) (ts : Transactions) (t : Transaction) (v : Version) (u : View) → Now z (record f { transactions = ts }) → f.exchange.view ≡ Some u → Ended z → Wrote z f ts t v (front_after z (Writes (line.Apply f.me (view_key f) t.number t.digest v)))
 wrote z f ts t v u w i h = record {
   now = record { is = is; stays = w.stays; owes = w.owes };
-  ends = own_ends z (after z (Writes (line.Apply f.me (view_key f) t.number t.digest v))) (record f { transactions = ts }) (written_facts f ts t v) u w i h refl refl (λ m e. away (world_of z).facts f.me _ m e) is refl;
+  ends = own_ends z (front_after z (Writes (line.Apply f.me (view_key f) t.number t.digest v))) (record f { transactions = ts }) (written_facts f ts t v) u w i h refl refl (λ m e. away (world_of z).facts f.me _ m e) is refl;
   sent = refl;
 }
   where
-    is : facts_at (after z (Writes (line.Apply f.me (view_key f) t.number t.digest v))) f.me ≡ written_facts f ts t v
-    is = here (world_of z).facts f.me _ ∙ ap (λ (x : Facts). notes.applied x (view_key f) (list_at x (partition_of t.digest)) t.number t.digest v) w.is
+    is : facts_at (front_after z (Writes (line.Apply f.me (view_key f) t.number t.digest v))) f.me ≡ written_facts f ts t v
+    is = here (world_of z).facts f.me _ ∙ ap (λ (x : Facts). notes.write_applied x (view_key f) (list_at x (partition_of t.digest)) t.number t.digest v) w.is
 
 repl_plain : (y : Front) (f : Facts) (ts : Transactions) (t : Transaction) (v : Version) (u : View) (r : ℕ) → Now y (written_facts f ts t v) → f.exchange.view ≡ Some u → transaction ts t.number ≡ Some t
     → contains (other_replicas f (list_at f (partition_of t.digest))) r ≡ true → message_of (spelling (repl f t (record { version = v; nth = next_nth f (partition_of t.digest) }))) ≡ Some (repl f t (record { version = v; nth = next_nth f (partition_of t.digest) }))
@@ -97,7 +97,7 @@ repl_plain y f ts t v u r w i e c read = record {
 
 repls_plain : (y : Front) (f : Facts) (ts : Transactions) (t : Transaction) (v : Version) (u : View) (rs : List ℕ) → Now y (written_facts f ts t v) → f.exchange.view ≡ Some u → transaction ts t.number ≡ Some t
     → ((r : ℕ) → contains rs r ≡ true → contains (other_replicas f (list_at f (partition_of t.digest))) r ≡ true)
-    → AreRead (to_each rs (repl f t (record { version = v; nth = next_nth f (partition_of t.digest) }))) → EachPlainly y f.me (to_each rs (repl f t (record { version = v; nth = next_nth f (partition_of t.digest) })))
+    → AreReadInRange (to_each rs (repl f t (record { version = v; nth = next_nth f (partition_of t.digest) }))) → EachPlainly y f.me (to_each rs (repl f t (record { version = v; nth = next_nth f (partition_of t.digest) })))
 repls_plain y f ts t v u [] w i e c read = tt
 repls_plain y f ts t v u (r ∷ rs) w i e c read = (repl_plain y f ts t v u r w i e (c r (sooner (r == r) (contains rs r) (number_here r))) (read.0 refl), repls_plain y f ts t v u rs w i e (λ q s. c q (later (r == q) (contains rs q) s)) read.1)
   where
@@ -108,14 +108,15 @@ repls_plain y f ts t v u (r ∷ rs) w i e c read = (repl_plain y f ts t v u r w 
     later a b e = grind arith
 
 writing_go : (z : Front) (f : Facts) (ts : Transactions) (t : Transaction) (v : Version) (u : View) → Now z (record f { transactions = ts }) → f.exchange.view ≡ Some u → Ended z → transaction ts t.number ≡ Some t
-    → LineMay z (line.Apply f.me (view_key f) t.number t.digest v) → AreRead (writing f (list_at f (partition_of t.digest)) t v).sends
+    → LineMay z (line.Apply f.me (view_key f) t.number t.digest v) → AreReadInRange (writing f (list_at f (partition_of t.digest)) t v).sends
     → NodeGo z f.me (writing f (list_at f (partition_of t.digest)) t v)
 writing_go z f ts t v u w i h run ok read = go (other_replicas f (list_at f (partition_of t.digest))) refl read
   where
-    first : Wrote z f ts t v (after z (Writes (line.Apply f.me (view_key f) t.number t.digest v)))
+    first : Wrote z f ts t v
+        (front_after z (Writes (line.Apply f.me (view_key f) t.number t.digest v)))
     first = wrote z f ts t v u w i h
 
-    go : (rs : List ℕ) → other_replicas f (list_at f (partition_of t.digest)) ≡ rs → AreRead (to_each rs (repl f t (record { version = v; nth = next_nth f (partition_of t.digest) })))
+    go : (rs : List ℕ) → other_replicas f (list_at f (partition_of t.digest)) ≡ rs → AreReadInRange (to_each rs (repl f t (record { version = v; nth = next_nth f (partition_of t.digest) })))
         → NodeGo z f.me (record { lines = line.Apply f.me (view_key f) t.number t.digest v ∷ done_if f t.number (is_nil rs); sends = to_each rs (repl f t (record { version = v; nth = next_nth f (partition_of t.digest) })) })
     go [] e r = record {
       due = (
@@ -124,7 +125,7 @@ writing_go z f ts t v u w i h run ok read = go (other_replicas f (list_at f (par
           (
             first.now.owes,
             record {
-              stands = stands_in (after z (Writes (line.Apply f.me (view_key f) t.number t.digest v))) (written_facts f ts t v) u first.now i;
+              stands = stands_in (front_after z (Writes (line.Apply f.me (view_key f) t.number t.digest v))) (written_facts f ts t v) u first.now i;
               item = transactions.with_write v (next_nth f (partition_of t.digest)) (other_replicas f (list_at f (partition_of t.digest))) t;
               write = record { version = v; nth = next_nth f (partition_of t.digest) };
               running = ap (λ (x : Facts). transaction x.transactions t.number) first.now.is ∙ applied_is f ts t v run;
@@ -137,13 +138,13 @@ writing_go z f ts t v u w i h run ok read = go (other_replicas f (list_at f (par
       );
       sent = refl;
       sends = tt;
-      ends = own_ends (after z (Writes (line.Apply f.me (view_key f) t.number t.digest v))) (after (after z (Writes (line.Apply f.me (view_key f) t.number t.digest v))) (Writes (line.Done f.me (view_key f) t.number))) (written_facts f ts t v) (notes.closed (written_facts f ts t v) t.number) u first.now i first.ends refl refl
-          (λ m x. away (world_of (after z (Writes (line.Apply f.me (view_key f) t.number t.digest v)))).facts f.me _ m x) (here (world_of (after z (Writes (line.Apply f.me (view_key f) t.number t.digest v)))).facts f.me _ ∙ ap (λ (x : Facts). notes.closed x t.number) first.now.is) refl;
+      ends = own_ends (front_after z (Writes (line.Apply f.me (view_key f) t.number t.digest v))) (front_after (front_after z (Writes (line.Apply f.me (view_key f) t.number t.digest v))) (Writes (line.Done f.me (view_key f) t.number))) (written_facts f ts t v) (notes.closed (written_facts f ts t v) t.number) u first.now i first.ends refl refl
+          (λ m x. away (world_of (front_after z (Writes (line.Apply f.me (view_key f) t.number t.digest v)))).facts f.me _ m x) (here (world_of (front_after z (Writes (line.Apply f.me (view_key f) t.number t.digest v)))).facts f.me _ ∙ ap (λ (x : Facts). notes.closed x t.number) first.now.is) refl;
     }
     go (x ∷ rs) e r = record {
       due = (ok, tt);
       sent = refl;
-      sends = repls_plain (after z (Writes (line.Apply f.me (view_key f) t.number t.digest v))) f ts t v u (x ∷ rs) first.now i run (λ q s. ap (λ (xs : List ℕ). contains xs q) e ∙ s) r;
+      sends = repls_plain (front_after z (Writes (line.Apply f.me (view_key f) t.number t.digest v))) f ts t v u (x ∷ rs) first.now i run (λ q s. ap (λ (xs : List ℕ). contains xs q) e ∙ s) r;
       ends = first.ends;
     }
 
@@ -158,7 +159,7 @@ body_of_next None c b = refl
 body_of_next (Some v) c b = refl
 
 pub resolving_go : (z : Front) (f : Facts) (ts : Transactions) (t : Transaction) (clock : ℕ) (u : View) → Now z (record f { transactions = ts }) → f.exchange.view ≡ Some u → Ended z → transaction ts t.number ≡ Some t → t.applied ≡ None → t.awaiting ≡ []
-    → clock ≡ (world_of z).clocks f.me → IsDeclared z f.me → AreRead (resolving f clock (list_at f (partition_of t.digest)) t).sends → NodeGo z f.me (resolving f clock (list_at f (partition_of t.digest)) t)
+    → clock ≡ (world_of z).clocks f.me → IsDeclared z f.me → AreReadInRange (resolving f clock (list_at f (partition_of t.digest)) t).sends → NodeGo z f.me (resolving f clock (list_at f (partition_of t.digest)) t)
 resolving_go z f ts t clock u w i h run none all time declared read = go t.want refl read
   where
     resolves : Resolves z f.me (view_key f) t.number t.digest t
@@ -170,12 +171,12 @@ resolving_go z f ts t clock u w i h run none all time declared read = go t.want 
     applies : (b : Body) → (IsWant t.want → IsBody b) → LineMay z (line.Apply f.me (view_key f) t.number t.digest (next t.best clock b))
     applies b fits = (w.owes, record { applies = record { item = t; resolves = resolves; next = next_body t.best clock b ∙ ap (λ (c : ℕ). next t.best c (next t.best clock b).body) time; declared = declared }; body = body_is b fits })
 
-    go : (q : Want) → t.want ≡ q → AreRead (resolving_want f clock (list_at f (partition_of t.digest)) t q).sends → NodeGo z f.me (resolving_want f clock (list_at f (partition_of t.digest)) t q)
+    go : (q : Want) → t.want ≡ q → AreReadInRange (resolving_want f clock (list_at f (partition_of t.digest)) t q).sends → NodeGo z f.me (resolving_want f clock (list_at f (partition_of t.digest)) t q)
     go want.Get e r = record {
       due = ((w.owes, record { item = t; resolves = resolves; best = refl }), tt);
       sent = refl;
       sends = tt;
-      ends = own_ends z (after z (Writes (line.Value f.me (view_key f) t.number t.digest t.best))) (record f { transactions = ts }) (notes.closed (record f { transactions = ts }) t.number) u w i h refl refl (λ m x. away (world_of z).facts f.me _ m x)
+      ends = own_ends z (front_after z (Writes (line.Value f.me (view_key f) t.number t.digest t.best))) (record f { transactions = ts }) (notes.closed (record f { transactions = ts }) t.number) u w i h refl refl (λ m x. away (world_of z).facts f.me _ m x)
           (here (world_of z).facts f.me _ ∙ ap (λ (x : Facts). notes.closed x t.number) w.is) refl;
     }
     go (want.Put bytes) e r = writing_go z f ts t (next t.best clock (body.Value bytes)) u w i h run (applies (body.Value bytes) (λ h. subst IsWant e h)) r

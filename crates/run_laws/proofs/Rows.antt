@@ -11,13 +11,13 @@ use Rattle.wire_messages.specs.Decoding.{message_of}
 use Rattle.node_rules.specs.Copies.{Row}
 use Rattle.node_rules.specs.Exchange.{View, with_row_if, is_view}
 use Rattle.node_rules.specs.Facts.{Facts, list_at}
-use Rattle.node_rules.specs.Map.{lacks, master}
+use Rattle.node_rules.specs.Map.{lacks, list_master}
 use Rattle.node_rules.specs.Keys.{same_key}
-use Rattle.node_rules.specs.Notes.{note, reached, sent, own_row, entered, stopped, row_came, batch_acked, progress_came, write_came, counted_if, write_acked, answer_came, in_view}
+use Rattle.node_rules.specs.Notes.{note, reached, sent, own_row, entered, stopped, row_came, batch_acked, progress_came, write_came, write_counted_if, write_acked, answer_came, in_view}
 use Rattle.node_rules.specs.declared.member_row.MemberRow.{MemberRow}
 use Rattle.cluster_rules.specs.Marks.{Writes, came, came_to, sent_by, posted_by}
 use Rattle.journal_readings.specs.Messages.{Posting, Arrival, arrived, arrived_cut}
-use Rattle.cluster_rules.specs.Network.{client, posting, posting_at}
+use Rattle.cluster_rules.specs.Network.{posting, posting_at}
 use Rattle.cluster_rules.specs.World.{with_facts}
 use Rattle.cluster_laws.specs.Changed.{at_stay, at_key}
 use Rattle.cluster_laws.proofs.At.{key_same, differ, no_some, some_same, changed_each, changed_here, numbers, number_here, keys, and_both}
@@ -25,8 +25,9 @@ use Rattle.key_laws.specs.Traced.{facts_of}
 use Rattle.key_laws.proofs.Frames.{at_each}
 use Rattle.key_laws.proofs.Kept.{WasPosted, was_posted, more}
 use Rattle.key_laws.proofs.KeptNodes.{or_later}
+use Rattle.node_rules.specs.Messages.{client}
 use Rattle.run_laws.specs.Tied.{Each}
-use Rattle.run_laws.specs.Chronicle.{Chronicle, Longer, after, IsRowOf, Rowed, MayEnterFirst, RowOk}
+use Rattle.run_laws.specs.Chronicle.{Chronicle, Longer, chronicle_after, IsRowOf, Rowed, MayEnterFirst, RowOk}
 
 -- ---- what can't become false
 
@@ -63,12 +64,12 @@ state_keeps c f from k row s h = go (in_view f k) refl
         (subst (λ (q : ClusterKey). IsRowOf c from q row) (sym (key_same v.key k (sym (ap (λ (o : Option View). is_view o k) e) ∙ i))) s) (h v e)
 
 -- a message leaves the rows, unless it carries one
-counted_keeps : (c : Chronicle) (f : Facts) (k : ClusterKey) (l : List ℕ) (p nth : ℕ) (b : Bool) → Keeps c f → Keeps c (counted_if f k l p nth b)
+counted_keeps : (c : Chronicle) (f : Facts) (k : ClusterKey) (l : List ℕ) (p nth : ℕ) (b : Bool) → Keeps c f → Keeps c (write_counted_if f k l p nth b)
 counted_keeps c f k l p nth true h = h
 counted_keeps c f k l p nth false h = h
 
 write_keeps : (c : Chronicle) (f : Facts) (from : ℕ) (k : ClusterKey) (nth p : ℕ) (b : Bool) → Keeps c f → Keeps c (write_came f from k nth p b)
-write_keeps c f from k nth p true h = counted_keeps c f k (list_at f p) p nth (from == master (list_at f p)) h
+write_keeps c f from k nth p true h = counted_keeps c f k (list_at f p) p nth (from == list_master (list_at f p)) h
 write_keeps c f from k nth p false h = h
 
 by_test : (c : Chronicle) (f g : Facts) (pick : Bool → Facts) (b : Bool) → pick true ≡ g → pick false ≡ f → Keeps c g → Keeps c f → Keeps c (pick b)
@@ -188,7 +189,7 @@ each_place : (P : ℕ → ClusterKey → Row → Type 0) (f : ℕ → ClusterKey
 each_place P f n k new here old m = changed_each numbers (λ (m : ℕ) (g : ClusterKey → Row). (j : ClusterKey) → P m j (g j)) f n (at_key (f n) k new)
     (changed_each keys (P n) (f n) k new here (λ j _. old n j)) (λ m _. old m) m
 
-pub enter_long : (c : Chronicle) (n : ℕ) (k : ClusterKey) (ms : List Member) → MayEnterFirst c n k ms → Longer c (after c (Writes (line.Enter n k ms)))
+pub enter_long : (c : Chronicle) (n : ℕ) (k : ClusterKey) (ms : List Member) → MayEnterFirst c n k ms → Longer c (chronicle_after c (Writes (line.Enter n k ms)))
 enter_long c n k ms ok = record {
   entered = λ m j e. or_later _ (c.traced.entered m j) e;
   lists = λ j qs e. e;
@@ -201,9 +202,9 @@ row_here f n k new = ap (λ (g : ClusterKey → Row). g k) (changed_here numbers
 or_sooner : (a b : Bool) → a ≡ true → (a || b) ≡ true
 or_sooner a b e = grind arith
 
-enter_rowed : (c : Chronicle) (n : ℕ) (k : ClusterKey) (ms : List Member) → (facts_of c.traced n).me ≡ n → MayEnterFirst c n k ms → Rowed c → Rowed (after c (Writes (line.Enter n k ms)))
+enter_rowed : (c : Chronicle) (n : ℕ) (k : ClusterKey) (ms : List Member) → (facts_of c.traced n).me ≡ n → MayEnterFirst c n k ms → Rowed c → Rowed (chronicle_after c (Writes (line.Enter n k ms)))
 enter_rowed c n k ms me ok h =
-    let d : Chronicle = after c (Writes (line.Enter n k ms)) in
+    let d : Chronicle = chronicle_after c (Writes (line.Enter n k ms)) in
     let l : Longer c d = enter_long c n k ms ok in
     let f : Facts = facts_of c.traced n in
     let own : IsRowOf d n k (own_row f) = record {
@@ -225,7 +226,7 @@ stop_keeps : (c : Chronicle) (f : Facts) → Keeps c (stopped f)
 stop_keeps c f v e = no_some e
 
 -- lists after a promise
-pub rowed_line : (c : Chronicle) (l : Line) → ((n : ℕ) → (facts_of c.traced n).me ≡ n) → Longer c (after c (Writes l)) → RowOk c (Writes l) → Rowed c → Rowed (after c (Writes l))
+pub rowed_line : (c : Chronicle) (l : Line) → ((n : ℕ) → (facts_of c.traced n).me ≡ n) → Longer c (chronicle_after c (Writes l)) → RowOk c (Writes l) → Rowed c → Rowed (chronicle_after c (Writes l))
 rowed_line c (line.Deliver i a b) me g ok h = arrival_rowed c i b h
 rowed_line c (line.Repeat i a b) me g ok h = arrival_rowed c i b h
 rowed_line c (line.Cut i a b size) me g ok h = cut_rowed c i b size h
@@ -234,7 +235,7 @@ rowed_line c (line.Enter n k ms) me g ok h = enter_rowed c n k ms (me n) ok h
 rowed_line c (line.Stop n) me g ok h = rowed_moved c n (stopped (facts_of c.traced n)) h (stop_keeps c (facts_of c.traced n))
 rowed_line c (line.Promise n k) me g ok h =
     let f : Facts = note c.traced.world.want (facts_of c.traced n) (line.Promise n k) in
-    beside (moved c n f) (after c (Writes (line.Promise n k))) (record { entered = g.entered; lists = g.lists; rows = g.rows }) refl refl (rowed_moved c n f h (h.kept n))
+    beside (moved c n f) (chronicle_after c (Writes (line.Promise n k))) (record { entered = g.entered; lists = g.lists; rows = g.rows }) refl refl (rowed_moved c n f h (h.kept n))
 rowed_line c (line.Tick n) me g ok h = rowed_moved c n _ h (h.kept n)
 rowed_line c (line.Start n) me g ok h = rowed_moved c n _ h (h.kept n)
 rowed_line c (line.Quiesce n) me g ok h = rowed_moved c n _ h (h.kept n)

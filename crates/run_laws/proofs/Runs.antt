@@ -11,12 +11,12 @@ use Rattle.journal_readings.specs.Messages.{Posting}
 use Rattle.cluster_rules.specs.Network.{posting_at}
 use Rattle.cluster_rules.proofs.AllowedLaws.{nodes_stay}
 use Rattle.cluster_laws.specs.Ground.{Ground}
-use Rattle.cluster_laws.specs.Journals.{IsFor, ShowsGround, Fits}
+use Rattle.cluster_laws.specs.Journals.{IsFor, ShowsGround, FitsGround}
 use Rattle.cluster_laws.specs.Licences.{Ok, Guard, Licensed}
 use Rattle.cluster_laws.specs.Licences as licences
 use Rattle.cluster_laws.specs.Picture.{Packet, Picture}
 use Rattle.cluster_laws.proofs.At.{some_same, no_some}
-use Rattle.run_laws.specs.Fronts.{Front, world_of, facts_at, after, packet_of, Tied, Sane}
+use Rattle.run_laws.specs.Fronts.{Front, world_of, facts_at, front_after, packet_of, Tied, Sane}
 use Rattle.run_laws.specs.LineOk.{MapOk, LineOk, Goes, Fitting}
 use Rattle.run_laws.proofs.Carried.{line_tied, begun_tied}
 use Rattle.run_laws.proofs.Classes.{list_tied, acting_tied}
@@ -61,7 +61,7 @@ shows G z w n k p ms a s t ok = record {
   acting = ok.acting ∙ acting_tied G k (facts_at z n) p (views_at G n (facts_at z n) k (s.nodes n) ok.stands.view) (rows_at G n (facts_at z n) k (s.nodes n) ok.stands.view ok.exchanged);
 }
 
-pub line_fits : (G : Ground) (z : Front) (w : Picture) (l : Line) → Sane G (world_of z) → LineOk G z l → Tied z w → Fits G (world_of z).nodes w l
+pub line_fits : (G : Ground) (z : Front) (w : Picture) (l : Line) → Sane G (world_of z) → LineOk G z l → Tied z w → FitsGround G (world_of z).nodes w l
 line_fits G z w (line.Apply n k u d v) s ok t = ok.1.declared
 line_fits G z w (line.Merge n k d v) s ok t = ok.declared
 line_fits G z w (line.Deliver i a b) s ok t = for_end z w i b t ok.1
@@ -74,17 +74,17 @@ line_fits G z w _ s ok t = tt
 
 pub all_licensed : (G : Ground) (z : Front) (w : Picture) (ms : List Mark) → Goes G z ms → Tied z w → Licensed G w (lines_among ms)
 all_licensed G z w [] g t = tt
-all_licensed G z w (Begins e ∷ ms) g t = all_licensed G (after z (Begins e)) w ms g (begun_tied z w e t)
-all_licensed G z w (Writes l ∷ ms) g t = (line_ok G z w l g.0 g.1 t, all_licensed G (after z (Writes l)) (licences.after G w l) ms g.2 (line_tied G z w l g.0 g.1 t))
+all_licensed G z w (Begins e ∷ ms) g t = all_licensed G (front_after z (Begins e)) w ms g (begun_tied z w e t)
+all_licensed G z w (Writes l ∷ ms) g t = (line_ok G z w l g.0 g.1 t, all_licensed G (front_after z (Writes l)) (licences.picture_after G w l) ms g.2 (line_tied G z w l g.0 g.1 t))
 
-same_nodes : (z : Front) (m : Mark) → (world_of (after z m)).nodes ≡ (world_of z).nodes
+same_nodes : (z : Front) (m : Mark) → (world_of (front_after z m)).nodes ≡ (world_of z).nodes
 same_nodes z (Begins e) = refl
 same_nodes z (Writes l) = nodes_stay (Writes l ∷ []) (world_of z)
 
 pub all_fit : (G : Ground) (z : Front) (w : Picture) (declared : List ℕ) (ms : List Mark) → (world_of z).nodes ≡ declared → Goes G z ms → Tied z w → Fitting G declared w (lines_among ms)
 all_fit G z w declared [] e g t = tt
-all_fit G z w declared (Begins x ∷ ms) e g t = all_fit G (after z (Begins x)) w declared ms e g (begun_tied z w x t)
+all_fit G z w declared (Begins x ∷ ms) e g t = all_fit G (front_after z (Begins x)) w declared ms e g (begun_tied z w x t)
 all_fit G z w declared (Writes l ∷ ms) e g t = (
-  subst (λ (ns : List ℕ). Fits G ns w l) e (line_fits G z w l g.0 g.1 t),
-  all_fit G (after z (Writes l)) (licences.after G w l) declared ms (same_nodes z (Writes l) ∙ e) g.2 (line_tied G z w l g.0 g.1 t),
+  subst (λ (ns : List ℕ). FitsGround G ns w l) e (line_fits G z w l g.0 g.1 t),
+  all_fit G (front_after z (Writes l)) (licences.picture_after G w l) declared ms (same_nodes z (Writes l) ∙ e) g.2 (line_tied G z w l g.0 g.1 t),
 )

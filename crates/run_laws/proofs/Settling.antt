@@ -8,10 +8,10 @@ use Rattle.journal_lines.specs.declared.line.Line.TheVariants as line
 use Rattle.partition_lists.specs.Lists as lists
 use Rattle.node_rules.specs.Batches.{Target, Targets, is_pending}
 use Rattle.node_rules.specs.Copies.{is_of}
-use Rattle.node_rules.specs.Exchange.{View, key_of, members_of}
+use Rattle.node_rules.specs.Exchange.{View, exchange_key, members_of}
 use Rattle.node_rules.specs.Facts.{Facts, list_at, view_key}
 use Rattle.node_rules.specs.Notes.{note, noted, dropped}
-use Rattle.node_rules.specs.Settling.{line_if, hand, settle, learn, drop, and_then, settling_at, settling_from, settling_if, settling, may_hand, may_settle}
+use Rattle.node_rules.specs.Settling.{line_if, hand, settle, learn, drop, lines_then, settling_at, settling_from, settling_if, settling_due, may_hand, may_settle}
 use Rattle.node_rules.specs.Standing.{is_to_learn, is_to_drop, is_done}
 use Rattle.cluster_laws.proofs.At.{number_same, number_here, and_left, and_right}
 use Rattle.run_laws.specs.Tied.{key_in, Among}
@@ -92,14 +92,14 @@ goes_append f (l ∷ a) b x y =
 GoesOn : View → (Facts → List Line) → Type 0
 GoesOn v part = (f : Facts) → Inside v f → Goes f (part f)
 
-then_goes : (v : View) (first second : Facts → List Line) → GoesOn v first → GoesOn v second → GoesOn v (and_then first second)
+then_goes : (v : View) (first second : Facts → List Line) → GoesOn v first → GoesOn v second → GoesOn v (lines_then first second)
 unfolding GoesOn
 then_goes v first second a b f i = goes_append f (first f) (second (noted None f (first f))) (a f i) (b (noted None f (first f)) (inside_on v f _ (a f i).only i))
 
 passes : (v : View) (f : Facts) (l : List ℕ) (p : ℕ) (test : Facts → List ℕ → ℕ → Bool) → Inside v f → l ≡ lists.list v.members p → p < partition_count → test f l p ≡ true → Passes f f.me (view_key f) p (test f (list_at f p) p)
 passes v f l p test i e lt t = record {
   me = refl;
-  view = ap key_in i.view ∙ ap (λ (o : Option View). Some (key_of o)) (sym i.view);
+  view = ap key_in i.view ∙ ap (λ (o : Option View). Some (exchange_key o)) (sym i.view);
   exchanged = i.exchanged;
   part = lt;
   passed = ap (λ (m : List ℕ). test f m p) (ap (λ (o : Option View). lists.list (members_of o) p) i.view ∙ sym e) ∙ t;
@@ -155,10 +155,10 @@ goes f v e true i = from_goes v partition_count 0 (omega arith) f (record { view
 goes f v e false i = record { along = tt; only = only_itself f }
 
 -- each line of settling is due of the facts behind those before it
-pub settling_along : (f : Facts) (v : View) → f.exchange.view ≡ Some v → Along SettleOk f (settling partition_count f)
+pub settling_along : (f : Facts) (v : View) → f.exchange.view ≡ Some v → Along SettleOk f (settling_due partition_count f)
 settling_along f v e = (goes f v e f.exchange.exchanged refl).along
 
-pub settling_only : (f : Facts) (v : View) → f.exchange.view ≡ Some v → SettledOnly f (noted None f (settling partition_count f))
+pub settling_only : (f : Facts) (v : View) → f.exchange.view ≡ Some v → SettledOnly f (noted None f (settling_due partition_count f))
 settling_only f v e = (goes f v e f.exchange.exchanged refl).only
 
 -- ---- batches
@@ -168,7 +168,7 @@ any_among {X} t [] x a e = absurd a
 any_among {X} t (y ∷ ys) x a e = ⊎_elim (λ z. or_left (t y) (list_any t ys) (ap t z ∙ e)) (λ z. or_right (t y) (list_any t ys) (any_among t ys x z e)) a
 
 pub pending_stays : (f : Facts) (v : View) → f.exchange.view ≡ Some v → (t : Target) → Among f.batches t → (d : List ℕ) → Among t.pending d
-    → finite.get (noted None f (settling partition_count f)).store.content d ≡ finite.get f.store.content d
+    → finite.get (noted None f (settling_due partition_count f)).store.content d ≡ finite.get f.store.content d
 pending_stays f v e t a d i = (settling_only f v e).content d (any_among (λ (u : Target). list_any (is_of (partition_of d)) u.pending) f.batches t a (any_among (is_of (partition_of d)) t.pending d i (number_here (partition_of d))))
 
 pub taken_among : {X : Type 0} (n : ℕ) (xs : List X) (x : X) → Among (take n xs) x → Among xs x

@@ -15,7 +15,7 @@ use Rattle.cluster_rules.specs.Steps.{Step, all_marks}
 use Rattle.cluster_rules.specs.Marks.{lines_among}
 use Rattle.cluster_rules.proofs.MarkLaws.{lines_of_steps}
 use Rattle.cluster_rules.proofs.WorldReadings.{nodes_agree}
-use Rattle.cluster_laws.specs.Ground.{Ground, is_member}
+use Rattle.cluster_laws.specs.Ground.{Ground, is_view_member}
 use Rattle.cluster_laws.specs.Journals.{IsJournal, ShowsGround, journal}
 use Rattle.cluster_laws.specs.Laws.{picture}
 use Rattle.cluster_laws.specs.Licences.{Ok}
@@ -53,7 +53,7 @@ header_first (x ∷ h) ls b (suc i) l e = ⊎_elim (λ a. or_left_true (not (is_
 -- ---- entries
 
 -- where all members have entered, and one that is known, a reader finds them all
-all_in : (G : Ground) (ns : List ℕ) (j : List Line) (w : Picture) → Tied G ns j w → (n : ℕ) (k : ClusterKey) → (w.stay n k).entered ≡ true → ((m : ℕ) → is_member G k m ≡ true → (w.stay m k).entered ≡ true) → have_all_entered j k ≡ true
+all_in : (G : Ground) (ns : List ℕ) (j : List Line) (w : Picture) → Tied G ns j w → (n : ℕ) (k : ClusterKey) → (w.stay n k).entered ≡ true → ((m : ℕ) → is_view_member G k m ≡ true → (w.stay m k).entered ≡ true) → have_all_entered j k ≡ true
 all_in G ns j w t n k own all = subst (λ (ms : List Member). list_all (has_entered j k) (ids_of ms) ≡ true) (sym (members_of G ns j w t n k own)) (all_from (has_entered j k) (ids_of (G.members k)) (λ m e. t.entered m k ∙ all m e))
 
 -- who has finished the exchange has entered

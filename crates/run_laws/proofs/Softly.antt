@@ -28,8 +28,8 @@ use Rattle.cluster_rules.specs.Marks.{Writes, sent_by}
 use Rattle.cluster_rules.specs.Network.{posting_at, posting, has_place}
 use Rattle.cluster_laws.proofs.At.{differ, no_some}
 use Rattle.run_laws.specs.Chronicle.{Longer}
-use Rattle.run_laws.specs.Fronts.{Front, world_of, facts_at, after}
-use Rattle.run_laws.specs.LineOk.{Stands, Came, BatchOk, NewBatch}
+use Rattle.run_laws.specs.Fronts.{Front, world_of, facts_at, front_after}
+use Rattle.run_laws.specs.LineOk.{StandsInView, Came, BatchOk, NewBatch}
 use Rattle.run_laws.specs.LineDue.{SendDue, SendDueIf, AllDue}
 use Rattle.run_laws.specs.Steps.{RestsWith, Ended}
 use Rattle.run_laws.specs.Tied.{Each, key_in}
@@ -119,7 +119,8 @@ is_told (message.Repl k t nth d v) = true
 is_told (message.Ask k t d) = true
 is_told _ = false
 
-stands_soft : (z y : Front) (n : ℕ) (k : ClusterKey) → Softly z y n → Stands z n k → Stands y n k
+stands_soft : (z y : Front) (n : ℕ) (k : ClusterKey) → Softly z y n → StandsInView z n k
+    → StandsInView y n k
 stands_soft z y n k c s = record { view = ap (λ (e : Exchange). key_in e.view) c.facts.exchange ∙ s.view; stays = c.closing ∙ s.stays }
 
 told_soft : (z y : Front) (n r : ℕ) (m : Message) → is_told m ≡ true → Softly z y n → SendDue z n r m → SendDue y n r m
@@ -186,7 +187,7 @@ EachSoftly z n (s ∷ ss) = Softs z n s × Each (Apart s) ss × EachSoftly z n s
 
 -- ---- a message goes out
 
-posts_soft : (z : Front) (n i r : ℕ) (m : Message) → i ≡ length (world_of z).network.sent + 1 → ReadsWell m → Softly z (after z (Writes (line.Sent i n r (spelling m)))) n
+posts_soft : (z : Front) (n i r : ℕ) (m : Message) → i ≡ length (world_of z).network.sent + 1 → ReadsWell m → Softly z (front_after z (Writes (line.Sent i n r (spelling m)))) n
 posts_soft z n i r m num read = record {
   facts = go (message_of (spelling m));
   elsewhere = record { facts = λ j e. moves (message_of (spelling m)) j e; closing = λ j e. refl };
@@ -228,7 +229,7 @@ no_batch m x (inl e) h = ap is_batch (sym e) ∙ h
 no_batch m (message.Batch b) (inr s) h = no_some s.second
 no_batch m _ (inr s) h = refl
 
-posts_went : (z : Front) (n i r : ℕ) (m : Message) → ReadsWell m → (is_batch m ≡ true → message_of (spelling m) ≡ Some m) → Went z (after z (Writes (line.Sent i n r (spelling m)))) n (r, m)
+posts_went : (z : Front) (n i r : ℕ) (m : Message) → ReadsWell m → (is_batch m ≡ true → message_of (spelling m) ≡ Some m) → Went z (front_after z (Writes (line.Sent i n r (spelling m)))) n (r, m)
 posts_went z n i r m w exact = record {
   batch = λ c e. ap (λ (o : Option Message). (sent_by (record (world_of z) { network = posting (world_of z).network i (record { from = n; to = r; bytes = spelling m }) }) n r o).facts n) (exact (ap is_batch e))
       ∙ here (world_of z).facts n _ ∙ ap (sent (facts_at z n) r) e;
@@ -282,7 +283,7 @@ pub record SoftGo (z : Front) (n : ℕ) (ls : List Line) : Type 0 where
 pub softly_go : (z : Front) (n before flying : ℕ) (ss : List (ℕ × Message)) → z.owed ≡ None → before ≡ length (world_of z).network.sent → EachSoftly z n ss → SoftGo z n (sent_lines n before flying ss)
 softly_go z n before flying [] o num h = record { due = tt; soft = calmly n z z (calm_itself z) }
 softly_go z n before flying (s ∷ ss) o num h =
-    let y : Front = after z (Writes (line.Sent (before + 1) n s.0 (spelling s.1))) in
+    let y : Front = front_after z (Writes (line.Sent (before + 1) n s.0 (spelling s.1))) in
     let c : Softly z y n = posts_soft z n (before + 1) s.0 s.1 (ap (λ (i : ℕ). i + 1) num) h.0.read in
     let rest : SoftGo y n (full_unless (before + 1) (has_place flying) ++ sent_lines n (before + 1) (one_more_if flying (has_place flying)) ss) =
     go y (c.owed ∙ o) (all_behind z y n s ss c (posts_went z n (before + 1) s.0 s.1 h.0.read h.0.exact) h.1 h.2) (ap (λ (i : ℕ). i + 1) num ∙ sym (sent_length z n (before + 1) s.0 (spelling s.1))) (λ x b f. softly_go x n b f ss) (has_place flying) in
@@ -295,7 +296,7 @@ softly_go z n before flying (s ∷ ss) o num h =
         → (b : Bool) → SoftGo y n (full_unless (before + 1) b ++ sent_lines n (before + 1) (one_more_if flying b) ss)
     go y o k e all true = all y (before + 1) (flying + 1) o e k
     go y o k e all false =
-        let x : Front = after y (Writes (line.Full (before + 1))) in
+        let x : Front = front_after y (Writes (line.Full (before + 1))) in
         let rest : SoftGo x n (sent_lines n (before + 1) flying ss) = all x (before + 1) flying o e (softs_calm y x n ss (full_calm y (before + 1)) k) in
         record { due = ((o, tt), rest.due); soft = softly_on n y x _ (calmly n y x (full_calm y (before + 1))) rest.soft }
 

@@ -16,7 +16,7 @@ use Rattle.run_laws.specs.Tied.{Stays, has_pending, batches_of}
 use Rattle.run_laws.proofs.Tables.{any_filter}
 
 -- a change of one member's target
-pub target_changed : (ts : Targets) (to : ℕ) (c : Target → Target) (r : ℕ) → ((t : Target) → (c t).node ≡ t.node) → target (batches.changing ts to c) r ≡ cond (to == r) (option_map c (target ts r)) (target ts r)
+pub target_changed : (ts : Targets) (to : ℕ) (c : Target → Target) (r : ℕ) → ((t : Target) → (c t).node ≡ t.node) → target (batches.change_target ts to c) r ≡ cond (to == r) (option_map c (target ts r)) (target ts r)
 target_changed [] to c r keeps = nothing (to == r)
   where
     nothing : (b : Bool) → target [] r ≡ cond b None None
@@ -24,15 +24,15 @@ target_changed [] to c r keeps = nothing (to == r)
     nothing false = refl
 target_changed (t ∷ ts) to c r keeps = go (t.node == to) (t.node == r) refl refl (target_changed ts to c r keeps)
   where
-    go : (a e : Bool) → (t.node == to) ≡ a → (t.node == r) ≡ e → target (batches.changing ts to c) r ≡ cond (to == r) (option_map c (target ts r)) (target ts r)
-        → (if (changed_if c t a).node == r then Some (changed_if c t a) else target (batches.changing ts to c) r)
+    go : (a e : Bool) → (t.node == to) ≡ a → (t.node == r) ≡ e → target (batches.change_target ts to c) r ≡ cond (to == r) (option_map c (target ts r)) (target ts r)
+        → (if (changed_if c t a).node == r then Some (changed_if c t a) else target (batches.change_target ts to c) r)
         ≡ cond (to == r) (option_map c (if e then Some t else target ts r)) (if e then Some t else target ts r)
-    go true true i j h = ap (λ (q : Bool). if q then Some (c t) else target (batches.changing ts to c) r) (ap (λ (n : ℕ). n == r) (keeps t) ∙ j)
+    go true true i j h = ap (λ (q : Bool). if q then Some (c t) else target (batches.change_target ts to c) r) (ap (λ (n : ℕ). n == r) (keeps t) ∙ j)
         ∙ sym (ap (λ (q : Bool). cond q (Some (c t)) (Some t)) (ap (λ (n : ℕ). n == r) (sym (number_same t.node to i)) ∙ j))
-    go true false i j h = ap (λ (q : Bool). if q then Some (c t) else target (batches.changing ts to c) r) (ap (λ (n : ℕ). n == r) (keeps t) ∙ j) ∙ h
-    go false true i j h = ap (λ (q : Bool). if q then Some t else target (batches.changing ts to c) r) j
+    go true false i j h = ap (λ (q : Bool). if q then Some (c t) else target (batches.change_target ts to c) r) (ap (λ (n : ℕ). n == r) (keeps t) ∙ j) ∙ h
+    go false true i j h = ap (λ (q : Bool). if q then Some t else target (batches.change_target ts to c) r) j
         ∙ sym (ap (λ (q : Bool). cond q (Some (c t)) (Some t)) (apart to r (λ z. differ (ap (λ (n : ℕ). t.node == n) z ∙ j) i)))
-    go false false i j h = ap (λ (q : Bool). if q then Some t else target (batches.changing ts to c) r) j ∙ h
+    go false false i j h = ap (λ (q : Bool). if q then Some t else target (batches.change_target ts to c) r) j ∙ h
 
 abbrev acked : ℕ → Target → Target
 acked number t = acked_out t number t.out
@@ -94,7 +94,7 @@ unacked_tied f s from number none h = record {
         go false i = refl
 
 -- one that counts
-pub acked_tied : (f : Facts) (s : Stay) (from number : ℕ) (b : Batch) → out_to f.batches from ≡ Some b → (b.number == number) ≡ true → Stays f s → Stays (notes.batch_acked f from number true) (changes.without_batch from b s)
+pub acked_tied : (f : Facts) (s : Stay) (from number : ℕ) (b : Batch) → out_to f.batches from ≡ Some b → (b.number == number) ≡ true → Stays f s → Stays (notes.batch_acked f from number true) (changes.stay_without_batch from b s)
 acked_tied f s from number b is num h = record {
   entered = h.entered;
   exchanged = h.exchanged;

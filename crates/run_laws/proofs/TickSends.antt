@@ -17,9 +17,9 @@ use Rattle.node_rules.specs.Agreement as agreement
 use Rattle.node_rules.specs.Batches.{Target, Targets, target, batch_limit, records_of, fresh_batch, batch_after, next_batch}
 use Rattle.node_rules.specs.Copies.{Content, Row}
 use Rattle.node_rules.specs.Effects.{to_each}
-use Rattle.node_rules.specs.Exchange.{View, Exchange, members_of, key_of, first_missing}
+use Rattle.node_rules.specs.Exchange.{View, Exchange, members_of, exchange_key, first_missing}
 use Rattle.node_rules.specs.Facts.{Facts, view_key, list_at}
-use Rattle.node_rules.specs.Map.{lacks, row_of}
+use Rattle.node_rules.specs.Map.{lacks, row_of_member}
 use Rattle.node_rules.specs.Resolving.{repl}
 use Rattle.node_rules.specs.Standing.{others}
 use Rattle.node_rules.specs.Tables.{contains}
@@ -31,13 +31,13 @@ use Rattle.cluster_laws.proofs.At.{number_same, number_here, digests, differ, so
 use Rattle.run_laws.specs.Chronicle.{IsRowOf}
 use Rattle.run_laws.specs.Due.{SettledOnly}
 use Rattle.run_laws.specs.Fronts.{Front, facts_at}
-use Rattle.run_laws.specs.LineOk.{Stands, BatchOk}
+use Rattle.run_laws.specs.LineOk.{StandsInView, BatchOk}
 use Rattle.run_laws.specs.LineDue.{SendDue, LawOf}
 use Rattle.run_laws.specs.Steps.{Rests, Ended}
 use Rattle.run_laws.specs.Tied.{Each, Among, key_in}
 use Rattle.run_laws.proofs.CopySteps.{own_row_is}
 use Rattle.run_laws.proofs.NodeSteps.{Now, viewed_key}
-use Rattle.run_laws.specs.Spelled.{AreRead, is_ranged}
+use Rattle.run_laws.specs.Spelled.{AreReadInRange, is_ranged}
 use Rattle.wire_messages.specs.Keys.{IsKeyField}
 use Rattle.run_laws.proofs.Reading.{ReadsWell, reads_itself}
 use Rattle.run_laws.proofs.Settling.{any_among, taken_among}
@@ -60,27 +60,27 @@ pub record Behind (by : Policy) (factor : ℕ) (z : Front) (n : ℕ) (g i : Fact
 abbrev pub Told : Front → ℕ → List (ℕ × Message) → Type 0
 Told z n ss = Each (λ (s : ℕ × Message). (is_told s.1 ≡ true) × ReadsWell s.1 × SendDue z n s.0 s.1) ss
 
-pub told_each : (z : Front) (n : ℕ) (m : Message) (ns : List ℕ) → is_told m ≡ true → ((r : ℕ) → contains ns r ≡ true → SendDue z n r m) → ((is_ranged m ≡ true → message_of (spelling m) ≡ Some m) → ReadsWell m) → AreRead (to_each ns m) → Told z n (to_each ns m)
+pub told_each : (z : Front) (n : ℕ) (m : Message) (ns : List ℕ) → is_told m ≡ true → ((r : ℕ) → contains ns r ≡ true → SendDue z n r m) → ((is_ranged m ≡ true → message_of (spelling m) ≡ Some m) → ReadsWell m) → AreReadInRange (to_each ns m) → Told z n (to_each ns m)
 told_each z n m [] t d w r = tt
 told_each z n m (x ∷ ns) t d w r = ((t, w r.0, d x (or_left (x == x) (contains ns x) (number_here x))), told_each z n m ns t (λ q e. d q (or_right (x == q) (contains ns q) e)) w r.1)
 
-stands_at : {by : Policy} {factor : ℕ} {z : Front} {n : ℕ} {g i : Facts} → Behind by factor z n g i → (v : View) → g.exchange.view ≡ Some v → Stands z n (view_key g)
+stands_at : {by : Policy} {factor : ℕ} {z : Front} {n : ℕ} {g i : Facts} → Behind by factor z n g i → (v : View) → g.exchange.view ≡ Some v → StandsInView z n (view_key g)
 stands_at {by} {factor} {z} {n} {g} {i} b v e = record { view = ap (λ (f : Facts). key_in f.exchange.view) b.is ∙ ap (λ (x : Exchange). key_in x.view) b.only.exchange ∙ viewed_key g.exchange.view v e; stays = b.ended.stays n }
 
 -- ---- rows
 
-pub rows_told : {by : Policy} {factor : ℕ} {z : Front} {n : ℕ} {g i : Facts} → Behind by factor z n g i → AreRead (rows g).sends → Told z n (rows g).sends
+pub rows_told : {by : Policy} {factor : ℕ} {z : Front} {n : ℕ} {g i : Facts} → Behind by factor z n g i → AreReadInRange (rows g).sends → Told z n (rows g).sends
 rows_told {by} {factor} {z} {n} {g} {i} b read = go g.exchange.view refl
   where
     nobody : (f : Facts) → f.exchange.view ≡ None → filter (lacks f.exchange.rows) (others f) ≡ []
-    nobody f e = ap (λ (o : Option View). filter (lacks f.exchange.rows) (agreement.others f.me (members_of o))) e
+    nobody f e = ap (λ (o : Option View). filter (lacks f.exchange.rows) (agreement.others_among f.me (members_of o))) e
 
     go : (o : Option View) → g.exchange.view ≡ o → Told z n (rows g).sends
     go None e = subst (λ (ns : List ℕ). Told z n (to_each ns (state g true))) (sym (nobody g e)) tt
     go (Some v) e = told_each z n (state g true) _ refl (λ r c. record {
       stands = stands_at b v e;
-      row = subst (λ (k : ClusterKey). IsRowOf z.chronicle n k (own_row_in g)) (sym (ap key_of e)) (subst (λ (m : ℕ). IsRowOf z.chronicle m v.key (own_row_in g)) b.me
-          (subst (λ (row : Row). IsRowOf z.chronicle i.me v.key row) (ap₂ (λ (x : Exchange) (m : ℕ). unwrap_or (row_of x.rows m) []) b.only.exchange b.only.me) (own_row_is z i v b.law (view_i v e) (b.rowed v (view_i v e)))));
+      row = subst (λ (k : ClusterKey). IsRowOf z.chronicle n k (own_row_in g)) (sym (ap exchange_key e)) (subst (λ (m : ℕ). IsRowOf z.chronicle m v.key (own_row_in g)) b.me
+          (subst (λ (row : Row). IsRowOf z.chronicle i.me v.key row) (ap₂ (λ (x : Exchange) (m : ℕ). unwrap_or (row_of_member x.rows m) []) b.only.exchange b.only.me) (own_row_is z i v b.law (view_i v e) (b.rowed v (view_i v e)))));
     }) (λ q. reads_itself _ (q refl)) read
       where
         view_i : (v : View) → g.exchange.view ≡ Some v → i.exchange.view ≡ Some v
@@ -92,15 +92,15 @@ told_append : (z : Front) (n : ℕ) (a b : List (ℕ × Message)) → Told z n a
 told_append z n [] b x y = y
 told_append z n (s ∷ a) b x y = (x.0, told_append z n a b x.1 y)
 
-pub read_left : (a b : List (ℕ × Message)) → AreRead (a ++ b) → AreRead a
+pub read_left : (a b : List (ℕ × Message)) → AreReadInRange (a ++ b) → AreReadInRange a
 read_left [] b r = tt
 read_left (s ∷ a) b r = (r.0, read_left a b r.1)
 
-pub read_right : (a b : List (ℕ × Message)) → AreRead (a ++ b) → AreRead b
+pub read_right : (a b : List (ℕ × Message)) → AreReadInRange (a ++ b) → AreReadInRange b
 read_right [] b r = r
 read_right (s ∷ a) b r = read_right a b r.1
 
-one_told : {by : Policy} {factor : ℕ} {z : Front} {n : ℕ} {g i : Facts} → Behind by factor z n g i → (v : View) → g.exchange.view ≡ Some v → (y : Transaction) → Among g.transactions.running y → (o : Option Write) → y.applied ≡ o → AreRead (sends_again g y o) → Told z n (sends_again g y o)
+one_told : {by : Policy} {factor : ℕ} {z : Front} {n : ℕ} {g i : Facts} → Behind by factor z n g i → (v : View) → g.exchange.view ≡ Some v → (y : Transaction) → Among g.transactions.running y → (o : Option Write) → y.applied ≡ o → AreReadInRange (sends_again g y o) → Told z n (sends_again g y o)
 one_told {by} {factor} {z} {n} {g} {i} b v e y a None w read = told_each z n (message.Ask (view_key g) y.number y.digest) y.awaiting refl (λ r c. record {
   stands = stands_at b v e;
   item = y;
@@ -121,12 +121,12 @@ one_told {by} {factor} {z} {n} {g} {i} b v e y a (Some w) q read = told_each z n
     there = subst (λ (ts : Transactions). Among ts.running y) (sym b.only.transactions) a
 
 all_told : {by : Policy} {factor : ℕ} {z : Front} {n : ℕ} {g i : Facts} → Behind by factor z n g i → (v : View) → g.exchange.view ≡ Some v → (ys : List Transaction) → ((y : Transaction) → Among ys y → Among g.transactions.running y)
-    → AreRead (flat_map (λ t. sends_again g t t.applied) ys) → Told z n (flat_map (λ t. sends_again g t t.applied) ys)
+    → AreReadInRange (flat_map (λ t. sends_again g t t.applied) ys) → Told z n (flat_map (λ t. sends_again g t t.applied) ys)
 all_told b v e [] among read = tt
 all_told {by} {factor} {z} {n} {g} {i} b v e (y ∷ ys) among read = told_append z n (sends_again g y y.applied) _ (one_told b v e y (among y (inl refl)) y.applied refl (read_left (sends_again g y y.applied) _ read))
     (all_told b v e ys (λ x a. among x (inr a)) (read_right (sends_again g y y.applied) _ read))
 
-pub transactions_told : {by : Policy} {factor : ℕ} {z : Front} {n : ℕ} {g i : Facts} → Behind by factor z n g i → AreRead (transactions g).sends → Told z n (transactions g).sends
+pub transactions_told : {by : Policy} {factor : ℕ} {z : Front} {n : ℕ} {g i : Facts} → Behind by factor z n g i → AreReadInRange (transactions g).sends → Told z n (transactions g).sends
 transactions_told {by} {factor} {z} {n} {g} {i} b read = go g.exchange.view refl
   where
     rests : Rests g
@@ -215,18 +215,18 @@ apart_batches g t x e (u ∷ ts) same tail f = go (next_batch (view_key g) g.sto
     go (Some y) q rest = ((λ b c i. ap message.Batch (some_same (sym e ∙ ap (next_batch (view_key g) g.store.content) (same u (inl refl) (number_same t.node u.node i)) ∙ q))), rest)
 
 batches_soft : {by : Policy} {factor : ℕ} {z : Front} {n : ℕ} {g i : Facts} → Behind by factor z n g i → (v : View) → g.exchange.view ≡ Some v → g.exchange.exchanged ≡ true → (ts : List Target) → ((t : Target) → Among ts t → Among g.batches t)
-    → (tail : List (ℕ × Message)) → Each (λ (s : ℕ × Message). is_batch s.1 ≡ false) tail → EachSoftly z n tail → AreRead (Sent g ts) → EachSoftly z n (Sent g ts ++ tail)
+    → (tail : List (ℕ × Message)) → Each (λ (s : ℕ × Message). is_batch s.1 ≡ false) tail → EachSoftly z n tail → AreReadInRange (Sent g ts) → EachSoftly z n (Sent g ts ++ tail)
 batches_soft b v e ex [] among tail f h read = h
 batches_soft {by} {factor} {z} {n} {g} {i} b v e ex (t ∷ ts) among tail f h read = go (next_batch (view_key g) g.store.content t) refl read (λ r. batches_soft b v e ex ts (λ u a. among u (inr a)) tail f h r)
   where
     same : (u : Target) → Among ts u → t.node ≡ u.node → t ≡ u
     same u a q = some_same (sym (b.law.aims t (subst (λ (xs : Targets). Among xs t) (sym b.only.batches) (among t (inl refl)))) ∙ ap (target i.batches) q ∙ b.law.aims u (subst (λ (xs : Targets). Among xs u) (sym b.only.batches) (among u (inr a))))
 
-    go : (o : Option Batch) → next_batch (view_key g) g.store.content t ≡ o → AreRead (cons_option (batch_to t.node o) (Sent g ts)) → (AreRead (Sent g ts) → EachSoftly z n (Sent g ts ++ tail)) → EachSoftly z n (cons_option (batch_to t.node o) (Sent g ts) ++ tail)
+    go : (o : Option Batch) → next_batch (view_key g) g.store.content t ≡ o → AreReadInRange (cons_option (batch_to t.node o) (Sent g ts)) → (AreReadInRange (Sent g ts) → EachSoftly z n (Sent g ts ++ tail)) → EachSoftly z n (cons_option (batch_to t.node o) (Sent g ts) ++ tail)
     go None q r rest = rest r
     go (Some x) q r rest = (record { read = reads_itself _ (r.0 refl); exact = λ q. r.0 refl; due = batch_ok b v e ex t (among t (inl refl)) x q; kind = inr refl }, apart_batches g t x q ts same tail f, rest r.1)
 
-pub batches_go : {by : Policy} {factor : ℕ} {z : Front} {n : ℕ} {g i : Facts} → Behind by factor z n g i → (tail : List (ℕ × Message)) → Each (λ (s : ℕ × Message). is_batch s.1 ≡ false) tail → EachSoftly z n tail → AreRead (batches g).sends → EachSoftly z n ((batches g).sends ++ tail)
+pub batches_go : {by : Policy} {factor : ℕ} {z : Front} {n : ℕ} {g i : Facts} → Behind by factor z n g i → (tail : List (ℕ × Message)) → Each (λ (s : ℕ × Message). is_batch s.1 ≡ false) tail → EachSoftly z n tail → AreReadInRange (batches g).sends → EachSoftly z n ((batches g).sends ++ tail)
 batches_go {by} {factor} {z} {n} {g} {i} b tail f h read = go g.exchange.exchanged refl g.exchange.view refl
   where
     quiet : g.exchange.exchanged ≡ false → g.batches ≡ []
@@ -239,10 +239,10 @@ batches_go {by} {factor} {z} {n} {g} {i} b tail f h read = go g.exchange.exchang
 
 -- ---- progress
 
-pub progress_told : (z : Front) (i : Facts) (q : Bool) → Now z i → ((v : View) → i.exchange.view ≡ Some v → IsKeyField (view_key i)) → length i.bits.handed ≡ partition_count → length i.bits.settled ≡ partition_count → AreRead (progress_if partition_count i q).sends → Told z i.me (progress_if partition_count i q).sends
+pub progress_told : (z : Front) (i : Facts) (q : Bool) → Now z i → ((v : View) → i.exchange.view ≡ Some v → IsKeyField (view_key i)) → length i.bits.handed ≡ partition_count → length i.bits.settled ≡ partition_count → AreReadInRange (progress_if partition_count i q).sends → Told z i.me (progress_if partition_count i q).sends
 progress_told z i false w key x y read = tt
 progress_told z i true w key x y read = go i.exchange.view refl
   where
     go : (o : Option View) → i.exchange.view ≡ o → Told z i.me (to_each (others i) (progress_message partition_count i true))
-    go None e = subst (λ (ns : List ℕ). Told z i.me (to_each ns (progress_message partition_count i true))) (sym (ap (λ (o : Option View). agreement.others i.me (members_of o)) e)) tt
+    go None e = subst (λ (ns : List ℕ). Told z i.me (to_each ns (progress_message partition_count i true))) (sym (ap (λ (o : Option View). agreement.others_among i.me (members_of o)) e)) tt
     go (Some v) e = told_each z i.me (progress_message partition_count i true) (others i) refl (λ r c. progress_due z i v true r w e) (λ q. progress_reads i true (key v e) x y) read

@@ -16,7 +16,7 @@ use Rattle.node_rules.specs.Effects.{Effects}
 use Rattle.node_rules.specs.Exchange.{View, Exchange}
 use Rattle.node_rules.specs.Facts.{Facts}
 use Rattle.node_rules.specs.Notes.{noted, after_ages, neighbours}
-use Rattle.node_rules.specs.Settling.{settling, settling_if}
+use Rattle.node_rules.specs.Settling.{settling_due, settling_if}
 use Rattle.node_rules.specs.Standing.{knows_all_settled}
 use Rattle.node_rules.specs.Tick.{beat, propose, rows, transactions, batches, progress, progress_if, tick_if, tick_of}
 use Rattle.cluster_rules.specs.declared.event.Event.TheVariants as event
@@ -24,21 +24,21 @@ use Rattle.cluster_rules.specs.DueEvents.{due_of, sent_lines, written}
 use Rattle.cluster_rules.specs.Marks.{Mark, Begins, Writes}
 use Rattle.cluster_rules.specs.Network.{Network}
 use Rattle.cluster_laws.proofs.At.{differ}
-use Rattle.key_laws.specs.Licences.{Licensed}
-use Rattle.key_laws.specs.Sound.{Hears, GoodList, NodeKeys, Proposed, Stands, Listed}
+use Rattle.key_laws.specs.Licences.{LicensedMarks}
+use Rattle.key_laws.specs.Sound.{Hears, GoodList, NodeKeys, Proposed, ProposalStands, Listed}
 use Rattle.key_laws.specs.Traced.{Traced}
 use Rattle.key_laws.specs.Traced as traced
 use Rattle.key_laws.proofs.DueSteps.{step_ok}
 use Rattle.key_laws.proofs.Neighbours.{neighbours_good}
 use Rattle.run_laws.specs.Due.{SettleOk, Along, SettledOnly}
-use Rattle.run_laws.specs.Fronts.{Front, world_of, facts_at, after}
-use Rattle.run_laws.specs.LineDue.{AllDue, LawOf, Lawful}
+use Rattle.run_laws.specs.Fronts.{Front, world_of, facts_at, front_after}
+use Rattle.run_laws.specs.LineDue.{AllDue, LawOf, LawfulFront}
 use Rattle.run_laws.specs.Spelled.{SendsRead}
 use Rattle.run_laws.specs.Steps.{RestsWith, Rests, Ended}
 use Rattle.run_laws.specs.Tied.{Each, Among}
 use Rattle.run_laws.proofs.EventSteps.{Starts, begin}
 use Rattle.run_laws.proofs.Grounded.{onward_all}
-use Rattle.run_laws.specs.Spelled.{AreRead}
+use Rattle.run_laws.specs.Spelled.{AreReadInRange}
 use Rattle.run_laws.proofs.OwnLines.{Ownly, all_own, SettlesAll, settles_all, Free, ProposeGo, propose_goes}
 use Rattle.run_laws.proofs.PlainSteps.{beside_ended}
 use Rattle.run_laws.proofs.Settling.{settling_along, settling_only, only_itself, pending_stays}
@@ -51,7 +51,7 @@ use Rattle.wire_messages.specs.Keys.{IsKeyField}
 use Rattle.node_rules.specs.Agreement.{Proposal, next_key, has_round}
 use Rattle.key_laws.proofs.DueViews.{view_known}
 use Rattle.key_laws.proofs.Wire.{read_propose, read_heartbeat}
-use Rattle.node_rules.specs.Exchange.{key_of}
+use Rattle.node_rules.specs.Exchange.{exchange_key}
 use Rattle.run_laws.proofs.Grounded.{entered_view}
 use Rattle.run_laws.proofs.Reading.{Alike, ReadsWell}
 use Rattle.node_rules.specs.Facts.{view_key}
@@ -60,40 +60,41 @@ use Rattle.run_laws.proofs.Turns.{LinesGo, after_lines, lines_append, all_append
 
 -- ---- the front behind the lines
 
-licensed_first : (t : Traced) (a b : List Mark) → Licensed t (a ++ b) → Licensed t a
+licensed_first : (t : Traced) (a b : List Mark) → LicensedMarks t (a ++ b) → LicensedMarks t a
 licensed_first t [] b h = tt
-licensed_first t (m ∷ a) b h = (h.0, licensed_first (traced.after t m) a b h.1)
+licensed_first t (m ∷ a) b h = (h.0, licensed_first (traced.traced_after t m) a b h.1)
 
 marks_append : (a b : List Line) → map Writes (a ++ b) ≡ map Writes a ++ map Writes b
 marks_append [] b = refl
 marks_append (l ∷ a) b = ap (λ (ms : List Mark). Writes l ∷ ms) (marks_append a b)
 
 -- settling, also out of a view
-settles_along : {by : Policy} {factor : ℕ} (g : Facts) → LawOf by factor g → Along SettleOk g (settling partition_count g)
+settles_along : {by : Policy} {factor : ℕ} (g : Facts) → LawOf by factor g → Along SettleOk g (settling_due partition_count g)
 settles_along g law = go g.exchange.view refl
   where
-    go : (o : Option View) → g.exchange.view ≡ o → Along SettleOk g (settling partition_count g)
+    go : (o : Option View) → g.exchange.view ≡ o → Along SettleOk g (settling_due partition_count g)
     go (Some v) e = settling_along g v e
     go None e = subst (λ (b : Bool). Along SettleOk g (settling_if partition_count g b)) (sym (law.inside e)) tt
 
-settles_only : {by : Policy} {factor : ℕ} (g : Facts) → LawOf by factor g → SettledOnly g (noted None g (settling partition_count g))
+settles_only : {by : Policy} {factor : ℕ} (g : Facts) → LawOf by factor g → SettledOnly g (noted None g (settling_due partition_count g))
 settles_only g law = go g.exchange.view refl
   where
-    go : (o : Option View) → g.exchange.view ≡ o → SettledOnly g (noted None g (settling partition_count g))
+    go : (o : Option View) → g.exchange.view ≡ o → SettledOnly g (noted None g (settling_due partition_count g))
     go (Some v) e = settling_only g v e
     go None e = subst (λ (b : Bool). SettledOnly g (noted None g (settling_if partition_count g b))) (sym (law.inside e)) (only_itself g)
 
 pending_held : {by : Policy} {factor : ℕ} (g : Facts) → LawOf by factor g → (t : Target) → Among g.batches t → (d : List ℕ) → Among t.pending d
-    → finite.get (noted None g (settling partition_count g)).store.content d ≡ finite.get g.store.content d
+    → finite.get (noted None g (settling_due partition_count g)).store.content d ≡ finite.get g.store.content d
 pending_held g law t a d i = go g.exchange.view refl
   where
-    go : (o : Option View) → g.exchange.view ≡ o → finite.get (noted None g (settling partition_count g)).store.content d ≡ finite.get g.store.content d
+    go : (o : Option View) → g.exchange.view ≡ o → finite.get (noted None g (settling_due partition_count g)).store.content d ≡ finite.get g.store.content d
     go (Some v) e = pending_stays g v e t a d i
     go None e = subst (λ (b : Bool). finite.get (noted None g (settling_if partition_count g b)).store.content d ≡ finite.get g.store.content d) (sym (law.inside e)) refl
 
 nodes_all : (z : Front) (ls : List Line) → (world_of (after_lines z ls)).nodes ≡ (world_of z).nodes
 nodes_all z [] = refl
-nodes_all z (l ∷ ls) = nodes_all (after z (Writes l)) ls ∙ nodes_stay (Writes l ∷ []) (world_of z)
+nodes_all z (l ∷ ls) = nodes_all (front_after z (Writes l)) ls
+    ∙ nodes_stay (Writes l ∷ []) (world_of z)
 
 -- the heartbeat of these facts
 abbrev beat_of : Facts → Message
@@ -101,7 +102,8 @@ beat_of f = message.Heartbeat (view_key f) f.agreement.promised (heard_ids f.hea
 
 -- ---- the messages
 
-told_free : (z : Front) (n : ℕ) (ss : List (ℕ × Message)) → Free n ss → AreRead ss → Told z n ss
+told_free : (z : Front) (n : ℕ) (ss : List (ℕ × Message)) → Free n ss → AreReadInRange ss
+    → Told z n ss
 told_free z n [] f r = tt
 told_free z n (s ∷ ss) f r = ((f.0.0, f.0.1, f.0.2 z), told_free z n ss f.1 r.1)
 
@@ -119,13 +121,13 @@ no_batches z n (s ∷ ss) h = (told_not s.1 h.0.0, no_batches z n ss h.1)
 abbrev all_sends : Facts → Effects → Facts → Facts → List (ℕ × Message)
 all_sends f fe g i = (beat f).sends ++ (fe.sends ++ ((rows g).sends ++ ((transactions g).sends ++ ((batches g).sends ++ ((progress partition_count i).sends ++ [])))))
 
-sends_soft : {by : Policy} {factor : ℕ} {z : Front} {g i : Facts} (f : Facts) (fe : Effects) → Behind by factor z f.me g i → i.me ≡ f.me → IsDeclared z f.me → ReadsWell (beat_of f) → Free f.me fe.sends → AreRead (all_sends f fe g i) → EachSoftly z f.me (all_sends f fe g i)
+sends_soft : {by : Policy} {factor : ℕ} {z : Front} {g i : Facts} (f : Facts) (fe : Effects) → Behind by factor z f.me g i → i.me ≡ f.me → IsDeclared z f.me → ReadsWell (beat_of f) → Free f.me fe.sends → AreReadInRange (all_sends f fe g i) → EachSoftly z f.me (all_sends f fe g i)
 sends_soft {by} {factor} {z} {g} {i} f fe b me dec beats free read =
-    let r1 : AreRead (fe.sends ++ ((rows g).sends ++ ((transactions g).sends ++ ((batches g).sends ++ ((progress partition_count i).sends ++ []))))) = read_right (beat f).sends _ read in
-    let r2 : AreRead ((rows g).sends ++ ((transactions g).sends ++ ((batches g).sends ++ ((progress partition_count i).sends ++ [])))) = read_right fe.sends _ r1 in
-    let r3 : AreRead ((transactions g).sends ++ ((batches g).sends ++ ((progress partition_count i).sends ++ []))) = read_right (rows g).sends _ r2 in
-    let r4 : AreRead ((batches g).sends ++ ((progress partition_count i).sends ++ [])) = read_right (transactions g).sends _ r3 in
-    let r5 : AreRead ((progress partition_count i).sends ++ []) = read_right (batches g).sends _ r4 in
+    let r1 : AreReadInRange (fe.sends ++ ((rows g).sends ++ ((transactions g).sends ++ ((batches g).sends ++ ((progress partition_count i).sends ++ []))))) = read_right (beat f).sends _ read in
+    let r2 : AreReadInRange ((rows g).sends ++ ((transactions g).sends ++ ((batches g).sends ++ ((progress partition_count i).sends ++ [])))) = read_right fe.sends _ r1 in
+    let r3 : AreReadInRange ((transactions g).sends ++ ((batches g).sends ++ ((progress partition_count i).sends ++ []))) = read_right (rows g).sends _ r2 in
+    let r4 : AreReadInRange ((batches g).sends ++ ((progress partition_count i).sends ++ [])) = read_right (transactions g).sends _ r3 in
+    let r5 : AreReadInRange ((progress partition_count i).sends ++ []) = read_right (batches g).sends _ r4 in
     let last : Told z f.me (progress partition_count i).sends = subst (λ (n : ℕ). Told z n (progress partition_count i).sends) me
     (progress_told z i (i.exchange.exchanged && not (knows_all_settled i partition_count 0)) (record { is = ap (facts_at z) me ∙ b.is; stays = b.ended.stays i.me; owes = b.ended.owes }) b.key b.law.handed_places b.law.settled_places (read_left (progress partition_count i).sends [] r5)) in
     told_before z f.me (beat f).sends _ (told_each z f.me _ f.peers refl (λ r c. dec) (λ q. beats) (read_left (beat f).sends _ read))
@@ -138,7 +140,7 @@ sends_soft {by} {factor} {z} {g} {i} f fe b me dec beats free read =
 
 -- what a tick writes behind its own line, of these facts
 abbrev tick_lines : Facts → Effects → List Line
-tick_lines f fe = fe.lines ++ (settling partition_count (noted None f fe.lines) ++ ((progress partition_count (noted None (noted None f fe.lines) (settling partition_count (noted None f fe.lines)))).lines ++ []))
+tick_lines f fe = fe.lines ++ (settling_due partition_count (noted None f fe.lines) ++ ((progress partition_count (noted None (noted None f fe.lines) (settling_due partition_count (noted None f fe.lines)))).lines ++ []))
 
 no_progress : (i : Facts) (q : Bool) → (progress_if partition_count i q).lines ≡ []
 no_progress i true = refl
@@ -146,26 +148,26 @@ no_progress i false = refl
 
 -- the front behind the proposal, and behind settling
 pub record TickFronts (by : Policy) (factor : ℕ) (z : Front) (f : Facts) (fe : Effects) : Type 0 where
-  pub due : AllDue z (fe.lines ++ settling partition_count (noted None f fe.lines))
-  pub net : (world_of (after_lines z (fe.lines ++ settling partition_count (noted None f fe.lines)))).network ≡ (world_of z).network
-  pub behind : Lawful by factor (after_lines z (fe.lines ++ settling partition_count (noted None f fe.lines)))
-      → Behind by factor (after_lines z (fe.lines ++ settling partition_count (noted None f fe.lines))) f.me (noted None f fe.lines) (noted None (noted None f fe.lines) (settling partition_count (noted None f fe.lines)))
+  pub due : AllDue z (fe.lines ++ settling_due partition_count (noted None f fe.lines))
+  pub net : (world_of (after_lines z (fe.lines ++ settling_due partition_count (noted None f fe.lines)))).network ≡ (world_of z).network
+  pub behind : LawfulFront by factor (after_lines z (fe.lines ++ settling_due partition_count (noted None f fe.lines)))
+      → Behind by factor (after_lines z (fe.lines ++ settling_due partition_count (noted None f fe.lines))) f.me (noted None f fe.lines) (noted None (noted None f fe.lines) (settling_due partition_count (noted None f fe.lines)))
 
 -- with the laws of the facts before settling
 fronts_of : {by : Policy} {factor : ℕ} (z : Front) (f : Facts) (fe : Effects) → facts_at z f.me ≡ f → ProposeGo z f fe → LawOf by factor (noted None f fe.lines) → (noted None f fe.lines).me ≡ f.me → TickFronts by factor z f fe
 fronts_of {by} {factor} z f fe is p law me =
     let y : Front = after_lines z fe.lines in
     let g : Facts = noted None f fe.lines in
-    let ls : List Line = settling partition_count (noted None f fe.lines) in
+    let ls : List Line = settling_due partition_count (noted None f fe.lines) in
     let own : Ownly f.me z (after_lines z fe.lines) (noted None (facts_at z f.me) fe.lines) = all_own z f.me fe.lines p.own in
     let is_g : facts_at (after_lines z fe.lines) f.me ≡ noted None f fe.lines = own.is ∙ ap (λ (x : Facts). noted None x fe.lines) is in
-    let s : SettlesAll (after_lines z fe.lines) f.me (settling partition_count (noted None f fe.lines)) = settles_all y f.me g ls is_g (sym me) p.ends.owes (p.ends.stays f.me) (settles_along g law) in
-    let o : Ownly f.me (after_lines z fe.lines) (after_lines (after_lines z fe.lines) (settling partition_count (noted None f fe.lines))) (noted None (facts_at (after_lines z fe.lines) f.me) (settling partition_count (noted None f fe.lines))) = all_own y f.me ls s.own in
-    let only : SettledOnly (noted None f fe.lines) (noted None (noted None f fe.lines) (settling partition_count (noted None f fe.lines))) = settles_only g law in
-    let is_i : facts_at (after_lines (after_lines z fe.lines) (settling partition_count (noted None f fe.lines))) f.me ≡ noted None (noted None f fe.lines) (settling partition_count (noted None f fe.lines)) = o.is ∙ ap (λ (x : Facts). noted None x ls) is_g in
-    let ends : Ended (after_lines (after_lines z fe.lines) (settling partition_count (noted None f fe.lines))) = ended_but f.me y (after_lines y ls) s.elsewhere p.ends (s.owed ∙ p.ends.owes) (ap (λ (c : ℕ → Bool). c f.me) s.closing ∙ p.ends.stays f.me)
-    (subst (λ (x : Facts). Rests x) (sym is_i) (subst (λ (e : Exchange). RestsWith e (noted None (noted None f fe.lines) (settling partition_count (noted None f fe.lines))).transactions.running) (sym only.exchange) (subst (λ ts. RestsWith (noted None f fe.lines).exchange ts.running) (sym only.transactions) (subst (λ (x : Facts). Rests x) is_g (p.ends.rests f.me))))) in
-    let both : after_lines z (fe.lines ++ settling partition_count (noted None f fe.lines)) ≡ after_lines (after_lines z fe.lines) (settling partition_count (noted None f fe.lines)) = lines_append z fe.lines ls in
+    let s : SettlesAll (after_lines z fe.lines) f.me (settling_due partition_count (noted None f fe.lines)) = settles_all y f.me g ls is_g (sym me) p.ends.owes (p.ends.stays f.me) (settles_along g law) in
+    let o : Ownly f.me (after_lines z fe.lines) (after_lines (after_lines z fe.lines) (settling_due partition_count (noted None f fe.lines))) (noted None (facts_at (after_lines z fe.lines) f.me) (settling_due partition_count (noted None f fe.lines))) = all_own y f.me ls s.own in
+    let only : SettledOnly (noted None f fe.lines) (noted None (noted None f fe.lines) (settling_due partition_count (noted None f fe.lines))) = settles_only g law in
+    let is_i : facts_at (after_lines (after_lines z fe.lines) (settling_due partition_count (noted None f fe.lines))) f.me ≡ noted None (noted None f fe.lines) (settling_due partition_count (noted None f fe.lines)) = o.is ∙ ap (λ (x : Facts). noted None x ls) is_g in
+    let ends : Ended (after_lines (after_lines z fe.lines) (settling_due partition_count (noted None f fe.lines))) = ended_but f.me y (after_lines y ls) s.elsewhere p.ends (s.owed ∙ p.ends.owes) (ap (λ (c : ℕ → Bool). c f.me) s.closing ∙ p.ends.stays f.me)
+    (subst (λ (x : Facts). Rests x) (sym is_i) (subst (λ (e : Exchange). RestsWith e (noted None (noted None f fe.lines) (settling_due partition_count (noted None f fe.lines))).transactions.running) (sym only.exchange) (subst (λ ts. RestsWith (noted None f fe.lines).exchange ts.running) (sym only.transactions) (subst (λ (x : Facts). Rests x) is_g (p.ends.rests f.me))))) in
+    let both : after_lines z (fe.lines ++ settling_due partition_count (noted None f fe.lines)) ≡ after_lines (after_lines z fe.lines) (settling_due partition_count (noted None f fe.lines)) = lines_append z fe.lines ls in
     record {
       due = all_append z fe.lines ls p.due s.due;
       net = ap (λ (x : Front). (world_of x).network) both ∙ o.net ∙ own.net;
@@ -174,10 +176,10 @@ fronts_of {by} {factor} z f fe is p law me =
         me = only.me ∙ me;
         only = only;
         law = subst (λ (x : Facts). LawOf by factor x) (ap (λ (x : Front). facts_at x f.me) both ∙ is_i) (l.nodes f.me);
-        rowed = subst (λ (x : Facts). (v : View) → x.exchange.view ≡ Some v → Each (λ (r : MemberRow). IsRowOf (after_lines z (fe.lines ++ settling partition_count (noted None f fe.lines))).chronicle r.node v.key r.row) x.exchange.rows) (ap (λ (x : Front). facts_at x f.me) both ∙ is_i) (l.rowed.kept f.me);
+        rowed = subst (λ (x : Facts). (v : View) → x.exchange.view ≡ Some v → Each (λ (r : MemberRow). IsRowOf (after_lines z (fe.lines ++ settling_due partition_count (noted None f fe.lines))).chronicle r.node v.key r.row) x.exchange.rows) (ap (λ (x : Front). facts_at x f.me) both ∙ is_i) (l.rowed.kept f.me);
         ended = subst (λ (x : Front). Ended x) (sym both) ends;
-        key = λ v e. let at_view : (facts_at (after_lines z (fe.lines ++ settling partition_count (noted None f fe.lines))) f.me).exchange.view ≡ Some v = ap (λ (x : Front). (facts_at x f.me).exchange.view) both ∙ ap (λ (x : Facts). x.exchange.view) is_i ∙ e in
-            subst IsKeyField (sym (ap key_of e)) (l.sound.lists v.key v.members (entered_view (after_lines z (fe.lines ++ settling partition_count (noted None f fe.lines))) f.me v l.sound at_view).list).key;
+        key = λ v e. let at_view : (facts_at (after_lines z (fe.lines ++ settling_due partition_count (noted None f fe.lines))) f.me).exchange.view ≡ Some v = ap (λ (x : Front). (facts_at x f.me).exchange.view) both ∙ ap (λ (x : Facts). x.exchange.view) is_i ∙ e in
+            subst IsKeyField (sym (ap exchange_key e)) (l.sound.lists v.key v.members (entered_view (after_lines z (fe.lines ++ settling_due partition_count (noted None f fe.lines))) f.me v l.sound at_view).list).key;
         held = pending_held g law;
       };
     }
@@ -200,34 +202,34 @@ tick_written z net n e num g =
     }
 
 -- the lines of progress are none
-lines_are : (f : Facts) (fe : Effects) → tick_lines f fe ≡ fe.lines ++ settling partition_count (noted None f fe.lines)
-lines_are f fe = ap (λ (ls : List Line). fe.lines ++ ls) (ap (λ (ls : List Line). settling partition_count (noted None f fe.lines) ++ (ls ++ [])) (no_progress (noted None (noted None f fe.lines) (settling partition_count (noted None f fe.lines))) _) ∙ no_more (settling partition_count (noted None f fe.lines)))
+lines_are : (f : Facts) (fe : Effects) → tick_lines f fe ≡ fe.lines ++ settling_due partition_count (noted None f fe.lines)
+lines_are f fe = ap (λ (ls : List Line). fe.lines ++ ls) (ap (λ (ls : List Line). settling_due partition_count (noted None f fe.lines) ++ (ls ++ [])) (no_progress (noted None (noted None f fe.lines) (settling_due partition_count (noted None f fe.lines))) _) ∙ no_more (settling_due partition_count (noted None f fe.lines)))
   where
     no_more : (ls : List Line) → ls ++ [] ≡ ls
     no_more [] = refl
     no_more (l ∷ ls) = ap (λ xs. l ∷ xs) (no_more ls)
 
 -- behind the line of the tick, with what the part that proposes does
-tick_behind : (by : Policy) (factor : ℕ) (z : Front) (f : Facts) (fe : Effects) (more : List Line) → Lawful by factor z → Ended z → facts_at z f.me ≡ f → IsDeclared z f.me → ReadsWell (beat_of f) → ProposeGo z f fe → Licensed z.chronicle.traced (map Writes (tick_lines f fe ++ more))
-    → AreRead (all_sends f fe (noted None f fe.lines) (noted None (noted None f fe.lines) (settling partition_count (noted None f fe.lines))))
-    → TickGo z f.me (record { lines = tick_lines f fe; sends = all_sends f fe (noted None f fe.lines) (noted None (noted None f fe.lines) (settling partition_count (noted None f fe.lines))) })
+tick_behind : (by : Policy) (factor : ℕ) (z : Front) (f : Facts) (fe : Effects) (more : List Line) → LawfulFront by factor z → Ended z → facts_at z f.me ≡ f → IsDeclared z f.me → ReadsWell (beat_of f) → ProposeGo z f fe → LicensedMarks z.chronicle.traced (map Writes (tick_lines f fe ++ more))
+    → AreReadInRange (all_sends f fe (noted None f fe.lines) (noted None (noted None f fe.lines) (settling_due partition_count (noted None f fe.lines))))
+    → TickGo z f.me (record { lines = tick_lines f fe; sends = all_sends f fe (noted None f fe.lines) (noted None (noted None f fe.lines) (settling_due partition_count (noted None f fe.lines))) })
 tick_behind by factor z f fe more law h is dec beats p key read =
-    subst (λ (ls : List Line). TickGo z f.me (record { lines = ls; sends = all_sends f fe (noted None f fe.lines) (noted None (noted None f fe.lines) (settling partition_count (noted None f fe.lines))) })) (sym (lines_are f fe)) (record {
+    subst (λ (ls : List Line). TickGo z f.me (record { lines = ls; sends = all_sends f fe (noted None f fe.lines) (noted None (noted None f fe.lines) (settling_due partition_count (noted None f fe.lines))) })) (sym (lines_are f fe)) (record {
       due = fronts.due;
       net = fronts.net;
-      sends = sends_soft f fe b b.me (ap (λ (ns : List ℕ). contains ns f.me) (nodes_all z (fe.lines ++ settling partition_count (noted None f fe.lines))) ∙ dec) beats p.free read;
+      sends = sends_soft f fe b b.me (ap (λ (ns : List ℕ). contains ns f.me) (nodes_all z (fe.lines ++ settling_due partition_count (noted None f fe.lines))) ∙ dec) beats p.free read;
       ends = b.ended;
     })
   where
-    key_both : Licensed z.chronicle.traced (map Writes (fe.lines ++ settling partition_count (noted None f fe.lines)))
-    key_both = licensed_first z.chronicle.traced (map Writes (fe.lines ++ settling partition_count (noted None f fe.lines))) (map Writes more)
-        (subst (λ (ms : List Mark). Licensed z.chronicle.traced ms) (marks_append (fe.lines ++ settling partition_count (noted None f fe.lines)) more)
-        (subst (λ (ls : List Line). Licensed z.chronicle.traced (map Writes (ls ++ more))) (lines_are f fe) key))
+    key_both : LicensedMarks z.chronicle.traced (map Writes (fe.lines ++ settling_due partition_count (noted None f fe.lines)))
+    key_both = licensed_first z.chronicle.traced (map Writes (fe.lines ++ settling_due partition_count (noted None f fe.lines))) (map Writes more)
+        (subst (λ (ms : List Mark). LicensedMarks z.chronicle.traced ms) (marks_append (fe.lines ++ settling_due partition_count (noted None f fe.lines)) more)
+        (subst (λ (ls : List Line). LicensedMarks z.chronicle.traced (map Writes (ls ++ more))) (lines_are f fe) key))
 
-    key_first : Licensed z.chronicle.traced (map Writes fe.lines)
-    key_first = licensed_first z.chronicle.traced (map Writes fe.lines) (map Writes (settling partition_count (noted None f fe.lines))) (subst (λ (ms : List Mark). Licensed z.chronicle.traced ms) (marks_append fe.lines (settling partition_count (noted None f fe.lines))) key_both)
+    key_first : LicensedMarks z.chronicle.traced (map Writes fe.lines)
+    key_first = licensed_first z.chronicle.traced (map Writes fe.lines) (map Writes (settling_due partition_count (noted None f fe.lines))) (subst (λ (ms : List Mark). LicensedMarks z.chronicle.traced ms) (marks_append fe.lines (settling_due partition_count (noted None f fe.lines))) key_both)
 
-    lawful_first : Lawful by factor (after_lines z fe.lines)
+    lawful_first : LawfulFront by factor (after_lines z fe.lines)
     lawful_first = (onward_all by factor z (map Writes fe.lines) key_first (due_marks z fe.lines p.due) law).lawful
 
     is_g : facts_at (after_lines z fe.lines) f.me ≡ noted None f fe.lines
@@ -236,34 +238,34 @@ tick_behind by factor z f fe more law h is dec beats p key read =
     fronts : TickFronts by factor z f fe
     fronts = fronts_of z f fe is p (subst (λ (x : Facts). LawOf by factor x) is_g (lawful_first.nodes f.me)) (ap (λ (x : Facts). x.me) (sym is_g) ∙ (lawful_first.sound.nodes f.me).me)
 
-    b : Behind by factor (after_lines z (fe.lines ++ settling partition_count (noted None f fe.lines))) f.me (noted None f fe.lines) (noted None (noted None f fe.lines) (settling partition_count (noted None f fe.lines)))
-    b = fronts.behind (onward_all by factor z (map Writes (fe.lines ++ settling partition_count (noted None f fe.lines))) key_both (due_marks z (fe.lines ++ settling partition_count (noted None f fe.lines)) fronts.due) law).lawful
+    b : Behind by factor (after_lines z (fe.lines ++ settling_due partition_count (noted None f fe.lines))) f.me (noted None f fe.lines) (noted None (noted None f fe.lines) (settling_due partition_count (noted None f fe.lines)))
+    b = fronts.behind (onward_all by factor z (map Writes (fe.lines ++ settling_due partition_count (noted None f fe.lines))) key_both (due_marks z (fe.lines ++ settling_due partition_count (noted None f fe.lines)) fronts.due) law).lawful
 
 -- the line, and what stands behind it
-tick_up : (by : Policy) (factor : ℕ) (z : Front) (net : Network) (f : Facts) → Lawful by factor z → Ended z → IsId f.me → facts_at z f.me ≡ f → IsDeclared z f.me → length net.sent ≡ length (world_of z).network.sent → Licensed z.chronicle.traced (map Writes (written net f.me (tick_if partition_count f true)))
-    → AreRead (tick_if partition_count f true).sends → LinesGo z (written net f.me (tick_if partition_count f true))
+tick_up : (by : Policy) (factor : ℕ) (z : Front) (net : Network) (f : Facts) → LawfulFront by factor z → Ended z → IsId f.me → facts_at z f.me ≡ f → IsDeclared z f.me → length net.sent ≡ length (world_of z).network.sent → LicensedMarks z.chronicle.traced (map Writes (written net f.me (tick_if partition_count f true)))
+    → AreReadInRange (tick_if partition_count f true).sends → LinesGo z (written net f.me (tick_if partition_count f true))
 tick_up by factor z net f law h id is dec num key read = tick_written z net f.me (tick_if partition_count f true) num (record { due = ((h.owes, tt), g.due); net = g.net; sends = g.sends; ends = g.ends })
   where
-    is1 : facts_at (after z (Writes (line.Tick f.me))) f.me ≡ after_ages f
+    is1 : facts_at (front_after z (Writes (line.Tick f.me))) f.me ≡ after_ages f
     is1 = here (world_of z).facts f.me _ ∙ ap after_ages is
 
-    ends1 : Ended (after z (Writes (line.Tick f.me)))
+    ends1 : Ended (front_after z (Writes (line.Tick f.me)))
     ends1 = beside_ended z _ f.me _ h refl refl (λ m. refl) refl refl
 
-    law1 : Lawful by factor (after z (Writes (line.Tick f.me)))
+    law1 : LawfulFront by factor (front_after z (Writes (line.Tick f.me)))
     law1 = (onward_all by factor z (Writes (line.Tick f.me) ∷ []) (tt, tt) ((h.owes, tt), tt) law).lawful
 
     good : GoodList f.me (neighbours (after_ages f))
-    good = neighbours_good (after z (Writes (line.Tick f.me))).chronicle.traced f.me (after_ages f).role (after_ages f).hearing.heard id
-        (subst (λ (x : Facts). Hears (after z (Writes (line.Tick f.me))).chronicle.traced x.hearing.heard) is1 (law1.sound.nodes f.me).hears)
+    good = neighbours_good (front_after z (Writes (line.Tick f.me))).chronicle.traced f.me (after_ages f).role (after_ages f).hearing.heard id
+        (subst (λ (x : Facts). Hears (front_after z (Writes (line.Tick f.me))).chronicle.traced x.hearing.heard) is1 (law1.sound.nodes f.me).hears)
 
-    keys : NodeKeys (after z (Writes (line.Tick f.me))).chronicle.traced f.me (after_ages f)
-    keys = subst (λ (x : Facts). NodeKeys (after z (Writes (line.Tick f.me))).chronicle.traced f.me x) is1 (law1.sound.nodes f.me)
+    keys : NodeKeys (front_after z (Writes (line.Tick f.me))).chronicle.traced f.me (after_ages f)
+    keys = subst (λ (x : Facts). NodeKeys (front_after z (Writes (line.Tick f.me))).chronicle.traced f.me x) is1 (law1.sound.nodes f.me)
 
     again : (p : Proposal) → (after_ages f).agreement.proposal ≡ Some p → ReadsWell (message.Propose p.key p.members)
     again p e =
-        let s : Proposed (after z (Writes (line.Tick f.me))).chronicle.traced f.me (after_ages f).agreement.promised (after_ages f).agreement.last p = subst (Stands (after z (Writes (line.Tick f.me))).chronicle.traced f.me (after_ages f).agreement.promised (after_ages f).agreement.last) e keys.agrees.proposal in
-        let l : Listed (after z (Writes (line.Tick f.me))).chronicle.traced p.key p.members = law1.sound.lists p.key p.members s.list in
+        let s : Proposed (front_after z (Writes (line.Tick f.me))).chronicle.traced f.me (after_ages f).agreement.promised (after_ages f).agreement.last p = subst (ProposalStands (front_after z (Writes (line.Tick f.me))).chronicle.traced f.me (after_ages f).agreement.promised (after_ages f).agreement.last) e keys.agrees.proposal in
+        let l : Listed (front_after z (Writes (line.Tick f.me))).chronicle.traced p.key p.members = law1.sound.lists p.key p.members s.list in
         read_propose (Alike (message.Propose p.key p.members)) p.key p.members p.key.principal l.key l.good (inl refl)
 
     next : has_round (after_ages f).agreement ≡ true → ReadsWell (message.Propose (next_key (after_ages f).me (after_ages f).agreement) (neighbours (after_ages f)))
@@ -271,25 +273,26 @@ tick_up by factor z net f law h id is dec num key read = tick_written z net f.me
 
     beats : ReadsWell (beat_of (after_ages f))
     beats = read_heartbeat (Alike (beat_of (after_ages f))) (view_key (after_ages f)) (after_ages f).agreement.promised (heard_ids (after_ages f).hearing.heard) (after_ages f).role
-        (view_known (after z (Writes (line.Tick f.me))).chronicle.traced f.me (after_ages f) keys).field keys.agrees.promised.field (λ h r. inr (record { sort = 0; first = refl; second = refl }))
+        (view_known (front_after z (Writes (line.Tick f.me))).chronicle.traced f.me (after_ages f) keys).field keys.agrees.promised.field (λ h r. inr (record { sort = 0; first = refl; second = refl }))
 
-    proposal : ProposeGo (after z (Writes (line.Tick f.me))) (after_ages f) (propose (after_ages f))
-    proposal = propose_goes (after z (Writes (line.Tick f.me))) (after_ages f) ends1 is1 good.led good.falls dec again next
+    proposal : ProposeGo (front_after z (Writes (line.Tick f.me))) (after_ages f)
+        (propose (after_ages f))
+    proposal = propose_goes (front_after z (Writes (line.Tick f.me))) (after_ages f) ends1 is1 good.led good.falls dec again next
 
-    g : TickGo (after z (Writes (line.Tick f.me))) f.me (record { lines = tick_lines (after_ages f) (propose (after_ages f)); sends = (tick_if partition_count f true).sends })
-    g = tick_behind by factor (after z (Writes (line.Tick f.me))) (after_ages f) (propose (after_ages f)) (sent_lines f.me (length net.sent) (length net.flying) (tick_if partition_count f true).sends) law1 ends1 is1 dec beats proposal key.1 read
+    g : TickGo (front_after z (Writes (line.Tick f.me))) f.me (record { lines = tick_lines (after_ages f) (propose (after_ages f)); sends = (tick_if partition_count f true).sends })
+    g = tick_behind by factor (front_after z (Writes (line.Tick f.me))) (after_ages f) (propose (after_ages f)) (sent_lines f.me (length net.sent) (length net.flying) (tick_if partition_count f true).sends) law1 ends1 is1 dec beats proposal key.1 read
 
-pub tick_goes : {by : Policy} {factor : ℕ} {z : Front} (n : ℕ) → Starts by factor z → IsId n → IsDeclared z n → SendsRead (world_of z) (event.Tick n) → LinesGo (after z (Begins (event.Tick n))) (due_of partition_count (world_of z) (event.Tick n))
-tick_goes {by} {factor} {z} n s id dec read = subst (λ (m : ℕ). LinesGo (after z (Begins (event.Tick n))) (written (world_of z).network m (tick_of partition_count (facts_at z n)))) me
-    (go (facts_at z n).up (subst (λ (m : ℕ). Licensed (after z (Begins (event.Tick n))).chronicle.traced (map Writes (written (world_of z).network m (tick_of partition_count (facts_at z n))))) (sym me) (step_ok partition_count z.chronicle.traced (event.Tick n) id s.lawful.sound).1) read)
+pub tick_goes : {by : Policy} {factor : ℕ} {z : Front} (n : ℕ) → Starts by factor z → IsId n → IsDeclared z n → SendsRead (world_of z) (event.Tick n) → LinesGo (front_after z (Begins (event.Tick n))) (due_of partition_count (world_of z) (event.Tick n))
+tick_goes {by} {factor} {z} n s id dec read = subst (λ (m : ℕ). LinesGo (front_after z (Begins (event.Tick n))) (written (world_of z).network m (tick_of partition_count (facts_at z n)))) me
+    (go (facts_at z n).up (subst (λ (m : ℕ). LicensedMarks (front_after z (Begins (event.Tick n))).chronicle.traced (map Writes (written (world_of z).network m (tick_of partition_count (facts_at z n))))) (sym me) (step_ok partition_count z.chronicle.traced (event.Tick n) id s.lawful.sound).1) read)
   where
     me : (facts_at z n).me ≡ n
     me = (s.lawful.sound.nodes n).me
 
-    t : Starts by factor (after z (Begins (event.Tick n)))
+    t : Starts by factor (front_after z (Begins (event.Tick n)))
     t = begin s (event.Tick n)
 
-    go : (b : Bool) → Licensed (after z (Begins (event.Tick n))).chronicle.traced (map Writes (written (world_of z).network (facts_at z n).me (tick_if partition_count (facts_at z n) b))) → AreRead (tick_if partition_count (facts_at z n) b).sends
-        → LinesGo (after z (Begins (event.Tick n))) (written (world_of z).network (facts_at z n).me (tick_if partition_count (facts_at z n) b))
+    go : (b : Bool) → LicensedMarks (front_after z (Begins (event.Tick n))).chronicle.traced (map Writes (written (world_of z).network (facts_at z n).me (tick_if partition_count (facts_at z n) b))) → AreReadInRange (tick_if partition_count (facts_at z n) b).sends
+        → LinesGo (front_after z (Begins (event.Tick n))) (written (world_of z).network (facts_at z n).me (tick_if partition_count (facts_at z n) b))
     go false key r = record { due = ((t.ended.owes, tt), tt); ends = record { owes = t.ended.owes; stays = t.ended.stays; rests = t.ended.rests } }
-    go true key r = tick_up by factor (after z (Begins (event.Tick n))) (world_of z).network (facts_at z n) t.lawful t.ended (subst IsId (sym me) id) (ap (facts_at z) me) (ap (λ (m : ℕ). contains (world_of z).nodes m) me ∙ dec) refl key r
+    go true key r = tick_up by factor (front_after z (Begins (event.Tick n))) (world_of z).network (facts_at z n) t.lawful t.ended (subst IsId (sym me) id) (ap (facts_at z) me) (ap (λ (m : ℕ). contains (world_of z).nodes m) me ∙ dec) refl key r

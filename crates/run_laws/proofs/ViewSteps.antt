@@ -14,10 +14,10 @@ use Rattle.wire_messages.specs.declared.message.Message.TheVariants as message
 use Rattle.node_rules.specs.Batches.{out_to, has_number}
 use Rattle.node_rules.specs.Copies.{is_nil}
 use Rattle.node_rules.specs.Effects.{lines_only, to_each}
-use Rattle.node_rules.specs.Exchange.{View, key_of}
+use Rattle.node_rules.specs.Exchange.{View, exchange_key}
 use Rattle.node_rules.specs.Facts.{Facts, view_key}
 use Rattle.node_rules.specs.Messages as due
-use Rattle.node_rules.specs.Messages.{finishes, answer_state, state_came, batch_ack_came, unless_spent, progress_came, answer_progress, merging, repl_came, done_by, ack_of, repl_ack_came, ask_came, resolving_if, answered_by, answer_of, answer_came}
+use Rattle.node_rules.specs.Messages.{finishes, answer_state, state_came, batch_ack_came, unless_spent, progress_effects_if, answer_progress, merging, repl_came, done_by, ack_of, repl_ack_came, ask_came, resolving_if, answered_by, answer_of, answer_effects_if}
 use Rattle.node_rules.specs.Notes as notes
 use Rattle.node_rules.specs.Notes.{note, reached, in_view}
 use Rattle.node_rules.specs.Settling.{line_if}
@@ -31,19 +31,19 @@ use Rattle.cluster_rules.specs.Marks.{Writes}
 use Rattle.cluster_laws.proofs.At.{number_same, number_here, and_left, differ, some_same, no_some}
 use Rattle.wire_messages.proofs.DecodingLaws.{what_is_read, read_back}
 use Rattle.wire_messages.specs.Keys.{IsKeyField}
-use Rattle.key_laws.specs.Sound.{Entered, Views}
+use Rattle.key_laws.specs.Sound.{Entered, ViewStands}
 use Rattle.run_laws.proofs.NodeLaws.{reached_law}
 use Rattle.run_laws.proofs.Reading.{ReadsWell}
 use Rattle.run_laws.proofs.Reading.{reads_itself}
-use Rattle.run_laws.specs.Fronts.{Front, world_of, facts_at, after}
-use Rattle.run_laws.specs.LineOk.{Stands}
+use Rattle.run_laws.specs.Fronts.{Front, world_of, facts_at, front_after}
+use Rattle.run_laws.specs.LineOk.{StandsInView}
 use Rattle.run_laws.specs.LineDue.{LawOf, SendDue}
 use Rattle.run_laws.specs.Steps.{Rests, Ended}
 use Rattle.run_laws.proofs.Arrivals.{viewed}
 use Rattle.run_laws.proofs.Arrived.{Arrived, ended_at, nothing_go, stale_go, spent_go, each_plain}
 use Rattle.run_laws.proofs.Calmly.{EachPlainly}
 use Rattle.run_laws.proofs.NodeSteps.{NodeGo, Now, stands_in}
-use Rattle.run_laws.specs.Spelled.{AreRead}
+use Rattle.run_laws.specs.Spelled.{AreReadInRange}
 use Rattle.run_laws.proofs.ResolvingSteps.{own_ends, view_rests, resolving_go}
 use Rattle.run_laws.proofs.Standing.{ViewAt, view_at}
 use Rattle.run_laws.proofs.Tables.{changing_at}
@@ -59,7 +59,7 @@ pub record Viewed (f : Facts) (k : ClusterKey) : Type 0 where
   pub named : view_key f ≡ k
 
 pub view_of : (f : Facts) (k : ClusterKey) → in_view f k ≡ true → Viewed f k
-view_of f k e = let v : ViewAt f.exchange.view k = view_at f.exchange.view k (viewed f k e) in record { view = v.view; is = v.is; key = v.key; named = ap key_of v.is ∙ v.key }
+view_of f k e = let v : ViewAt f.exchange.view k = view_at f.exchange.view k (viewed f k e) in record { view = v.view; is = v.is; key = v.key; named = ap exchange_key v.is ∙ v.key }
 
 -- ---- an acknowledgement of a batch
 
@@ -100,11 +100,11 @@ progress_due z g v wants r w i = record {
 pub progress_reads : (g : Facts) (wants : Bool) → IsKeyField (view_key g) → length g.bits.handed ≡ partition_count → length g.bits.settled ≡ partition_count → ReadsWell (progress_message partition_count g wants)
 progress_reads g wants key x y = reads_itself _ (read_back (progress_message partition_count g wants) (key, record { size = done_length g partition_count 0 }, record { size = x }, record { size = y }))
 
-progress_plain : (z : Front) (g : Facts) (v : View) (wants : Bool) (ns : List ℕ) → Now z g → g.exchange.view ≡ Some v → IsKeyField (view_key g) → length g.bits.handed ≡ partition_count → length g.bits.settled ≡ partition_count → AreRead (to_each ns (progress_message partition_count g wants)) → EachPlainly z g.me (to_each ns (progress_message partition_count g wants))
+progress_plain : (z : Front) (g : Facts) (v : View) (wants : Bool) (ns : List ℕ) → Now z g → g.exchange.view ≡ Some v → IsKeyField (view_key g) → length g.bits.handed ≡ partition_count → length g.bits.settled ≡ partition_count → AreReadInRange (to_each ns (progress_message partition_count g wants)) → EachPlainly z g.me (to_each ns (progress_message partition_count g wants))
 progress_plain z g v wants ns w i key x y read = each_plain z g.me (progress_message partition_count g wants) ns refl (λ r. progress_due z g v wants r w i) (λ q. progress_reads g wants key x y) read
 
 pub progress_go : {by : Policy} {factor : ℕ} {z0 z : Front} {f : Facts} {clock from : ℕ} {k : ClusterKey} {wants : Bool} {done handed settled : List Bool} → Arrived by factor z0 z f clock from (message.Progress k wants done handed settled)
-    → AreRead (due.due_progress partition_count f (reached f from (message.Progress k wants done handed settled)) from k wants).sends → NodeGo z f.me (due.due_progress partition_count f (reached f from (message.Progress k wants done handed settled)) from k wants)
+    → AreReadInRange (due.due_progress partition_count f (reached f from (message.Progress k wants done handed settled)) from k wants).sends → NodeGo z f.me (due.due_progress partition_count f (reached f from (message.Progress k wants done handed settled)) from k wants)
 progress_go {by} {factor} {z0} {z} {f} {clock} {from} {k} {wants} {done} {handed} {settled} a read = go (in_view f k) refl a.is read
   where
     rests : (b : Bool) → Rests (notes.progress_came f from done handed settled b)
@@ -115,32 +115,32 @@ progress_go {by} {factor} {z0} {z} {f} {clock} {from} {k} {wants} {done} {handed
     ends = ended_at a a.owes (rests (in_view f k))
 
     key_of_view : Viewed f k → IsKeyField (view_key f)
-    key_of_view v = let x : Entered z.chronicle.traced f.me f.agreement.last v.view = subst (Views z.chronicle.traced f.me f.agreement.last) v.is a.keys.view in
+    key_of_view v = let x : Entered z.chronicle.traced f.me f.agreement.last v.view = subst (ViewStands z.chronicle.traced f.me f.agreement.last) v.is a.keys.view in
         subst IsKeyField (v.key ∙ sym v.named) (a.listed v.view.key v.view.members x.list).key
 
     law_now : in_view f k ≡ true → LawOf by factor (notes.progress_came f from done handed settled true)
     law_now e = subst (λ (b : Bool). LawOf by factor (notes.progress_came f from done handed settled b)) e
         (reached_law by factor f from (message.Progress k wants done handed settled) (what_is_read a.came.posting.bytes (message.Progress k wants done handed settled) a.came.message).0 a.law)
 
-    answers : (g : Facts) (v : View) (b : Bool) → Now z g → g.exchange.view ≡ Some v → IsKeyField (view_key g) → LawOf by factor g → g.me ≡ f.me → AreRead (answer_progress partition_count g from b).sends → NodeGo z f.me (answer_progress partition_count g from b)
+    answers : (g : Facts) (v : View) (b : Bool) → Now z g → g.exchange.view ≡ Some v → IsKeyField (view_key g) → LawOf by factor g → g.me ≡ f.me → AreReadInRange (answer_progress partition_count g from b).sends → NodeGo z f.me (answer_progress partition_count g from b)
     answers g v false w i key law me r = nothing_go z f.me ends
     answers g v true w i key law me r = record { due = tt; sent = refl; sends = subst (λ (n : ℕ). EachPlainly z n (to_each (from ∷ []) (progress_message partition_count g false))) me (progress_plain z g v false (from ∷ []) w i key law.handed_places law.settled_places r); ends = ends }
 
-    go : (b : Bool) → in_view f k ≡ b → facts_at z f.me ≡ notes.progress_came f from done handed settled b → AreRead (progress_came partition_count f (notes.progress_came f from done handed settled b) from wants b).sends
-        → NodeGo z f.me (progress_came partition_count f (notes.progress_came f from done handed settled b) from wants b)
+    go : (b : Bool) → in_view f k ≡ b → facts_at z f.me ≡ notes.progress_came f from done handed settled b → AreReadInRange (progress_effects_if partition_count f (notes.progress_came f from done handed settled b) from wants b).sends
+        → NodeGo z f.me (progress_effects_if partition_count f (notes.progress_came f from done handed settled b) from wants b)
     go true e is r = let v : Viewed f k = view_of f k e in
         answers (notes.progress_came f from done handed settled true) v.view (wants && knows_all_settled (notes.progress_came f from done handed settled true) partition_count 0) (record { is = is; stays = a.stays; owes = a.owes }) v.is (key_of_view v) (law_now e) refl r
     go false e is r = stale_go z f ends
 
 -- ---- a question
 
-pub ask_go : {by : Policy} {factor : ℕ} {z0 z : Front} {f : Facts} {clock from : ℕ} {k : ClusterKey} {t : ℕ} {d : List ℕ} → Arrived by factor z0 z f clock from (message.Ask k t d) → AreRead (due.due_ask f from k t d).sends → NodeGo z f.me (due.due_ask f from k t d)
+pub ask_go : {by : Policy} {factor : ℕ} {z0 z : Front} {f : Facts} {clock from : ℕ} {k : ClusterKey} {t : ℕ} {d : List ℕ} → Arrived by factor z0 z f clock from (message.Ask k t d) → AreReadInRange (due.due_ask f from k t d).sends → NodeGo z f.me (due.due_ask f from k t d)
 ask_go {by} {factor} {z0} {z} {f} {clock} {from} {k} {t} {d} a read = go (in_view f k) refl read
   where
     ends : Ended z
     ends = ended_at a a.owes a.rests
 
-    go : (b : Bool) → in_view f k ≡ b → AreRead (ask_came f from k t d b).sends → NodeGo z f.me (ask_came f from k t d b)
+    go : (b : Bool) → in_view f k ≡ b → AreReadInRange (ask_came f from k t d b).sends → NodeGo z f.me (ask_came f from k t d b)
     go true e r = let v : Viewed f k = view_of f k e in record {
       due = tt;
       sent = refl;
@@ -149,7 +149,7 @@ ask_go {by} {factor} {z0} {z} {f} {clock} {from} {k} {t} {d} a read = go (in_vie
           plain = refl;
           read = reads_itself _ (r.0 refl);
           due = record {
-            stands = subst (λ (j : ClusterKey). Stands z f.me j) v.named (stands_in z f v.view (record { is = a.is; stays = a.stays; owes = a.owes }) v.is);
+            stands = subst (λ (j : ClusterKey). StandsInView z f.me j) v.named (stands_in z f v.view (record { is = a.is; stays = a.stays; owes = a.owes }) v.is);
             digest = d;
             came = a.came;
             held = ap (λ (g : Facts). finite.get g.store.content d) (sym a.is);
@@ -228,7 +228,7 @@ repl_ack_go {by} {factor} {z0} {z} {f} {clock} {from} {k} {t} a = go (in_view f 
           );
           sent = refl;
           sends = tt;
-          ends = own_ends z (after z (Writes (line.Done f.me (view_key f) y.number))) (notes.write_acked f from t true) (notes.closed (notes.write_acked f from t true) y.number) v.view w v.is ends refl refl (λ m x. away (world_of z).facts f.me _ m x) (here (world_of z).facts f.me _ ∙ ap (λ (x : Facts). notes.closed x y.number) is) refl;
+          ends = own_ends z (front_after z (Writes (line.Done f.me (view_key f) y.number))) (notes.write_acked f from t true) (notes.closed (notes.write_acked f from t true) y.number) v.view w v.is ends refl refl (λ m x. away (world_of z).facts f.me _ m x) (here (world_of z).facts f.me _ ∙ ap (λ (x : Facts). notes.closed x y.number) is) refl;
         }
 
         awaited : (y : Transaction) → transaction f.transactions t ≡ Some y → (b : Bool) → awaits_ack y from ≡ b → NodeGo z f.me (done_by f y from b)
@@ -241,10 +241,10 @@ repl_ack_go {by} {factor} {z0} {z} {f} {clock} {from} {k} {t} a = go (in_view f 
 
 -- ---- an answer
 
-pub answer_go : {by : Policy} {factor : ℕ} {z0 z : Front} {f : Facts} {clock from : ℕ} {k : ClusterKey} {t : ℕ} {o : Option Version} → Arrived by factor z0 z f clock from (message.Answer k t o) → AreRead (due.due_answer f clock from k t o).sends → NodeGo z f.me (due.due_answer f clock from k t o)
+pub answer_go : {by : Policy} {factor : ℕ} {z0 z : Front} {f : Facts} {clock from : ℕ} {k : ClusterKey} {t : ℕ} {o : Option Version} → Arrived by factor z0 z f clock from (message.Answer k t o) → AreReadInRange (due.due_answer f clock from k t o).sends → NodeGo z f.me (due.due_answer f clock from k t o)
 answer_go {by} {factor} {z0} {z} {f} {clock} {from} {k} {t} {o} a read = go (in_view f k) refl a.is read
   where
-    go : (b : Bool) → in_view f k ≡ b → facts_at z f.me ≡ notes.answer_came f from t o b → AreRead (answer_came f clock from t o b).sends → NodeGo z f.me (answer_came f clock from t o b)
+    go : (b : Bool) → in_view f k ≡ b → facts_at z f.me ≡ notes.answer_came f from t o b → AreReadInRange (answer_effects_if f clock from t o b).sends → NodeGo z f.me (answer_effects_if f clock from t o b)
     go false e is r = stale_go z f (ended_but f.me z0 z a.elsewhere a.before a.owes a.stays (subst (λ (x : Facts). Rests x) (sym is) a.rests))
     go true e is r = opens (transaction f.transactions t) refl r
       where
@@ -257,7 +257,7 @@ answer_go {by} {factor} {z0} {z} {f} {clock} {from} {k} {t} {o} a read = go (in_
         ends : Ended z
         ends = ended_but f.me z0 z a.elsewhere a.before a.owes a.stays (subst (λ (x : Facts). Rests x) (sym is) (view_rests f.exchange f.transactions.running (notes.answer_came f from t o true).transactions.running v.view v.is a.rests))
 
-        last : (y : Transaction) → transaction f.transactions t ≡ Some y → awaits_answer y from ≡ true → (b : Bool) → is_last_awaited y from ≡ b → AreRead (resolving_if f clock (transactions.answered f.store.by from o y) b).sends → NodeGo z f.me (resolving_if f clock (transactions.answered f.store.by from o y) b)
+        last : (y : Transaction) → transaction f.transactions t ≡ Some y → awaits_answer y from ≡ true → (b : Bool) → is_last_awaited y from ≡ b → AreReadInRange (resolving_if f clock (transactions.answered f.store.by from o y) b).sends → NodeGo z f.me (resolving_if f clock (transactions.answered f.store.by from o y) b)
         last y i h false j q = nothing_go z f.me ends
         last y i h true j q = resolving_go z f (transactions.answering f.store.by f.transactions from t o) (transactions.answered f.store.by from o y) clock v.view (record { is = is; stays = a.stays; owes = a.owes }) v.is ends
             (ap (transaction (transactions.answering f.store.by f.transactions from t o)) (found_number f.transactions.running t y i) ∙ changed_is f.transactions t (transactions.answered f.store.by from o) (λ x. awaits_answer x from) y (λ x. refl) i h)
@@ -267,10 +267,10 @@ answer_go {by} {factor} {z0} {z} {f} {clock} {from} {k} {t} {o} a read = go (in_
             unapplied None i = refl
             unapplied (Some w) i = differ i refl
 
-        awaited : (y : Transaction) → transaction f.transactions t ≡ Some y → (b : Bool) → awaits_answer y from ≡ b → AreRead (answered_by f clock y from o b).sends → NodeGo z f.me (answered_by f clock y from o b)
+        awaited : (y : Transaction) → transaction f.transactions t ≡ Some y → (b : Bool) → awaits_answer y from ≡ b → AreReadInRange (answered_by f clock y from o b).sends → NodeGo z f.me (answered_by f clock y from o b)
         awaited y i true h q = last y i h (is_last_awaited y from) refl q
         awaited y i false h q = spent_go z f ends
 
-        opens : (x : Option Transaction) → transaction f.transactions t ≡ x → AreRead (answer_of f clock from o x).sends → NodeGo z f.me (answer_of f clock from o x)
+        opens : (x : Option Transaction) → transaction f.transactions t ≡ x → AreReadInRange (answer_of f clock from o x).sends → NodeGo z f.me (answer_of f clock from o x)
         opens None i q = spent_go z f ends
         opens (Some y) i q = awaited y i (awaits_answer y from) refl q

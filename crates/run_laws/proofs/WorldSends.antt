@@ -19,7 +19,7 @@ use Rattle.cluster_rules.specs.Opening.{Header, declared_factor, declared_nodes,
 use Rattle.cluster_rules.specs.Steps.{Step, all_marks, all_lines}
 use Rattle.cluster_rules.specs.World.{World, opened}
 use Rattle.key_laws.specs.Ends.{IsOneOf}
-use Rattle.key_laws.specs.Sound.{Sound, Listed, Proposed, Stands, Hears}
+use Rattle.key_laws.specs.Sound.{Sound, Listed, Proposed, ProposalStands, Hears}
 use Rattle.key_laws.specs.Traced.{Traced, facts_of, untouched}
 use Rattle.key_laws.proofs.AllowedRuns.{declared_id}
 use Rattle.key_laws.proofs.DueSteps.{own_keys}
@@ -30,8 +30,8 @@ use Rattle.key_laws.proofs.Neighbours.{aged_hears, heard_falls, heard_fit, neigh
 use Rattle.key_laws.proofs.Peopled.{FitsRack, Neighbour, Peopled}
 use Rattle.key_laws.proofs.Runs.{AreIds, declared_ids}
 use Rattle.key_laws.proofs.TableReads.{table_proper}
-use Rattle.run_laws.specs.Fronts.{Front, world_of, facts_at, after_all}
-use Rattle.run_laws.specs.LineDue.{Lawful}
+use Rattle.run_laws.specs.Fronts.{Front, world_of, facts_at, front_after_all}
+use Rattle.run_laws.specs.LineDue.{LawfulFront}
 use Rattle.run_laws.specs.Ranges.{Ranged}
 use Rattle.run_laws.specs.Steps.{Ended}
 use Rattle.run_laws.specs.Taken.{Taken, first, line_bound}
@@ -48,7 +48,7 @@ use Rattle.cluster_types.specs.Partitions.{partition_count}
 
 -- what is known of it: all laws, and that few nodes are declared
 pub record Knows (by : Policy) (factor : ℕ) (ns : List ℕ) (z : Front) : Type 0 where
-  pub lawful : Lawful by factor z
+  pub lawful : LawfulFront by factor z
   pub ends : Ended z
   pub ranged : Ranged z
   pub peopled : Peopled ns z.chronicle.traced
@@ -62,11 +62,11 @@ proposal_fits {by} {factor} {ns} {z} k n q e = record {
   members = members_proper ns q.key.principal q.members k.few listed.good (all_members (IsOneOf ns) q.members (λ m i. k.peopled.lists q.key q.members m list i)) (k.peopled.racks q.key q.members list);
 }
   where
-    of_stands : Stands z.chronicle.traced n (facts_at z n).agreement.promised (facts_at z n).agreement.last (Some q) → z.chronicle.traced.lists q.key ≡ Some q.members
+    of_stands : ProposalStands z.chronicle.traced n (facts_at z n).agreement.promised (facts_at z n).agreement.last (Some q) → z.chronicle.traced.lists q.key ≡ Some q.members
     of_stands x = x.list
 
     list : z.chronicle.traced.lists q.key ≡ Some q.members
-    list = of_stands (subst (Stands z.chronicle.traced n (facts_at z n).agreement.promised (facts_at z n).agreement.last) e (k.lawful.sound.nodes n).agrees.proposal)
+    list = of_stands (subst (ProposalStands z.chronicle.traced n (facts_at z n).agreement.promised (facts_at z n).agreement.last) e (k.lawful.sound.nodes n).agrees.proposal)
 
     listed : Listed z.chronicle.traced q.key q.members
     listed = k.lawful.sound.lists q.key q.members list
@@ -118,7 +118,7 @@ reads {by} {factor} {ns} {z} k = record {
 
 -- ---- the world behind the steps
 
-pub knows : (h : Header) (ss : List Step) → Taken h ss → length (all_lines ss) + 1 < line_bound → Knows (declared_policy h) (declared_factor h) (declared_nodes h) (after_all (first h) (all_marks ss))
+pub knows : (h : Header) (ss : List Step) → Taken h ss → length (all_lines ss) + 1 < line_bound → Knows (declared_policy h) (declared_factor h) (declared_nodes h) (front_after_all (first h) (all_marks ss))
 knows h ss t room =
     let w : Walked (declared_policy h) (declared_factor h) (first h) (all_marks ss) = taken_leads h ss t in
     record {
@@ -132,4 +132,4 @@ knows h ss t room =
     }
 
 pub sends_are_read : SendsRead
-sends_are_read h ss t room = subst SendsAreRead (world_all (first h) (all_marks ss)) (reads {z = after_all (first h) (all_marks ss)} (knows h ss t room))
+sends_are_read h ss t room = subst SendsAreRead (world_all (first h) (all_marks ss)) (reads {z = front_after_all (first h) (all_marks ss)} (knows h ss t room))

@@ -12,13 +12,13 @@ use Rattle.wire_messages.specs.declared.message.Message.{Message}
 use Rattle.wire_messages.specs.declared.message.Message.TheVariants as message
 use Rattle.node_rules.specs.Batches.{Target, Targets}
 use Rattle.node_rules.specs.Client.{node_for}
-use Rattle.node_rules.specs.Facts.{Facts, members}
+use Rattle.node_rules.specs.Facts.{Facts, members_of_view}
 use Rattle.node_rules.specs.Notes.{in_view}
 use Rattle.node_rules.specs.Senders.{view_key_of}
 use Rattle.node_rules.specs.Standing.{others}
 use Rattle.node_rules.specs.Tables.{contains}
 use Rattle.journal_readings.specs.Messages.{Posting}
-use Rattle.cluster_rules.specs.Network.{client, posting_at}
+use Rattle.cluster_rules.specs.Network.{posting_at}
 use Rattle.cluster_rules.specs.Opening.{Header, declared_nodes}
 use Rattle.cluster_rules.specs.Steps.{Step, all_marks}
 use Rattle.cluster_rules.specs.World.{World, opened}
@@ -33,6 +33,7 @@ use Rattle.key_laws.proofs.Kept.{WasPosted, was_posted}
 use Rattle.key_laws.proofs.NamedSteps.{Named, allowed_named, no_client, asked_is, to_end}
 use Rattle.key_laws.proofs.Peopled.{peers_of, Peopled}
 use Rattle.key_laws.proofs.Runs.{declared_ids, marks_nodes, world_of}
+use Rattle.node_rules.specs.Messages.{client}
 use Rattle.run_laws.specs.Fronts as fronts
 use Rattle.run_laws.specs.Ranges.{Ranged, FitsFacts}
 use Rattle.run_laws.specs.Taken.{Taken, first}
@@ -50,7 +51,7 @@ in_is : (ns : List ℕ) (n : ℕ) → Contains ns n → contains ns n ≡ true
 in_is ns n h = (any_is_contained n ns).1 h
 
 abbrev end_of : Header → List Step → Traced
-end_of h ss = traced.after_all (untouched (opened h)) (all_marks ss)
+end_of h ss = traced.traced_after_all (untouched (opened h)) (all_marks ss)
 
 world_is : (h : Header) (ss : List Step) → (end_of h ss).world ≡ world_after h ss
 world_is h ss = world_of (untouched (opened h)) (all_marks ss)
@@ -91,7 +92,7 @@ peer : (ns : List ℕ) (me n : ℕ) → contains ns n ≡ true → (n ≡ me →
 peer ns me n e apart = ordered_has (without ns me) n (to_without ns me n e apart)
 
 other_member : (f : Facts) (from : ℕ) → IsOther f from → Contains (others f) from
-other_member f from h = is_in (others f) from (to_without (ids_of (members f)) f.me from (member_id (members f) from ∙ h.member) h.other)
+other_member f from h = is_in (others f) from (to_without (ids_of (members_of_view f)) f.me from (member_id (members_of_view f) from ∙ h.member) h.other)
 
 of_view : (f : Facts) (from : ℕ) (m : Message) → ComesFromOther f from m → (key : ClusterKey) → view_key_of m ≡ Some key → in_view f key ≡ true → Contains (others f) from
 of_view f from (message.State k wants row) h key e i = other_member f from (h (ap (in_view f) (some_same e) ∙ i))
@@ -143,5 +144,5 @@ few limit lines f lt h = record {
 
 pub counts_few : CountsFew
 counts_few h ss t limit lt n =
-    let r : Ranged (fronts.after_all (first h) (all_marks ss)) = taken_ranged h ss t in
-    subst (λ (w : World). CountsBelow limit (w.facts n)) (world_all (first h) (all_marks ss)) (few limit (fronts.after_all (first h) (all_marks ss)).lines (fronts.facts_at (fronts.after_all (first h) (all_marks ss)) n) (subst (λ (c : ℕ). c < limit) (sym (lines_of_taken h ss)) lt) (r.nodes n))
+    let r : Ranged (fronts.front_after_all (first h) (all_marks ss)) = taken_ranged h ss t in
+    subst (λ (w : World). CountsBelow limit (w.facts n)) (world_all (first h) (all_marks ss)) (few limit (fronts.front_after_all (first h) (all_marks ss)).lines (fronts.facts_at (fronts.front_after_all (first h) (all_marks ss)) n) (subst (λ (c : ℕ). c < limit) (sym (lines_of_taken h ss)) lt) (r.nodes n))

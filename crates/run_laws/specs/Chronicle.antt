@@ -27,8 +27,8 @@ abbrev pub rows_after : Chronicle → Mark → ℕ → ClusterKey → Row
 rows_after c (Writes (line.Enter n k ms)) = at_stay c.rows n k (own_row (facts_of c.traced n))
 rows_after c _ = c.rows
 
-abbrev pub after : Chronicle → Mark → Chronicle
-after c m = record { traced = traced.after c.traced m; rows = rows_after c m }
+abbrev pub chronicle_after : Chronicle → Mark → Chronicle
+chronicle_after c m = record { traced = traced.traced_after c.traced m; rows = rows_after c m }
 
 -- the row is that with which the node entered the view of the key, of whose list it is
 pub record IsRowOf (c : Chronicle) (a : ℕ) (k : ClusterKey) (row : Row) : Type 0 where

@@ -17,9 +17,9 @@ use Rattle.node_rules.specs.Transactions.{transaction}
 use Rattle.cluster_rules.specs.Marks.{Mark, Begins, Writes}
 use Rattle.journal_readings.specs.Messages.{Posting, Arrival, arrived, arrived_cut}
 use Rattle.cluster_rules.specs.Network.{Network, posting_at}
-use Rattle.cluster_rules.specs.World.{World, at}
+use Rattle.cluster_rules.specs.World.{World, changed_at}
 use Rattle.cluster_laws.specs.Changes.{owes}
-use Rattle.cluster_laws.specs.Ground.{Ground, is_member}
+use Rattle.cluster_laws.specs.Ground.{Ground, is_view_member}
 use Rattle.cluster_laws.specs.Picture.{Seen, Packet, Owed, Picture}
 use Rattle.cluster_laws.specs.Stay.{Stay}
 use Rattle.run_laws.specs.Chronicle as chronicle
@@ -64,20 +64,20 @@ owed_after w (line.Merge n k d v) o = None
 owed_after w _ o = o
 
 abbrev pub closing_after : Line → (ℕ → Bool) → ℕ → Bool
-closing_after (line.Aborted n k t) c = at c n true
-closing_after (line.Doubt n k t) c = at c n true
-closing_after (line.Enter n k ms) c = at c n false
-closing_after (line.Stop n) c = at c n false
+closing_after (line.Aborted n k t) c = changed_at c n true
+closing_after (line.Doubt n k t) c = changed_at c n true
+closing_after (line.Enter n k ms) c = changed_at c n false
+closing_after (line.Stop n) c = changed_at c n false
 closing_after _ c = c
 
-abbrev pub after : Front → Mark → Front
-after z (Begins e) = record { chronicle = chronicle.after z.chronicle (Begins e); owed = z.owed; closing = z.closing; lines = z.lines }
-after z (Writes l) = record { chronicle = chronicle.after z.chronicle (Writes l); owed = owed_after (world_of z) l z.owed; closing = closing_after l z.closing; lines = z.lines + 1 }
+abbrev pub front_after : Front → Mark → Front
+front_after z (Begins e) = record { chronicle = chronicle.chronicle_after z.chronicle (Begins e); owed = z.owed; closing = z.closing; lines = z.lines }
+front_after z (Writes l) = record { chronicle = chronicle.chronicle_after z.chronicle (Writes l); owed = owed_after (world_of z) l z.owed; closing = closing_after l z.closing; lines = z.lines + 1 }
 
 -- marks one after another
-abbrev pub after_all : Front → List Mark → Front
-after_all z [] = z
-after_all z (m ∷ ms) = after_all (after z m) ms
+abbrev pub front_after_all : Front → List Mark → Front
+front_after_all z [] = z
+front_after_all z (m ∷ ms) = front_after_all (front_after z m) ms
 
 -- ---- the tie
 
@@ -109,7 +109,7 @@ pub record SaneNode (G : Ground) (n : ℕ) (f : Facts) : Type 0 where
   pub factor : G.factor ≡ f.factor
   -- the view is that of the list of its key, in which the node stands
   pub view : (v : View) → f.exchange.view ≡ Some v → Views G v.key f
-  pub member : (v : View) → f.exchange.view ≡ Some v → is_member G v.key n ≡ true
+  pub member : (v : View) → f.exchange.view ≡ Some v → is_view_member G v.key n ≡ true
   -- once the exchange is over, rows are those of the ground; before it is, nothing is handed on
   pub rows : (v : View) → f.exchange.view ≡ Some v → f.exchange.exchanged ≡ true → RowsAgree G v.key f.exchange.rows
   pub quiet : f.exchange.exchanged ≡ false → f.batches ≡ []

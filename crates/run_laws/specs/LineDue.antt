@@ -21,9 +21,9 @@ use Rattle.node_rules.specs.Hearing.{Heard}
 use Rattle.cluster_types.specs.declared.member.Role.{Role}
 use Rattle.journal_readings.specs.Messages.{Posting}
 use Rattle.node_rules.specs.Exchange.{is_member, View, Exchange, first_missing, members_of}
-use Rattle.node_rules.specs.Facts.{Facts, members, list_at}
+use Rattle.node_rules.specs.Facts.{Facts, members_of_view, list_at}
 use Rattle.node_rules.specs.Map.{lacks}
-use Rattle.node_rules.specs.Notes.{want_of}
+use Rattle.node_rules.specs.Notes.{request_want}
 use Rattle.node_rules.specs.Settling.{may_hand, may_settle}
 use Rattle.node_rules.specs.Standing.{is_to_learn, is_to_drop}
 use Rattle.node_rules.specs.Transactions.{Transaction, Transactions, Write, transaction}
@@ -31,30 +31,30 @@ use Rattle.node_rules.specs.Tables.{contains}
 use Rattle.partition_lists.specs.Lists.{list, replicas}
 use Rattle.run_laws.specs.Tied.{Each, Among, key_in}
 use Rattle.cluster_rules.specs.Marks.{Mark, Begins, Writes}
-use Rattle.key_laws.specs.Order.{AtMost}
+use Rattle.key_laws.specs.Order.{KeyAtMost}
 use Rattle.key_laws.specs.Sound.{Sound}
 use Rattle.run_laws.specs.Chronicle.{IsRowOf, MayEnterFirst, Rowed}
-use Rattle.run_laws.specs.Fronts.{Front, world_of, facts_at, after}
-use Rattle.run_laws.specs.LineOk.{Stands, IsDeclared, OpenOk, AnswerOk, ApplyOk, FinishOk, GiveUpOk, MergeOk, SettlingOk, BatchOk, BatchAckOk, ProgressOk, ReplOk, ReplAckOk, AskOk, ReplyOk, ArrivesOk, MapOk, AreGrouped, CalmOk}
+use Rattle.run_laws.specs.Fronts.{Front, world_of, facts_at, front_after}
+use Rattle.run_laws.specs.LineOk.{StandsInView, IsDeclared, OpenOk, AnswerOk, ApplyOk, FinishOk, GiveUpOk, MergeOk, SettlingOk, BatchOk, BatchAckOk, ProgressOk, ReplOk, ReplAckOk, AskOk, ReplyOk, ArrivesOk, MapOk, AreGrouped, CalmOk}
 
 pub record EnterDue (z : Front) (n : ℕ) (k : ClusterKey) (ms : List Member) : Type 0 where
   pub first : MayEnterFirst z.chronicle n k ms
   pub above : key_lt (facts_at z n).agreement.last k ≡ true
 
 pub record ExchangeDue (z : Front) (n : ℕ) (k : ClusterKey) : Type 0 where
-  pub stands : Stands z n k
+  pub stands : StandsInView z n k
   pub first : (facts_at z n).exchange.exchanged ≡ false
-  pub none : first_missing (facts_at z n).exchange.rows (members (facts_at z n)) ≡ None
+  pub none : first_missing (facts_at z n).exchange.rows (members_of_view (facts_at z n)) ≡ None
 
 pub record StateDue (z : Front) (n : ℕ) (k : ClusterKey) (states : Row) : Type 0 where
-  pub stands : Stands z n k
+  pub stands : StandsInView z n k
   pub row : IsRowOf z.chronicle n k states
 
 -- the digest of a request and the want in hand keep their ranges
 pub record OpenDue (z : Front) (n : ℕ) (k : ClusterKey) (t : ℕ) (d : List ℕ) : Type 0 where
   pub opens : OpenOk z n k t d
   pub digest : IsDigest d
-  pub wanted : (a : Action) → IsWant (want_of (world_of z).want a)
+  pub wanted : (a : Action) → IsWant (request_want (world_of z).want a)
 
 -- the body keeps its range where the want does
 pub record ApplyDue (z : Front) (n : ℕ) (k : ClusterKey) (t : ℕ) (d : List ℕ) (v : Version) : Type 0 where
@@ -125,13 +125,13 @@ LineMay z l = LineDue z l
 -- each line where it stands
 abbrev pub AllDue : Front → List Line → Type 0
 AllDue z [] = Unit {0}
-AllDue z (l ∷ ls) = LineMay z l × AllDue (after z (Writes l)) ls
+AllDue z (l ∷ ls) = LineMay z l × AllDue (front_after z (Writes l)) ls
 
 -- each line of the marks where it stands
 abbrev pub DueMarks : Front → List Mark → Type 0
 DueMarks z [] = Unit {0}
-DueMarks z (Begins e ∷ ms) = DueMarks (after z (Begins e)) ms
-DueMarks z (Writes l ∷ ms) = LineMay z l × DueMarks (after z (Writes l)) ms
+DueMarks z (Begins e ∷ ms) = DueMarks (front_after z (Begins e)) ms
+DueMarks z (Writes l ∷ ms) = LineMay z l × DueMarks (front_after z (Writes l)) ms
 
 -- ---- what holds at every line
 
@@ -170,10 +170,10 @@ pub record DeclaredLaw (z : Front) : Type 0 where
   pub heard : (n : ℕ) → Each (λ (e : ℕ × Heard). IsDeclared z e.0) (facts_at z n).hearing.heard
   pub beats : (i : ℕ) (p : Posting) (view promised : ClusterKey) (hears : List ℕ) (role : Role) → slice_get (world_of z).network.sent i ≡ Some p → message_of p.bytes ≡ Some (message.Heartbeat view promised hears role) → IsDeclared z p.from
 
-pub record Lawful (by : Policy) (factor : ℕ) (z : Front) : Type 0 where
+pub record LawfulFront (by : Policy) (factor : ℕ) (z : Front) : Type 0 where
   pub sound : Sound z.chronicle.traced
   pub rowed : Rowed z.chronicle
   pub nodes : (n : ℕ) → LawOf by factor (facts_at z n)
   -- the key that a node entered last is the greatest of those that it entered
-  pub visited : (n : ℕ) (k : ClusterKey) → z.chronicle.traced.entered n k ≡ true → AtMost k (facts_at z n).agreement.last
+  pub visited : (n : ℕ) (k : ClusterKey) → z.chronicle.traced.entered n k ≡ true → KeyAtMost k (facts_at z n).agreement.last
   pub declared : DeclaredLaw z

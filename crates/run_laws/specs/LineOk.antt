@@ -19,8 +19,8 @@ use Rattle.wire_messages.specs.Decoding.{message_of}
 use Rattle.journal_lines.specs.declared.line.Line.{Line}
 use Rattle.journal_lines.specs.declared.line.Line.TheVariants as line
 use Rattle.node_rules.specs.Batches.{Target, target}
-use Rattle.node_rules.specs.Facts.{Facts, members, list_at}
-use Rattle.node_rules.specs.Map.{master}
+use Rattle.node_rules.specs.Facts.{Facts, members_of_view, list_at}
+use Rattle.node_rules.specs.Map.{list_master}
 use Rattle.node_rules.specs.Notes.{own_row}
 use Rattle.node_rules.specs.Settling.{may_hand, may_settle}
 use Rattle.node_rules.specs.Stamps.{numbers_at}
@@ -35,17 +35,17 @@ use Rattle.cluster_rules.specs.Marks.{Mark, Begins, Writes}
 use Rattle.journal_readings.specs.Messages.{Posting}
 use Rattle.cluster_rules.specs.Network.{posting_at}
 use Rattle.cluster_rules.specs.World.{World}
-use Rattle.cluster_laws.specs.Ground.{Ground, is_member}
+use Rattle.cluster_laws.specs.Ground.{Ground, is_view_member}
 use Rattle.cluster_laws.specs.Licences.{IsAmong}
 use Rattle.cluster_laws.specs.Picture.{Owed, Picture}
-use Rattle.cluster_laws.specs.Journals.{Fits}
+use Rattle.cluster_laws.specs.Journals.{FitsGround}
 use Rattle.cluster_laws.specs.Licences as licences
 use Rattle.run_laws.specs.Due.{Passes}
-use Rattle.run_laws.specs.Fronts.{Front, world_of, facts_at, after, Sane}
+use Rattle.run_laws.specs.Fronts.{Front, world_of, facts_at, front_after, Sane}
 use Rattle.run_laws.specs.Tied.{RowsAgree, key_in, has_pending}
 
 -- the node is in the view and isn't about to leave it
-pub record Stands (z : Front) (n : ℕ) (k : ClusterKey) : Type 0 where
+pub record StandsInView (z : Front) (n : ℕ) (k : ClusterKey) : Type 0 where
   pub view : key_in (facts_at z n).exchange.view ≡ Some k
   pub stays : z.closing n ≡ false
 
@@ -65,24 +65,24 @@ IsDeclared z n = IsTrue (contains (world_of z).nodes n)
 pub record EnterOk (G : Ground) (z : Front) (n : ℕ) (k : ClusterKey) (ms : List Member) : Type 0 where
   pub above : key_lt (facts_at z n).agreement.last k ≡ true
   pub members : ms ≡ G.members k
-  pub member : is_member G k n ≡ true
+  pub member : is_view_member G k n ≡ true
   pub row : (p : ℕ) → state_of (own_row (facts_at z n)) p ≡ G.row k n p
 
 pub record ExchangeOk (G : Ground) (z : Front) (n : ℕ) (k : ClusterKey) : Type 0 where
-  pub stands : Stands z n k
+  pub stands : StandsInView z n k
   pub first : (facts_at z n).exchange.exchanged ≡ false
   pub rows : RowsAgree G k (facts_at z n).exchange.rows
 
 -- ---- transactions
 
 pub record OpenOk (z : Front) (n : ℕ) (k : ClusterKey) (t : ℕ) (d : List ℕ) : Type 0 where
-  pub stands : Stands z n k
+  pub stands : StandsInView z n k
   pub number : t ≡ (facts_at z n).transactions.opened + 1
   pub acts : acts (facts_at z n) (list_at (facts_at z n) (partition_of d)) (partition_of d) ≡ true
   pub free : transaction_on (facts_at z n).transactions d ≡ None
 
 pub record Resolves (z : Front) (n : ℕ) (k : ClusterKey) (t : ℕ) (d : List ℕ) (y : Transaction) : Type 0 where
-  pub stands : Stands z n k
+  pub stands : StandsInView z n k
   pub running : transaction (facts_at z n).transactions t ≡ Some y
   pub digest : y.digest ≡ d
   pub unapplied : y.applied ≡ None
@@ -100,7 +100,7 @@ pub record ApplyOk (z : Front) (n : ℕ) (k : ClusterKey) (t : ℕ) (d : List �
   pub declared : IsDeclared z n
 
 pub record FinishOk (z : Front) (n : ℕ) (k : ClusterKey) (t : ℕ) : Type 0 where
-  pub stands : Stands z n k
+  pub stands : StandsInView z n k
   pub item : Transaction
   pub write : Write
   pub running : transaction (facts_at z n).transactions t ≡ Some item
@@ -117,13 +117,13 @@ pub record Counted (z : Front) (n : ℕ) (k : ClusterKey) (d : List ℕ) (v : Ve
   pub number : ℕ
   pub nth : ℕ
   pub came : Came z from n (message.Repl k number nth d v)
-  pub counted : from ≡ master (list_at (facts_at z n) (partition_of d)) → contains (numbers_at (facts_at z n).writes (partition_of d)) nth ≡ true
+  pub counted : from ≡ list_master (list_at (facts_at z n) (partition_of d)) → contains (numbers_at (facts_at z n).writes (partition_of d)) nth ≡ true
 
 abbrev pub Brings : Front → ℕ → ClusterKey → List ℕ → Version → ℕ → Type 0
 Brings z n k d v from = ((b : Batch) × Came z from n (message.Batch b) × (b.key ≡ k) × IsAmong b.records d v) ⊎ Counted z n k d v from
 
 pub record MergeOk (z : Front) (n : ℕ) (k : ClusterKey) (d : List ℕ) (v : Version) : Type 0 where
-  pub stands : Stands z n k
+  pub stands : StandsInView z n k
   pub from : ℕ
   pub brings : Brings z n k d v from
   pub owed : (o : Owed) → z.owed ≡ Some o → o ≡ record { node = n; key = k; digest = d; version = v }
@@ -131,13 +131,13 @@ pub record MergeOk (z : Front) (n : ℕ) (k : ClusterKey) (d : List ℕ) (v : Ve
 
 -- a line of settling passes its test
 pub record SettlingOk (z : Front) (n : ℕ) (k : ClusterKey) (p : ℕ) (test : Bool) : Type 0 where
-  pub stands : Stands z n k
+  pub stands : StandsInView z n k
   pub passes : Passes (facts_at z n) n k p test
 
 -- ---- messages
 
 pub record StateOk (G : Ground) (z : Front) (n : ℕ) (k : ClusterKey) (states : List (ℕ × CopyState)) : Type 0 where
-  pub stands : Stands z n k
+  pub stands : StandsInView z n k
   pub row : (p : ℕ) → state_of states p ≡ G.row k n p
 
 -- the batch is out, or is the next one: each record is held so, and is pending
@@ -148,27 +148,27 @@ pub record NewBatch (f : Facts) (t : Target) (b : Batch) : Type 0 where
   pub pending : (d : List ℕ) (v : Version) → IsAmong b.records d v → has_pending (Some t) d ≡ true
 
 pub record BatchOk (z : Front) (n r : ℕ) (b : Batch) : Type 0 where
-  pub stands : Stands z n b.key
+  pub stands : StandsInView z n b.key
   pub exchanged : (facts_at z n).exchange.exchanged ≡ true
   pub item : Target
   pub there : target (facts_at z n).batches r ≡ Some item
   pub batch : (item.out ≡ Some b) ⊎ NewBatch (facts_at z n) item b
 
 pub record BatchAckOk (z : Front) (n r : ℕ) (k : ClusterKey) (number : ℕ) : Type 0 where
-  pub stands : Stands z n k
+  pub stands : StandsInView z n k
   pub batch : Batch
   pub named : (batch.key ≡ k) × (batch.number ≡ number)
   pub came : Came z r n (message.Batch batch)
   pub held : (d : List ℕ) (v : Version) → IsAmong batch.records d v → AtMost (facts_at z n).store.by (Some v) (finite.get (facts_at z n).store.content d)
 
 pub record ProgressOk (z : Front) (n : ℕ) (k : ClusterKey) (done_bits handed_bits settled_bits : List Bool) : Type 0 where
-  pub stands : Stands z n k
+  pub stands : StandsInView z n k
   pub done : (p : ℕ) → bit done_bits p ≡ true → is_done (facts_at z n) p ≡ true
   pub handed : (p : ℕ) → bit handed_bits p ≡ true → bit (facts_at z n).bits.handed p ≡ true
   pub settled : (p : ℕ) → bit settled_bits p ≡ true → bit (facts_at z n).bits.settled p ≡ true
 
 pub record ReplOk (z : Front) (n r : ℕ) (k : ClusterKey) (t nth : ℕ) (d : List ℕ) (v : Version) : Type 0 where
-  pub stands : Stands z n k
+  pub stands : StandsInView z n k
   pub item : Transaction
   pub running : transaction (facts_at z n).transactions t ≡ Some item
   pub digest : item.digest ≡ d
@@ -177,22 +177,22 @@ pub record ReplOk (z : Front) (n r : ℕ) (k : ClusterKey) (t nth : ℕ) (d : Li
   pub other : r ≡ n → ⊥
 
 pub record ReplAckOk (z : Front) (n r : ℕ) (k : ClusterKey) (t : ℕ) : Type 0 where
-  pub stands : Stands z n k
+  pub stands : StandsInView z n k
   pub nth : ℕ
   pub digest : List ℕ
   pub version : Version
   pub came : Came z r n (message.Repl k t nth digest version)
-  pub counted : r ≡ master (list_at (facts_at z n) (partition_of digest)) → contains (numbers_at (facts_at z n).writes (partition_of digest)) nth ≡ true
+  pub counted : r ≡ list_master (list_at (facts_at z n) (partition_of digest)) → contains (numbers_at (facts_at z n).writes (partition_of digest)) nth ≡ true
   pub held : AtMost (facts_at z n).store.by (Some version) (finite.get (facts_at z n).store.content digest)
 
 pub record AskOk (z : Front) (n : ℕ) (k : ClusterKey) (t : ℕ) (d : List ℕ) : Type 0 where
-  pub stands : Stands z n k
+  pub stands : StandsInView z n k
   pub item : Transaction
   pub running : transaction (facts_at z n).transactions t ≡ Some item
   pub digest : item.digest ≡ d
 
 pub record ReplyOk (z : Front) (n r : ℕ) (k : ClusterKey) (t : ℕ) (v : Option Version) : Type 0 where
-  pub stands : Stands z n k
+  pub stands : StandsInView z n k
   pub digest : List ℕ
   pub came : Came z r n (message.Ask k t digest)
   pub held : v ≡ finite.get (facts_at z n).store.content digest
@@ -223,9 +223,9 @@ ArrivesOk z i b = (p : Posting) → posting_at (world_of z).network i ≡ Some p
 
 -- a map is shown by a node in its view, whose exchange is over
 pub record MapOk (z : Front) (n : ℕ) (k : ClusterKey) (p : ℕ) (ms : List Member) (a : ℕ) : Type 0 where
-  pub stands : Stands z n k
+  pub stands : StandsInView z n k
   pub exchanged : (facts_at z n).exchange.exchanged ≡ true
-  pub shown : ms ≡ with_roles (members (facts_at z n)) (list_at (facts_at z n) p)
+  pub shown : ms ≡ with_roles (members_of_view (facts_at z n)) (list_at (facts_at z n) p)
   pub acting : a ≡ acting_at (facts_at z n) (list_at (facts_at z n) p) p
 
 -- ---- groups and calm
@@ -271,10 +271,11 @@ LineOk G z l = (z.owed ≡ None) × FactOk G z l
 -- each line is so where it stands, and the facts there are sane
 abbrev pub Goes : Ground → Front → List Mark → Type 0
 Goes G z [] = Unit {0}
-Goes G z (Begins e ∷ ms) = Goes G (after z (Begins e)) ms
-Goes G z (Writes l ∷ ms) = Sane G (world_of z) × LineOk G z l × Goes G (after z (Writes l)) ms
+Goes G z (Begins e ∷ ms) = Goes G (front_after z (Begins e)) ms
+Goes G z (Writes l ∷ ms) = Sane G (world_of z) × LineOk G z l × Goes G (front_after z (Writes l)) ms
 
 -- each line fits where it stands
 abbrev pub Fitting : Ground → List ℕ → Picture → List Line → Type 0
 Fitting G declared w [] = Unit {0}
-Fitting G declared w (l ∷ ls) = Fits G declared w l × Fitting G declared (licences.after G w l) ls
+Fitting G declared w (l ∷ ls) = FitsGround G declared w l
+    × Fitting G declared (licences.picture_after G w l) ls

@@ -67,9 +67,10 @@ pub record FitsTransactions (lines : ℕ) (ts : Transactions) : Type 0 where
 -- ---- batches
 
 -- digests strictly rise
-abbrev pub Rises : List (List ℕ) → Type 0
-Rises [] = Unit {0}
-Rises (d ∷ ds) = AllByRecursion (λ (e : List ℕ). slice_cmp nat_cmp d e ≡ Less) ds × Rises ds
+abbrev pub RisesByDigest : List (List ℕ) → Type 0
+RisesByDigest [] = Unit {0}
+RisesByDigest (d ∷ ds) = AllByRecursion (λ (e : List ℕ). slice_cmp nat_cmp d e ≡ Less) ds
+    × RisesByDigest ds
 
 pub record FitsBatch (lines : ℕ) (b : Batch) : Type 0 where
   pub number : b.number ≤ lines
@@ -81,7 +82,7 @@ FitsOut lines (Some b) = FitsBatch lines b
 
 -- what is pending rises and is held
 pub record FitsTarget (lines : ℕ) (content : Content) (t : Target) : Type 0 where
-  pub rises : Rises t.pending
+  pub rises : RisesByDigest t.pending
   pub held : (d : List ℕ) → Among t.pending d → is_some (finite.get content d) ≡ true
   pub batches : t.batches ≤ lines
   pub out : FitsOut lines t.out
@@ -92,7 +93,7 @@ FitsTargets lines content ts = (t : Target) → Among ts t → FitsTarget lines 
 -- ---- a node, and all of them
 
 -- the parts of a node's facts
-pub record Fits (lines : ℕ) (rows : List MemberRow) (store : Store) (w : Writes) (ts : Transactions) (targets : Targets) : Type 0 where
+pub record FitsRanges (lines : ℕ) (rows : List MemberRow) (store : Store) (w : Writes) (ts : Transactions) (targets : Targets) : Type 0 where
   pub each_row : Each (λ (r : MemberRow). IsStateRowField r.row) rows
   pub content : FitsContent store.content
   pub stamps : FitsStamps store.stamps
@@ -101,7 +102,7 @@ pub record Fits (lines : ℕ) (rows : List MemberRow) (store : Store) (w : Write
   pub each_target : FitsTargets lines store.content targets
 
 abbrev pub FitsFacts : ℕ → Facts → Type 0
-FitsFacts lines f = Fits lines f.exchange.rows f.store f.writes f.transactions f.batches
+FitsFacts lines f = FitsRanges lines f.exchange.rows f.store f.writes f.transactions f.batches
 
 pub record Ranged (z : Front) : Type 0 where
   pub nodes : (n : ℕ) → FitsFacts z.lines (facts_at z n)

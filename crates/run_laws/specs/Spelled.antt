@@ -20,9 +20,9 @@ use Rattle.cluster_rules.specs.Network.{flying_at}
 use Rattle.cluster_rules.specs.World.{World}
 use Rattle.run_laws.specs.Tied.{Each}
 
-abbrev pub requested : World → Option ℕ → List ℕ → Want → List (ℕ × Message)
-requested w None d q = []
-requested w (Some n) d q = (due_request (w.facts n) (w.clocks n) d q).sends
+abbrev pub request_sends : World → Option ℕ → List ℕ → Want → List (ℕ × Message)
+request_sends w None d q = []
+request_sends w (Some n) d q = (due_request (w.facts n) (w.clocks n) d q).sends
 
 abbrev pub arrived_sends : World → Posting → Option Message → List (ℕ × Message)
 arrived_sends w p None = []
@@ -35,12 +35,13 @@ flying_sends w (Some p) = arrived_sends w p (message_of p.bytes)
 -- what the event's step may send
 abbrev pub sends_of : World → Event → List (ℕ × Message)
 sends_of w (event.Tick n) = (tick_of partition_count (w.facts n)).sends
-sends_of w (event.Put n d v) = requested w (Some n) d (want.Put v)
-sends_of w (event.Get n d) = requested w (Some n) d want.Get
-sends_of w (event.Del n d) = requested w (Some n) d want.Del
-sends_of w (event.ClientPut d v) = requested w (node_for w.tables (partition_of d)) d (want.Put v)
-sends_of w (event.ClientGet d) = requested w (node_for w.tables (partition_of d)) d want.Get
-sends_of w (event.ClientDel d) = requested w (node_for w.tables (partition_of d)) d want.Del
+sends_of w (event.Put n d v) = request_sends w (Some n) d (want.Put v)
+sends_of w (event.Get n d) = request_sends w (Some n) d want.Get
+sends_of w (event.Del n d) = request_sends w (Some n) d want.Del
+sends_of w (event.ClientPut d v) = request_sends w (node_for w.tables (partition_of d)) d
+    (want.Put v)
+sends_of w (event.ClientGet d) = request_sends w (node_for w.tables (partition_of d)) d want.Get
+sends_of w (event.ClientDel d) = request_sends w (node_for w.tables (partition_of d)) d want.Del
 sends_of w (event.Deliver i) = flying_sends w (flying_at w.network i)
 sends_of w (event.Repeat i) = flying_sends w (flying_at w.network i)
 sends_of w (event.Cut i size) = flying_sends w (flying_at w.network i)
@@ -56,11 +57,11 @@ is_ranged (message.Answer k t v) = true
 is_ranged _ = false
 
 -- each of these messages of the view is read as it was spelled: so it is where numbers, digests, versions and rows keep their ranges
-abbrev pub AreRead : List (ℕ × Message) → Type 0
-AreRead ss = Each (λ (s : ℕ × Message). is_ranged s.1 ≡ true → message_of (spelling s.1) ≡ Some s.1) ss
+abbrev pub AreReadInRange : List (ℕ × Message) → Type 0
+AreReadInRange ss = Each (λ (s : ℕ × Message). is_ranged s.1 ≡ true → message_of (spelling s.1) ≡ Some s.1) ss
 
 abbrev pub SendsRead : World → Event → Type 0
-SendsRead w e = AreRead (sends_of w e)
+SendsRead w e = AreReadInRange (sends_of w e)
 
 -- who is in a view is declared
 abbrev pub ViewsDeclared : World → Type 0

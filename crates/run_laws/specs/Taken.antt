@@ -15,7 +15,7 @@ use Rattle.cluster_rules.specs.Steps.{Step, all_marks, all_lines}
 use Rattle.cluster_rules.specs.World.{opened}
 use Rattle.cluster_laws.specs.Ground.{Ground}
 use Rattle.key_laws.specs.Traced.{untouched}
-use Rattle.run_laws.specs.Fronts.{Front, after_all}
+use Rattle.run_laws.specs.Fronts.{Front, front_after_all}
 
 -- what the event brings keeps its ranges: a clock's time is below 2^64, groups have no node twice, the id of a node that
 -- ticks is one, and digests and values are such as a message can carry
@@ -53,6 +53,6 @@ abbrev pub ground_of : Header → List Step → Ground
 ground_of h ss = record {
   by = declared_policy h;
   factor = declared_factor h;
-  members = λ k. unwrap_or ((after_all (first h) (all_marks ss)).chronicle.traced.lists k) [];
-  row = λ k n p. state_of ((after_all (first h) (all_marks ss)).chronicle.rows n k) p;
+  members = λ k. unwrap_or ((front_after_all (first h) (all_marks ss)).chronicle.traced.lists k) [];
+  row = λ k n p. state_of ((front_after_all (first h) (all_marks ss)).chronicle.rows n k) p;
 }

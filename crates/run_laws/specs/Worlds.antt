@@ -11,14 +11,14 @@ use Rattle.wire_messages.specs.Requests.{IsWant}
 use Rattle.wire_messages.specs.Versions.{IsDigest}
 use Rattle.node_rules.specs.Client.{node_for}
 use Rattle.node_rules.specs.Facts.{Facts}
-use Rattle.node_rules.specs.Messages.{due_message}
+use Rattle.node_rules.specs.Messages.{due_message, client}
 use Rattle.node_rules.specs.Requests.{due_request}
 use Rattle.node_rules.specs.Senders.{ComesFrom}
 use Rattle.node_rules.specs.Stamps.{applies_at}
 use Rattle.node_rules.specs.Tick.{due_tick}
 use Rattle.cluster_rules.specs.Marks as marks
 use Rattle.journal_readings.specs.Messages.{Posting}
-use Rattle.cluster_rules.specs.Network.{posting_at, client}
+use Rattle.cluster_rules.specs.Network.{posting_at}
 use Rattle.cluster_rules.specs.NodeSteps.{AreRead}
 use Rattle.cluster_rules.specs.Opening.{Header, declared_nodes, declared_peers}
 use Rattle.cluster_rules.specs.Steps.{Step, all_marks, all_lines}

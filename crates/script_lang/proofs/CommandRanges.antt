@@ -213,13 +213,13 @@ good before kind.Lose fields c few all e =
     subst (IsGood before kind.Lose) (sym m.2) (record { ranges = k; named = tt; word = refl })
 good before kind.Cut fields c few all e = good_cut before fields c e
 good before kind.Flow fields c few all e =
-    let m = from_map (λ _. command.Flow) (count.none fields) c e in
+    let m = from_map (λ _. command.Flow) (count.no_fields fields) c e in
     subst (IsGood before kind.Flow) (sym m.2) (record { ranges = tt; named = tt; word = refl })
 good before kind.Round fields c few all e =
-    let m = from_map (λ _. command.Round) (count.none fields) c e in
+    let m = from_map (λ _. command.Round) (count.no_fields fields) c e in
     subst (IsGood before kind.Round) (sym m.2) (record { ranges = tt; named = tt; word = refl })
 good before kind.Calm fields c few all e =
-    let m = from_map (λ _. command.Calm) (count.none fields) c e in
+    let m = from_map (λ _. command.Calm) (count.no_fields fields) c e in
     subst (IsGood before kind.Calm) (sym m.2) (record { ranges = tt; named = tt; word = refl })
 good before kind.Map fields c few all e = good_map before fields c e
 good before kind.Place fields c few all e =

@@ -14,7 +14,7 @@ use Rattle.script_lang.specs.declared.script.Command.TheVariants.{Groups}
 use Rattle.script_lang.specs.Forms.{each, is_bar, group_ids, groups, are_distinct, are_whole}
 use Rattle.script_lang.specs.Outcomes.{map_ok, ok_if}
 use Rattle.script_lang.specs.Proper.{HaveNodes}
-use Rattle.script_lang.specs.Values.{declared_node, is_among}
+use Rattle.script_lang.specs.Values.{declared_node, is_one_of}
 use Rattle.script_lang.proofs.Groups.{from_map, from_then, full_groups}
 use Rattle.script_lang.proofs.Grouped.{few_groups, some_filled}
 use Rattle.script_lang.proofs.Ranges.{if_ok, declared_is, contained}
@@ -37,25 +37,25 @@ all_among before (part ∷ parts) lists e =
     (All-append (Contains before.nodes) t.0 (concat m.0) (ids_among before part t.0 t.1) (all_among before parts m.0 m.1))
 
 -- ids that pass the test are distinct
-not_at : (id : ℕ) (ids : List ℕ) → not (is_among id ids) ≡ true → (k d : ℕ) → k < length ids → id ≡ get_or ids k d → ⊥
+not_at : (id : ℕ) (ids : List ℕ) → not (is_one_of id ids) ≡ true → (k d : ℕ) → k < length ids → id ≡ get_or ids k d → ⊥
 not_at id ids fresh k d below same =
     let found : Contains ids id = (k, below, get_or_default ids k id d below ∙ sym same) in
-    let t : is_among id ids ≡ true = contained id ids found in
+    let t : is_one_of id ids ≡ true = contained id ids found in
     let f : not true ≡ true = ap not (sym t) ∙ fresh in
     cc
 
-distinct_at : (id : ℕ) (ids : List ℕ) → not (is_among id ids) ≡ true → AreDistinct ids → (i j d : ℕ) → i < j → j < suc (length ids) → get_or (id ∷ ids) i d ≢ get_or (id ∷ ids) j d
+distinct_at : (id : ℕ) (ids : List ℕ) → not (is_one_of id ids) ≡ true → AreDistinct ids → (i j d : ℕ) → i < j → j < suc (length ids) → get_or (id ∷ ids) i d ≢ get_or (id ∷ ids) j d
 distinct_at id ids fresh h i zero d lower within = absurd (omega arith)
 distinct_at id ids fresh h zero (suc j) d lower within = λ same. not_at id ids fresh j d (omega arith) same
 distinct_at id ids fresh h (suc i) (suc j) d lower within = h.differ i j d (omega arith) (omega arith)
 
-distinct_cons : (id : ℕ) (ids : List ℕ) → not (is_among id ids) ≡ true → AreDistinct ids → AreDistinct (id ∷ ids)
+distinct_cons : (id : ℕ) (ids : List ℕ) → not (is_one_of id ids) ≡ true → AreDistinct ids → AreDistinct (id ∷ ids)
 distinct_cons id ids fresh h = record { differ = distinct_at id ids fresh h }
 
 pub distinct_by_test : (ids : List ℕ) → are_distinct ids ≡ true → AreDistinct ids
 distinct_by_test [] e = record { differ = λ i j d lower within. absurd (omega arith) }
 distinct_by_test (id ∷ ids) e =
-    let parts = and_parts (not (is_among id ids)) (are_distinct ids) e in
+    let parts = and_parts (not (is_one_of id ids)) (are_distinct ids) e in
     distinct_cons id ids parts.0 (distinct_by_test ids parts.1)
 
 pub groups_kept : (before : Before) (fields : List (List ℕ)) (c : Command) → length before.nodes ≤ 16 → groups before fields ≡ Ok c

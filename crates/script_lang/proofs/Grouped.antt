@@ -17,8 +17,8 @@ use Rattle.script_lang.specs.declared.script.Command.TheVariants.{Groups}
 use Rattle.script_lang.specs.declared.fault.Cause.TheVariants.{BadGroups}
 use Rattle.script_lang.specs.Outcomes.{and_then, ok_if}
 use Rattle.script_lang.specs.Forms.{is_bar, group_ids, groups, are_distinct, are_whole}
-use Rattle.script_lang.specs.Reading.{GroupsIds, Reads}
-use Rattle.script_lang.specs.Values.{declared_node, is_among}
+use Rattle.script_lang.specs.Reading.{GroupsIds, ReadsOutcome}
+use Rattle.script_lang.specs.Values.{declared_node, is_one_of}
 use Rattle.script_lang.proofs.Groups.{can_read, joined, Continues, from_map, after_id, at_bar, at_end}
 
 abbrev pub is_some : List ℕ → Bool
@@ -53,34 +53,34 @@ or_true false = refl
 same_test : (n : ℕ) → (n == n) ≡ true
 same_test n = eq-eqb n n refl
 
-among_middle : (ids : List ℕ) (id : ℕ) (more : List ℕ) → is_among id ((ids ++ id ∷ []) ++ more) ≡ true
-among_middle [] id more = ap (λ t. t || is_among id more) (same_test id)
+among_middle : (ids : List ℕ) (id : ℕ) (more : List ℕ) → is_one_of id ((ids ++ id ∷ []) ++ more) ≡ true
+among_middle [] id more = ap (λ t. t || is_one_of id more) (same_test id)
 among_middle (x ∷ ids) id more = ap (λ t. (x == id) || t) (among_middle ids id more) ∙ or_true (x == id)
 
-repeated_by : (x id : ℕ) (ids more : List ℕ) (t : Bool) → (x == id) ≡ t → (t || is_among id ids) ≡ true
-    → (is_among id ids ≡ true → are_distinct ((ids ++ id ∷ []) ++ more) ≡ false)
-    → (not (is_among x ((ids ++ id ∷ []) ++ more)) && are_distinct ((ids ++ id ∷ []) ++ more)) ≡ false
+repeated_by : (x id : ℕ) (ids more : List ℕ) (t : Bool) → (x == id) ≡ t → (t || is_one_of id ids) ≡ true
+    → (is_one_of id ids ≡ true → are_distinct ((ids ++ id ∷ []) ++ more) ≡ false)
+    → (not (is_one_of x ((ids ++ id ∷ []) ++ more)) && are_distinct ((ids ++ id ∷ []) ++ more)) ≡ false
 repeated_by x id ids more true e some rest =
     let same : x ≡ id = eqb-true _ _ e in
-    ap (λ y. not (is_among y ((ids ++ id ∷ []) ++ more)) && are_distinct ((ids ++ id ∷ []) ++ more)) same
+    ap (λ y. not (is_one_of y ((ids ++ id ∷ []) ++ more)) && are_distinct ((ids ++ id ∷ []) ++ more)) same
     ∙ ap (λ t. not t && are_distinct ((ids ++ id ∷ []) ++ more)) (among_middle ids id more)
 repeated_by x id ids more false e some rest =
-    ap (λ t. not (is_among x ((ids ++ id ∷ []) ++ more)) && t) (rest some) ∙ and_false (not (is_among x ((ids ++ id ∷ []) ++ more)))
+    ap (λ t. not (is_one_of x ((ids ++ id ∷ []) ++ more)) && t) (rest some) ∙ and_false (not (is_one_of x ((ids ++ id ∷ []) ++ more)))
 
-pub repeated_id : (ids : List ℕ) (id : ℕ) (more : List ℕ) → is_among id ids ≡ true → are_distinct ((ids ++ id ∷ []) ++ more) ≡ false
+pub repeated_id : (ids : List ℕ) (id : ℕ) (more : List ℕ) → is_one_of id ids ≡ true → are_distinct ((ids ++ id ∷ []) ++ more) ≡ false
 repeated_id [] id more e = cc
 repeated_id (x ∷ ids) id more e = repeated_by x id ids more (x == id) refl e (λ k. repeated_id ids id more k)
 
 -- ---- ids that are distinct
 
-not_among_by : (x y : ℕ) (ids : List ℕ) → (x ≡ y → ⊥) → is_among x ids ≡ false → ((y == x) || is_among x ids) ≡ false
-not_among_by x y ids differ rest = ap (λ t. t || is_among x ids) (ne_eqb y x (λ e. differ (sym e))) ∙ rest
+not_among_by : (x y : ℕ) (ids : List ℕ) → (x ≡ y → ⊥) → is_one_of x ids ≡ false → ((y == x) || is_one_of x ids) ≡ false
+not_among_by x y ids differ rest = ap (λ t. t || is_one_of x ids) (ne_eqb y x (λ e. differ (sym e))) ∙ rest
 
-not_among : (x : ℕ) (ids : List ℕ) → ((k : ℕ) → k < length ids → x ≡ get_or ids k x → ⊥) → is_among x ids ≡ false
+not_among : (x : ℕ) (ids : List ℕ) → ((k : ℕ) → k < length ids → x ≡ get_or ids k x → ⊥) → is_one_of x ids ≡ false
 not_among x [] fresh = refl
 not_among x (y ∷ ids) fresh = not_among_by x y ids (λ e. fresh 0 (omega arith) e) (not_among x ids (λ k below e. fresh (suc k) (omega (arith, below)) e))
 
-first_fresh : (x : ℕ) (ids : List ℕ) → AreDistinct (x ∷ ids) → is_among x ids ≡ false
+first_fresh : (x : ℕ) (ids : List ℕ) → AreDistinct (x ∷ ids) → is_one_of x ids ≡ false
 first_fresh x ids h = not_among x ids (λ k below e. h.differ 0 (suc k) x (omega arith) (omega (arith, below)) e)
 
 rest_distinct : (x : ℕ) (ids : List ℕ) → AreDistinct (x ∷ ids) → AreDistinct ids
@@ -123,7 +123,7 @@ bad_count nodes before all closed last seen s differ c =
 
 -- an id that stood before, or one more than there are nodes
 pub bad_id : (nodes : List ℕ) (before : Before) (all closed : List (List ℕ)) (last field seen : List ℕ) (fields : List (List ℕ)) (id : ℕ) → is_bar field ≡ false
-    → Ok id ≡ declared_node before field → seen ≡ concat closed ++ last → (is_among id seen ≡ true) ⊎ (length nodes ≤ length seen)
+    → Ok id ≡ declared_node before field → seen ≡ concat closed ++ last → (is_one_of id seen ≡ true) ⊎ (length nodes ≤ length seen)
     → Continues before all closed last (field ∷ fields) → ok_if (are_whole nodes all) all BadGroups ≡ Err BadGroups
 bad_id nodes before all closed last field seen fields id bar read s why c =
     let d = after_id before all closed last field fields id bar read c in
@@ -210,7 +210,7 @@ some_fields before first fields all lists e read =
     ap (groups before) e ∙ ap (λ r. and_then r (λ ls. ok_if (are_whole before.nodes ls) (Groups ls) BadGroups)) (ap (group_ids before) (sym e) ∙ read)
 
 pub groups_refused : (before : Before) (first : List ℕ) (fields all : List (List ℕ)) (fault : LineFault) (u : Unit {0}) → all ≡ first ∷ fields → Ok u ≡ can_read before all
-    → GroupsIds before.nodes (Err fault) (group_ids before all) → Reads {Y = Command} (Err fault) (groups before all)
+    → GroupsIds before.nodes (Err fault) (group_ids before all) → ReadsOutcome {Y = Command} (Err fault) (groups before all)
 groups_refused before first fields all (Bad cause) u e ok told =
     let r = all_read before all u ok in
     some_fields before first fields all r.0 e r.1 ∙ moved (are_whole before.nodes r.0) r.0 cause (told r.0 r.1)

@@ -24,5 +24,5 @@ node_fits n i = let f = i.fits in omega arith
 
 pub declared_back : (before : Before) (n : ℕ) → IsNode n → Contains before.nodes n → value.declared_node before (decimal n) ≡ Ok n
 declared_back before n i c =
-    ap (λ r. and_then r (λ id. ok_if (value.is_among id before.nodes) id UnknownNode)) (node_back n i)
+    ap (λ r. and_then r (λ id. ok_if (value.is_one_of id before.nodes) id UnknownNode)) (node_back n i)
     ∙ ap (λ t. ok_if t n UnknownNode) (contained n before.nodes c)

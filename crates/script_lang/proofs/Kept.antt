@@ -16,9 +16,9 @@ use Rattle.script_lang.specs.declared.script.Command.{Command}
 use Rattle.script_lang.specs.declared.script.HeaderLine.{HeaderLine}
 use Rattle.script_lang.specs.declared.script.HeaderLine.TheVariants as header
 use Rattle.script_lang.specs.declared.script.Script.{Script}
-use Rattle.script_lang.specs.Before.{MayDeclare, before_of, declared_by, nodes_of}
-use Rattle.script_lang.specs.Grammar.{Fault, after_line, empty_script, line_of, script_from, script_of, with_line}
-use Rattle.script_lang.specs.Layout.{ended, ends_in_return, fields_of, is_blank, is_some_text, lines_of, without_return}
+use Rattle.script_lang.specs.Before.{MayDeclare, before_next, declared_by, nodes_of}
+use Rattle.script_lang.specs.Grammar.{Fault, script_after, empty_script, line_of, script_from, script_of, with_line}
+use Rattle.script_lang.specs.Layout.{ended, ends_in_return, line_fields, is_blank, is_some_text, lines_of, without_return}
 use Rattle.script_lang.specs.Proper.{IsProper, IsProperCommand, IsProperHeaderLine, IsServed, NamesNodesOf}
 use Rattle.script_lang.specs.Words.{is_command_served}
 use Rattle.script_lang.specs.WordsOf.{word_of_command}
@@ -52,9 +52,9 @@ split_bytes q [] all = All-cons AreBytes [] [] (All-nil (λ (byte : ℕ). byte <
 split_bytes q (x ∷ xs) all =
     split_by x (slice_split q xs) (q x) (first_of (λ byte. byte < 256) x xs all) (split_bytes q xs (rest_of (λ byte. byte < 256) x xs all))
 
-fields_bytes : (text : List ℕ) → AreBytes text → All IsBytes (fields_of text)
+fields_bytes : (text : List ℕ) → AreBytes text → All IsBytes (line_fields text)
 fields_bytes text all =
-    All-weaker AreBytes IsBytes (λ xs. bytes_from_all xs) (fields_of text) (All-filter is_some_text AreBytes (slice_split is_blank text) (split_bytes is_blank text all))
+    All-weaker AreBytes IsBytes (λ xs. bytes_from_all xs) (line_fields text) (All-filter is_some_text AreBytes (slice_split is_blank text) (split_bytes is_blank text all))
 
 without_by : (text : List ℕ) (t : Bool) → AreBytes text → AreBytes (cond t (take (length text - 1) text) text)
 without_by text true all = All-take (λ byte. byte < 256) (length text - 1) text all
@@ -96,7 +96,7 @@ declared_more nodes (header.Node node rack) n m =
     clash p q = cc
 declared_more nodes (header.Policy policy) n m = subst IsNodeList (sym (append-nil nodes)) n
 
-with_header : (script : Script) (text : List ℕ) (h : HeaderLine) → Keeps script → IsHeader (before_of script.header script.commands) h → Keeps (with_line script (line.Header h))
+with_header : (script : Script) (text : List ℕ) (h : HeaderLine) → Keeps script → IsHeader (before_next script.header script.commands) h → Keeps (with_line script (line.Header h))
 with_header script text h k s =
     let none : script.commands ≡ [] = no_commands script.commands s.first in
     record {
@@ -112,10 +112,10 @@ with_header script text h k s =
       };
     }
 
-with_command : (script : Script) (text : List ℕ) (c : Command) → AreBytes text → Keeps script → IsRead (before_of script.header script.commands) text c → Keeps (with_line script (line.Command c))
+with_command : (script : Script) (text : List ℕ) (c : Command) → AreBytes text → Keeps script → IsRead (before_next script.header script.commands) text c → Keeps (with_line script (line.Command c))
 with_command script text c all k s =
     let bytes : All IsBytes s.fields = rest_of IsBytes s.first s.fields (subst (All IsBytes) s.of_line (fields_bytes text all)) in
-    let g = good (before_of script.header script.commands) s.word s.fields c k.proper.nodes.limit bytes s.read in
+    let g = good (before_next script.header script.commands) s.word s.fields c k.proper.nodes.limit bytes s.read in
     record {
       proper = record {
         header = k.proper.header;
@@ -132,14 +132,14 @@ with_command script text c all k s =
       };
     }
 
-keeps_said : (script : Script) (text : List ℕ) (l : Line) → AreBytes text → Keeps script → line_of (before_of script.header script.commands) text ≡ Ok l → Keeps (with_line script l)
+keeps_said : (script : Script) (text : List ℕ) (l : Line) → AreBytes text → Keeps script → line_of (before_next script.header script.commands) text ≡ Ok l → Keeps (with_line script l)
 keeps_said script text line.Nothing all k e = k
-keeps_said script text (line.Header h) all k e = with_header script text h k (said (before_of script.header script.commands) text (line.Header h) e)
-keeps_said script text (line.Command c) all k e = with_command script text c all k (said (before_of script.header script.commands) text (line.Command c) e)
+keeps_said script text (line.Header h) all k e = with_header script text h k (said (before_next script.header script.commands) text (line.Header h) e)
+keeps_said script text (line.Command c) all k e = with_command script text c all k (said (before_next script.header script.commands) text (line.Command c) e)
 
-keeps_line : (script longer : Script) (text : List ℕ) → AreBytes text → Keeps script → after_line script text ≡ Ok longer → Keeps longer
+keeps_line : (script longer : Script) (text : List ℕ) → AreBytes text → Keeps script → script_after script text ≡ Ok longer → Keeps longer
 keeps_line script longer text all k e =
-    let m = from_map (with_line script) (line_of (before_of script.header script.commands) text) longer e in
+    let m = from_map (with_line script) (line_of (before_next script.header script.commands) text) longer e in
     subst Keeps (sym m.2) (keeps_said script text m.0 all k m.1)
 
 -- ---- all lines
@@ -151,7 +151,7 @@ abbrev continued : ℕ → List (List ℕ) → Result Script Cause → Result Sc
 continued line texts (Ok longer) = script_from (line + 1) longer texts
 continued line texts (Err cause) = Err (record { line = line; cause = cause })
 
-keeps_by : (line : ℕ) (script final : Script) (text : List ℕ) (texts : List (List ℕ)) (r : Result Script Cause) → AreBytes text → Keeps script → after_line script text ≡ r
+keeps_by : (line : ℕ) (script final : Script) (text : List ℕ) (texts : List (List ℕ)) (r : Result Script Cause) → AreBytes text → Keeps script → script_after script text ≡ r
     → ((longer : Script) → Keeps longer → script_from (line + 1) longer texts ≡ Ok final → Keeps final)
     → continued line texts r ≡ Ok final → Keeps final
 keeps_by line script final text texts (Ok longer) all k a rest e = rest longer (keeps_line script longer text all k a) e
@@ -160,7 +160,7 @@ keeps_by line script final text texts (Err cause) all k a rest e = cc
 keeps_from : (line : ℕ) (script final : Script) (texts : List (List ℕ)) → All AreBytes texts → Keeps script → script_from line script texts ≡ Ok final → Keeps final
 keeps_from line script final [] all k e = subst Keeps (read_inside script final (Ok script) refl e) k
 keeps_from line script final (text ∷ texts) all k e =
-    keeps_by line script final text texts (after_line script text) (first_of AreBytes text texts all) k refl
+    keeps_by line script final text texts (script_after script text) (first_of AreBytes text texts all) k refl
     (λ longer kept f. keeps_from (line + 1) longer final texts (rest_of AreBytes text texts all) kept f) e
 
 empty_keeps : Keeps empty_script

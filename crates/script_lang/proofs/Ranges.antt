@@ -50,33 +50,34 @@ partition_above from text n e =
 pub node_is : (text : List ℕ) (n : ℕ) → value.node text ≡ Ok n → IsNode n
 node_is text n e = let range = within 1 65535 text n e in let low = range.0 in let high = range.1 in record { positive = omega arith; fits = omega arith }
 
-among_by : (id n : ℕ) (ids : List ℕ) (t : Bool) → (n == id) ≡ t → (value.is_among id ids ≡ true → Contains ids id) → (t || value.is_among id ids) ≡ true → Contains (n ∷ ids) id
+among_by : (id n : ℕ) (ids : List ℕ) (t : Bool) → (n == id) ≡ t → (value.is_one_of id ids ≡ true → Contains ids id) → (t || value.is_one_of id ids) ≡ true → Contains (n ∷ ids) id
 among_by id n ids true e rest h = (0, omega arith, eqb-true _ _ e)
 among_by id n ids false e rest h = let c = rest h in (suc c.0, omega (arith, c.1), c.2)
 
-pub among : (id : ℕ) (ids : List ℕ) → value.is_among id ids ≡ true → Contains ids id
+pub among : (id : ℕ) (ids : List ℕ) → value.is_one_of id ids ≡ true → Contains ids id
 among id [] h = cc
 among id (n ∷ ids) h = among_by id n ids (n == id) refl (among id ids) h
 
 pub declared_is : (before : Before) (text : List ℕ) (n : ℕ) → value.declared_node before text ≡ Ok n → IsNode n × Contains before.nodes n
 declared_is before text n e =
-    let t = from_then (value.node text) (λ id. ok_if (value.is_among id before.nodes) id UnknownNode) n e in
-    let told = if_ok (value.is_among t.0 before.nodes) t.0 n UnknownNode t.2 in
+    let t = from_then (value.node text) (λ id. ok_if (value.is_one_of id before.nodes) id UnknownNode) n e in
+    let told = if_ok (value.is_one_of t.0 before.nodes) t.0 n UnknownNode t.2 in
     subst (λ (k : ℕ). IsNode k × Contains before.nodes k) told.1 (node_is text t.0 t.1, among t.0 before.nodes told.0)
 
 if_fresh : (t : Bool) (x y : ℕ) (q : Bool) → cond t (Err RepeatedNode) (ok_if q x TooManyNodes) ≡ Ok y → (t ≡ false) × (q ≡ true) × (x ≡ y)
 if_fresh true x y q e = cc
 if_fresh false x y q e = let told = if_ok q x y TooManyNodes e in (refl, told.0, told.1)
 
-pub new_is : (before : Before) (text : List ℕ) (n : ℕ) → value.new_node before text ≡ Ok n → IsNode n × (value.is_among n before.nodes ≡ false) × (length before.nodes < 16)
+pub new_is : (before : Before) (text : List ℕ) (n : ℕ) → value.new_node before text ≡ Ok n → IsNode n × (value.is_one_of n before.nodes ≡ false) × (length before.nodes < 16)
 new_is before text n e =
-    let t = from_then (value.node text) (λ id. cond (value.is_among id before.nodes) (Err RepeatedNode) (ok_if (nat_lt (length before.nodes) 16) id TooManyNodes)) n e in
-    let told = if_fresh (value.is_among t.0 before.nodes) t.0 n (nat_lt (length before.nodes) 16) t.2 in
-    subst (λ (k : ℕ). IsNode k × (value.is_among k before.nodes ≡ false) × (length before.nodes < 16)) told.2 (node_is text t.0 t.1, told.0, ltb-true _ _ told.1)
+    let t = from_then (value.node text) (λ id. cond (value.is_one_of id before.nodes) (Err RepeatedNode) (ok_if (nat_lt (length before.nodes) 16) id TooManyNodes)) n e in
+    let told = if_fresh (value.is_one_of t.0 before.nodes) t.0 n (nat_lt (length before.nodes) 16) t.2 in
+    subst (λ (k : ℕ). IsNode k × (value.is_one_of k before.nodes ≡ false) × (length before.nodes < 16)) told.2 (node_is text t.0 t.1, told.0, ltb-true _ _ told.1)
 
-pub contained : (id : ℕ) (ids : List ℕ) → Contains ids id → value.is_among id ids ≡ true
+pub contained : (id : ℕ) (ids : List ℕ) → Contains ids id → value.is_one_of id ids ≡ true
 contained id [] (k, below, same) = absurd (omega arith)
-contained id (n ∷ ids) (zero, below, same) = ap (λ t. t || value.is_among id ids) (eq-eqb n id same)
+contained id (n ∷ ids) (zero, below, same) = ap (λ t. t || value.is_one_of id ids)
+    (eq-eqb n id same)
 contained id (n ∷ ids) (suc k, below, same) = ap (λ t. (n == id) || t) (contained id ids (k, omega arith, same)) ∙ either (n == id)
   where
     either : (t : Bool) → (t || true) ≡ true

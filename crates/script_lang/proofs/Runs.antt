@@ -6,30 +6,30 @@ use Rattle.std.proofs.lemmas.List.Folds.{length-prefix_len}
 use Rattle.std.proofs.lemmas.List.Quantifiers.{position-Some}
 use Rattle.std.proofs.lemmas.List.Sums.{prefix_len-le-length}
 use Rattle.std.specs.List.{slice_split, position, position_or_len, onto_first}
-use Rattle.script_lang.specs.Layout.{is_blank, is_some_text, fields_of}
+use Rattle.script_lang.specs.Layout.{is_blank, is_some_text, line_fields}
 
 -- ---- spaces and tabs at the front
 
-skip_by : (x : ℕ) (xs : List ℕ) (t : Bool) → is_blank x ≡ t → fields_of xs ≡ fields_of (drop (position_or_len (λ b. not (is_blank b)) xs) xs)
+skip_by : (x : ℕ) (xs : List ℕ) (t : Bool) → is_blank x ≡ t → line_fields xs ≡ line_fields (drop (position_or_len (λ b. not (is_blank b)) xs) xs)
     → filter is_some_text (cond t ([] ∷ slice_split is_blank xs) (onto_first x (slice_split is_blank xs)))
-    ≡ fields_of (drop (cond (not (not t)) (1 + position_or_len (λ b. not (is_blank b)) xs) 0) (x ∷ xs))
+    ≡ line_fields (drop (cond (not (not t)) (1 + position_or_len (λ b. not (is_blank b)) xs) 0) (x ∷ xs))
 skip_by x xs true e rest =
     let one : 1 + position_or_len (λ b. not (is_blank b)) xs ≡ suc (position_or_len (λ b. not (is_blank b)) xs) = omega arith in
-    rest ∙ ap (λ n. fields_of (drop n (x ∷ xs))) (sym one)
+    rest ∙ ap (λ n. line_fields (drop n (x ∷ xs))) (sym one)
 skip_by x xs false e rest = ap (λ t. filter is_some_text (cond t ([] ∷ slice_split is_blank xs) (onto_first x (slice_split is_blank xs)))) (sym e)
 
 -- they are no part of a field
-pub skipped : (xs : List ℕ) → fields_of xs ≡ fields_of (drop (position_or_len (λ b. not (is_blank b)) xs) xs)
+pub skipped : (xs : List ℕ) → line_fields xs ≡ line_fields (drop (position_or_len (λ b. not (is_blank b)) xs) xs)
 skipped [] = refl
 skipped (x ∷ xs) = subst (λ t. filter is_some_text (cond t ([] ∷ slice_split is_blank xs) (onto_first x (slice_split is_blank xs)))
-    ≡ fields_of (drop (cond (not (not t)) (1 + position_or_len (λ b. not (is_blank b)) xs) 0) (x ∷ xs))) refl (skip_by x xs (is_blank x) refl (skipped xs))
+    ≡ line_fields (drop (cond (not (not t)) (1 + position_or_len (λ b. not (is_blank b)) xs) 0) (x ∷ xs))) refl (skip_by x xs (is_blank x) refl (skipped xs))
 
 -- ---- the run at the front
 
 pub record SplitsRun (xs : List ℕ) : Type 0 where
   pub more : List (List ℕ)
   pub parts : slice_split is_blank xs ≡ take (position_or_len is_blank xs) xs ∷ more
-  pub rest : filter is_some_text more ≡ fields_of (drop (position_or_len is_blank xs) xs)
+  pub rest : filter is_some_text more ≡ line_fields (drop (position_or_len is_blank xs) xs)
 
 run_by : (x : ℕ) (xs : List ℕ) (t : Bool) → is_blank x ≡ t → SplitsRun xs → SplitsRun (x ∷ xs)
 run_by x xs true e r = record {
@@ -71,12 +71,12 @@ unfound p xs e =
     omega (arith, high, low)
 
 -- without a byte that is no space or tab there are no fields
-pub no_fields : (xs : List ℕ) → position (λ b. not (is_blank b)) xs ≡ None → fields_of xs ≡ []
+pub no_fields : (xs : List ℕ) → position (λ b. not (is_blank b)) xs ≡ None → line_fields xs ≡ []
 no_fields xs e =
-    skipped xs ∙ ap (λ n. fields_of (drop n xs)) (sym (unfound _ xs e)) ∙ ap fields_of (drop_all (length xs) xs (omega arith))
+    skipped xs ∙ ap (λ n. line_fields (drop n xs)) (sym (unfound _ xs e)) ∙ ap line_fields (drop_all (length xs) xs (omega arith))
 
 first_run : (text : List ℕ) → 0 < length text → is_blank (get_or text 0 0) ≡ false
-    → fields_of text ≡ take (position_or_len is_blank text) text ∷ fields_of (drop (position_or_len is_blank text) text)
+    → line_fields text ≡ take (position_or_len is_blank text) text ∷ line_fields (drop (position_or_len is_blank text) text)
 first_run [] some first = absurd (omega (arith, some))
 first_run (x ∷ xs) some first =
     let r = run (x ∷ xs) in
@@ -99,12 +99,13 @@ starts rest start s =
 
 pub field_taken : (rest text field left : List ℕ) (start end : ℕ)
     → position (λ b. not (is_blank b)) rest ≡ Some start → text ≡ drop start rest → end ≡ position_or_len is_blank text
-    → field ≡ take end text → left ≡ drop end text → fields_of rest ≡ field ∷ fields_of left
+    → field ≡ take end text → left ≡ drop end text → line_fields rest ≡ field ∷ line_fields left
 field_taken rest text field left start end s t e f l =
     let place = found _ rest start s in
     let within = place.1 in
     let size : length (drop start rest) ≡ length rest - start = length-drop start rest in
     let long : 0 < length text = subst (λ x. 0 < length x) (sym t) (omega (arith, size, within)) in
     let first : is_blank (get_or text 0 0) ≡ false = subst (λ x. is_blank (get_or x 0 0) ≡ false) (sym t) (starts rest start s) in
-    skipped rest ∙ ap (λ n. fields_of (drop n rest)) place.0 ∙ ap fields_of (sym t) ∙ first_run text long first
-    ∙ ap (λ n. take n text ∷ fields_of (drop n text)) (sym e) ∙ (λ i. sym f i ∷ fields_of (sym l i))
+    skipped rest ∙ ap (λ n. line_fields (drop n rest)) place.0 ∙ ap line_fields (sym t) ∙ first_run text long first
+    ∙ ap (λ n. take n text ∷ line_fields (drop n text)) (sym e)
+    ∙ (λ i. sym f i ∷ line_fields (sym l i))

@@ -26,13 +26,13 @@ use Rattle.script_lang.specs.declared.words.HeaderWord.{HeaderWord}
 use Rattle.script_lang.specs.declared.words.HeaderWord.TheVariants as header_word
 use Rattle.script_lang.specs.declared.words.CommandWord.{CommandWord}
 use Rattle.script_lang.specs.declared.words.CommandWord.TheVariants as command_word
-use Rattle.script_lang.specs.Before.{before_of, declared_by, nodes_of}
+use Rattle.script_lang.specs.Before.{before_next, declared_by, nodes_of}
 use Rattle.script_lang.specs.Forms as form
-use Rattle.script_lang.specs.Grammar.{Fault, known_word, line_of, line_of_word, script_from, script_of, standing, with_line}
+use Rattle.script_lang.specs.Grammar.{Fault, known_word, line_of, line_of_word, script_from, script_of, word_standing, with_line}
 use Rattle.script_lang.specs.Layout.{lines_of, is_comment}
 use Rattle.script_lang.specs.Outcomes.{and_then, map_ok, ok_if}
 use Rattle.script_lang.specs.Proper.{IsNode, IsDigest, IsAnyValue, IsProper, IsProperCommand, IsProperHeaderLine, IsServed, IsInOrder, IsOfVersion, MayFollow, MayAllFollow, NamesNodesOf}
-use Rattle.script_lang.specs.Spelling.{HasWrittenValue, IsSpelled, command_fields, group_fields, header_fields, key, policy_name, spelling}
+use Rattle.script_lang.specs.Spelling.{HasWrittenValue, IsSpelled, command_fields, group_fields, header_fields, key, policy_name, script_text}
 use Rattle.script_lang.specs.Spelling as spell
 use Rattle.script_lang.specs.Values as value
 use Rattle.script_lang.specs.Words.{is_command_served, word_of, added_word}
@@ -44,9 +44,9 @@ use Rattle.script_lang.proofs.Written.{AreClean, IsClean, fields_back, joined_te
 
 -- ---- fields
 
-new_back : (before : Before) (n : ℕ) → IsNode n → value.is_among n before.nodes ≡ false → length before.nodes < 16 → value.new_node before (decimal n) ≡ Ok n
+new_back : (before : Before) (n : ℕ) → IsNode n → value.is_one_of n before.nodes ≡ false → length before.nodes < 16 → value.new_node before (decimal n) ≡ Ok n
 new_back before n i fresh few =
-    ap (λ r. and_then r (λ id. cond (value.is_among id before.nodes) (Err RepeatedNode) (ok_if (nat_lt (length before.nodes) 16) id TooManyNodes))) (node_back n i)
+    ap (λ r. and_then r (λ id. cond (value.is_one_of id before.nodes) (Err RepeatedNode) (ok_if (nat_lt (length before.nodes) 16) id TooManyNodes))) (node_back n i)
     ∙ ap (λ t. cond t (Err RepeatedNode) (ok_if (nat_lt (length before.nodes) 16) n TooManyNodes)) fresh
     ∙ ap (λ t. ok_if t n TooManyNodes) (lt-ltb _ _ few)
 
@@ -67,10 +67,10 @@ said_back before first rest w said clean spoken known e =
     good_text before (join_with_byte 32 (first ∷ rest)) first rest (record { fields = fields_back (first ∷ rest) clean; spoken = spoken }) (joined_text (first ∷ rest) clean)
     ∙ ap (λ r. and_then r (λ k. line_of_word before k rest)) known ∙ e
 
-header_stands : (before : Before) (w : HeaderWord) → before.has_commands ≡ false → standing before (Some (kind.Header w)) ≡ Ok (kind.Header w)
+header_stands : (before : Before) (w : HeaderWord) → before.has_commands ≡ false → word_standing before (Some (kind.Header w)) ≡ Ok (kind.Header w)
 header_stands before w first = ap (λ t. cond t (Err HeaderLate) (Ok (kind.Header w))) first
 
-command_stands : (before : Before) (w : CommandWord) → is_command_served w (length before.nodes) ≡ true → standing before (Some (kind.Command w)) ≡ Ok (kind.Command w)
+command_stands : (before : Before) (w : CommandWord) → is_command_served w (length before.nodes) ≡ true → word_standing before (Some (kind.Command w)) ≡ Ok (kind.Command w)
 command_stands before w served = ap (λ t. cond (not t) (Err NotBuilt) (Ok (kind.Command w))) served
 
 -- ---- header lines
@@ -89,13 +89,13 @@ factor_back f above below =
     ap (λ r. and_then r (λ n. ok_if (nat_le 1 n && nat_le n 4) n BadFactor)) (number_back f (omega (arith, below)))
     ∙ ap (λ t. ok_if t f BadFactor) (and_from _ _ (le-leb _ _ above) (le-leb _ _ below))
 
-plain_back : (before : Before) (n : ℕ) → IsNode n → value.is_among n before.nodes ≡ false → length before.nodes < 16 → form.plain_node before (decimal n ∷ []) ≡ Ok (header.Node n None)
+plain_back : (before : Before) (n : ℕ) → IsNode n → value.is_one_of n before.nodes ≡ false → length before.nodes < 16 → form.plain_node before (decimal n ∷ []) ≡ Ok (header.Node n None)
 plain_back before n i fresh few = ap (map_ok (λ id. header.Node id None)) (new_back before n i fresh few)
 
-bare_back : (before : Before) (n : ℕ) → IsNode n → value.is_among n before.nodes ≡ false → length before.nodes < 16 → form.racked_node before (decimal n ∷ []) ≡ Ok (header.Node n None)
+bare_back : (before : Before) (n : ℕ) → IsNode n → value.is_one_of n before.nodes ≡ false → length before.nodes < 16 → form.racked_node before (decimal n ∷ []) ≡ Ok (header.Node n None)
 bare_back before n i fresh few = ap (λ r. and_then r (λ id. map_ok (λ rack. header.Node id rack) (Ok None))) (new_back before n i fresh few)
 
-racked_back : (before : Before) (n r : ℕ) → IsNode n → r < 256 → value.is_among n before.nodes ≡ false → length before.nodes < 16 → form.racked_node before (decimal n ∷ decimal r ∷ []) ≡ Ok (header.Node n (Some r))
+racked_back : (before : Before) (n r : ℕ) → IsNode n → r < 256 → value.is_one_of n before.nodes ≡ false → length before.nodes < 16 → form.racked_node before (decimal n ∷ decimal r ∷ []) ≡ Ok (header.Node n (Some r))
 racked_back before n r i fits fresh few =
     ap (λ x. and_then x (λ id. map_ok (λ rack. header.Node id rack) (map_ok Some (value.rack (decimal r))))) (new_back before n i fresh few)
     ∙ ap (λ x. map_ok (λ rack. header.Node n rack) (map_ok Some x)) (within_back 0 255 r (omega arith) (omega (arith, fits)) (omega (arith, fits)))
@@ -146,7 +146,7 @@ header_back before (header.Node n (Some r)) first p m =
     ∙ racked_back before n r p.0 p.1 m.0.0 m.0.1))
 header_back before (header.Policy by) first p m =
     said_back before (codes "policy") (policy_name by ∷ []) (kind.Header header_word.Policy) (line.Header (header.Policy by)) (header_clean (header.Policy by) p) refl
-    (ap (standing before) (ap (λ t. cond t (added_word (codes "policy")) None) (eq-eqb _ _ m)) ∙ header_stands before header_word.Policy first)
+    (ap (word_standing before) (ap (λ t. cond t (added_word (codes "policy")) None) (eq-eqb _ _ m)) ∙ header_stands before header_word.Policy first)
     (ap (map_ok (λ x. line.Header x)) (policy_back by))
 
 -- ---- commands
@@ -164,7 +164,7 @@ said_command : (before : Before) (first : List ℕ) (rest : List (List ℕ)) (w 
     → is_command_served w (length before.nodes) ≡ true → word_of before.version first ≡ Some (kind.Command w) → form.command_line before w rest ≡ Ok c
     → line_of before (join_with_byte 32 (first ∷ rest)) ≡ Ok (line.Command c)
 said_command before first rest w c clean spoken served word e =
-    said_back before first rest (kind.Command w) (line.Command c) clean spoken (ap (standing before) word ∙ command_stands before w served) (ap (map_ok (λ x. line.Command x)) e)
+    said_back before first rest (kind.Command w) (line.Command c) clean spoken (ap (word_standing before) word ∙ command_stands before w served) (ap (map_ok (λ x. line.Command x)) e)
 
 clock_back : (before : Before) (n t : ℕ) → IsNode n → Contains before.nodes n → t < 2 ^ 64 → form.clock before (decimal n ∷ decimal t ∷ []) ≡ Ok (command.Clock n t)
 clock_back before n t i c fits =
@@ -343,7 +343,7 @@ continued number texts (Ok longer) = script_from (number + 1) longer texts
 continued number texts (Err cause) = Err (record { line = number; cause = cause })
 
 one_line : (number : ℕ) (script : Script) (fields : List (List ℕ)) (rest : List ℕ) (said : Line) → AreClean fields
-    → line_of (before_of script.header script.commands) (join_with_byte 32 fields) ≡ Ok said
+    → line_of (before_next script.header script.commands) (join_with_byte 32 fields) ≡ Ok said
     → script_from number script (lines_of (spell.line fields ++ rest)) ≡ script_from (number + 1) (with_line script said) (lines_of rest)
 one_line number script fields rest said clean e =
     ap (script_from number script) (line_back fields rest clean)
@@ -359,20 +359,20 @@ headers_back number done (h ∷ lines) rest proper order =
     let next = headers_back (number + 1) (done ++ h ∷ []) lines rest (All-tail IsProperHeaderLine h lines proper) order.1 in (
       next.0,
       ap (λ t. script_from number (record { header = done; commands = [] }) (lines_of t)) (append_assoc (spell.line (header_fields h)) more rest)
-          ∙ one_line number (record { header = done; commands = [] }) (header_fields h) (more ++ rest) (line.Header h) (header_clean h p) (header_back (before_of done []) h refl p order.0)
+          ∙ one_line number (record { header = done; commands = [] }) (header_fields h) (more ++ rest) (line.Header h) (header_clean h p) (header_back (before_next done []) h refl p order.0)
           ∙ next.1
           ∙ ap (λ (hs : List HeaderLine). script_from next.0 (record { header = hs; commands = [] }) (lines_of rest)) (append_assoc done (h ∷ []) lines),
     )
 
-commands_back : (number : ℕ) (header : List HeaderLine) (done commands : List Command) → All (IsDue (before_of header [])) commands
+commands_back : (number : ℕ) (header : List HeaderLine) (done commands : List Command) → All (IsDue (before_next header [])) commands
     → script_from number (record { header = header; commands = done }) (lines_of (flat_map spell.line (map command_fields commands))) ≡ Ok (record { header = header; commands = done ++ commands })
 commands_back number header done [] due = ap (λ (cs : List Command). Ok (record { header = header; commands = cs })) (sym (append-nil done))
 commands_back number header done (c ∷ commands) due =
-    let d = All-head (IsDue (before_of header [])) c commands due in
-    let here : IsDue (before_of header done) c = record { nodes = d.nodes; ranges = d.ranges; named = d.named; served = d.served; of_version = d.of_version; written = d.written } in
+    let d = All-head (IsDue (before_next header [])) c commands due in
+    let here : IsDue (before_next header done) c = record { nodes = d.nodes; ranges = d.ranges; named = d.named; served = d.served; of_version = d.of_version; written = d.written } in
     one_line number (record { header = header; commands = done }) (command_fields c) (flat_map spell.line (map command_fields commands)) (line.Command c)
-    (command_clean (before_of header done) c here) (command_back (before_of header done) c here)
-    ∙ commands_back (number + 1) header (done ++ c ∷ []) commands (All-tail (IsDue (before_of header [])) c commands due)
+    (command_clean (before_next header done) c here) (command_back (before_next header done) c here)
+    ∙ commands_back (number + 1) header (done ++ c ∷ []) commands (All-tail (IsDue (before_next header [])) c commands due)
     ∙ ap (λ (cs : List Command). Ok (record { header = header; commands = cs })) (append_assoc done (c ∷ []) commands)
 
 -- each node that a proper header declares is one
@@ -402,8 +402,8 @@ all_due before commands nodes ranges named served versions written = λ k d belo
   written = written k d below;
 }
 
-pub read_back : (script : Script) → IsProper script → IsServed script → IsInOrder script → IsSpelled script → script_of (spelling script) ≡ Ok script
+pub read_back : (script : Script) → IsProper script → IsServed script → IsInOrder script → IsSpelled script → script_of (script_text script) ≡ Ok script
 read_back script p s o w =
     let h = headers_back 1 [] script.header (flat_map spell.line (map command_fields script.commands)) p.header o.order in
     let nodes = contained_node (nodes_of script.header) (declared_nodes script.header p.header) in
-    h.1 ∙ commands_back h.0 script.header [] script.commands (all_due (before_of script.header []) script.commands nodes p.commands p.named s.commands o.versions w.values)
+    h.1 ∙ commands_back h.0 script.header [] script.commands (all_due (before_next script.header []) script.commands nodes p.commands p.named s.commands o.versions w.values)

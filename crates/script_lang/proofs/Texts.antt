@@ -10,13 +10,13 @@ use Rattle.script_lang.specs.declared.lines.Line.{Line}
 use Rattle.script_lang.specs.declared.lines.Line.TheVariants.{Nothing}
 use Rattle.script_lang.specs.declared.words.Word.{Word}
 use Rattle.script_lang.specs.Grammar.{line_of, line_of_fields, line_of_word, known_word}
-use Rattle.script_lang.specs.Layout.{fields_of, is_comment, is_passed_over}
+use Rattle.script_lang.specs.Layout.{line_fields, is_comment, is_passed_over}
 use Rattle.script_lang.specs.Outcomes.{and_then}
-use Rattle.script_lang.specs.Reading.{Reads}
+use Rattle.script_lang.specs.Reading.{ReadsOutcome}
 
 -- a line that isn't passed over begins with this field
 pub record BeginsWith (text first : List ℕ) (rest : List (List ℕ)) : Type 0 where
-  pub fields : fields_of text ≡ first ∷ rest
+  pub fields : line_fields text ≡ first ∷ rest
   pub spoken : is_comment first ≡ false
 
 by_parts : Before → List (List ℕ) → Bool → Result Line Cause
@@ -27,7 +27,7 @@ in_parts : (before : Before) (text first : List ℕ) (rest : List (List ℕ)) (u
 unfolding by_parts
 in_parts before text first rest utf8 b u =
     let e = b.fields in
-    let whole : by_parts before (fields_of text) (is_utf8 text) ≡ by_parts before (first ∷ rest) utf8 = λ i. by_parts before (e i) (u i) in
+    let whole : by_parts before (line_fields text) (is_utf8 text) ≡ by_parts before (first ∷ rest) utf8 = λ i. by_parts before (e i) (u i) in
     whole ∙ ap (λ t. cond t (Ok Nothing) (cond (not utf8) (Err BadUtf8) (line_of_fields before (first ∷ rest)))) b.spoken
 
 refuted : (bs : List ℕ) (t : Bool) → is_utf8 bs ≡ t → (IsUtf8 bs → ⊥) → is_utf8 bs ≡ false
@@ -46,8 +46,8 @@ pub no_word : (before : Before) (text first : List ℕ) (rest : List (List ℕ))
 no_word before text first rest cause b good e = good_text before text first rest b good ∙ ap (λ r. and_then r (λ w. line_of_word before w rest)) (sym e)
 
 pub a_word : (before : Before) (text first : List ℕ) (rest : List (List ℕ)) (w : Word) (r : Result Line LineFault) → BeginsWith text first rest → IsUtf8 text → Ok w ≡ known_word before first
-    → Reads r (line_of_word before w rest) → Reads r (line_of before text)
+    → ReadsOutcome r (line_of_word before w rest) → ReadsOutcome r (line_of before text)
 a_word before text first rest w r b good e said =
     let due : line_of_word before w rest ≡ line_of before text =
     sym (good_text before text first rest b good ∙ ap (λ k. and_then k (λ w. line_of_word before w rest)) (sym e)) in
-    subst (λ (d : Result Line Cause). Reads r d) due said
+    subst (λ (d : Result Line Cause). ReadsOutcome r d) due said

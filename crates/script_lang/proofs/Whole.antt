@@ -6,7 +6,7 @@ use Rattle.script_lang.specs.declared.fault.Cause.{Cause}
 use Rattle.script_lang.specs.declared.fault.ScriptFault.{ScriptFault}
 use Rattle.script_lang.specs.declared.fault.ScriptFault.TheVariants.{At, NoMemory}
 use Rattle.script_lang.specs.declared.script.Script.{Script}
-use Rattle.script_lang.specs.Grammar.{Fault, script_from, after_line}
+use Rattle.script_lang.specs.Grammar.{Fault, script_from, script_after}
 use Rattle.script_lang.specs.Layout.{ended, lines_of, without_return, ends_in_return}
 use Rattle.script_lang.specs.Reading.{CutAt, Refuses, RefusesAt}
 use Rattle.script_lang.proofs.Parts.{cut_off, sole_part}
@@ -54,31 +54,31 @@ line_short bytes text behind line c e =
 
 -- ---- the script from a line on
 
-goes_on : (line : ℕ) (script longer : Script) (text : List ℕ) (texts : List (List ℕ)) (r : Result Script Cause) → r ≡ Ok longer → after_line script text ≡ r
+goes_on : (line : ℕ) (script longer : Script) (text : List ℕ) (texts : List (List ℕ)) (r : Result Script Cause) → r ≡ Ok longer → script_after script text ≡ r
     → script_from line script (text ∷ texts) ≡ script_from (line + 1) longer texts
 goes_on line script longer text texts r e same =
     ap (λ (x : Result Script Cause). elim x [ Ok s ↦ script_from (line + 1) s texts | Err cause ↦ Err (record { line = line; cause = cause }) ]) (same ∙ e)
 
 pub one_more : (line : ℕ) (script longer : Script) (bytes text behind taken : List ℕ) (all : Result Script Fault) → CutAt 10 bytes text behind → taken ≡ without_return text
-    → script_from line script (lines_of bytes) ≡ all → after_line script taken ≡ Ok longer → script_from (line + 1) longer (lines_of behind) ≡ all
+    → script_from line script (lines_of bytes) ≡ all → script_after script taken ≡ Ok longer → script_from (line + 1) longer (lines_of behind) ≡ all
 one_more line script longer bytes text behind taken all c t so_far e =
     sym (ap (script_from line script) (next_line bytes text behind c)
-    ∙ goes_on line script longer (without_return text) (lines_of behind) (after_line script taken) e (ap (after_line script) (sym t))) ∙ so_far
+    ∙ goes_on line script longer (without_return text) (lines_of behind) (script_after script taken) e (ap (script_after script) (sym t))) ∙ so_far
 
 pub one_bad : (line : ℕ) (script : Script) (bytes text behind taken : List ℕ) (cause : Cause) (all : Result Script Fault) → CutAt 10 bytes text behind → taken ≡ without_return text
-    → script_from line script (lines_of bytes) ≡ all → after_line script taken ≡ Err cause → all ≡ Err (record { line = line; cause = cause })
+    → script_from line script (lines_of bytes) ≡ all → script_after script taken ≡ Err cause → all ≡ Err (record { line = line; cause = cause })
 one_bad line script bytes text behind taken cause all c t so_far e =
     sym so_far ∙ ap (script_from line script) (next_line bytes text behind c)
-    ∙ ap (λ (x : Result Script Cause). elim x [ Ok s ↦ script_from (line + 1) s (lines_of behind) | Err cause ↦ Err (record { line = line; cause = cause }) ]) (ap (after_line script) (sym t) ∙ e)
+    ∙ ap (λ (x : Result Script Cause). elim x [ Ok s ↦ script_from (line + 1) s (lines_of behind) | Err cause ↦ Err (record { line = line; cause = cause }) ]) (ap (script_after script) (sym t) ∙ e)
 
 pub refused : (line : ℕ) (script : Script) (bytes text behind taken : List ℕ) (fault : ScriptFault) (all : Result Script Fault) → CutAt 10 bytes text behind → taken ≡ without_return text
-    → script_from line script (lines_of bytes) ≡ all → RefusesAt line (after_line script taken) fault → Refuses all fault
+    → script_from line script (lines_of bytes) ≡ all → RefusesAt line (script_after script taken) fault → Refuses all fault
 refused line script bytes text behind taken (At place cause) all c t so_far r =
     one_bad line script bytes text behind taken cause all c t so_far r.1 ∙ ap (λ (n : ℕ). Err (record { line = n; cause = cause })) (sym r.0)
 refused line script bytes text behind taken NoMemory all c t so_far r = tt
 
 pub last_refused : (line : ℕ) (script : Script) (bytes : List ℕ) (fault : ScriptFault) (all : Result Script Fault) → length bytes ≤ position_or_len (λ b. b == 10) bytes
-    → script_from line script (lines_of bytes) ≡ all → RefusesAt line (after_line script bytes) fault → Refuses all fault
+    → script_from line script (lines_of bytes) ≡ all → RefusesAt line (script_after script bytes) fault → Refuses all fault
 last_refused line script bytes (At place cause) all none so_far r =
     sym so_far ∙ ap (script_from line script) (last_line bytes none)
     ∙ ap (λ (x : Result Script Cause). elim x [ Ok s ↦ script_from (line + 1) s [] | Err cause ↦ Err (record { line = line; cause = cause }) ]) r.1
@@ -86,12 +86,12 @@ last_refused line script bytes (At place cause) all none so_far r =
 last_refused line script bytes NoMemory all none so_far r = tt
 
 pub last_read : (line : ℕ) (script longer : Script) (bytes : List ℕ) (all : Result Script Fault) → length bytes ≤ position_or_len (λ b. b == 10) bytes
-    → script_from line script (lines_of bytes) ≡ all → after_line script bytes ≡ Ok longer → all ≡ Ok longer
+    → script_from line script (lines_of bytes) ≡ all → script_after script bytes ≡ Ok longer → all ≡ Ok longer
 last_read line script longer bytes all none so_far e =
     sym so_far ∙ ap (script_from line script) (last_line bytes none)
     ∙ ap (λ (x : Result Script Cause). elim x [ Ok s ↦ script_from (line + 1) s [] | Err cause ↦ Err (record { line = line; cause = cause }) ]) e
 
-pub nothing_left : (script : Script) (bytes : List ℕ) → (length bytes == 0) ≡ true → after_line script bytes ≡ Ok script
+pub nothing_left : (script : Script) (bytes : List ℕ) → (length bytes == 0) ≡ true → script_after script bytes ≡ Ok script
 nothing_left script [] e = refl
 nothing_left script (b ∷ bytes) e = let none : suc (length bytes) ≡ 0 = eqb-true _ _ e in absurd (omega (arith, none))
 

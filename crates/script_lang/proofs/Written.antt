@@ -15,7 +15,7 @@ use Rattle.std.proofs.lemmas.Fmt.{decimal_is_IsNumeral, length-decimal-le}
 use Rattle.hex.specs.Hex.{IsBytes, encode_lower, encode_with, lower_digits}
 use Rattle.hex.proofs.HexLemmas.{decode_sized-encode_lower}
 use Rattle.script_lang.specs.declared.fault.Cause.TheVariants.{BadNumber, BadDigest}
-use Rattle.script_lang.specs.Layout.{is_blank, is_some_text, fields_of, lines_of, without_return}
+use Rattle.script_lang.specs.Layout.{is_blank, is_some_text, line_fields, lines_of, without_return}
 use Rattle.script_lang.specs.Outcomes.{or_cause, ok_if}
 use Rattle.script_lang.specs.Proper.{IsDigest}
 use Rattle.script_lang.specs.Spelling.{IsPart, IsWritten, key, line}
@@ -141,7 +141,7 @@ no_feed field c = All-weaker IsPart (λ b. (b == 10) ≡ false) (λ b p. ne_eqb 
 kept : (field : List ℕ) (fields : List (List ℕ)) → IsClean field → filter is_some_text (field ∷ fields) ≡ field ∷ filter is_some_text fields
 kept field fields c = ap (λ t. cond t (field ∷ filter is_some_text fields) (filter is_some_text fields)) (lt-ltb _ _ c.some)
 
-pub fields_back : (fields : List (List ℕ)) → AreClean fields → fields_of (join_with_byte 32 fields) ≡ fields
+pub fields_back : (fields : List (List ℕ)) → AreClean fields → line_fields (join_with_byte 32 fields) ≡ fields
 fields_back [] clean = absurd clean
 fields_back (field ∷ []) clean = ap (filter is_some_text) (slice_split_none is_blank field (no_blank field clean)) ∙ kept field [] clean
 fields_back (field ∷ next ∷ fields) clean =

@@ -3,9 +3,9 @@ use Rattle.std.specs.Prelude.{ℕ, List, [], ◌∷◌, Option, Some, None, Resu
 use Rattle.script_lang.specs.declared.fault.Cause.{Cause}
 use Rattle.script_lang.specs.declared.fault.Cause.TheVariants.{MissingField, ExtraField}
 
-abbrev pub none : List (List ℕ) → Result (Unit {0}) Cause
-none [] = Ok tt
-none (a ∷ more) = Err ExtraField
+abbrev pub no_fields : List (List ℕ) → Result (Unit {0}) Cause
+no_fields [] = Ok tt
+no_fields (a ∷ more) = Err ExtraField
 
 abbrev pub one : List (List ℕ) → Result (List ℕ) Cause
 one [] = Err MissingField

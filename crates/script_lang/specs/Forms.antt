@@ -126,7 +126,7 @@ is_bar field = bytes_eq field (codes "|")
 
 abbrev pub are_distinct : List ℕ → Bool
 are_distinct [] = true
-are_distinct (id ∷ ids) = not (value.is_among id ids) && are_distinct ids
+are_distinct (id ∷ ids) = not (value.is_one_of id ids) && are_distinct ids
 
 -- the groups, whose ids are declared, have every declared node just once, and none is empty: they have as many ids as nodes
 -- are declared, and no id stands twice
@@ -175,9 +175,9 @@ command_line before word.CallAgain fields = map_ok (λ n. command.CallAgain n) (
 command_line before word.ScanNext fields = map_ok (λ n. command.ScanNext n) (number fields)
 command_line before word.Place fields = map_ok (λ p. command.Place p) (partition fields)
 command_line before word.Scan fields = map_ok (λ p. command.Scan p) (partition fields)
-command_line before word.Flow fields = map_ok (λ _. command.Flow) (count.none fields)
-command_line before word.Round fields = map_ok (λ _. command.Round) (count.none fields)
-command_line before word.Calm fields = map_ok (λ _. command.Calm) (count.none fields)
+command_line before word.Flow fields = map_ok (λ _. command.Flow) (count.no_fields fields)
+command_line before word.Round fields = map_ok (λ _. command.Round) (count.no_fields fields)
+command_line before word.Calm fields = map_ok (λ _. command.Calm) (count.no_fields fields)
 command_line before word.Clock fields = clock before fields
 command_line before word.Cut fields = cut fields
 command_line before word.Map fields = map before fields

@@ -9,11 +9,11 @@ use Rattle.script_lang.specs.declared.lines.Line.{Line}
 use Rattle.script_lang.specs.declared.lines.Line.TheVariants as line
 use Rattle.script_lang.specs.declared.words.Word.{Word}
 use Rattle.script_lang.specs.declared.words.Word.TheVariants as word
-use Rattle.script_lang.specs.Before.{before_of}
+use Rattle.script_lang.specs.Before.{before_next}
 use Rattle.script_lang.specs.Forms.{header_line, command_line}
-use Rattle.script_lang.specs.Layout.{lines_of, fields_of, is_passed_over}
+use Rattle.script_lang.specs.Layout.{lines_of, line_fields, is_passed_over}
 use Rattle.script_lang.specs.Outcomes.{and_then, map_ok}
-use Rattle.script_lang.specs.Words.{word_of, is_header, is_served}
+use Rattle.script_lang.specs.Words.{word_of, is_header_word, is_served}
 
 -- why bytes are no script: the first bad line, counted from 1, and what is wrong with it
 pub record Fault : Type 0 where
@@ -28,16 +28,16 @@ line_of_word before (word.Header w) fields = map_ok (λ said. line.Header said) 
 line_of_word before (word.Command w) fields = map_ok (λ said. line.Command said) (command_line before w fields)
 
 -- the word where a line of it may stand: it is served, and a header line stands before the commands
-abbrev pub standing : Before → Option Word → Result Word Cause
-standing before None = Err UnknownWord
-standing before (Some w) =
+abbrev pub word_standing : Before → Option Word → Result Word Cause
+word_standing before None = Err UnknownWord
+word_standing before (Some w) =
     if not (is_served w (length before.nodes)) then Err NotBuilt
-    else if is_header w && before.has_commands then Err HeaderLate
+    else if is_header_word w && before.has_commands then Err HeaderLate
     else Ok w
 
 -- the word that the first field is
 abbrev pub known_word : Before → List ℕ → Result Word Cause
-known_word before first = standing before (word_of before.version first)
+known_word before first = word_standing before (word_of before.version first)
 
 abbrev pub line_of_fields : Before → List (List ℕ) → Result Line Cause
 line_of_fields before [] = Ok line.Nothing
@@ -46,9 +46,9 @@ line_of_fields before (first ∷ fields) = and_then (known_word before first) (�
 -- what a line says after the lines before it: nothing where it is passed over, whatever its bytes
 abbrev pub line_of : Before → List ℕ → Result Line Cause
 line_of before text =
-    if is_passed_over (fields_of text) then Ok line.Nothing
+    if is_passed_over (line_fields text) then Ok line.Nothing
     else if not (is_utf8 text) then Err BadUtf8
-    else line_of_fields before (fields_of text)
+    else line_of_fields before (line_fields text)
 
 -- ---- all lines
 
@@ -59,14 +59,14 @@ with_line script (line.Header said) = record script { header = script.header ++ 
 with_line script (line.Command said) = record script { commands = script.commands ++ said ∷ [] }
 
 -- the script with one line more
-abbrev pub after_line : Script → List ℕ → Result Script Cause
-after_line script text = map_ok (with_line script) (line_of (before_of script.header script.commands) text)
+abbrev pub script_after : Script → List ℕ → Result Script Cause
+script_after script text = map_ok (with_line script) (line_of (before_next script.header script.commands) text)
 
 -- the script of the lines from this one on, behind what stands before; the first bad line counts
 abbrev pub script_from : ℕ → Script → List (List ℕ) → Result Script Fault
 script_from line script [] = Ok script
 script_from line script (text ∷ texts) =
-    elim (after_line script text) [
+    elim (script_after script text) [
       | Ok longer ↦ script_from (line + 1) longer texts
       | Err cause ↦ Err (record { line = line; cause = cause })
     ]

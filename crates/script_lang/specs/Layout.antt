@@ -31,8 +31,8 @@ abbrev pub is_some_text : List ℕ → Bool
 is_some_text text = nat_lt 0 (length text)
 
 -- the fields of a line: the longest runs of bytes other than spaces and tabs
-abbrev pub fields_of : List ℕ → List (List ℕ)
-fields_of line = filter is_some_text (slice_split is_blank line)
+abbrev pub line_fields : List ℕ → List (List ℕ)
+line_fields line = filter is_some_text (slice_split is_blank line)
 
 -- a comment begins with a semicolon
 abbrev pub is_comment : List ℕ → Bool

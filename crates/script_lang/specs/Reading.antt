@@ -21,10 +21,10 @@ Refuses read (At line cause) = read ≡ Err (record { line = line; cause = cause
 Refuses read NoMemory = ⊤
 
 -- the outcome is the one that is due, unless memory ran out
-abbrev pub Reads : {Y : Type 0} → Result Y LineFault → Result Y Cause → Type 0
-Reads (Ok said) due = due ≡ Ok said
-Reads (Err (line_fault.Bad cause)) due = due ≡ Err cause
-Reads (Err line_fault.NoMemory) due = ⊤
+abbrev pub ReadsOutcome : {Y : Type 0} → Result Y LineFault → Result Y Cause → Type 0
+ReadsOutcome (Ok said) due = due ≡ Ok said
+ReadsOutcome (Err (line_fault.Bad cause)) due = due ≡ Err cause
+ReadsOutcome (Err line_fault.NoMemory) due = ⊤
 
 -- a line's fault as that of the script
 abbrev pub fault_at : ℕ → LineFault → ScriptFault
@@ -33,7 +33,7 @@ fault_at line line_fault.NoMemory = NoMemory
 
 -- ids that could be read are put into groups
 abbrev pub GroupsIds : List ℕ → Result (List (List ℕ)) LineFault → Result (List (List ℕ)) Cause → Type 0
-GroupsIds nodes result read = (lists : List (List ℕ)) → read ≡ Ok lists → Reads result (ok_if (are_whole nodes lists) lists BadGroups)
+GroupsIds nodes result read = (lists : List (List ℕ)) → read ≡ Ok lists → ReadsOutcome result (ok_if (are_whole nodes lists) lists BadGroups)
 
 -- the fault is that of a script whose line of that number is so read, unless memory ran out
 abbrev pub RefusesAt : {Y : Type 0} → ℕ → Result Y Cause → ScriptFault → Type 0

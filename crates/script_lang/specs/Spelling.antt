@@ -126,8 +126,8 @@ command_fields c = name_of (word_of_command c) ∷ arguments c
 abbrev pub line : List (List ℕ) → List ℕ
 line fields = join_with_byte 32 fields ++ 10 ∷ []
 
-abbrev pub spelling : Script → List ℕ
-spelling script = flat_map line (map header_fields script.header) ++ flat_map line (map command_fields script.commands)
+abbrev pub script_text : Script → List ℕ
+script_text script = flat_map line (map header_fields script.header) ++ flat_map line (map command_fields script.commands)
 
 -- ---- values that can be written so
 

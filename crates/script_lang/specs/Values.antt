@@ -55,17 +55,17 @@ factor text = and_then (number text) (λ n. ok_if (nat_le 1 n && nat_le n 4) n B
 abbrev pub node : List ℕ → Result ℕ Cause
 node text = number_within 1 65535 text
 
-abbrev pub is_among : ℕ → List ℕ → Bool
-is_among id ids = list_any (λ n. n == id) ids
+abbrev pub is_one_of : ℕ → List ℕ → Bool
+is_one_of id ids = list_any (λ n. n == id) ids
 
 -- a node that is declared
 abbrev pub declared_node : Before → List ℕ → Result ℕ Cause
-declared_node before text = and_then (node text) (λ id. ok_if (is_among id before.nodes) id UnknownNode)
+declared_node before text = and_then (node text) (λ id. ok_if (is_one_of id before.nodes) id UnknownNode)
 
 -- a node that isn't declared yet, where fewer than sixteen are
 abbrev pub new_node : Before → List ℕ → Result ℕ Cause
 new_node before text =
-    and_then (node text) (λ id. if is_among id before.nodes then Err RepeatedNode else ok_if (nat_lt (length before.nodes) 16) id TooManyNodes)
+    and_then (node text) (λ id. if is_one_of id before.nodes then Err RepeatedNode else ok_if (nat_lt (length before.nodes) 16) id TooManyNodes)
 
 -- ---- keys, values and policies
 

@@ -1,6 +1,6 @@
 //! What stands before a line.
 ghost use Rattle.std.specs.Prelude.{◌≡◌, [], false};
-ghost use Rattle.script_lang.specs.Before.{after_command, after_header, before_of, MayDeclare};
+ghost use Rattle.script_lang.specs.Before.{after_command, after_header, before_next, MayDeclare};
 
 use crate::script::HeaderLine;
 use cluster_types::NodeList;
@@ -21,7 +21,7 @@ pub struct Before {
 impl Before {
     /// What stands before the first line.
     pub fn nothing() -> Before
-        ensures { result ≡ before_of [] [] }
+        ensures { result ≡ before_next [] [] }
     {
         Before {
             version: 1,

@@ -52,7 +52,7 @@ impl<'a> Model for Fields<'a> {
 impl<'a> Fields<'a> {
     pub fn of(line: &'a [u8]) -> Self
         requires { IsShort line.now }
-        ensures { result ≡ layout.fields_of line.now }
+        ensures { result ≡ layout.line_fields line.now }
     {
         Fields { rest: line }
     }

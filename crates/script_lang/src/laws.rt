@@ -4,11 +4,11 @@ ghost use Rattle.hex.specs.Hex.{IsBytes};
 ghost use Rattle.script_lang.specs.declared.script.Script.{Script};
 ghost use Rattle.script_lang.specs.Grammar.{script_of};
 ghost use Rattle.script_lang.specs.Proper.{IsInOrder, IsProper, IsServed};
-ghost use Rattle.script_lang.specs.Spelling.{IsSpelled, spelling};
+ghost use Rattle.script_lang.specs.Spelling.{IsSpelled, script_text};
 
 /// A proper script whose commands are served is read back from its spelling.
 pub fn spelling_is_read_back()
-    ensures { (script : Script) → IsProper script → IsServed script → IsInOrder script → IsSpelled script → script_of (spelling script) ≡ Ok script }
+    ensures { (script : Script) → IsProper script → IsServed script → IsInOrder script → IsSpelled script → script_of (script_text script) ≡ Ok script }
 {}
 
 /// What is read is proper, and its commands are served.

@@ -60,14 +60,14 @@ struct Reader {
 
 impl Model for Reader {
     ghost use Rattle.std.specs.Prelude.{◌≡◌};
-    ghost use Rattle.script_lang.specs.Before.{before_of};
+    ghost use Rattle.script_lang.specs.Before.{before_next};
     ghost use Rattle.script_lang.specs.declared.script.Script.{Script};
 
     ghost Value = { Script };
 
     ghost view = { λ r. record { header = r.header; commands = r.commands } };
 
-    ghost invariant = { λ r. r.before ≡ before_of r.header r.commands };
+    ghost invariant = { λ r. r.before ≡ before_next r.header r.commands };
 }
 
 impl Reader {
@@ -84,8 +84,8 @@ impl Reader {
     /// Reads one line more, of that number.
     fn read(&mut self, alloc: Global, line: u64, text: &[u8]) -> Result<(), ScriptFault>
         requires { IsShort text.now }
-        ensures ok { OnOk result (grammar.after_line self.old text.now ≡ Ok self.new) }
-        ensures err { IfErr result (RefusesAt line (grammar.after_line self.old text.now)) }
+        ensures ok { OnOk result (grammar.script_after self.old text.now ≡ Ok self.new) }
+        ensures err { IfErr result (RefusesAt line (grammar.script_after self.old text.now)) }
         ensures short { OnOk result (length self.new.commands ≤ length self.old.commands + 1) }
     {
         match line_of(alloc, &self.before, text) {

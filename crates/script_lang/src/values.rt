@@ -1,6 +1,6 @@
 //! Fields that are values or names of policies.
 ghost use Rattle.std.specs.Prelude.{◌≡◌};
-ghost use Rattle.script_lang.specs.Reading.{Reads};
+ghost use Rattle.script_lang.specs.Reading.{ReadsOutcome};
 ghost use Rattle.script_lang.specs.Values as values;
 
 use crate::fault::{Cause, LineFault};
@@ -10,7 +10,7 @@ use std::alloc::Global;
 
 /// A value: the field's bytes, at most 128.
 pub fn value(alloc: Global, field: &Field) -> Result<ValueBytes, LineFault>
-    ensures { Reads result (values.value field.now) }
+    ensures { ReadsOutcome result (values.value field.now) }
 {
     match ValueBytes::from_slice(alloc, field.as_slice()) {
         Ok(value) => Ok(value),

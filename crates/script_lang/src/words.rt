@@ -14,7 +14,7 @@ pub enum Word {
 impl Word {
     /// Whether a line of this word stands before the first command.
     pub fn is_header(self) -> bool
-        ensures { result ≡ words.is_header self }
+        ensures { result ≡ words.is_header_word self }
     {
         match self {
             Word::Header(_) => true,

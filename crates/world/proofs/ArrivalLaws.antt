@@ -12,14 +12,14 @@ use Rattle.journal_lines.specs.declared.line.Line.TheVariants as line
 use Rattle.net_script.specs.Network as nets
 use Rattle.client_map.specs.declared.client_map.Entry.{Entry}
 use Rattle.client_map.specs.Entries.{Holds}
-use Rattle.node_rules.specs.Messages.{due_message_of}
+use Rattle.node_rules.specs.Messages.{due_message_of, client}
 use Rattle.node_rules.specs.Steps.{Planning}
 use Rattle.cluster_rules.specs.declared.event.Event.{Event}
 use Rattle.cluster_rules.specs.declared.event.Event.TheVariants as event
 use Rattle.cluster_rules.specs.DueEvents.{due, due_at_client, due_at_end, due_arrival, arriving, arriving_cut, delivery, unless_blocked, is_blocked, written}
-use Rattle.cluster_rules.specs.Marks.{Writes, after_all, after_line, begun, came, came_to, came_to_client, came_to_node, taken_by}
+use Rattle.cluster_rules.specs.Marks.{Writes, after_all, after_line, event_begun, came, came_to, came_to_client, came_to_node, taken_by}
 use Rattle.journal_readings.specs.Messages.{Arrival, Posting, arrived}
-use Rattle.cluster_rules.specs.Network.{Network, client, flying_at, flying_if, is_flying, landed, posting_at, posting_if}
+use Rattle.cluster_rules.specs.Network.{Network, flying_at, flying_if, is_flying, landed, posting_at, posting_if}
 use Rattle.cluster_rules.specs.NodeSteps.{after_step}
 use Rattle.cluster_rules.specs.World.{World}
 use Rattle.run_laws.specs.Taken.{IsProperEvent}
@@ -28,7 +28,7 @@ use Rattle.world.specs.declared.delivery.Delivery.TheVariants as delivery_of
 use Rattle.world.specs.Arriving.{OnlyLands, delivering, is_short_of, landed_if, landing_of, line_of_delivery}
 use Rattle.world.specs.Sent.{landing_from}
 use Rattle.world.specs.Stands.{Stands, IsNetwork}
-use Rattle.world.specs.Steps.{Run, standing, next_lines}
+use Rattle.world.specs.Steps.{RunSoFar, standing, next_lines}
 
 -- ---- what is in flight was sent
 
@@ -120,22 +120,22 @@ node_lines w i how p m e b s read end =
 
 -- what comes at it
 pub whole_comes : (w : World) (i : ℕ) (how : Delivery) (p : Posting) → posting_at w.network i ≡ Some p → is_short_of (length p.bytes) how ≡ false
-    → after_line (begun w (delivering i how)) (line_of_delivery i p.from p.to how) ≡ came (begun w (delivering i how)) (arrived p.to p)
-whole_comes w i delivery_of.Whole p e s = ap (λ (o : Option Posting). came (begun w (event.Deliver i)) (option_and_then (arrived p.to) o)) (taken_posting w.network i delivery_of.Whole ∙ e)
-whole_comes w i delivery_of.Repeated p e s = ap (λ (o : Option Posting). came (begun w (event.Repeat i)) (option_and_then (arrived p.to) o)) e
+    → after_line (event_begun w (delivering i how)) (line_of_delivery i p.from p.to how) ≡ came (event_begun w (delivering i how)) (arrived p.to p)
+whole_comes w i delivery_of.Whole p e s = ap (λ (o : Option Posting). came (event_begun w (event.Deliver i)) (option_and_then (arrived p.to) o)) (taken_posting w.network i delivery_of.Whole ∙ e)
+whole_comes w i delivery_of.Repeated p e s = ap (λ (o : Option Posting). came (event_begun w (event.Repeat i)) (option_and_then (arrived p.to) o)) e
 whole_comes w i (delivery_of.Cut size) p e s =
     let fits : nat_le (length p.bytes) size ≡ true = grind (arith, nat_tests, s) in
-    ap (λ (o : Option Posting). came (begun w (event.Cut i size)) (option_and_then (Rattle.journal_readings.specs.Messages.arrived_cut p.to size) o)) (taken_posting w.network i (delivery_of.Cut size) ∙ e)
-    ∙ ap (λ b. came (begun w (event.Cut i size)) (if b then arrived p.to p else None)) fits
+    ap (λ (o : Option Posting). came (event_begun w (event.Cut i size)) (option_and_then (Rattle.journal_readings.specs.Messages.arrived_cut p.to size) o)) (taken_posting w.network i (delivery_of.Cut size) ∙ e)
+    ∙ ap (λ b. came (event_begun w (event.Cut i size)) (if b then arrived p.to p else None)) fits
 
 short_comes : (w : World) (i : ℕ) (how : Delivery) (p : Posting) → posting_at w.network i ≡ Some p → is_short_of (length p.bytes) how ≡ true
-    → after_line (begun w (delivering i how)) (line_of_delivery i p.from p.to how) ≡ begun w (delivering i how)
+    → after_line (event_begun w (delivering i how)) (line_of_delivery i p.from p.to how) ≡ event_begun w (delivering i how)
 short_comes w i delivery_of.Whole p e s = cc
 short_comes w i delivery_of.Repeated p e s = cc
 short_comes w i (delivery_of.Cut size) p e s =
     let fails : nat_le (length p.bytes) size ≡ false = grind (arith, nat_tests, s) in
-    ap (λ (o : Option Posting). came (begun w (event.Cut i size)) (option_and_then (Rattle.journal_readings.specs.Messages.arrived_cut p.to size) o)) (taken_posting w.network i (delivery_of.Cut size) ∙ e)
-    ∙ ap (λ b. came (begun w (event.Cut i size)) (if b then arrived p.to p else None)) fails
+    ap (λ (o : Option Posting). came (event_begun w (event.Cut i size)) (option_and_then (Rattle.journal_readings.specs.Messages.arrived_cut p.to size) o)) (taken_posting w.network i (delivery_of.Cut size) ∙ e)
+    ∙ ap (λ b. came (event_begun w (event.Cut i size)) (if b then arrived p.to p else None)) fails
 
 arrived_none : (p : Posting) → message_of p.bytes ≡ None → arrived p.to p ≡ None
 arrived_none p e = ap (option_map (λ (m : Message). record { from = p.from; to = p.to; message = m })) e
@@ -145,30 +145,30 @@ arrived_some p m e = ap (option_map (λ (m : Message). record { from = p.from; t
 
 -- ---- deliveries that make nobody do anything
 
-only_lands : (r : Run) (i : ℕ) (how : Delivery) (ls : List Line) → due (standing r) (delivering i how) ≡ ls
-    → after_all (begun (standing r) (delivering i how)) (map Writes ls) ≡ begun (standing r) (delivering i how) → OnlyLands r (delivering i how) (landing_of i how)
+only_lands : (r : RunSoFar) (i : ℕ) (how : Delivery) (ls : List Line) → due (standing r) (delivering i how) ≡ ls
+    → after_all (event_begun (standing r) (delivering i how)) (map Writes ls) ≡ event_begun (standing r) (delivering i how) → OnlyLands r (delivering i how) (landing_of i how)
 only_lands r i how ls made none = record {
   lands = taken_lands (standing r).network i how;
-  only = ap (λ (xs : List Line). after_all (begun (standing r) (delivering i how)) (map Writes xs)) made ∙ none;
+  only = ap (λ (xs : List Line). after_all (event_begun (standing r) (delivering i how)) (map Writes xs)) made ∙ none;
 }
 
-pub record PassesOver (r : Run) (i : ℕ) (how : Delivery) (ls : List Line) : Type 0 where
+pub record PassesOver (r : RunSoFar) (i : ℕ) (how : Delivery) (ls : List Line) : Type 0 where
   pub due : ls ≡ next_lines r (delivering i how)
   pub lands : OnlyLands r (delivering i how) (landing_of i how)
 
-pub absent_over : (r : Run) (i : ℕ) (how : Delivery) → flying_at (standing r).network i ≡ None → PassesOver r i how (line.NoMessage i ∷ [])
+pub absent_over : (r : RunSoFar) (i : ℕ) (how : Delivery) → flying_at (standing r).network i ≡ None → PassesOver r i how (line.NoMessage i ∷ [])
 unfolding next_lines
 absent_over r i how none =
     let lines : due (standing r) (delivering i how) ≡ line.NoMessage i ∷ [] = absent_lines (standing r) i how none in
     record { due = sym lines; lands = only_lands r i how (line.NoMessage i ∷ []) lines refl }
 
-pub blocked_over : (r : Run) (i : ℕ) (how : Delivery) (p : Posting) → flying_at (standing r).network i ≡ Some p → is_blocked (standing r) p ≡ true → PassesOver r i how (line.Blocked i ∷ [])
+pub blocked_over : (r : RunSoFar) (i : ℕ) (how : Delivery) (p : Posting) → flying_at (standing r).network i ≡ Some p → is_blocked (standing r) p ≡ true → PassesOver r i how (line.Blocked i ∷ [])
 unfolding next_lines
 blocked_over r i how p e b =
     let lines : due (standing r) (delivering i how) ≡ line.Blocked i ∷ [] = blocked_lines (standing r) i how p e b in
     record { due = sym lines; lands = only_lands r i how (line.Blocked i ∷ []) lines refl }
 
-pub short_over : (r : Run) (i : ℕ) (how : Delivery) (p : Posting) → flying_at (standing r).network i ≡ Some p → is_blocked (standing r) p ≡ false → is_short_of (length p.bytes) how ≡ true
+pub short_over : (r : RunSoFar) (i : ℕ) (how : Delivery) (p : Posting) → flying_at (standing r).network i ≡ Some p → is_blocked (standing r) p ≡ false → is_short_of (length p.bytes) how ≡ true
     → PassesOver r i how (line_of_delivery i p.from p.to how ∷ line.Short p.to ∷ [])
 unfolding next_lines
 short_over r i how p e b s =
@@ -178,7 +178,7 @@ short_over r i how p e b s =
       lands = only_lands r i how (line_of_delivery i p.from p.to how ∷ line.Short p.to ∷ []) lines (ap (λ v. after_line v (line.Short p.to)) (short_comes (standing r) i how p (flying_sent (standing r).network i p e) s));
     }
 
-pub unread_over : (r : Run) (i : ℕ) (how : Delivery) (p : Posting) → flying_at (standing r).network i ≡ Some p → is_blocked (standing r) p ≡ false → is_short_of (length p.bytes) how ≡ false
+pub unread_over : (r : RunSoFar) (i : ℕ) (how : Delivery) (p : Posting) → flying_at (standing r).network i ≡ Some p → is_blocked (standing r) p ≡ false → is_short_of (length p.bytes) how ≡ false
     → message_of p.bytes ≡ None → PassesOver r i how (line_of_delivery i p.from p.to how ∷ [])
 unfolding next_lines
 unread_over r i how p e b s none =
@@ -186,17 +186,17 @@ unread_over r i how p e b s none =
     record {
       due = sym lines;
       lands = only_lands r i how (line_of_delivery i p.from p.to how ∷ []) lines
-          (whole_comes (standing r) i how p (flying_sent (standing r).network i p e) s ∙ ap (came (begun (standing r) (delivering i how))) (arrived_none p none));
+          (whole_comes (standing r) i how p (flying_sent (standing r).network i p e) s ∙ ap (came (event_begun (standing r) (delivering i how))) (arrived_none p none));
     }
 
 -- ---- at the client
 
 at_client : (w : World) (i : ℕ) (how : Delivery) (p : Posting) (m : Message) → posting_at w.network i ≡ Some p → is_short_of (length p.bytes) how ≡ false → message_of p.bytes ≡ Some m → p.to ≡ client
-    → after_line (begun w (delivering i how)) (line_of_delivery i p.from p.to how) ≡ came_to_client (begun w (delivering i how)) m
+    → after_line (event_begun w (delivering i how)) (line_of_delivery i p.from p.to how) ≡ came_to_client (event_begun w (delivering i how)) m
 at_client w i how p m e s read end =
     let test : (p.to == client) ≡ true = grind (arith, nat_tests, end) in
-    whole_comes w i how p e s ∙ ap (came (begun w (delivering i how))) (arrived_some p m read)
-    ∙ ap (came_to (begun w (delivering i how)) (record { from = p.from; to = p.to; message = m })) test
+    whole_comes w i how p e s ∙ ap (came (event_begun w (delivering i how))) (arrived_some p m read)
+    ∙ ap (came_to (event_begun w (delivering i how)) (record { from = p.from; to = p.to; message = m })) test
 
 other_due : (m : Message) → ((t : MapTable) → m ≡ message.MapTable t → ⊥) → due_at_client m ≡ line.Stale client ∷ []
 other_due (message.MapTable t) differs = absurd (differs t refl)
@@ -206,7 +206,7 @@ other_came : (w : World) (m : Message) → ((t : MapTable) → m ≡ message.Map
 other_came w (message.MapTable t) differs = absurd (differs t refl)
 other_came w m differs = refl
 
-pub stale_over : (r : Run) (i : ℕ) (how : Delivery) (p : Posting) (m : Message) → flying_at (standing r).network i ≡ Some p → is_blocked (standing r) p ≡ false → is_short_of (length p.bytes) how ≡ false
+pub stale_over : (r : RunSoFar) (i : ℕ) (how : Delivery) (p : Posting) (m : Message) → flying_at (standing r).network i ≡ Some p → is_blocked (standing r) p ≡ false → is_short_of (length p.bytes) how ≡ false
     → message_of p.bytes ≡ Some m → p.to ≡ client → ((t : MapTable) → m ≡ message.MapTable t → ⊥) → PassesOver r i how (line_of_delivery i p.from p.to how ∷ line.Stale client ∷ [])
 unfolding next_lines
 stale_over r i how p m e b s read end differs =
@@ -215,15 +215,15 @@ stale_over r i how p m e b s read end differs =
     record {
       due = sym lines;
       lands = only_lands r i how (line_of_delivery i p.from p.to how ∷ line.Stale client ∷ []) lines
-          (ap (λ v. after_line v (line.Stale client)) (at_client (standing r) i how p m (flying_sent (standing r).network i p e) s read end ∙ other_came (begun (standing r) (delivering i how)) m differs));
+          (ap (λ v. after_line v (line.Stale client)) (at_client (standing r) i how p m (flying_sent (standing r).network i p e) s read end ∙ other_came (event_begun (standing r) (delivering i how)) m differs));
     }
 
 -- a table comes to the client
-pub record TableComes (r : Run) (i : ℕ) (how : Delivery) (t : MapTable) (ls : List Line) : Type 0 where
+pub record TableComes (r : RunSoFar) (i : ℕ) (how : Delivery) (t : MapTable) (ls : List Line) : Type 0 where
   pub due : ls ≡ next_lines r (delivering i how)
-  pub world : after_step (standing r) (delivering i how) ≡ record (begun (standing r) (delivering i how)) { tables = (standing r).tables ++ t ∷ [] }
+  pub world : after_step (standing r) (delivering i how) ≡ record (event_begun (standing r) (delivering i how)) { tables = (standing r).tables ++ t ∷ [] }
 
-pub table_comes : (r : Run) (i : ℕ) (how : Delivery) (p : Posting) (t : MapTable) → flying_at (standing r).network i ≡ Some p → is_blocked (standing r) p ≡ false → is_short_of (length p.bytes) how ≡ false
+pub table_comes : (r : RunSoFar) (i : ℕ) (how : Delivery) (p : Posting) (t : MapTable) → flying_at (standing r).network i ≡ Some p → is_blocked (standing r) p ≡ false → is_short_of (length p.bytes) how ≡ false
     → message_of p.bytes ≡ Some (message.MapTable t) → p.to ≡ client → TableComes r i how t (line_of_delivery i p.from p.to how ∷ line.Table t.key ∷ [])
 unfolding next_lines
 table_comes r i how p t e b s read end =
@@ -231,11 +231,11 @@ table_comes r i how p t e b s read end =
     record {
       due = sym lines;
       world =
-          ap (λ (xs : List Line). after_all (begun (standing r) (delivering i how)) (map Writes xs)) lines
+          ap (λ (xs : List Line). after_all (event_begun (standing r) (delivering i how)) (map Writes xs)) lines
           ∙ ap (λ v. after_line v (line.Table t.key)) (at_client (standing r) i how p (message.MapTable t) (flying_sent (standing r).network i p e) s read end);
     }
 
-pub stands_table : (r : Run) (i : ℕ) (how : Delivery) (t : MapTable) (ls : List Line) (ids : List ℕ) (nodes : List Planning) (clocks : List ℕ) (net net' : nets.Network) (entries entries' : List (Option Entry))
+pub stands_table : (r : RunSoFar) (i : ℕ) (how : Delivery) (t : MapTable) (ls : List Line) (ids : List ℕ) (nodes : List Planning) (clocks : List ℕ) (net net' : nets.NetworkState) (entries entries' : List (Option Entry))
     → TableComes r i how t ls → Stands (standing r) ids nodes clocks net entries → nets.IsSameNetwork (landing_from net (landing_of i how)) net'
     → Holds ((standing r).tables ++ t ∷ []) entries' → Stands (after_step (standing r) (delivering i how)) ids nodes clocks net' entries'
 stands_table r i how t ls ids nodes clocks net net' entries entries' comes h same held =
@@ -250,18 +250,18 @@ stands_table r i how t ls ids nodes clocks net net' entries entries' comes h sam
 -- ---- at a node
 
 pub at_node : (w : World) (i : ℕ) (how : Delivery) (p : Posting) (m : Message) → posting_at w.network i ≡ Some p → is_short_of (length p.bytes) how ≡ false → message_of p.bytes ≡ Some m → (p.to ≡ client → ⊥)
-    → after_line (begun w (delivering i how)) (line_of_delivery i p.from p.to how) ≡ came_to_node (begun w (delivering i how)) (record { from = p.from; to = p.to; message = m })
+    → after_line (event_begun w (delivering i how)) (line_of_delivery i p.from p.to how) ≡ came_to_node (event_begun w (delivering i how)) (record { from = p.from; to = p.to; message = m })
 at_node w i how p m e s read end =
     let test : (p.to == client) ≡ false = grind (arith, nat_tests, end) in
-    whole_comes w i how p e s ∙ ap (came (begun w (delivering i how))) (arrived_some p m read)
-    ∙ ap (came_to (begun w (delivering i how)) (record { from = p.from; to = p.to; message = m })) test
+    whole_comes w i how p e s ∙ ap (came (event_begun w (delivering i how))) (arrived_some p m read)
+    ∙ ap (came_to (event_begun w (delivering i how)) (record { from = p.from; to = p.to; message = m })) test
 
 -- ---- of the event as it came
 
-pub over_due : (r : Run) (e : Event) (i : ℕ) (how : Delivery) (ls : List Line) → e ≡ delivering i how → PassesOver r i how ls → ls ≡ next_lines r e
+pub over_due : (r : RunSoFar) (e : Event) (i : ℕ) (how : Delivery) (ls : List Line) → e ≡ delivering i how → PassesOver r i how ls → ls ≡ next_lines r e
 over_due r e i how ls is over = subst (λ (x : Event). ls ≡ next_lines r x) (sym is) over.due
 
-pub over_lands : (r : Run) (e : Event) (i : ℕ) (how : Delivery) (landing : Option ℕ) (ls : List Line) → e ≡ delivering i how → landing ≡ landing_of i how → PassesOver r i how ls → OnlyLands r e landing
+pub over_lands : (r : RunSoFar) (e : Event) (i : ℕ) (how : Delivery) (landing : Option ℕ) (ls : List Line) → e ≡ delivering i how → landing ≡ landing_of i how → PassesOver r i how ls → OnlyLands r e landing
 over_lands r e i how landing ls is same over =
     subst (λ (x : Event). OnlyLands r x landing) (sym is) (subst (λ (o : Option ℕ). OnlyLands r (delivering i how) o) (sym same) over.lands)
 

@@ -10,7 +10,7 @@ use Rattle.cluster_types.specs.Partitions.{partition_count}
 use Rattle.partition_lists.specs.Lists.{in_order}
 use Rattle.node_rules.specs.Copies.{is_nil}
 use Rattle.node_rules.specs.Exchange.{View, is_view}
-use Rattle.node_rules.specs.Facts.{Facts, has_exchanged_in, members, view_key}
+use Rattle.node_rules.specs.Facts.{Facts, has_exchanged_in, members_of_view, view_key}
 use Rattle.node_rules.specs.Standing.{has_nothing_to_learn_or_drop, is_at_rest, is_at_rest_of, knows_all_settled}
 use Rattle.cluster_rules.specs.Calm.{as_members, is_group_at_rest, share_view, up_in}
 use Rattle.cluster_rules.specs.World.{World, is_up, members_now, member_now}
@@ -34,8 +34,8 @@ tests false rest viewed same = refl
 -- of a node that runs
 rests_both : (key : ClusterKey) (set : List Member) (f : Facts) → f.up ≡ true → rests_in key set f ≡ (has_exchanged_in key set f && is_at_rest_of partition_count f)
 rests_both key set f up =
-    ap (λ b. (b && is_at_rest f) && (is_view f.exchange.view key && same_members (members f) set)) up
-    ∙ tests f.exchange.exchanged (knows_all_settled f partition_count 0 && (has_nothing_to_learn_or_drop f partition_count 0 && is_nil f.transactions.running)) (is_view f.exchange.view key) (same_members (members f) set)
+    ap (λ b. (b && is_at_rest f) && (is_view f.exchange.view key && same_members (members_of_view f) set)) up
+    ∙ tests f.exchange.exchanged (knows_all_settled f partition_count 0 && (has_nothing_to_learn_or_drop f partition_count 0 && is_nil f.transactions.running)) (is_view f.exchange.view key) (same_members (members_of_view f) set)
 
 and_parts : (a b : Bool) → (a && b) ≡ true → (a ≡ true) × (b ≡ true)
 and_parts true b e = (refl, e)

@@ -9,10 +9,10 @@ use Rattle.run_laws.specs.Taken.{Taken}
 use Rattle.run_laws.proofs.CalmLines.{calm_ends}
 use Rattle.run_laws.proofs.EveryJournal.{by_licences, keys_rise}
 use Rattle.world.specs.Claims.{HasClaims}
-use Rattle.world.specs.Steps.{Run, written}
+use Rattle.world.specs.Steps.{RunSoFar, run_lines}
 
-pub has_claims : (r : Run) (lines : List Line) → Taken r.header r.steps → lines ≡ written r → HasClaims lines
-unfolding written
+pub has_claims : (r : RunSoFar) (lines : List Line) → Taken r.header r.steps → lines ≡ run_lines r → HasClaims lines
+unfolding run_lines
 has_claims r lines taken is = subst HasClaims (sym is) (record {
   one_map = (by_licences OneMap one_map_of).steps r.header r.steps taken;
   no_loss = (by_licences NoLoss no_loss).steps r.header r.steps taken;

@@ -15,10 +15,10 @@ use Rattle.cluster_rules.specs.Opening.{declared_nodes}
 use Rattle.cluster_rules.specs.Steps.{all_marks}
 use Rattle.cluster_rules.specs.World.{opened}
 use Rattle.cluster_rules.proofs.AllowedLaws.{nodes_stay}
-use Rattle.world.specs.Steps.{Run, MayCome, StandsAt, standing}
+use Rattle.world.specs.Steps.{RunSoFar, MayCome, StandsAt, standing}
 
 -- the declared nodes stay
-pub same_nodes : (r : Run) → (standing r).nodes ≡ declared_nodes r.header
+pub same_nodes : (r : RunSoFar) → (standing r).nodes ≡ declared_nodes r.header
 unfolding standing
 same_nodes r = nodes_stay (all_marks r.steps) (opened r.header)
 
@@ -53,7 +53,7 @@ test_has (m ∷ ids) n h = elim h [
     go false e = e
 
 -- an event that names one node names a declared one
-pub names_declared : (r : Run) (e : Event) (n : ℕ) → event_nodes e ≡ n ∷ [] → MayCome r e → Contains (declared_nodes r.header) n
+pub names_declared : (r : RunSoFar) (e : Event) (n : ℕ) → event_nodes e ≡ n ∷ [] → MayCome r e → Contains (declared_nodes r.header) n
 names_declared r e n named comes =
     let known : list_all (has_node (standing r).nodes) (event_nodes e) ≡ true = and_left _ _ (and_left _ _ comes) in
     let one : (has_node (standing r).nodes n && true) ≡ true = sym (ap (list_all (has_node (standing r).nodes)) named) ∙ known in
@@ -69,7 +69,7 @@ ids_distinct ids h = subst AreDistinct (map_same (in_order nat_lt ids)) (differ_
     map_same (m ∷ ms) = ap (λ xs. m ∷ xs) (map_same ms)
 
 -- and what has a place is declared
-pub placed_declared : (r : Run) (place n : ℕ) → StandsAt r place n → Contains (declared_nodes r.header) n
+pub placed_declared : (r : RunSoFar) (place n : ℕ) → StandsAt r place n → Contains (declared_nodes r.header) n
 placed_declared r place n h =
     let ids : List ℕ = in_order nat_lt (declared_nodes r.header) in
     has_there (declared_nodes r.header) n (in_order_has nat_lt (declared_nodes r.header) n (contains_has ids n (place, slice_get_within ids place n h, get_or_from_slice_get ids place n n h)))
@@ -91,14 +91,14 @@ before_it (m ∷ ids) n h = go (m == n) refl h (before_it ids n)
         clash wrong = cc
     go false is (inr rest) later = let below = later rest in rw is (omega (arith, below))
 
-pub found_at : (r : Run) (ids : List ℕ) (n : ℕ) (o : Option ℕ) → ids ≡ in_order nat_lt (declared_nodes r.header) → o ≡ position (λ m. m == n) ids → IfSome o (λ place. StandsAt r place n)
+pub found_at : (r : RunSoFar) (ids : List ℕ) (n : ℕ) (o : Option ℕ) → ids ≡ in_order nat_lt (declared_nodes r.header) → o ≡ position (λ m. m == n) ids → IfSome o (λ place. StandsAt r place n)
 found_at r ids n None are is = tt
 found_at r ids n (Some place) are is =
     let at = position-Some (λ m. m == n) ids place n (sym is) in
     let same : get_or ids place n ≡ n = grind (arith, nat_tests, at.1) in
     ap (λ (xs : List ℕ). slice_get xs place) (sym are) ∙ slice_get-get_or ids place n at.0 ∙ ap Some same
 
-pub not_found : (r : Run) (ids : List ℕ) (n : ℕ) (o : Option ℕ) → ids ≡ in_order nat_lt (declared_nodes r.header) → o ≡ position (λ m. m == n) ids → IsNone o → ¬ (Contains (declared_nodes r.header) n)
+pub not_found : (r : RunSoFar) (ids : List ℕ) (n : ℕ) (o : Option ℕ) → ids ≡ in_order nat_lt (declared_nodes r.header) → o ≡ position (λ m. m == n) ids → IsNone o → ¬ (Contains (declared_nodes r.header) n)
 not_found r ids n None are is none =
     λ named.
     let has : Has ids n = subst (λ (xs : List ℕ). Has xs n) (sym are) (has_in_order nat_lt (declared_nodes r.header) n (contains_has (declared_nodes r.header) n named)) in

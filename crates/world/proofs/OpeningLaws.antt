@@ -24,14 +24,14 @@ use Rattle.client_map.specs.Entries.{Holds}
 use Rattle.node_rules.specs.Facts.{Facts, fresh}
 use Rattle.node_rules.specs.Steps.{Planning, unplanned}
 use Rattle.node_core.specs.Peers.{ArePeers, IsFactor}
-use Rattle.cluster_rules.specs.Opening.{Header, declared_factor, declared_nodes, declared_peers, declared_policy, declared_role, factor_step, header_lines}
+use Rattle.cluster_rules.specs.Opening.{Header, declared_factor, declared_nodes, declared_peers, declared_policy, declared_role, header_factor_step, header_lines}
 use Rattle.cluster_rules.specs.World.{declared, opened}
 use Rattle.run_laws.specs.Taken.{Taken}
 use Rattle.world.specs.declared.world.World.TheInside.{Inside}
-use Rattle.world.specs.Fits.{Fits}
+use Rattle.world.specs.Fits.{FitsRun}
 use Rattle.world.specs.Kept.{Keeps, run_of}
 use Rattle.world.specs.Stands.{AreDivided, IsNetwork, Stands}
-use Rattle.world.specs.Steps.{Run, begun, run_of_events, standing, written}
+use Rattle.world.specs.Steps.{RunSoFar, run_begun, run_of_events, standing, run_lines}
 use Rattle.world.proofs.KnownLaws.{contains_has, test_has}
 
 -- the next of distinct ids is new, and there is room for it
@@ -95,11 +95,11 @@ node_more {A} g ids k n made made' x within at is pushed all =
 
 -- ---- a node's numbers
 
-factor_from : (h : List HeaderLine) (factor : ℕ) → IsFactor factor → All IsProperHeaderLine h → IsFactor (fold factor_step factor h)
+factor_from : (h : List HeaderLine) (factor : ℕ) → IsFactor factor → All IsProperHeaderLine h → IsFactor (fold header_factor_step factor h)
 factor_from [] factor f p = f
-factor_from (l ∷ h) factor f p = factor_from h (factor_step factor l) (one l (All-head IsProperHeaderLine l h p)) (All-tail IsProperHeaderLine l h p)
+factor_from (l ∷ h) factor f p = factor_from h (header_factor_step factor l) (one l (All-head IsProperHeaderLine l h p)) (All-tail IsProperHeaderLine l h p)
   where
-    one : (l : HeaderLine) → IsProperHeaderLine l → IsFactor (factor_step factor l)
+    one : (l : HeaderLine) → IsProperHeaderLine l → IsFactor (header_factor_step factor l)
     one (header.Factor named) q = record { some = omega (arith, q.0); limit = q.1 }
     one (header.Script version) q = f
     one (header.Node node rack) q = f
@@ -167,11 +167,11 @@ node_made h n node role peers all factor by has made a b c d e =
 
 -- ---- the first world
 
-pub first_network : (net : nets.Network) (ns : List ℕ) → net.sent ≡ 0 → net.flying ≡ [] → AreDivided net.groups (ns ∷ []) → IsNetwork net (Rattle.cluster_rules.specs.Network.silent ns)
+pub first_network : (net : nets.NetworkState) (ns : List ℕ) → net.sent ≡ 0 → net.flying ≡ [] → AreDivided net.groups (ns ∷ []) → IsNetwork net (Rattle.cluster_rules.specs.Network.silent ns)
 first_network net ns sent flying divided = record {
   sent = sent;
-  numbers = ap nets.ids_of flying;
-  postings = subst (λ (es : List (ℕ × Rattle.net_script.specs.declared.net.Flying.Flying)). All (λ e. Rattle.cluster_rules.specs.Network.posting_at (Rattle.cluster_rules.specs.Network.silent ns) e.0 ≡ Some (Rattle.world.specs.Stands.posting_of e.1)) es) (sym flying) (All-nil (λ e. Rattle.cluster_rules.specs.Network.posting_at (Rattle.cluster_rules.specs.Network.silent ns) e.0 ≡ Some (Rattle.world.specs.Stands.posting_of e.1)));
+  numbers = ap nets.flying_ids flying;
+  postings = subst (λ (es : List (ℕ × Rattle.net_script.specs.declared.net.Flying.Flying)). All (λ e. Rattle.cluster_rules.specs.Network.posting_at (Rattle.cluster_rules.specs.Network.silent ns) e.0 ≡ Some (Rattle.world.specs.Stands.flying_posting e.1)) es) (sym flying) (All-nil (λ e. Rattle.cluster_rules.specs.Network.posting_at (Rattle.cluster_rules.specs.Network.silent ns) e.0 ≡ Some (Rattle.world.specs.Stands.flying_posting e.1)));
   groups = divided;
 }
 
@@ -183,7 +183,7 @@ images : (h : Header) (ids : List ℕ) → map (λ (x : Planning). x.now) (map (
 images h [] = refl
 images h (n ∷ ids) = ap (λ (fs : List Facts). declared h n ∷ fs) (images h ids)
 
-pub first_run : (h : Header) → run_of_events h [] ≡ begun h
+pub first_run : (h : Header) → run_of_events h [] ≡ run_begun h
 unfolding run_of_events
 first_run h = refl
 
@@ -191,7 +191,7 @@ pub first_standing : (h : Header) → standing (run_of_events h []) ≡ opened h
 unfolding run_of_events standing
 first_standing h = refl
 
-pub first_stands : (h : Header) (ids : List ℕ) (nodes : List Planning) (clocks : List ℕ) (net : nets.Network) (entries : List (Option Entry))
+pub first_stands : (h : Header) (ids : List ℕ) (nodes : List Planning) (clocks : List ℕ) (net : nets.NetworkState) (entries : List (Option Entry))
     → ids ≡ in_order nat_lt (declared_nodes h) → nodes ≡ map (λ n. unplanned (declared h n)) ids → clocks ≡ replicate (length ids) 0
     → net.sent ≡ 0 → net.flying ≡ [] → AreDivided net.groups (declared_nodes h ∷ []) → Holds [] entries → Stands (standing (run_of_events h [])) ids nodes clocks net entries
 first_stands h ids nodes clocks net entries rising made at_0 sent flying divided held =
@@ -203,8 +203,8 @@ first_stands h ids nodes clocks net entries rising made at_0 sent flying divided
       tables = held;
     })
 
-pub first_fits : (h : Header) (sent : ℕ) (ls : List Line) → IsNodeList (declared_nodes h) → All IsProperHeaderLine h → ls ≡ header_lines h → IsWithin ls → sent ≡ 0 → Fits (run_of_events h []) sent ls
-unfolding run_of_events written
+pub first_fits : (h : Header) (sent : ℕ) (ls : List Line) → IsNodeList (declared_nodes h) → All IsProperHeaderLine h → ls ≡ header_lines h → IsWithin ls → sent ≡ 0 → FitsRun (run_of_events h []) sent ls
+unfolding run_of_events run_lines
 first_fits h sent ls nodes proper is within none = record {
   within = within;
   journal = is ∙ sym (append-nil (header_lines h));
@@ -220,8 +220,8 @@ pub opened_keeps : (v : Inside) (h : Header) → IsNodeList (declared_nodes h) �
 opened_keeps v h nodes proper same none told within rising made at_0 sent flying divided held =
     let runs : run_of v ≡ run_of_events h [] = ap₂ run_of_events same none in
     record {
-      stands = subst (λ (r : Run). Stands (standing r) v.ids v.nodes.items v.clocks.items v.net v.client) (sym runs)
+      stands = subst (λ (r : RunSoFar). Stands (standing r) v.ids v.nodes.items v.clocks.items v.net v.client) (sym runs)
           (first_stands h v.ids v.nodes.items v.clocks.items v.net v.client rising made at_0 sent flying divided held);
-      fits = subst (λ (r : Run). Fits r v.net.sent v.ledger.journal.lines) (sym runs)
+      fits = subst (λ (r : RunSoFar). FitsRun r v.net.sent v.ledger.journal.lines) (sym runs)
           (first_fits h v.net.sent v.ledger.journal.lines nodes proper told (subst IsWithin (sym told) within) sent);
     }

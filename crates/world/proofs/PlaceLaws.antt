@@ -20,7 +20,7 @@ use Rattle.node_rules.specs.Shows.{with_roles}
 use Rattle.cluster_rules.specs.DueEvents.{due_place}
 use Rattle.cluster_rules.specs.Opening.{declared_nodes}
 use Rattle.cluster_rules.specs.World.{World, members_now}
-use Rattle.world.specs.Steps.{Run, standing}
+use Rattle.world.specs.Steps.{RunSoFar, standing}
 use Rattle.world.proofs.KnownLaws.{has_there, same_nodes}
 use Rattle.world.proofs.OrderLaws.{differ, distinct_in_order, falling_order}
 
@@ -138,7 +138,7 @@ members_fall w ids down ms distinct is made =
 
 -- ---- the line
 
-pub place_due : (r : Run) (p : ℕ) (down : List ℕ) (ms placed : List Member) → AreDistinct (declared_nodes r.header) → down ≡ fallen (declared_nodes r.header) → ms ≡ members_now (standing r) down → placed ≡ with_roles ms (list ms p)
+pub place_due : (r : RunSoFar) (p : ℕ) (down : List ℕ) (ms placed : List Member) → AreDistinct (declared_nodes r.header) → down ≡ fallen (declared_nodes r.header) → ms ≡ members_now (standing r) down → placed ≡ with_roles ms (list ms p)
     → line.Place p placed ∷ [] ≡ due_place (standing r) p
 place_due r p down ms placed distinct is made told =
     let ids = declared_nodes r.header in

@@ -38,22 +38,22 @@ lines_more from sent flying ms i m told told' whole at more all =
 
 -- ---- networks that are the same but for room
 
-pub same_then : (a b c : nets.Network) → nets.IsSameNetwork a b → nets.IsSameNetwork b c → nets.IsSameNetwork a c
+pub same_then : (a b c : nets.NetworkState) → nets.IsSameNetwork a b → nets.IsSameNetwork b c → nets.IsSameNetwork a c
 same_then a b c h k = record { flying = k.flying ∙ h.flying; sent = k.sent ∙ h.sent; groups = k.groups ∙ h.groups }
 
-same_posted : (m n : nets.Network) (from : ℕ) (x : ℕ × List ℕ) → nets.IsSameNetwork m n → nets.IsSameNetwork (posted_in m from x) (posted_in n from x)
+same_posted : (m n : nets.NetworkState) (from : ℕ) (x : ℕ × List ℕ) → nets.IsSameNetwork m n → nets.IsSameNetwork (posted_in m from x) (posted_in n from x)
 same_posted m n from x h = record {
-  flying = ap₂ (λ (es : List (ℕ × Flying)) (s : ℕ). if nets.has_place es then es ++ (s + 1, record { from = from; to = x.0; bytes = x.1 }) ∷ [] else es) h.flying h.sent;
+  flying = ap₂ (λ (es : List (ℕ × Flying)) (s : ℕ). if nets.has_flight_place es then es ++ (s + 1, record { from = from; to = x.0; bytes = x.1 }) ∷ [] else es) h.flying h.sent;
   sent = ap (λ s. s + 1) h.sent;
   groups = h.groups;
 }
 
-pub same_all_posted : (m n : nets.Network) (from : ℕ) (xs : Sends) → nets.IsSameNetwork m n → nets.IsSameNetwork (all_posted_in m from xs) (all_posted_in n from xs)
+pub same_all_posted : (m n : nets.NetworkState) (from : ℕ) (xs : Sends) → nets.IsSameNetwork m n → nets.IsSameNetwork (all_posted_in m from xs) (all_posted_in n from xs)
 same_all_posted m n from [] h = h
 same_all_posted m n from (x ∷ xs) h = same_all_posted (posted_in m from x) (posted_in n from x) from xs (same_posted m n from x h)
 
 -- one more message is sent, of those that are left
-pub posted_more : (whole old new : nets.Network) (from : ℕ) (left rest : Sends) (x : ℕ × List ℕ) → left ≡ x ∷ rest → nets.IsSameNetwork (posted_in old from x) new
+pub posted_more : (whole old new : nets.NetworkState) (from : ℕ) (left rest : Sends) (x : ℕ × List ℕ) → left ≡ x ∷ rest → nets.IsSameNetwork (posted_in old from x) new
     → nets.IsSameNetwork whole (all_posted_in old from left) → nets.IsSameNetwork whole (all_posted_in new from rest)
 posted_more whole old new from left rest x is sent h =
     same_then whole (all_posted_in old from left) (all_posted_in new from rest) h
@@ -82,16 +82,16 @@ sends_within from sent flying ms ls before h =
 
 -- ---- numbers of what was sent
 
-all_posted_sent : (net : nets.Network) (from : ℕ) (ms : Sends) → (all_posted_in net from ms).sent ≡ net.sent + length ms
+all_posted_sent : (net : nets.NetworkState) (from : ℕ) (ms : Sends) → (all_posted_in net from ms).sent ≡ net.sent + length ms
 all_posted_sent net from [] = omega arith
 all_posted_sent net from (m ∷ ms) = let rest = all_posted_sent (posted_in net from m) from ms in omega (arith, rest)
 
-pub landing_sent : (net : nets.Network) (landing : Option ℕ) → (landing_from net landing).sent ≡ net.sent
+pub landing_sent : (net : nets.NetworkState) (landing : Option ℕ) → (landing_from net landing).sent ≡ net.sent
 landing_sent net None = refl
 landing_sent net (Some i) = refl
 
 -- no more numbers than lines were taken
-pub sent_few : (net new : nets.Network) (landing : Option ℕ) (from sent flying : ℕ) (own : List Line) (ms : Sends) → nets.IsSameNetwork (all_posted_in (landing_from net landing) from ms) new
+pub sent_few : (net new : nets.NetworkState) (landing : Option ℕ) (from sent flying : ℕ) (own : List Line) (ms : Sends) → nets.IsSameNetwork (all_posted_in (landing_from net landing) from ms) new
     → new.sent ≤ net.sent + length (own ++ posted_lines from sent flying ms)
 sent_few net new landing from sent flying own ms same =
     let posted = all_posted_sent (landing_from net landing) from ms in
@@ -111,6 +111,6 @@ pub lines_end : (from sent flying : ℕ) (ms : Sends) (i : ℕ) (told whole : Li
 lines_end from sent flying ms i told whole at all =
     sym (append-nil told) ∙ ap (λ (xs : Sends). told ++ posted_lines from sent flying xs) (sym (none_left ms i at)) ∙ all
 
-pub same_landing : (m n : nets.Network) (landing : Option ℕ) → nets.IsSameNetwork m n → nets.IsSameNetwork (landing_from m landing) (landing_from n landing)
+pub same_landing : (m n : nets.NetworkState) (landing : Option ℕ) → nets.IsSameNetwork m n → nets.IsSameNetwork (landing_from m landing) (landing_from n landing)
 same_landing m n None h = h
-same_landing m n (Some i) h = record { flying = ap (nets.without i) h.flying; sent = h.sent; groups = h.groups }
+same_landing m n (Some i) h = record { flying = ap (nets.flying_without i) h.flying; sent = h.sent; groups = h.groups }

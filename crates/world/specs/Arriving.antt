@@ -7,7 +7,7 @@ use Rattle.wire_messages.specs.Decoding.{message_of}
 use Rattle.cluster_rules.specs.declared.event.Event.{Event}
 use Rattle.cluster_rules.specs.declared.event.Event.TheVariants as event
 use Rattle.cluster_rules.specs.DueEvents.{is_blocked}
-use Rattle.cluster_rules.specs.Marks.{begun, taken_by}
+use Rattle.cluster_rules.specs.Marks.{event_begun, taken_by}
 use Rattle.journal_readings.specs.Messages.{Posting}
 use Rattle.cluster_rules.specs.Network.{Network, flying_at, landed}
 use Rattle.cluster_rules.specs.NodeSteps.{after_step}
@@ -16,7 +16,7 @@ use Rattle.world.specs.declared.delivery.Arrival.{Arrival}
 use Rattle.world.specs.declared.delivery.Arrival.TheVariants as arrival
 use Rattle.world.specs.declared.delivery.Delivery.{Delivery}
 use Rattle.world.specs.declared.delivery.Delivery.TheVariants as delivery
-use Rattle.world.specs.Steps.{Run, standing}
+use Rattle.world.specs.Steps.{RunSoFar, standing}
 
 abbrev pub delivering : ℕ → Delivery → Event
 delivering i delivery.Whole = event.Deliver i
@@ -60,12 +60,12 @@ landed_if net None = net
 landed_if net (Some i) = landed net i
 
 -- the event's step does nothing but take that message out of flight
-pub record OnlyLands (r : Run) (e : Event) (landing : Option ℕ) : Type 0 where
+pub record OnlyLands (r : RunSoFar) (e : Event) (landing : Option ℕ) : Type 0 where
   pub lands : taken_by (standing r).network e ≡ landed_if (standing r).network landing
-  pub only : after_step (standing r) e ≡ begun (standing r) e
+  pub only : after_step (standing r) e ≡ event_begun (standing r) e
 
 -- a message arrives: one that is in flight, isn't blocked, isn't short, and is read so
-pub record Arrives (r : Run) (a : Arriving) : Type 0 where
+pub record Arrives (r : RunSoFar) (a : Arriving) : Type 0 where
   pub number : ℕ
   pub how : Delivery
   pub posting : Posting

@@ -19,20 +19,20 @@ posted_lines from sent flying (m ∷ ms) =
     ∷ (full_unless (sent + 1) (has_place flying) ++ posted_lines from (sent + 1) (one_more_if flying (has_place flying)) ms)
 
 -- the network after one was sent
-abbrev pub posted_in : nets.Network → ℕ → ℕ × List ℕ → nets.Network
+abbrev pub posted_in : nets.NetworkState → ℕ → ℕ × List ℕ → nets.NetworkState
 posted_in net from m = record net { flying = nets.with_next net (record { from = from; to = m.0; bytes = m.1 }); sent = net.sent + 1 }
 
 -- and after all of them
-abbrev pub all_posted_in : nets.Network → ℕ → Sends → nets.Network
+abbrev pub all_posted_in : nets.NetworkState → ℕ → Sends → nets.NetworkState
 all_posted_in net from [] = net
 all_posted_in net from (m ∷ ms) = all_posted_in (posted_in net from m) from ms
 
 -- the message that leaves is in flight, if there is one
 abbrev pub IsInFlight : List (ℕ × Flying) → Option ℕ → Type 0
 IsInFlight flying None = Unit {0}
-IsInFlight flying (Some i) = is_some (nets.message_of i flying) ≡ true
+IsInFlight flying (Some i) = is_some (nets.flying_message i flying) ≡ true
 
 -- the network without the message that leaves it, if one does
-abbrev pub landing_from : nets.Network → Option ℕ → nets.Network
+abbrev pub landing_from : nets.NetworkState → Option ℕ → nets.NetworkState
 landing_from net None = net
-landing_from net (Some i) = record net { flying = nets.without i net.flying }
+landing_from net (Some i) = record net { flying = nets.flying_without i net.flying }

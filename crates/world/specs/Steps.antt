@@ -20,40 +20,40 @@ use Rattle.world.specs.declared.fault.StepFault.{StepFault}
 use Rattle.world.specs.declared.fault.StepFault.TheVariants.{RunTooLong}
 
 -- a header, and the steps since
-pub record Run : Type 0 where
+pub record RunSoFar : Type 0 where
   pub header : Header
   pub steps : List Step
 
 -- no step yet
-abbrev pub begun : Header → Run
-begun h = record { header = h; steps = [] }
+abbrev pub run_begun : Header → RunSoFar
+run_begun h = record { header = h; steps = [] }
 
 -- the world after the steps
-unfoldable pub standing : Run → worlds.World
+unfoldable pub standing : RunSoFar → worlds.World
 standing r = after_all (opened r.header) (all_marks r.steps)
 
 -- the lines so far
-unfoldable pub written : Run → List Line
-written r = header_lines r.header ++ all_lines r.steps
+unfoldable pub run_lines : RunSoFar → List Line
+run_lines r = header_lines r.header ++ all_lines r.steps
 
 -- the lines that the event adds
-unfoldable pub next_lines : Run → Event → List Line
+unfoldable pub next_lines : RunSoFar → Event → List Line
 next_lines r e = due (standing r) e
 
 -- the run with one more step: the event with just the lines that are due of it
-unfoldable pub stepped : Run → Event → Run
+unfoldable pub stepped : RunSoFar → Event → RunSoFar
 stepped r e = record r { steps = r.steps ++ record { event = e; lines = next_lines r e } ∷ [] }
 
 -- the run of the events, each with the lines that are due of it
-unfoldable pub run_of_events : Header → List Event → Run
+unfoldable pub run_of_events : Header → List Event → RunSoFar
 run_of_events h es = record { header = h; steps = (play_all partition_count es (opened h)).steps }
 
 -- the event may come after the run's steps
-abbrev pub MayCome : Run → Event → Type 0
+abbrev pub MayCome : RunSoFar → Event → Type 0
 MayCome r e = IsTrue (may_come partition_count (standing r) e)
 
 -- that node stands at that place among the declared ones, in rising order
-abbrev pub StandsAt : Run → ℕ → ℕ → Type 0
+abbrev pub StandsAt : RunSoFar → ℕ → ℕ → Type 0
 StandsAt r place n = slice_get (in_order nat_lt (declared_nodes r.header)) place ≡ Some n
 
 -- ---- events of one kind
@@ -83,8 +83,8 @@ mark_line n false = line.Unquiesce n
 -- ---- a step
 
 -- the step of the event is taken, or the run is as it was; RunTooLong says that its lines don't fit
-pub record TakesStep (old new : Run) (e : Event) (result : Result (Unit {0}) StepFault) : Type 0 where
+pub record TakesStep (old new : RunSoFar) (e : Event) (result : Result (Unit {0}) StepFault) : Type 0 where
   pub ok : OnOk result (new ≡ stepped old e)
-  pub within : OnOk result (IsWithin (written old ++ next_lines old e))
-  pub too_long : IsErrOf result RunTooLong → ¬ IsWithin (written old ++ next_lines old e)
+  pub within : OnOk result (IsWithin (run_lines old ++ next_lines old e))
+  pub too_long : IsErrOf result RunTooLong → ¬ IsWithin (run_lines old ++ next_lines old e)
   pub err : OnErr result (new ≡ old)

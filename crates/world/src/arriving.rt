@@ -3,12 +3,13 @@ ghost use Rattle.std.specs.Prelude.{◌≡◌, ◌∷◌, [], ◌&&◌, ◌||◌
 ghost use Rattle.std.specs.Option.{option_copied, option_map};
 ghost use Rattle.cluster_rules.specs.DueEvents.{losing};
 ghost use Rattle.cluster_rules.specs.declared.event.Event.TheVariants as events;
-ghost use Rattle.cluster_rules.specs.Network.{are_apart, client, flying_at};
+ghost use Rattle.cluster_rules.specs.Network.{are_apart, flying_at};
 ghost use Rattle.cluster_rules.specs.Opening.{declared_nodes};
 ghost use Rattle.cluster_rules.specs.World.{is_up};
 ghost use Rattle.run_laws.specs.Taken.{IsProperEvent};
+ghost use Rattle.node_rules.specs.Messages.{client};
 ghost use Rattle.world.specs.Arriving.{Arrives, OnlyLands, delivering};
-ghost use Rattle.world.specs.Stands.{posting_of};
+ghost use Rattle.world.specs.Stands.{flying_posting};
 ghost use Rattle.world.specs.Steps.{MayCome, StandsAt, TakesStep, next_lines, standing};
 
 use crate::delivery::{Arrival, Delivery};
@@ -65,7 +66,7 @@ impl World {
 
     /// The message of that number, if it is in flight.
     fn flying(&self, message: u64) -> Option<&Flying>
-        ensures value { option_map posting_of (option_copied result) ≡ flying_at (standing self.now).network message }
+        ensures value { option_map flying_posting (option_copied result) ≡ flying_at (standing self.now).network message }
         ensures receiver { IfSome result (λ m. (m.now.to ≡ client) ⊎ Contains (declared_nodes self.now.header) m.now.to) }
     {
         self.net.get(message)

@@ -28,7 +28,7 @@ pub(crate) fn header_lines(alloc: Global, header: &[HeaderLine]) -> Result<LineL
 }
 
 fn line_of(line: HeaderLine) -> Line
-    ensures { result ≡ declared.header_line line }
+    ensures { result ≡ declared.journal_header_line line }
 {
     match line {
         HeaderLine::Script { version } => Line::Script { version },

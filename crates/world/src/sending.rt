@@ -28,7 +28,7 @@ impl Postmark {
         requires flying { IsInFlight net.now.flying landing }
         ensures sent { result.sent ≡ net.now.sent }
         ensures in_flight { result.in_flight ≡ length (landing_from net.now landing).flying }
-        ensures numbers { nets.AreNumbers net.now.sent (nets.ids_of net.now.flying) }
+        ensures numbers { nets.AreNumbers net.now.sent (nets.flying_ids net.now.flying) }
     {
         let sent = net.next() - 1;
         let in_flight = net.len();

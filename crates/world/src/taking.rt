@@ -5,7 +5,7 @@ ghost use Rattle.net_script.specs.Network as nets;
 ghost use Rattle.node_rules.specs.Steps.{unplanned};
 ghost use Rattle.world.specs.Ledgers.{IsSameLedger, Wrote};
 ghost use Rattle.world.specs.Sent.{IsInFlight, all_posted_in, landing_from};
-ghost use Rattle.world.specs.Taking.{lines_of, with_all_lines};
+ghost use Rattle.world.specs.Taking.{end_step_lines, with_all_lines};
 
 use crate::fault::StepFault;
 use crate::ledger::Ledger;
@@ -54,12 +54,14 @@ impl EndStep {
         requires sent { net.old.sent ≤ line_limit }
         requires flying { IsInFlight net.old.flying self.landing }
         ensures ok { IfOk result (λ step. step ≡ with_all_lines self net.old) }
-        ensures within { OnOk result (IsWithin (ledger.old.journal.lines ++ lines_of self net.old)) }
+        ensures within { OnOk result (IsWithin (ledger.old.journal.lines ++ end_step_lines self net.old)) }
         ensures few { OnOk result (length self.effects.sends ≤ line_limit) }
         ensures place { OnOk result (length self.effects.sends ≤ net.new.spare) }
-        ensures room { OnOk result (length (lines_of self net.old) ≤ ledger.new.journal.spare) }
-        ensures too_long { IsErrOf result StepFault.RunTooLong → ¬ IsWithin (ledger.old.journal.lines ++ lines_of self net.old) }
-        ensures numbers { OnOk result (nets.AreNumbers net.old.sent (nets.ids_of net.old.flying)) }
+        ensures room { OnOk result
+            (length (end_step_lines self net.old) ≤ ledger.new.journal.spare) }
+        ensures too_long { IsErrOf result StepFault.RunTooLong → ¬ IsWithin (ledger.old.journal.lines ++ end_step_lines self net.old) }
+        ensures numbers { OnOk result
+            (nets.AreNumbers net.old.sent (nets.flying_ids net.old.flying)) }
         ensures net { nets.IsSameNetwork net.old net.new }
         ensures ledger { IsSameLedger ledger.old ledger.new }
     {
@@ -112,10 +114,11 @@ impl EndStep {
         requires sent { net.old.sent ≤ line_limit }
         requires flying { IsInFlight net.old.flying self.landing }
         ensures net { OnOk result (nets.IsSameNetwork (all_posted_in (landing_from net.old self.landing) self.from self.effects.sends) net.new) }
-        ensures numbers { OnOk result (nets.AreNumbers net.old.sent (nets.ids_of net.old.flying)) }
-        ensures wrote { OnOk result (Wrote ledger.old ledger.new (lines_of self net.old) self.event.value) }
-        ensures within { OnOk result (IsWithin (ledger.old.journal.lines ++ lines_of self net.old)) }
-        ensures too_long { IsErrOf result StepFault.RunTooLong → ¬ IsWithin (ledger.old.journal.lines ++ lines_of self net.old) }
+        ensures numbers { OnOk result
+            (nets.AreNumbers net.old.sent (nets.flying_ids net.old.flying)) }
+        ensures wrote { OnOk result (Wrote ledger.old ledger.new (end_step_lines self net.old) self.event.value) }
+        ensures within { OnOk result (IsWithin (ledger.old.journal.lines ++ end_step_lines self net.old)) }
+        ensures too_long { IsErrOf result StepFault.RunTooLong → ¬ IsWithin (ledger.old.journal.lines ++ end_step_lines self net.old) }
         ensures err { OnErr result (nets.IsSameNetwork net.old net.new × IsSameLedger ledger.old ledger.new) }
     {
         let step = self.prepare(alloc, net, ledger)?;
@@ -136,10 +139,11 @@ impl EndStep {
         requires flying { IsInFlight net.old.flying self.landing }
         ensures node { OnOk result (IfSome node.old.next (λ f. node.new ≡ unplanned f)) }
         ensures net { OnOk result (nets.IsSameNetwork (all_posted_in (landing_from net.old self.landing) self.from self.effects.sends) net.new) }
-        ensures numbers { OnOk result (nets.AreNumbers net.old.sent (nets.ids_of net.old.flying)) }
-        ensures wrote { OnOk result (Wrote ledger.old ledger.new (lines_of self net.old) self.event.value) }
-        ensures within { OnOk result (IsWithin (ledger.old.journal.lines ++ lines_of self net.old)) }
-        ensures too_long { IsErrOf result StepFault.RunTooLong → ¬ IsWithin (ledger.old.journal.lines ++ lines_of self net.old) }
+        ensures numbers { OnOk result
+            (nets.AreNumbers net.old.sent (nets.flying_ids net.old.flying)) }
+        ensures wrote { OnOk result (Wrote ledger.old ledger.new (end_step_lines self net.old) self.event.value) }
+        ensures within { OnOk result (IsWithin (ledger.old.journal.lines ++ end_step_lines self net.old)) }
+        ensures too_long { IsErrOf result StepFault.RunTooLong → ¬ IsWithin (ledger.old.journal.lines ++ end_step_lines self net.old) }
         ensures err { OnErr result ((node.new ≡ node.old) × nets.IsSameNetwork net.old net.new × IsSameLedger ledger.old ledger.new) }
     {
         let step = self.prepare(alloc, net, ledger)?;
@@ -169,7 +173,8 @@ impl LineStep {
         requires planned { IsSome endpoint.old.next }
         ensures node { OnOk result (IfSome endpoint.old.next (λ f. endpoint.new ≡ unplanned f)) }
         ensures net { OnOk result (nets.IsSameNetwork (landing_from net.old self.landing) net.new) }
-        ensures numbers { OnOk result (nets.AreNumbers net.old.sent (nets.ids_of net.old.flying)) }
+        ensures numbers { OnOk result
+            (nets.AreNumbers net.old.sent (nets.flying_ids net.old.flying)) }
         ensures wrote { OnOk result (Wrote ledger.old ledger.new (self.line ∷ []) self.event.value) }
         ensures within { OnOk result (IsWithin (ledger.old.journal.lines ++ self.line ∷ [])) }
         ensures too_long { IsErrOf result StepFault.RunTooLong → ¬ IsWithin (ledger.old.journal.lines ++ self.line ∷ []) }

@@ -8,7 +8,7 @@ ghost use Rattle.cluster_rules.specs.World as worlds;
 ghost use Rattle.run_laws.specs.Taken.{Taken};
 ghost use Rattle.world.specs.Claims.{HasClaims};
 ghost use Rattle.world.specs.Idle.{DoesNothing};
-ghost use Rattle.world.specs.Steps.{MayCome, TakesStep, begun, standing, written, next_lines, stepped};
+ghost use Rattle.world.specs.Steps.{MayCome, TakesStep, run_begun, standing, run_lines, next_lines, stepped};
 
 use crate::delivery::Delivery;
 use crate::fault::StepFault;
@@ -43,9 +43,9 @@ pub struct World {
 }
 
 impl Model for World {
-    ghost use Rattle.world.specs.Steps.{Run};
+    ghost use Rattle.world.specs.Steps.{RunSoFar};
 
-    ghost Value = { Run };
+    ghost Value = { RunSoFar };
 
     ghost use Rattle.world.specs.Kept.{run_of, Keeps};
 
@@ -62,7 +62,7 @@ impl World {
     pub fn new(alloc: Global, header: &Header) -> Result<World, StepFault>
         requires nodes { IsNodeList (opening.declared_nodes header.now) }
         requires ranges { All IsProperHeaderLine header.now }
-        ensures ok { IfOk result (λ w. w ≡ begun header.now) }
+        ensures ok { IfOk result (λ w. w ≡ run_begun header.now) }
         ensures within { OnOk result (IsWithin (opening.header_lines header.now)) }
         ensures too_long { IsErrOf result StepFault.RunTooLong → ¬ IsWithin (opening.header_lines header.now) }
     {
@@ -97,10 +97,10 @@ impl World {
     pub fn step(&mut self, alloc: Global, event: &Event) -> Result<(), StepFault>
         requires { MayCome self.old event.now }
         ensures ok { OnOk result (self.new ≡ stepped self.old event.now) }
-        ensures within { OnOk result (IsWithin (written self.old ++ next_lines self.old event.now)) }
-        ensures too_long { IsErrOf result StepFault.RunTooLong → ¬ IsWithin (written self.old ++ next_lines self.old event.now) }
+        ensures within { OnOk result (IsWithin (run_lines self.old ++ next_lines self.old event.now)) }
+        ensures too_long { IsErrOf result StepFault.RunTooLong → ¬ IsWithin (run_lines self.old ++ next_lines self.old event.now) }
         ensures err { OnErr result (self.new ≡ self.old) }
-        ensures claims { HasClaims (written self.new) }
+        ensures claims { HasClaims (run_lines self.new) }
     {
         let answer = self.take(alloc, event, Snapshot::of(event));
         // What the journal ensures of its lines.
@@ -184,7 +184,7 @@ impl World {
     /// The journal: the header's lines, and then those of the steps, of which each event was
     /// allowed and has just its due lines.
     pub fn journal(&self) -> &Journal
-        ensures lines { result.now.lines ≡ written self.now }
+        ensures lines { result.now.lines ≡ run_lines self.now }
         ensures within { IsWithin result.now.lines }
         ensures taken { Taken self.now.header self.now.steps }
         ensures claims { HasClaims result.now.lines }
@@ -194,7 +194,7 @@ impl World {
 
     /// The journal, which is all that is left of the world.
     pub fn into_journal(self) -> Journal
-        ensures lines { result.lines ≡ written self }
+        ensures lines { result.lines ≡ run_lines self }
         ensures within { IsWithin result.lines }
         ensures taken { Taken self.header self.steps }
         ensures claims { HasClaims result.lines }

@@ -10,7 +10,7 @@ use Rattle.std.proofs.lemmas.List.FromFn.{length-range_with_len, get_or-range_wi
 use Rattle.std.proofs.lemmas.List.Kept.{AllPairs-cons}
 use Rattle.std.proofs.lemmas.Slice.Eq.{bytes_eq-Decides}
 use Rattle.node_rules.specs.Stamps.{count_of, have_no_gap, no_class, with_number}
-use Rattle.write_path.specs.Numbered.{IsAboveGap, is_first, numbers_of}
+use Rattle.write_path.specs.Numbered.{IsAboveGap, stands_first, numbers_of}
 
 -- ---- one number more, by its place
 
@@ -210,12 +210,12 @@ first_equal m n e = grind (arith, nat_tests)
 first_other : (m n : ℕ) → (m == n) ≡ false → n ≤ m → n < m
 first_other m n e l = grind (arith, nat_tests)
 
-pub first_taken : (ms : List ℕ) (n : ℕ) → is_first ms n ≡ true → ms ≡ n ∷ drop 1 ms
+pub first_taken : (ms : List ℕ) (n : ℕ) → stands_first ms n ≡ true → ms ≡ n ∷ drop 1 ms
 first_taken [] n e = cc e
 first_taken (m ∷ ms) n e = ap (λ (k : ℕ). k ∷ ms) (first_equal m n e)
 
 -- the first number goes over to the range
-pub closing_step : (upto : ℕ) (ms ns : List ℕ) → is_first ms (upto + 1) ≡ true → ns ≡ drop 1 ms → numbers_of (upto + 1) ns ≡ numbers_of upto ms
+pub closing_step : (upto : ℕ) (ms ns : List ℕ) → stands_first ms (upto + 1) ≡ true → ns ≡ drop 1 ms → numbers_of (upto + 1) ns ≡ numbers_of upto ms
 closing_step upto ms ns e rest =
     ap (numbers_of (upto + 1)) rest
     ∙ numbers_next upto (drop 1 ms)
@@ -225,13 +225,13 @@ pub rise_rest : (ms ns : List ℕ) → ns ≡ drop 1 ms → Rise ms → Rise ns
 rise_rest [] ns e h = subst Rise (sym e) h
 rise_rest (m ∷ ms) ns e h = subst Rise (sym e) (rise_tail m ms h)
 
-pub past_rest : (upto : ℕ) (ms ns : List ℕ) → is_first ms (upto + 1) ≡ true → ns ≡ drop 1 ms → Rise ms → All (λ (n : ℕ). upto + 1 < n) ns
+pub past_rest : (upto : ℕ) (ms ns : List ℕ) → stands_first ms (upto + 1) ≡ true → ns ≡ drop 1 ms → Rise ms → All (λ (n : ℕ). upto + 1 < n) ns
 past_rest upto [] ns first e h = cc first
 past_rest upto (m ∷ ms) ns first e h =
     subst (All (λ (n : ℕ). upto + 1 < n)) (sym e) (All-weaker (λ (n : ℕ). m < n) (λ (n : ℕ). upto + 1 < n) (λ n l. omega (arith, l, first_equal m (upto + 1) first)) ms (above_head m ms h))
 
 -- where the first isn't the next one, there is a gap
-pub gap_stands : (upto : ℕ) (ms : List ℕ) → is_first ms (upto + 1) ≡ false → Rise ms → All (λ (n : ℕ). upto < n) ms → IsAboveGap upto ms
+pub gap_stands : (upto : ℕ) (ms : List ℕ) → stands_first ms (upto + 1) ≡ false → Rise ms → All (λ (n : ℕ). upto < n) ms → IsAboveGap upto ms
 gap_stands upto [] first h past = record { rising = h; gap = All-nil (λ (n : ℕ). upto + 1 < n) }
 gap_stands upto (m ∷ ms) first h past =
     let high : upto + 1 < m = first_other m (upto + 1) first (omega (arith, past 0 m (omega arith))) in

@@ -18,6 +18,6 @@ pub record IsAboveGap (upto : ℕ) (above : List ℕ) : Type 0 where
   pub gap : All (λ n. upto + 1 < n) above
 
 -- whether the number stands first
-abbrev pub is_first : List ℕ → ℕ → Bool
-is_first [] n = false
-is_first (m ∷ ms) n = m == n
+abbrev pub stands_first : List ℕ → ℕ → Bool
+stands_first [] n = false
+stands_first (m ∷ ms) n = m == n

@@ -2,7 +2,7 @@
 ghost use Rattle.std.specs.Prelude.{◌≡◌, ◌<◌, ◌≤◌, ◌+◌, ◌^◌, ◌-◌, [], ℕ, All, AllPairs, IsOk, IsTrue, OnOk, OnErr};
 ghost use Rattle.std.specs.VecDeque.{deque_len, deque_capacity};
 ghost use Rattle.node_rules.specs.Stamps.{count_of, with_number};
-ghost use Rattle.write_path.specs.Numbered.{IsAboveGap, is_first, numbers_of};
+ghost use Rattle.write_path.specs.Numbered.{IsAboveGap, stands_first, numbers_of};
 
 use cluster_types::{CopyState, NoMemory};
 use std::alloc::Global;
@@ -116,7 +116,7 @@ fn close_gap(upto: &mut u32, above: &mut VecDeque<u32>)
 /// Whether the first number above is the one after `upto`.
 fn has_next(upto: u32, above: &VecDeque<u32>) -> bool
     requires { All (λ n. upto < n) above.now.items }
-    ensures first { result ≡ is_first above.now.items (upto + 1) }
+    ensures first { result ≡ stands_first above.now.items (upto + 1) }
     ensures fits { IsTrue result → upto < 2 ^ 32 - 1 }
 {
     let Some(first) = above.front() else {

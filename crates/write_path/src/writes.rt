@@ -5,7 +5,7 @@ ghost use Rattle.std.specs.FinMap as finite;
 ghost use Rattle.conflict_order.specs.Next.{next};
 ghost use Rattle.cluster_types.specs.Partitions.{partition_of};
 ghost use Rattle.record_store.specs.Store.{HasRoom, UsesRoom, answer, joined};
-ghost use Rattle.dup_resolve.specs.Open.{HasOpen, changing, digest_at, transaction, with_write};
+ghost use Rattle.dup_resolve.specs.Open.{HasOpen, change_txn, txn_digest_at, txn_at, txn_with_write};
 ghost use Rattle.write_path.specs.Writes.{IsToWrite, IsWrite, body_of, records_with, version_in};
 
 use cluster_types::{Digest, NoMemory, NodeList};
@@ -43,13 +43,13 @@ pub fn apply(
     clock: u64,
     to: NodeList,
 ) -> Result<Version, NoMemory>
-    requires { IsSomeAnd (transaction txns.old.running t) IsToWrite }
-    ensures version { IfOk result (λ v. Some v ≡ version_in clock (transaction txns.old.running t)) }
-    ensures versions { IfOk result (λ v. store.new.versions ≡ records_with store.old.by store.old.versions (transaction txns.old.running t) v) }
+    requires { IsSomeAnd (txn_at txns.old.running t) IsToWrite }
+    ensures version { IfOk result (λ v. Some v ≡ version_in clock (txn_at txns.old.running t)) }
+    ensures versions { IfOk result (λ v. store.new.versions ≡ records_with store.old.by store.old.versions (txn_at txns.old.running t) v) }
     ensures stamps { store.new.stamps ≡ store.old.stamps }
     ensures policy { store.new.by ≡ store.old.by }
-    ensures room { OnOk result (IfSome (digest_at txns.old.running t) (λ d. UsesRoom (partition_of d) store.old.spare store.new.spare)) }
-    ensures applied { OnOk result (HasOpen (changing txns.old.running t (with_write to)) txns.old txns.new) }
+    ensures room { OnOk result (IfSome (txn_digest_at txns.old.running t) (λ d. UsesRoom (partition_of d) store.old.spare store.new.spare)) }
+    ensures applied { OnOk result (HasOpen (change_txn txns.old.running t (txn_with_write to)) txns.old txns.new) }
     ensures err { OnErr result (store.new ≡ store.old) }
     ensures none_applied { OnErr result (txns.new ≡ txns.old) }
 {
@@ -72,14 +72,16 @@ pub fn apply_planned(
     v: Version,
     to: NodeList,
 )
-    requires write { IsSomeAnd (transaction txns.old.running t) IsToWrite }
-    requires version { Some v ≡ version_in clock (transaction txns.old.running t) }
-    requires room { IfSome (digest_at txns.old.running t) (λ d. HasRoom (d ∷ []) store.old.spare) }
-    ensures versions { store.new.versions ≡ records_with store.old.by store.old.versions (transaction txns.old.running t) v }
+    requires write { IsSomeAnd (txn_at txns.old.running t) IsToWrite }
+    requires version { Some v ≡ version_in clock (txn_at txns.old.running t) }
+    requires room { IfSome (txn_digest_at txns.old.running t)
+        (λ d. HasRoom (d ∷ []) store.old.spare) }
+    ensures versions { store.new.versions ≡ records_with store.old.by store.old.versions (txn_at txns.old.running t) v }
     ensures stamps { store.new.stamps ≡ store.old.stamps }
     ensures policy { store.new.by ≡ store.old.by }
-    ensures room { IfSome (digest_at txns.old.running t) (λ d. UsesRoom (partition_of d) store.old.spare store.new.spare) }
-    ensures applied { HasOpen (changing txns.old.running t (with_write to)) txns.old txns.new }
+    ensures room { IfSome (txn_digest_at txns.old.running t) (λ d. UsesRoom (partition_of d) store.old.spare store.new.spare) }
+    ensures applied { HasOpen
+        (change_txn txns.old.running t (txn_with_write to)) txns.old txns.new }
 {
     let Some(txn) = txns.get(t) else {
         unreachable!()

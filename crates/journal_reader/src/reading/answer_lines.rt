@@ -1,8 +1,8 @@
 //! What commands show, and the client's table.
-#![tactic(auto, unfolding(crate::specs::Reading::of_word, crate::specs::Fields::with_field, crate::specs::Fields::with_rest, crate::specs::Fields::ended))]
+#![tactic(auto, unfolding(crate::specs::Reading::of_word, crate::specs::Fields::with_field, crate::specs::Fields::with_rest, crate::specs::Fields::at_end))]
 
 ghost use Rattle.journal_reader.specs.Reading.{of_word};
-ghost use Rattle.journal_reader.specs.Unread.{Reads};
+ghost use Rattle.journal_reader.specs.Unread.{ReadsFields};
 ghost use Rattle.journal_reader.specs.declared.reading.word.Word.TheVariants as word;
 
 use crate::reading::causes::mapless_of;
@@ -12,7 +12,7 @@ use journal_lines::Line;
 use std::alloc::Global;
 
 pub fn map_line(alloc: Global, mut fields: Parts) -> Result<Line, Unread>
-    ensures { Reads result (of_word word.Map fields.entry) }
+    ensures { ReadsFields result (of_word word.Map fields.entry) }
 {
     let node = fields.node()?;
     let key = fields.key()?;
@@ -30,7 +30,7 @@ pub fn map_line(alloc: Global, mut fields: Parts) -> Result<Line, Unread>
 }
 
 pub fn mapless_line(mut fields: Parts) -> Result<Line, Unread>
-    ensures { Reads result (of_word word.Mapless fields.entry) }
+    ensures { ReadsFields result (of_word word.Mapless fields.entry) }
 {
     let node = fields.node()?;
     let cause = mapless_of(fields).ok_or(Unread::NoLine)?;
@@ -38,7 +38,7 @@ pub fn mapless_line(mut fields: Parts) -> Result<Line, Unread>
 }
 
 pub fn place_line(alloc: Global, mut fields: Parts) -> Result<Line, Unread>
-    ensures { Reads result (of_word word.Place fields.entry) }
+    ensures { ReadsFields result (of_word word.Place fields.entry) }
 {
     let partition = fields.partition()?;
     let members = fields.list(alloc)?;
@@ -47,7 +47,7 @@ pub fn place_line(alloc: Global, mut fields: Parts) -> Result<Line, Unread>
 }
 
 pub fn hash_line(mut fields: Parts) -> Result<Line, Unread>
-    ensures { Reads result (of_word word.Hash fields.entry) }
+    ensures { ReadsFields result (of_word word.Hash fields.entry) }
 {
     let digest = fields.digest()?;
     let partition = fields.partition()?;
@@ -56,7 +56,7 @@ pub fn hash_line(mut fields: Parts) -> Result<Line, Unread>
 }
 
 pub fn holds_line(alloc: Global, mut fields: Parts) -> Result<Line, Unread>
-    ensures { Reads result (of_word word.Holds fields.entry) }
+    ensures { ReadsFields result (of_word word.Holds fields.entry) }
 {
     let node = fields.node()?;
     let digest = fields.digest()?;
@@ -70,7 +70,7 @@ pub fn holds_line(alloc: Global, mut fields: Parts) -> Result<Line, Unread>
 }
 
 pub fn client_line(mut fields: Parts) -> Result<Line, Unread>
-    ensures { Reads result (of_word word.Client fields.entry) }
+    ensures { ReadsFields result (of_word word.Client fields.entry) }
 {
     let node = fields.node()?;
     let digest = fields.digest()?;
@@ -79,7 +79,7 @@ pub fn client_line(mut fields: Parts) -> Result<Line, Unread>
 }
 
 pub fn no_map_line(mut fields: Parts) -> Result<Line, Unread>
-    ensures { Reads result (of_word word.NoMap fields.entry) }
+    ensures { ReadsFields result (of_word word.NoMap fields.entry) }
 {
     let partition = fields.partition()?;
     fields.end()?;
@@ -87,7 +87,7 @@ pub fn no_map_line(mut fields: Parts) -> Result<Line, Unread>
 }
 
 pub fn table_line(mut fields: Parts) -> Result<Line, Unread>
-    ensures { Reads result (of_word word.Table fields.entry) }
+    ensures { ReadsFields result (of_word word.Table fields.entry) }
 {
     let key = fields.key()?;
     fields.end()?;
@@ -95,7 +95,7 @@ pub fn table_line(mut fields: Parts) -> Result<Line, Unread>
 }
 
 pub fn calm_line(mut fields: Parts) -> Result<Line, Unread>
-    ensures { Reads result (of_word word.Calm fields.entry) }
+    ensures { ReadsFields result (of_word word.Calm fields.entry) }
 {
     let rounds = fields.long()?;
     fields.end()?;

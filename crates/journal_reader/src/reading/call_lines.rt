@@ -1,8 +1,8 @@
 //! Requests that are sent as messages.
-#![tactic(auto, unfolding(crate::specs::Reading::of_word, crate::specs::Fields::with_field, crate::specs::Fields::with_rest, crate::specs::Fields::ended))]
+#![tactic(auto, unfolding(crate::specs::Reading::of_word, crate::specs::Fields::with_field, crate::specs::Fields::with_rest, crate::specs::Fields::at_end))]
 
 ghost use Rattle.journal_reader.specs.Reading.{of_word};
-ghost use Rattle.journal_reader.specs.Unread.{Reads};
+ghost use Rattle.journal_reader.specs.Unread.{ReadsFields};
 ghost use Rattle.journal_reader.specs.declared.reading.word.Word.TheVariants as word;
 
 use crate::reading::parts::Parts;
@@ -12,7 +12,7 @@ use journal_lines::Line;
 use std::alloc::Global;
 
 pub fn proxy_line(mut fields: Parts) -> Result<Line, Unread>
-    ensures { Reads result (of_word word.Proxy fields.entry) }
+    ensures { ReadsFields result (of_word word.Proxy fields.entry) }
 {
     let node = fields.node()?;
     let key = fields.key()?;
@@ -32,7 +32,7 @@ pub fn proxy_line(mut fields: Parts) -> Result<Line, Unread>
 }
 
 pub fn proxied_line(alloc: Global, mut fields: Parts) -> Result<Line, Unread>
-    ensures { Reads result (of_word word.Proxied fields.entry) }
+    ensures { ReadsFields result (of_word word.Proxied fields.entry) }
 {
     let node = fields.node()?;
     let key = fields.key()?;
@@ -47,7 +47,7 @@ pub fn proxied_line(alloc: Global, mut fields: Parts) -> Result<Line, Unread>
 }
 
 pub fn unproxied_line(mut fields: Parts) -> Result<Line, Unread>
-    ensures { Reads result (of_word word.Unproxied fields.entry) }
+    ensures { ReadsFields result (of_word word.Unproxied fields.entry) }
 {
     let node = fields.node()?;
     let key = fields.key()?;
@@ -57,14 +57,14 @@ pub fn unproxied_line(mut fields: Parts) -> Result<Line, Unread>
 }
 
 pub fn call_full_line(mut fields: Parts) -> Result<Line, Unread>
-    ensures { Reads result (of_word word.CallFull fields.entry) }
+    ensures { ReadsFields result (of_word word.CallFull fields.entry) }
 {
     fields.end()?;
     Ok(Line::CallFull)
 }
 
 pub fn call_line(mut fields: Parts) -> Result<Line, Unread>
-    ensures { Reads result (of_word word.Call fields.entry) }
+    ensures { ReadsFields result (of_word word.Call fields.entry) }
 {
     let number = fields.number()?;
     let node = fields.node()?;
@@ -80,7 +80,7 @@ pub fn call_line(mut fields: Parts) -> Result<Line, Unread>
 }
 
 pub fn no_open_line(mut fields: Parts) -> Result<Line, Unread>
-    ensures { Reads result (of_word word.NoOpen fields.entry) }
+    ensures { ReadsFields result (of_word word.NoOpen fields.entry) }
 {
     let number = fields.long()?;
     fields.end()?;
@@ -88,7 +88,7 @@ pub fn no_open_line(mut fields: Parts) -> Result<Line, Unread>
 }
 
 pub fn again_line(mut fields: Parts) -> Result<Line, Unread>
-    ensures { Reads result (of_word word.Again fields.entry) }
+    ensures { ReadsFields result (of_word word.Again fields.entry) }
 {
     let number = fields.number()?;
     let node = fields.node()?;
@@ -97,7 +97,7 @@ pub fn again_line(mut fields: Parts) -> Result<Line, Unread>
 }
 
 pub fn reply_line(alloc: Global, mut fields: Parts) -> Result<Line, Unread>
-    ensures { Reads result (of_word word.Reply fields.entry) }
+    ensures { ReadsFields result (of_word word.Reply fields.entry) }
 {
     let number = fields.number()?;
     let node = fields.node()?;

@@ -1,5 +1,5 @@
 //! Why a node refuses a request, or a page of a scan.
-#![tactic(auto, unfolding(crate::specs::Fields::first, crate::specs::Fields::with_field, crate::specs::Fields::ended))]
+#![tactic(auto, unfolding(crate::specs::Fields::first_field, crate::specs::Fields::with_field, crate::specs::Fields::at_end))]
 
 ghost use Rattle.std.specs.Prelude.{◌≡◌};
 ghost use Rattle.journal_reader.specs.Fields as grammar;
@@ -21,7 +21,7 @@ pub fn mapless_of(fields: Parts) -> Option<Refusal>
     }
 }
 
-#[tactic(auto, unfolding(crate::specs::Reading::cause_of, crate::specs::Fields::first, crate::specs::Fields::with_field, crate::specs::Fields::ended))]
+#[tactic(auto, unfolding(crate::specs::Reading::cause_of, crate::specs::Fields::first_field, crate::specs::Fields::with_field, crate::specs::Fields::at_end))]
 pub fn cause_of(mut fields: Parts) -> Option<Refusal>
     ensures { result ≡ reading.cause_of fields.entry }
 {
@@ -47,7 +47,7 @@ pub fn cause_of(mut fields: Parts) -> Option<Refusal>
     None
 }
 
-#[tactic(auto, unfolding(crate::specs::Reading::scan_refusal_of, crate::specs::Fields::first, crate::specs::Fields::with_field, crate::specs::Fields::ended))]
+#[tactic(auto, unfolding(crate::specs::Reading::scan_refusal_of, crate::specs::Fields::first_field, crate::specs::Fields::with_field, crate::specs::Fields::at_end))]
 pub fn scan_refusal_of(mut fields: Parts) -> Option<ScanRefusal>
     ensures { result ≡ reading.scan_refusal_of fields.entry }
 {
@@ -74,9 +74,9 @@ pub fn scan_refusal_of(mut fields: Parts) -> Option<ScanRefusal>
 }
 
 /// The value where no field is left.
-#[tactic(auto, unfolding(crate::specs::Fields::ended))]
+#[tactic(auto, unfolding(crate::specs::Fields::at_end))]
 fn ended<T: Copy>(value: T, fields: Parts) -> Option<T>
-    ensures { result ≡ grammar.ended value fields.entry }
+    ensures { result ≡ grammar.at_end value fields.entry }
 {
     if fields.are_ended() {
         Some(value)

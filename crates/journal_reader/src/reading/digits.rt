@@ -12,7 +12,7 @@ use std::alloc::Global;
 
 /// Any number of bytes.
 pub fn bytes_of(alloc: Global, text: &[u8]) -> Result<Option<Bytes>, NoMemory>
-    ensures { IfOk result (λ bytes. bytes ≡ grammar.bytes_of text.now) }
+    ensures { IfOk result (λ bytes. bytes ≡ grammar.parsed_bytes text.now) }
 {
     match byte_vec_of(alloc, text)? {
         None => Ok(None),
@@ -21,9 +21,9 @@ pub fn bytes_of(alloc: Global, text: &[u8]) -> Result<Option<Bytes>, NoMemory>
 }
 
 /// Twenty bytes.
-#[tactic(auto, unfolding(crate::specs::Fields::digest_of))]
+#[tactic(auto, unfolding(crate::specs::Fields::parsed_digest))]
 pub fn digest_of(text: &[u8]) -> Option<Digest>
-    ensures { result ≡ grammar.digest_of text.now }
+    ensures { result ≡ grammar.parsed_digest text.now }
 {
     if has_capitals(text) {
         return None;
@@ -35,9 +35,9 @@ pub fn digest_of(text: &[u8]) -> Option<Digest>
 }
 
 /// At most 128 bytes.
-#[tactic(auto, unfolding(crate::specs::Fields::value_of))]
+#[tactic(auto, unfolding(crate::specs::Fields::parsed_value))]
 pub fn value_of(alloc: Global, text: &[u8]) -> Result<Option<ValueBytes>, NoMemory>
-    ensures { IfOk result (λ value. value ≡ grammar.value_of text.now) }
+    ensures { IfOk result (λ value. value ≡ grammar.parsed_value text.now) }
 {
     let Some(bytes) = byte_vec_of(alloc, text)? else {
         return Ok(None);
@@ -49,9 +49,9 @@ pub fn value_of(alloc: Global, text: &[u8]) -> Result<Option<ValueBytes>, NoMemo
     }
 }
 
-#[tactic(auto, unfolding(crate::specs::Fields::bytes_of))]
+#[tactic(auto, unfolding(crate::specs::Fields::parsed_bytes))]
 fn byte_vec_of(alloc: Global, text: &[u8]) -> Result<Option<Vec<u8>>, NoMemory>
-    ensures { IfOk result (λ bytes. grammar.option_items bytes ≡ grammar.bytes_of text.now) }
+    ensures { IfOk result (λ bytes. grammar.option_items bytes ≡ grammar.parsed_bytes text.now) }
 {
     if has_capitals(text) {
         return Ok(None);

@@ -1,9 +1,9 @@
 //! The fields of a line are read, one after another.
-#![tactic(auto, unfolding(crate::specs::Fields::first))]
+#![tactic(auto, unfolding(crate::specs::Fields::first_field))]
 
 ghost use Rattle.journal_reader.specs.Fields as grammar;
-ghost use Rattle.journal_reader.specs.Fields.{first};
-ghost use Rattle.journal_reader.specs.Unread.{Ends, Takes};
+ghost use Rattle.journal_reader.specs.Fields.{first_field};
+ghost use Rattle.journal_reader.specs.Unread.{ReadsEnd, Takes};
 
 use crate::reading::digits::{bytes_of, digest_of};
 use crate::reading::members::{list_of, members_of};
@@ -22,7 +22,7 @@ use std::alloc::Global;
 impl<'a> Parts<'a> {
     /// No field is left.
     pub fn end(&mut self) -> Result<(), Unread>
-        ensures { Ends result self.old }
+        ensures { ReadsEnd result self.old }
     {
         match self.take_first() {
             None => Ok(()),
@@ -32,7 +32,7 @@ impl<'a> Parts<'a> {
 
     /// A node's id.
     pub fn node(&mut self) -> Result<NodeId, Unread>
-        ensures { Takes result (first grammar.node_of self.old) self.new }
+        ensures { Takes result (first_field grammar.parsed_node self.old) self.new }
     {
         let text = self.take_first().ok_or(Unread::NoLine)?;
         node_of(text).ok_or(Unread::NoLine)
@@ -40,7 +40,7 @@ impl<'a> Parts<'a> {
 
     /// A view's key.
     pub fn key(&mut self) -> Result<ClusterKey, Unread>
-        ensures { Takes result (first grammar.key_of self.old) self.new }
+        ensures { Takes result (first_field grammar.parsed_key self.old) self.new }
     {
         let text = self.take_first().ok_or(Unread::NoLine)?;
         key_of(text).ok_or(Unread::NoLine)
@@ -48,7 +48,7 @@ impl<'a> Parts<'a> {
 
     /// A partition's number.
     pub fn partition(&mut self) -> Result<PartitionId, Unread>
-        ensures { Takes result (first grammar.partition_of self.old) self.new }
+        ensures { Takes result (first_field grammar.parsed_partition self.old) self.new }
     {
         let text = self.take_first().ok_or(Unread::NoLine)?;
         partition_of(text).ok_or(Unread::NoLine)
@@ -56,7 +56,7 @@ impl<'a> Parts<'a> {
 
     /// The number of a transaction, a proxy, a call or a scan.
     pub fn number(&mut self) -> Result<u32, Unread>
-        ensures { Takes result (first grammar.number_of self.old) self.new }
+        ensures { Takes result (first_field grammar.number_of self.old) self.new }
     {
         let text = self.take_first().ok_or(Unread::NoLine)?;
         number_of(text).ok_or(Unread::NoLine)
@@ -64,7 +64,7 @@ impl<'a> Parts<'a> {
 
     /// How many records a page has.
     pub fn count(&mut self) -> Result<u32, Unread>
-        ensures { Takes result (first grammar.count_of self.old) self.new }
+        ensures { Takes result (first_field grammar.parsed_count self.old) self.new }
     {
         let text = self.take_first().ok_or(Unread::NoLine)?;
         count_of(text).ok_or(Unread::NoLine)
@@ -72,7 +72,7 @@ impl<'a> Parts<'a> {
 
     /// The number of a message, a time or a count.
     pub fn long(&mut self) -> Result<u64, Unread>
-        ensures { Takes result (first grammar.long_of self.old) self.new }
+        ensures { Takes result (first_field grammar.long_of self.old) self.new }
     {
         let text = self.take_first().ok_or(Unread::NoLine)?;
         long_of(text).ok_or(Unread::NoLine)
@@ -80,7 +80,7 @@ impl<'a> Parts<'a> {
 
     /// A node's id, or 0 for the client.
     pub fn endpoint(&mut self) -> Result<u16, Unread>
-        ensures { Takes result (first grammar.endpoint_of self.old) self.new }
+        ensures { Takes result (first_field grammar.endpoint_of self.old) self.new }
     {
         let text = self.take_first().ok_or(Unread::NoLine)?;
         endpoint_of(text).ok_or(Unread::NoLine)
@@ -88,7 +88,7 @@ impl<'a> Parts<'a> {
 
     /// A digest.
     pub fn digest(&mut self) -> Result<Digest, Unread>
-        ensures { Takes result (first grammar.digest_of self.old) self.new }
+        ensures { Takes result (first_field grammar.parsed_digest self.old) self.new }
     {
         let text = self.take_first().ok_or(Unread::NoLine)?;
         digest_of(text).ok_or(Unread::NoLine)
@@ -96,7 +96,7 @@ impl<'a> Parts<'a> {
 
     /// What a request does.
     pub fn action(&mut self) -> Result<Action, Unread>
-        ensures { Takes result (first grammar.action_of self.old) self.new }
+        ensures { Takes result (first_field grammar.parsed_action self.old) self.new }
     {
         let text = self.take_first().ok_or(Unread::NoLine)?;
         action_of(text).ok_or(Unread::NoLine)
@@ -104,7 +104,7 @@ impl<'a> Parts<'a> {
 
     /// A conflict policy.
     pub fn policy(&mut self) -> Result<Policy, Unread>
-        ensures { Takes result (first grammar.policy_of self.old) self.new }
+        ensures { Takes result (first_field grammar.parsed_policy self.old) self.new }
     {
         let text = self.take_first().ok_or(Unread::NoLine)?;
         policy_of(text).ok_or(Unread::NoLine)
@@ -112,7 +112,7 @@ impl<'a> Parts<'a> {
 
     /// The version of the script's language.
     pub fn script_version(&mut self) -> Result<u8, Unread>
-        ensures { Takes result (first grammar.script_version_of self.old) self.new }
+        ensures { Takes result (first_field grammar.script_version_of self.old) self.new }
     {
         let text = self.take_first().ok_or(Unread::NoLine)?;
         script_version_of(text).ok_or(Unread::NoLine)
@@ -120,7 +120,7 @@ impl<'a> Parts<'a> {
 
     /// How many replicas a partition has.
     pub fn factor(&mut self) -> Result<u8, Unread>
-        ensures { Takes result (first grammar.factor_of self.old) self.new }
+        ensures { Takes result (first_field grammar.parsed_factor self.old) self.new }
     {
         let text = self.take_first().ok_or(Unread::NoLine)?;
         factor_of(text).ok_or(Unread::NoLine)
@@ -128,7 +128,7 @@ impl<'a> Parts<'a> {
 
     /// A version.
     pub fn version(&mut self, alloc: Global) -> Result<Version, Unread>
-        ensures { Takes result (first grammar.version_of self.old) self.new }
+        ensures { Takes result (first_field grammar.parsed_version self.old) self.new }
     {
         let text = self.take_first().ok_or(Unread::NoLine)?;
         version_of(alloc, text)?.ok_or(Unread::NoLine)
@@ -136,7 +136,7 @@ impl<'a> Parts<'a> {
 
     /// A version, or the word for none.
     pub fn optional_version(&mut self, alloc: Global) -> Result<Option<Version>, Unread>
-        ensures { Takes result (first grammar.optional_of self.old) self.new }
+        ensures { Takes result (first_field grammar.optional_of self.old) self.new }
     {
         let text = self.take_first().ok_or(Unread::NoLine)?;
         optional_of(alloc, text)?.ok_or(Unread::NoLine)
@@ -144,7 +144,7 @@ impl<'a> Parts<'a> {
 
     /// The members of a view.
     pub fn members(&mut self, alloc: Global) -> Result<Members, Unread>
-        ensures { Takes result (first grammar.members_of self.old) self.new }
+        ensures { Takes result (first_field grammar.parsed_members self.old) self.new }
     {
         let text = self.take_first().ok_or(Unread::NoLine)?;
         members_of(alloc, text)?.ok_or(Unread::NoLine)
@@ -152,7 +152,7 @@ impl<'a> Parts<'a> {
 
     /// The members of a partition's list.
     pub fn list(&mut self, alloc: Global) -> Result<MemberList, Unread>
-        ensures { Takes result (first grammar.list_of self.old) self.new }
+        ensures { Takes result (first_field grammar.list_of self.old) self.new }
     {
         let text = self.take_first().ok_or(Unread::NoLine)?;
         list_of(alloc, text)?.ok_or(Unread::NoLine)
@@ -160,7 +160,7 @@ impl<'a> Parts<'a> {
 
     /// The bytes of a message.
     pub fn bytes(&mut self, alloc: Global) -> Result<Bytes, Unread>
-        ensures { Takes result (first grammar.bytes_of self.old) self.new }
+        ensures { Takes result (first_field grammar.parsed_bytes self.old) self.new }
     {
         let text = self.take_first().ok_or(Unread::NoLine)?;
         bytes_of(alloc, text)?.ok_or(Unread::NoLine)

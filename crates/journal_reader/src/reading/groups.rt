@@ -9,9 +9,9 @@ use cluster_types::{BoxedGroups, Groups, NoMemory, NodeId, NodeList};
 use std::alloc::Global;
 
 /// 1 to 16 groups, none empty, with at most 16 ids in all and none twice.
-#[tactic(auto, unfolding(crate::specs::Fields::groups_of))]
+#[tactic(auto, unfolding(crate::specs::Fields::parsed_groups))]
 pub fn groups_of(alloc: Global, fields: Parts) -> Result<Option<BoxedGroups>, NoMemory>
-    ensures { IfOk result (λ g. g ≡ grammar.groups_of fields.entry) }
+    ensures { IfOk result (λ g. g ≡ grammar.parsed_groups fields.entry) }
 {
     let Some(groups) = each_group_of(alloc, fields)? else {
         return Ok(None);
@@ -69,7 +69,7 @@ fn have_ids(groups: &[NodeList]) -> bool
 
 /// Whether there are at most 16 ids, none twice.
 fn are_distinct(ids: &[NodeId]) -> bool
-    ensures { result ≡ grammar.are_distinct ids.now }
+    ensures { result ≡ grammar.are_distinct_ids ids.now }
 {
     match NodeList::from_slice(ids) {
         Ok(_) => true,

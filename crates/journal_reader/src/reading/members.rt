@@ -9,9 +9,9 @@ use cluster_types::{Member, MemberList, Members, NoMemory, Role};
 use std::alloc::Global;
 
 /// The members of a view: 1 to 16, each id below those before it.
-#[tactic(auto, unfolding(crate::specs::Fields::members_of))]
+#[tactic(auto, unfolding(crate::specs::Fields::parsed_members))]
 pub fn members_of(alloc: Global, text: &[u8]) -> Result<Option<Members>, NoMemory>
-    ensures { IfOk result (λ m. m ≡ grammar.members_of text.now) }
+    ensures { IfOk result (λ m. m ≡ grammar.parsed_members text.now) }
 {
     match some_members_of(alloc, text)? {
         None => Ok(None),
@@ -60,7 +60,7 @@ fn some_members_of(alloc: Global, text: &[u8]) -> Result<Option<Vec<Member>>, No
 }
 
 fn each_member_of(alloc: Global, mut parts: Parts) -> Result<Option<Vec<Member>>, NoMemory>
-    ensures { IfOk result (λ m. grammar.option_items m ≡ grammar.all_of grammar.member_of parts.entry) }
+    ensures { IfOk result (λ m. grammar.option_items m ≡ grammar.all_of grammar.parsed_member parts.entry) }
 {
     let mut members = Vec::new(alloc);
     while let Some(text) = parts.take_first() {
@@ -73,9 +73,9 @@ fn each_member_of(alloc: Global, mut parts: Parts) -> Result<Option<Vec<Member>>
 }
 
 /// An id alone, or behind it a slash and the role.
-#[tactic(auto, unfolding(crate::specs::Fields::member_of, crate::specs::Fields::member_in, crate::specs::Fields::first, crate::specs::Fields::with_field, crate::specs::Fields::ended))]
+#[tactic(auto, unfolding(crate::specs::Fields::parsed_member, crate::specs::Fields::parsed_member_parts, crate::specs::Fields::first_field, crate::specs::Fields::with_field, crate::specs::Fields::at_end))]
 fn member_of(text: &[u8]) -> Option<Member>
-    ensures { result ≡ grammar.member_of text.now }
+    ensures { result ≡ grammar.parsed_member text.now }
 {
     let mut parts = Parts::of(text, b'/');
     let id = parts.take_first()?;
@@ -91,9 +91,9 @@ fn member_of(text: &[u8]) -> Option<Member>
 }
 
 /// The rack behind the slash: above 0, or with the mark of a quiesced node.
-#[tactic(auto, unfolding(crate::specs::Fields::role_of, crate::specs::Fields::role_in, crate::specs::Fields::first, crate::specs::Fields::with_field, crate::specs::Fields::ended))]
+#[tactic(auto, unfolding(crate::specs::Fields::parsed_role, crate::specs::Fields::role_in, crate::specs::Fields::first_field, crate::specs::Fields::with_field, crate::specs::Fields::at_end))]
 fn role_of(text: &[u8]) -> Option<Role>
-    ensures { result ≡ grammar.role_of text.now }
+    ensures { result ≡ grammar.parsed_role text.now }
 {
     let mut parts = Parts::of(text, b'q');
     let rack = parts.take_first()?;

@@ -1,8 +1,8 @@
 //! Messages on their way.
-#![tactic(auto, unfolding(crate::specs::Reading::of_word, crate::specs::Fields::with_field, crate::specs::Fields::with_rest, crate::specs::Fields::ended))]
+#![tactic(auto, unfolding(crate::specs::Reading::of_word, crate::specs::Fields::with_field, crate::specs::Fields::with_rest, crate::specs::Fields::at_end))]
 
 ghost use Rattle.journal_reader.specs.Reading.{of_word};
-ghost use Rattle.journal_reader.specs.Unread.{Reads};
+ghost use Rattle.journal_reader.specs.Unread.{ReadsFields};
 ghost use Rattle.journal_reader.specs.declared.reading.word.Word.TheVariants as word;
 
 use crate::reading::parts::Parts;
@@ -11,7 +11,7 @@ use journal_lines::Line;
 use std::alloc::Global;
 
 pub fn deliver_line(mut fields: Parts) -> Result<Line, Unread>
-    ensures { Reads result (of_word word.Deliver fields.entry) }
+    ensures { ReadsFields result (of_word word.Deliver fields.entry) }
 {
     let message = fields.long()?;
     let from = fields.endpoint()?;
@@ -21,7 +21,7 @@ pub fn deliver_line(mut fields: Parts) -> Result<Line, Unread>
 }
 
 pub fn repeat_line(mut fields: Parts) -> Result<Line, Unread>
-    ensures { Reads result (of_word word.Repeat fields.entry) }
+    ensures { ReadsFields result (of_word word.Repeat fields.entry) }
 {
     let message = fields.long()?;
     let from = fields.endpoint()?;
@@ -31,7 +31,7 @@ pub fn repeat_line(mut fields: Parts) -> Result<Line, Unread>
 }
 
 pub fn cut_line(mut fields: Parts) -> Result<Line, Unread>
-    ensures { Reads result (of_word word.Cut fields.entry) }
+    ensures { ReadsFields result (of_word word.Cut fields.entry) }
 {
     let message = fields.long()?;
     let from = fields.endpoint()?;
@@ -47,7 +47,7 @@ pub fn cut_line(mut fields: Parts) -> Result<Line, Unread>
 }
 
 pub fn lost_line(mut fields: Parts) -> Result<Line, Unread>
-    ensures { Reads result (of_word word.Lost fields.entry) }
+    ensures { ReadsFields result (of_word word.Lost fields.entry) }
 {
     let message = fields.long()?;
     fields.end()?;
@@ -55,7 +55,7 @@ pub fn lost_line(mut fields: Parts) -> Result<Line, Unread>
 }
 
 pub fn blocked_line(mut fields: Parts) -> Result<Line, Unread>
-    ensures { Reads result (of_word word.Blocked fields.entry) }
+    ensures { ReadsFields result (of_word word.Blocked fields.entry) }
 {
     let message = fields.long()?;
     fields.end()?;
@@ -63,7 +63,7 @@ pub fn blocked_line(mut fields: Parts) -> Result<Line, Unread>
 }
 
 pub fn no_message_line(mut fields: Parts) -> Result<Line, Unread>
-    ensures { Reads result (of_word word.NoMessage fields.entry) }
+    ensures { ReadsFields result (of_word word.NoMessage fields.entry) }
 {
     let message = fields.long()?;
     fields.end()?;
@@ -71,7 +71,7 @@ pub fn no_message_line(mut fields: Parts) -> Result<Line, Unread>
 }
 
 pub fn sent_line(alloc: Global, mut fields: Parts) -> Result<Line, Unread>
-    ensures { Reads result (of_word word.Sent fields.entry) }
+    ensures { ReadsFields result (of_word word.Sent fields.entry) }
 {
     let message = fields.long()?;
     let from = fields.endpoint()?;
@@ -87,7 +87,7 @@ pub fn sent_line(alloc: Global, mut fields: Parts) -> Result<Line, Unread>
 }
 
 pub fn full_line(mut fields: Parts) -> Result<Line, Unread>
-    ensures { Reads result (of_word word.Full fields.entry) }
+    ensures { ReadsFields result (of_word word.Full fields.entry) }
 {
     let message = fields.long()?;
     fields.end()?;
@@ -95,7 +95,7 @@ pub fn full_line(mut fields: Parts) -> Result<Line, Unread>
 }
 
 pub fn short_line(mut fields: Parts) -> Result<Line, Unread>
-    ensures { Reads result (of_word word.Short fields.entry) }
+    ensures { ReadsFields result (of_word word.Short fields.entry) }
 {
     let endpoint = fields.endpoint()?;
     fields.end()?;
@@ -103,7 +103,7 @@ pub fn short_line(mut fields: Parts) -> Result<Line, Unread>
 }
 
 pub fn stale_line(mut fields: Parts) -> Result<Line, Unread>
-    ensures { Reads result (of_word word.Stale fields.entry) }
+    ensures { ReadsFields result (of_word word.Stale fields.entry) }
 {
     let endpoint = fields.endpoint()?;
     fields.end()?;
@@ -111,7 +111,7 @@ pub fn stale_line(mut fields: Parts) -> Result<Line, Unread>
 }
 
 pub fn spent_line(mut fields: Parts) -> Result<Line, Unread>
-    ensures { Reads result (of_word word.Spent fields.entry) }
+    ensures { ReadsFields result (of_word word.Spent fields.entry) }
 {
     let endpoint = fields.endpoint()?;
     fields.end()?;

@@ -4,9 +4,9 @@ ghost use Rattle.journal_reader.specs.Fields as grammar;
 
 use conflict_order::{Action, Policy};
 
-#[tactic(auto, unfolding(crate::specs::Fields::policy_of))]
+#[tactic(auto, unfolding(crate::specs::Fields::parsed_policy))]
 pub fn policy_of(text: &[u8]) -> Option<Policy>
-    ensures { result ≡ grammar.policy_of text.now }
+    ensures { result ≡ grammar.parsed_policy text.now }
 {
     if text == b"time".as_slice() {
         return Some(Policy::Time);
@@ -17,9 +17,9 @@ pub fn policy_of(text: &[u8]) -> Option<Policy>
     None
 }
 
-#[tactic(auto, unfolding(crate::specs::Fields::action_of))]
+#[tactic(auto, unfolding(crate::specs::Fields::parsed_action))]
 pub fn action_of(text: &[u8]) -> Option<Action>
-    ensures { result ≡ grammar.action_of text.now }
+    ensures { result ≡ grammar.parsed_action text.now }
 {
     if text == b"get".as_slice() {
         return Some(Action::Get);

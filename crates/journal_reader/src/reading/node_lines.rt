@@ -1,8 +1,8 @@
 //! What is done to a node.
-#![tactic(auto, unfolding(crate::specs::Reading::of_word, crate::specs::Fields::with_field, crate::specs::Fields::with_rest, crate::specs::Fields::ended))]
+#![tactic(auto, unfolding(crate::specs::Reading::of_word, crate::specs::Fields::with_field, crate::specs::Fields::with_rest, crate::specs::Fields::at_end))]
 
 ghost use Rattle.journal_reader.specs.Reading.{of_word};
-ghost use Rattle.journal_reader.specs.Unread.{Reads};
+ghost use Rattle.journal_reader.specs.Unread.{ReadsFields};
 ghost use Rattle.journal_reader.specs.declared.reading.word.Word.TheVariants as word;
 
 use crate::reading::parts::Parts;
@@ -10,7 +10,7 @@ use crate::reading::unread::Unread;
 use journal_lines::Line;
 
 pub fn tick_line(mut fields: Parts) -> Result<Line, Unread>
-    ensures { Reads result (of_word word.Tick fields.entry) }
+    ensures { ReadsFields result (of_word word.Tick fields.entry) }
 {
     let node = fields.node()?;
     fields.end()?;
@@ -18,7 +18,7 @@ pub fn tick_line(mut fields: Parts) -> Result<Line, Unread>
 }
 
 pub fn stop_line(mut fields: Parts) -> Result<Line, Unread>
-    ensures { Reads result (of_word word.Stop fields.entry) }
+    ensures { ReadsFields result (of_word word.Stop fields.entry) }
 {
     let node = fields.node()?;
     fields.end()?;
@@ -26,7 +26,7 @@ pub fn stop_line(mut fields: Parts) -> Result<Line, Unread>
 }
 
 pub fn start_line(mut fields: Parts) -> Result<Line, Unread>
-    ensures { Reads result (of_word word.Start fields.entry) }
+    ensures { ReadsFields result (of_word word.Start fields.entry) }
 {
     let node = fields.node()?;
     fields.end()?;
@@ -34,7 +34,7 @@ pub fn start_line(mut fields: Parts) -> Result<Line, Unread>
 }
 
 pub fn down_line(mut fields: Parts) -> Result<Line, Unread>
-    ensures { Reads result (of_word word.Down fields.entry) }
+    ensures { ReadsFields result (of_word word.Down fields.entry) }
 {
     let node = fields.node()?;
     fields.end()?;
@@ -42,7 +42,7 @@ pub fn down_line(mut fields: Parts) -> Result<Line, Unread>
 }
 
 pub fn up_line(mut fields: Parts) -> Result<Line, Unread>
-    ensures { Reads result (of_word word.Up fields.entry) }
+    ensures { ReadsFields result (of_word word.Up fields.entry) }
 {
     let node = fields.node()?;
     fields.end()?;
@@ -50,7 +50,7 @@ pub fn up_line(mut fields: Parts) -> Result<Line, Unread>
 }
 
 pub fn quiesce_line(mut fields: Parts) -> Result<Line, Unread>
-    ensures { Reads result (of_word word.Quiesce fields.entry) }
+    ensures { ReadsFields result (of_word word.Quiesce fields.entry) }
 {
     let node = fields.node()?;
     fields.end()?;
@@ -58,7 +58,7 @@ pub fn quiesce_line(mut fields: Parts) -> Result<Line, Unread>
 }
 
 pub fn unquiesce_line(mut fields: Parts) -> Result<Line, Unread>
-    ensures { Reads result (of_word word.Unquiesce fields.entry) }
+    ensures { ReadsFields result (of_word word.Unquiesce fields.entry) }
 {
     let node = fields.node()?;
     fields.end()?;

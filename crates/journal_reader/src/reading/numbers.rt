@@ -1,5 +1,5 @@
 //! Numbers, ids and keys, in decimal digits.
-#![tactic(auto, unfolding(crate::specs::Fields::first, crate::specs::Fields::with_field, crate::specs::Fields::ended))]
+#![tactic(auto, unfolding(crate::specs::Fields::first_field, crate::specs::Fields::with_field, crate::specs::Fields::at_end))]
 
 ghost use Rattle.std.specs.Prelude.{◌≡◌, ◌≤◌, IfSome};
 ghost use Rattle.journal_reader.specs.Fields as grammar;
@@ -62,7 +62,7 @@ pub fn script_version_of(text: &[u8]) -> Option<u8>
 }
 
 pub fn factor_of(text: &[u8]) -> Option<u8>
-    ensures { result ≡ grammar.factor_of text.now }
+    ensures { result ≡ grammar.parsed_factor text.now }
 {
     byte(text, 1, 4)
 }
@@ -81,7 +81,7 @@ pub fn positive_rack_of(text: &[u8]) -> Option<u8>
 }
 
 /// The rack of a node, or nothing where no field is left.
-#[tactic(auto, unfolding(crate::specs::Reading::declared_rack_of, crate::specs::Fields::first, crate::specs::Fields::with_field, crate::specs::Fields::ended))]
+#[tactic(auto, unfolding(crate::specs::Reading::declared_rack_of, crate::specs::Fields::first_field, crate::specs::Fields::with_field, crate::specs::Fields::at_end))]
 pub fn declared_rack_of(mut fields: Parts) -> Option<Option<u8>>
     ensures { result ≡ reading.declared_rack_of fields.entry }
 {
@@ -96,7 +96,7 @@ pub fn declared_rack_of(mut fields: Parts) -> Option<Option<u8>>
 }
 
 pub fn node_of(text: &[u8]) -> Option<NodeId>
-    ensures { result ≡ grammar.node_of text.now }
+    ensures { result ≡ grammar.parsed_node text.now }
 {
     let number = small_number(text, 1, 65_535)?;
     NodeId::new(number)
@@ -110,7 +110,7 @@ pub fn endpoint_of(text: &[u8]) -> Option<u16>
 }
 
 pub fn partition_of(text: &[u8]) -> Option<PartitionId>
-    ensures { result ≡ grammar.partition_of text.now }
+    ensures { result ≡ grammar.parsed_partition text.now }
 {
     let number = small_number(text, 0, 4095)?;
     PartitionId::new(number)
@@ -132,15 +132,15 @@ pub fn number_of(text: &[u8]) -> Option<u32>
 
 /// How many records a page has.
 pub fn count_of(text: &[u8]) -> Option<u32>
-    ensures { result ≡ grammar.count_of text.now }
+    ensures { result ≡ grammar.parsed_count text.now }
 {
     Some(number_in(text, 0, 4_294_967_295)? as u32)
 }
 
 /// The round and the principal, with a dot between them.
-#[tactic(auto, unfolding(crate::specs::Fields::key_of, crate::specs::Fields::first, crate::specs::Fields::with_field, crate::specs::Fields::ended))]
+#[tactic(auto, unfolding(crate::specs::Fields::parsed_key, crate::specs::Fields::first_field, crate::specs::Fields::with_field, crate::specs::Fields::at_end))]
 pub fn key_of(text: &[u8]) -> Option<ClusterKey>
-    ensures { result ≡ grammar.key_of text.now }
+    ensures { result ≡ grammar.parsed_key text.now }
 {
     let mut parts = Parts::of(text, b'.');
     let round = number_in(parts.take_first()?, 1, (1 << 48) - 1)?;

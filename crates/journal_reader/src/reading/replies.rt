@@ -1,5 +1,5 @@
 //! Replies to requests.
-#![tactic(auto, unfolding(crate::specs::Fields::first, crate::specs::Fields::with_field, crate::specs::Fields::ended))]
+#![tactic(auto, unfolding(crate::specs::Fields::first_field, crate::specs::Fields::with_field, crate::specs::Fields::at_end))]
 
 ghost use Rattle.std.specs.Prelude.{◌≡◌, IfOk};
 ghost use Rattle.journal_reader.specs.Reading as reading;
@@ -13,13 +13,13 @@ use std::alloc::Global;
 use wire_messages::ReplyBody;
 
 /// A reply. Whether it may be that there is no view is said before.
-#[tactic(auto, unfolding(crate::specs::Reading::reply_of, crate::specs::Fields::first, crate::specs::Fields::with_field, crate::specs::Fields::ended))]
+#[tactic(auto, unfolding(crate::specs::Reading::parsed_reply, crate::specs::Fields::first_field, crate::specs::Fields::with_field, crate::specs::Fields::at_end))]
 pub fn reply_of(
     alloc: Global,
     no_view: bool,
     mut fields: Parts,
 ) -> Result<Option<ReplyBody>, NoMemory>
-    ensures { IfOk result (λ r. r ≡ reading.reply_of no_view fields.entry) }
+    ensures { IfOk result (λ r. r ≡ reading.parsed_reply no_view fields.entry) }
 {
     let Some(name) = fields.take_first() else {
         return Ok(None);

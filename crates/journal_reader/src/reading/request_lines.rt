@@ -1,8 +1,8 @@
 //! Requests at a node.
-#![tactic(auto, unfolding(crate::specs::Reading::of_word, crate::specs::Fields::with_field, crate::specs::Fields::with_rest, crate::specs::Fields::ended))]
+#![tactic(auto, unfolding(crate::specs::Reading::of_word, crate::specs::Fields::with_field, crate::specs::Fields::with_rest, crate::specs::Fields::at_end))]
 
 ghost use Rattle.journal_reader.specs.Reading.{of_word};
-ghost use Rattle.journal_reader.specs.Unread.{Reads};
+ghost use Rattle.journal_reader.specs.Unread.{ReadsFields};
 ghost use Rattle.journal_reader.specs.declared.reading.word.Word.TheVariants as word;
 
 use crate::reading::causes::cause_of;
@@ -13,7 +13,7 @@ use journal_lines::Line;
 use std::alloc::Global;
 
 pub fn opened_line(mut fields: Parts) -> Result<Line, Unread>
-    ensures { Reads result (of_word word.Opened fields.entry) }
+    ensures { ReadsFields result (of_word word.Opened fields.entry) }
 {
     let node = fields.node()?;
     let key = fields.key()?;
@@ -31,7 +31,7 @@ pub fn opened_line(mut fields: Parts) -> Result<Line, Unread>
 }
 
 pub fn refused_line(mut fields: Parts) -> Result<Line, Unread>
-    ensures { Reads result (of_word word.Refused fields.entry) }
+    ensures { ReadsFields result (of_word word.Refused fields.entry) }
 {
     let node = fields.node()?;
     let digest = fields.digest()?;
@@ -44,7 +44,7 @@ pub fn refused_line(mut fields: Parts) -> Result<Line, Unread>
 }
 
 pub fn value_line(alloc: Global, mut fields: Parts) -> Result<Line, Unread>
-    ensures { Reads result (of_word word.Value fields.entry) }
+    ensures { ReadsFields result (of_word word.Value fields.entry) }
 {
     let node = fields.node()?;
     let key = fields.key()?;
@@ -63,7 +63,7 @@ pub fn value_line(alloc: Global, mut fields: Parts) -> Result<Line, Unread>
 }
 
 pub fn apply_line(alloc: Global, mut fields: Parts) -> Result<Line, Unread>
-    ensures { Reads result (of_word word.Apply fields.entry) }
+    ensures { ReadsFields result (of_word word.Apply fields.entry) }
 {
     let node = fields.node()?;
     let key = fields.key()?;
@@ -81,7 +81,7 @@ pub fn apply_line(alloc: Global, mut fields: Parts) -> Result<Line, Unread>
 }
 
 pub fn done_line(mut fields: Parts) -> Result<Line, Unread>
-    ensures { Reads result (of_word word.Done fields.entry) }
+    ensures { ReadsFields result (of_word word.Done fields.entry) }
 {
     let node = fields.node()?;
     let key = fields.key()?;
@@ -95,7 +95,7 @@ pub fn done_line(mut fields: Parts) -> Result<Line, Unread>
 }
 
 pub fn aborted_line(mut fields: Parts) -> Result<Line, Unread>
-    ensures { Reads result (of_word word.Aborted fields.entry) }
+    ensures { ReadsFields result (of_word word.Aborted fields.entry) }
 {
     let node = fields.node()?;
     let key = fields.key()?;
@@ -109,7 +109,7 @@ pub fn aborted_line(mut fields: Parts) -> Result<Line, Unread>
 }
 
 pub fn doubt_line(mut fields: Parts) -> Result<Line, Unread>
-    ensures { Reads result (of_word word.Doubt fields.entry) }
+    ensures { ReadsFields result (of_word word.Doubt fields.entry) }
 {
     let node = fields.node()?;
     let key = fields.key()?;
@@ -123,7 +123,7 @@ pub fn doubt_line(mut fields: Parts) -> Result<Line, Unread>
 }
 
 pub fn merge_line(alloc: Global, mut fields: Parts) -> Result<Line, Unread>
-    ensures { Reads result (of_word word.Merge fields.entry) }
+    ensures { ReadsFields result (of_word word.Merge fields.entry) }
 {
     let node = fields.node()?;
     let key = fields.key()?;

@@ -1,8 +1,8 @@
 //! Scans of a partition.
-#![tactic(auto, unfolding(crate::specs::Reading::of_word, crate::specs::Fields::with_field, crate::specs::Fields::with_rest, crate::specs::Fields::ended))]
+#![tactic(auto, unfolding(crate::specs::Reading::of_word, crate::specs::Fields::with_field, crate::specs::Fields::with_rest, crate::specs::Fields::at_end))]
 
 ghost use Rattle.journal_reader.specs.Reading.{of_word};
-ghost use Rattle.journal_reader.specs.Unread.{Reads};
+ghost use Rattle.journal_reader.specs.Unread.{ReadsFields};
 ghost use Rattle.journal_reader.specs.declared.reading.word.Word.TheVariants as word;
 
 use crate::reading::causes::scan_refusal_of;
@@ -12,7 +12,7 @@ use journal_lines::Line;
 use std::alloc::Global;
 
 pub fn scan_line(mut fields: Parts) -> Result<Line, Unread>
-    ensures { Reads result (of_word word.Scan fields.entry) }
+    ensures { ReadsFields result (of_word word.Scan fields.entry) }
 {
     let scan = fields.number()?;
     let node = fields.node()?;
@@ -26,7 +26,7 @@ pub fn scan_line(mut fields: Parts) -> Result<Line, Unread>
 }
 
 pub fn no_scan_line(mut fields: Parts) -> Result<Line, Unread>
-    ensures { Reads result (of_word word.NoScan fields.entry) }
+    ensures { ReadsFields result (of_word word.NoScan fields.entry) }
 {
     let scan = fields.long()?;
     fields.end()?;
@@ -34,7 +34,7 @@ pub fn no_scan_line(mut fields: Parts) -> Result<Line, Unread>
 }
 
 pub fn rescan_line(mut fields: Parts) -> Result<Line, Unread>
-    ensures { Reads result (of_word word.Rescan fields.entry) }
+    ensures { ReadsFields result (of_word word.Rescan fields.entry) }
 {
     let scan = fields.number()?;
     fields.end()?;
@@ -42,7 +42,7 @@ pub fn rescan_line(mut fields: Parts) -> Result<Line, Unread>
 }
 
 pub fn page_line(mut fields: Parts) -> Result<Line, Unread>
-    ensures { Reads result (of_word word.Page fields.entry) }
+    ensures { ReadsFields result (of_word word.Page fields.entry) }
 {
     let scan = fields.number()?;
     let count = fields.count()?;
@@ -51,7 +51,7 @@ pub fn page_line(mut fields: Parts) -> Result<Line, Unread>
 }
 
 pub fn scanned_line(mut fields: Parts) -> Result<Line, Unread>
-    ensures { Reads result (of_word word.Scanned fields.entry) }
+    ensures { ReadsFields result (of_word word.Scanned fields.entry) }
 {
     let scan = fields.number()?;
     let node = fields.node()?;
@@ -69,7 +69,7 @@ pub fn scanned_line(mut fields: Parts) -> Result<Line, Unread>
 }
 
 pub fn record_line(alloc: Global, mut fields: Parts) -> Result<Line, Unread>
-    ensures { Reads result (of_word word.Record fields.entry) }
+    ensures { ReadsFields result (of_word word.Record fields.entry) }
 {
     let scan = fields.number()?;
     let digest = fields.digest()?;
@@ -83,7 +83,7 @@ pub fn record_line(alloc: Global, mut fields: Parts) -> Result<Line, Unread>
 }
 
 pub fn unscanned_line(mut fields: Parts) -> Result<Line, Unread>
-    ensures { Reads result (of_word word.Unscanned fields.entry) }
+    ensures { ReadsFields result (of_word word.Unscanned fields.entry) }
 {
     let scan = fields.number()?;
     let cause = scan_refusal_of(fields).ok_or(Unread::NoLine)?;

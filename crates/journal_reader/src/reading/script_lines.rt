@@ -1,8 +1,8 @@
 //! Lines that the script sets.
-#![tactic(auto, unfolding(crate::specs::Reading::of_word, crate::specs::Fields::with_field, crate::specs::Fields::with_rest, crate::specs::Fields::ended))]
+#![tactic(auto, unfolding(crate::specs::Reading::of_word, crate::specs::Fields::with_field, crate::specs::Fields::with_rest, crate::specs::Fields::at_end))]
 
 ghost use Rattle.journal_reader.specs.Reading.{of_word};
-ghost use Rattle.journal_reader.specs.Unread.{Reads};
+ghost use Rattle.journal_reader.specs.Unread.{ReadsFields};
 ghost use Rattle.journal_reader.specs.declared.reading.word.Word.TheVariants as word;
 
 use crate::reading::groups::groups_of;
@@ -13,7 +13,7 @@ use journal_lines::Line;
 use std::alloc::Global;
 
 pub fn script_line(mut fields: Parts) -> Result<Line, Unread>
-    ensures { Reads result (of_word word.Script fields.entry) }
+    ensures { ReadsFields result (of_word word.Script fields.entry) }
 {
     let version = fields.script_version()?;
     fields.end()?;
@@ -21,7 +21,7 @@ pub fn script_line(mut fields: Parts) -> Result<Line, Unread>
 }
 
 pub fn factor_line(mut fields: Parts) -> Result<Line, Unread>
-    ensures { Reads result (of_word word.Factor fields.entry) }
+    ensures { ReadsFields result (of_word word.Factor fields.entry) }
 {
     let factor = fields.factor()?;
     fields.end()?;
@@ -29,7 +29,7 @@ pub fn factor_line(mut fields: Parts) -> Result<Line, Unread>
 }
 
 pub fn node_line(mut fields: Parts) -> Result<Line, Unread>
-    ensures { Reads result (of_word word.Node fields.entry) }
+    ensures { ReadsFields result (of_word word.Node fields.entry) }
 {
     let node = fields.node()?;
     let rack = declared_rack_of(fields).ok_or(Unread::NoLine)?;
@@ -37,7 +37,7 @@ pub fn node_line(mut fields: Parts) -> Result<Line, Unread>
 }
 
 pub fn policy_line(mut fields: Parts) -> Result<Line, Unread>
-    ensures { Reads result (of_word word.Policy fields.entry) }
+    ensures { ReadsFields result (of_word word.Policy fields.entry) }
 {
     let policy = fields.policy()?;
     fields.end()?;
@@ -45,7 +45,7 @@ pub fn policy_line(mut fields: Parts) -> Result<Line, Unread>
 }
 
 pub fn clock_line(mut fields: Parts) -> Result<Line, Unread>
-    ensures { Reads result (of_word word.Clock fields.entry) }
+    ensures { ReadsFields result (of_word word.Clock fields.entry) }
 {
     let node = fields.node()?;
     let time = fields.long()?;
@@ -54,7 +54,7 @@ pub fn clock_line(mut fields: Parts) -> Result<Line, Unread>
 }
 
 pub fn groups_line(alloc: Global, fields: Parts) -> Result<Line, Unread>
-    ensures { Reads result (of_word word.Groups fields.entry) }
+    ensures { ReadsFields result (of_word word.Groups fields.entry) }
 {
     let groups = groups_of(alloc, fields)?.ok_or(Unread::NoLine)?;
     Ok(Line::Groups { groups })

@@ -1,5 +1,5 @@
 //! Versions.
-#![tactic(auto, unfolding(crate::specs::Fields::first, crate::specs::Fields::with_field, crate::specs::Fields::ended))]
+#![tactic(auto, unfolding(crate::specs::Fields::first_field, crate::specs::Fields::with_field, crate::specs::Fields::at_end))]
 
 ghost use Rattle.std.specs.Prelude.{◌≡◌, IfOk};
 ghost use Rattle.journal_reader.specs.Fields as grammar;
@@ -26,9 +26,9 @@ pub fn optional_of(alloc: Global, text: &[u8]) -> Result<Option<Option<Version>>
 }
 
 /// The time, and behind a dot the generation and the body.
-#[tactic(auto, unfolding(crate::specs::Fields::version_of, crate::specs::Fields::first, crate::specs::Fields::with_field, crate::specs::Fields::ended))]
+#[tactic(auto, unfolding(crate::specs::Fields::parsed_version, crate::specs::Fields::first_field, crate::specs::Fields::with_field, crate::specs::Fields::at_end))]
 pub fn version_of(alloc: Global, text: &[u8]) -> Result<Option<Version>, NoMemory>
-    ensures { IfOk result (λ v. v ≡ grammar.version_of text.now) }
+    ensures { IfOk result (λ v. v ≡ grammar.parsed_version text.now) }
 {
     let mut parts = Parts::of(text, b'.');
     let Some(lut) = parts.take_first().and_then(long_of) else {
@@ -61,7 +61,7 @@ fn stamp_of(alloc: Global, text: &[u8]) -> Result<Option<(u32, Body)>, NoMemory>
     }
 }
 
-#[tactic(auto, unfolding(crate::specs::Fields::written_value_of, crate::specs::Fields::first, crate::specs::Fields::with_field, crate::specs::Fields::ended))]
+#[tactic(auto, unfolding(crate::specs::Fields::written_value_of, crate::specs::Fields::first_field, crate::specs::Fields::with_field, crate::specs::Fields::at_end))]
 fn written_value_of(alloc: Global, text: &[u8]) -> Result<Option<(u32, Body)>, NoMemory>
     ensures { IfOk result (λ s. s ≡ grammar.written_value_of text.now) }
 {
@@ -81,7 +81,7 @@ fn written_value_of(alloc: Global, text: &[u8]) -> Result<Option<(u32, Body)>, N
     Ok(Some((generation, Body::Value(value))))
 }
 
-#[tactic(auto, unfolding(crate::specs::Fields::tombstone_of, crate::specs::Fields::first, crate::specs::Fields::with_field, crate::specs::Fields::ended))]
+#[tactic(auto, unfolding(crate::specs::Fields::tombstone_of, crate::specs::Fields::first_field, crate::specs::Fields::with_field, crate::specs::Fields::at_end))]
 fn tombstone_of(text: &[u8]) -> Option<(u32, Body)>
     ensures { result ≡ grammar.tombstone_of text.now }
 {

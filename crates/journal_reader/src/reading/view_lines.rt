@@ -1,8 +1,8 @@
 //! Views, and the steps of migration in them.
-#![tactic(auto, unfolding(crate::specs::Reading::of_word, crate::specs::Fields::with_field, crate::specs::Fields::with_rest, crate::specs::Fields::ended))]
+#![tactic(auto, unfolding(crate::specs::Reading::of_word, crate::specs::Fields::with_field, crate::specs::Fields::with_rest, crate::specs::Fields::at_end))]
 
 ghost use Rattle.journal_reader.specs.Reading.{of_word};
-ghost use Rattle.journal_reader.specs.Unread.{Reads};
+ghost use Rattle.journal_reader.specs.Unread.{ReadsFields};
 ghost use Rattle.journal_reader.specs.declared.reading.word.Word.TheVariants as word;
 
 use crate::reading::parts::Parts;
@@ -11,7 +11,7 @@ use journal_lines::Line;
 use std::alloc::Global;
 
 pub fn promise_line(mut fields: Parts) -> Result<Line, Unread>
-    ensures { Reads result (of_word word.Promise fields.entry) }
+    ensures { ReadsFields result (of_word word.Promise fields.entry) }
 {
     let node = fields.node()?;
     let key = fields.key()?;
@@ -20,7 +20,7 @@ pub fn promise_line(mut fields: Parts) -> Result<Line, Unread>
 }
 
 pub fn enter_line(alloc: Global, mut fields: Parts) -> Result<Line, Unread>
-    ensures { Reads result (of_word word.Enter fields.entry) }
+    ensures { ReadsFields result (of_word word.Enter fields.entry) }
 {
     let node = fields.node()?;
     let key = fields.key()?;
@@ -30,7 +30,7 @@ pub fn enter_line(alloc: Global, mut fields: Parts) -> Result<Line, Unread>
 }
 
 pub fn exchanged_line(mut fields: Parts) -> Result<Line, Unread>
-    ensures { Reads result (of_word word.Exchanged fields.entry) }
+    ensures { ReadsFields result (of_word word.Exchanged fields.entry) }
 {
     let node = fields.node()?;
     let key = fields.key()?;
@@ -39,7 +39,7 @@ pub fn exchanged_line(mut fields: Parts) -> Result<Line, Unread>
 }
 
 pub fn handed_line(mut fields: Parts) -> Result<Line, Unread>
-    ensures { Reads result (of_word word.Handed fields.entry) }
+    ensures { ReadsFields result (of_word word.Handed fields.entry) }
 {
     let node = fields.node()?;
     let key = fields.key()?;
@@ -53,7 +53,7 @@ pub fn handed_line(mut fields: Parts) -> Result<Line, Unread>
 }
 
 pub fn settled_line(mut fields: Parts) -> Result<Line, Unread>
-    ensures { Reads result (of_word word.Settled fields.entry) }
+    ensures { ReadsFields result (of_word word.Settled fields.entry) }
 {
     let node = fields.node()?;
     let key = fields.key()?;
@@ -67,7 +67,7 @@ pub fn settled_line(mut fields: Parts) -> Result<Line, Unread>
 }
 
 pub fn learn_line(mut fields: Parts) -> Result<Line, Unread>
-    ensures { Reads result (of_word word.Learn fields.entry) }
+    ensures { ReadsFields result (of_word word.Learn fields.entry) }
 {
     let node = fields.node()?;
     let key = fields.key()?;
@@ -81,7 +81,7 @@ pub fn learn_line(mut fields: Parts) -> Result<Line, Unread>
 }
 
 pub fn drop_line(mut fields: Parts) -> Result<Line, Unread>
-    ensures { Reads result (of_word word.Drop fields.entry) }
+    ensures { ReadsFields result (of_word word.Drop fields.entry) }
 {
     let node = fields.node()?;
     let key = fields.key()?;

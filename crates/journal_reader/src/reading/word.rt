@@ -138,9 +138,9 @@ pub const WORDS: [(&[u8], Word); 63] = [
 ];
 
 /// The word of that text.
-#[tactic(auto, unfolding(crate::specs::Words::word_of))]
+#[tactic(auto, unfolding(crate::specs::Words::parsed_word))]
 pub fn word_of(text: &[u8]) -> Option<Word>
-    ensures { result ≡ words.word_of text.now }
+    ensures { result ≡ words.parsed_word text.now }
 {
     word_in(&WORDS, text)
 }

@@ -4,7 +4,7 @@ ghost use Rattle.journal_lines.specs.declared.line.Line.TheVariants as line;
 ghost use Rattle.wire_messages.specs.declared.message.Message.TheVariants as message;
 ghost use Rattle.wire_messages.specs.Keys.{IsKeyField};
 ghost use Rattle.wire_messages.specs.Proper.{IsProper};
-ghost use Rattle.node_rules.specs.Agreement.{others};
+ghost use Rattle.node_rules.specs.Agreement.{others_among};
 ghost use Rattle.node_rules.specs.Effects.{lines_only, nothing, to_each};
 ghost use Rattle.node_rules.specs.Entering.{entering};
 ghost use Rattle.node_rules.specs.Exchange.{is_member};
@@ -14,7 +14,7 @@ ghost use Rattle.node_rules.specs.Keys.{same_key};
 ghost use Rattle.node_steps.specs.Plans.{agreed, only_if};
 ghost use Rattle.node_steps.specs.Ranges.{HasRanges};
 ghost use Rattle.node_steps.specs.Spelled.{spelled};
-ghost use Rattle.node_view.specs.Views.{view_entered};
+ghost use Rattle.node_view.specs.Views.{view_at_entry};
 
 use crate::node::Node;
 use cluster_types::{ClusterKey, Members, NoMemory, NodeId};
@@ -108,8 +108,8 @@ impl Node {
         requires key { IsKeyField key }
         requires agree_of { agree.me ≡ self.old.now.me }
         requires ranges { HasRanges (record self.old.now { agreement = agree.agreement }) }
-        ensures effects { IfOk result (λ e. e ≡ spelled (record { lines = entering self.old.now key members; sends = to_each (others self.old.now.me members) (message.Commit key members) })) }
-        ensures planned { OnOk result (self.new ≡ planning self.old.now (agreed self.old.now agree.agreement (Some (view_entered self.old.now key members)))) }
+        ensures effects { IfOk result (λ e. e ≡ spelled (record { lines = entering self.old.now key members; sends = to_each (others_among self.old.now.me members) (message.Commit key members) })) }
+        ensures planned { OnOk result (self.new ≡ planning self.old.now (agreed self.old.now agree.agreement (Some (view_at_entry self.old.now key members)))) }
         ensures err { OnErr result (self.new ≡ self.old) }
     {
         let mut out = Effects::new(alloc);

@@ -6,7 +6,7 @@ ghost use Rattle.node_rules.specs.Keys.{same_key};
 ghost use Rattle.node_rules.specs.Notes.{after_ages};
 ghost use Rattle.node_rules.specs.Tick as tick;
 ghost use Rattle.node_steps.specs.Plans.{only_if};
-ghost use Rattle.node_steps.specs.Spelled.{followed_by};
+ghost use Rattle.node_steps.specs.Spelled.{then_effects};
 ghost use Rattle.node_steps.specs.Ticks.{EntersBy, IsProposed};
 
 use crate::node::Node;
@@ -28,7 +28,7 @@ impl Node {
         out: &mut Effects,
     ) -> Result<Option<Box<View>>, NoMemory>
         requires { IsProposed (after_ages self.old.now) agree.now proposal.now }
-        ensures effects { OnOk result (out.new ≡ followed_by out.old (tick.propose (after_ages self.old.now))) }
+        ensures effects { OnOk result (out.new ≡ then_effects out.old (tick.propose (after_ages self.old.now))) }
         ensures view { IfOk result (λ v. EntersBy (after_ages self.old.now) proposal.now v) }
         ensures same { self.new ≡ self.old }
     {
@@ -48,7 +48,7 @@ impl Node {
 
     /// The line of the promise, where it is another one.
     fn tell_promise(&self, promised: ClusterKey, out: &mut Effects) -> Result<(), NoMemory>
-        ensures { OnOk result (out.new ≡ followed_by out.old (lines_only (only_if (line.Promise self.now.now.me promised) (not (same_key promised self.now.now.agreement.promised))))) }
+        ensures { OnOk result (out.new ≡ then_effects out.old (lines_only (only_if (line.Promise self.now.now.me promised) (not (same_key promised self.now.now.agreement.promised))))) }
     {
         if promised != self.agree.promised() {
             out.lines.push(Line::Promise {

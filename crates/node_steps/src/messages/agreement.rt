@@ -3,7 +3,7 @@ ghost use Rattle.std.specs.Prelude.{◌≡◌, map, OnOk};
 ghost use Rattle.wire_messages.specs.declared.message.Message.TheVariants as message;
 ghost use Rattle.wire_messages.specs.Keys.{IsKeyField};
 ghost use Rattle.wire_messages.specs.Spelling.{spelling};
-ghost use Rattle.node_steps.specs.Spelled.{message_of, with_sends};
+ghost use Rattle.node_steps.specs.Spelled.{vote_message, with_sends};
 
 use crate::effects::Effects;
 use crate::fields::members_fit;
@@ -33,7 +33,7 @@ pub fn tell_commit(
 
 /// The message that tells the vote.
 pub fn message_of(vote: Vote) -> Message
-    ensures { result ≡ message_of vote }
+    ensures { result ≡ vote_message vote }
 {
     match vote {
         Vote::Accept(key) => Message::Accept { key },

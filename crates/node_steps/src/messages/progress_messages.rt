@@ -11,7 +11,7 @@ ghost use Rattle.node_rules.specs.Messages.{answer_progress};
 ghost use Rattle.node_rules.specs.Notes.{progress_came};
 ghost use Rattle.node_rules.specs.Standing.{knows_all_settled};
 ghost use Rattle.node_steps.specs.Spelled.{spelled};
-ghost use Rattle.node_view.specs.Views.{IsViewOf, key_of};
+ghost use Rattle.node_view.specs.Views.{IsViewOf, viewed_key};
 
 use crate::effects::Effects;
 use cluster_types::{NoMemory, NodeId, Row4096};
@@ -28,7 +28,7 @@ pub fn progress_effects(
     handed: &Row4096,
     settled: &Row4096,
 ) -> Result<Effects, NoMemory>
-    requires key { IsKeyField (key_of view.now) }
+    requires key { IsKeyField (viewed_key view.now) }
     requires handed { IsRow handed.now }
     requires settled { IsRow settled.now }
     requires own_handed { IsRow view.now.bits.handed }
@@ -55,7 +55,7 @@ fn answer(
     requires settled { IsRow settled.now }
     requires own_handed { IsRow view.now.bits.handed }
     requires own_settled { IsRow view.now.bits.settled }
-    ensures { IfOk result (λ m. m ≡ message.Progress (key_of view.now) false (done_row view.now.exchange.exchanged view.now.batches partition_count 0) (or_rows view.now.bits.handed handed.now) (or_rows view.now.bits.settled settled.now)) }
+    ensures { IfOk result (λ m. m ≡ message.Progress (viewed_key view.now) false (done_row view.now.exchange.exchanged view.now.batches partition_count 0) (or_rows view.now.bits.handed handed.now) (or_rows view.now.bits.settled settled.now)) }
 {
     Ok(Message::Progress {
         key: view.key(),

@@ -3,17 +3,17 @@ ghost use Rattle.std.specs.Prelude.{◌≡◌, false, Contains, IfOk, IsSome, On
 ghost use Rattle.journal_lines.specs.declared.line.Line.TheVariants as line;
 ghost use Rattle.wire_messages.specs.declared.message.Message.TheVariants as message;
 ghost use Rattle.wire_messages.specs.Proper.{IsProper};
-ghost use Rattle.node_rules.specs.Agreement.{others};
+ghost use Rattle.node_rules.specs.Agreement.{others_among};
 ghost use Rattle.node_rules.specs.Effects.{lines_only, sends_only};
 ghost use Rattle.node_rules.specs.Exchange.{members_of};
 ghost use Rattle.node_rules.specs.Facts.{Facts};
 ghost use Rattle.node_rules.specs.Messages.{answer_state};
 ghost use Rattle.node_rules.specs.Tick.{own_row_in};
-ghost use Rattle.node_steps.specs.Fits.{Fits};
+ghost use Rattle.node_steps.specs.Fits.{FitsPlanned};
 ghost use Rattle.node_steps.specs.Plans.{after_row, only_if, taken};
 ghost use Rattle.node_steps.specs.Rooms.{NeedsNoRoom};
-ghost use Rattle.node_steps.specs.Spelled.{followed_by, spelled};
-ghost use Rattle.node_view.specs.Views.{IsInView, IsNodeOf, facts_seen, key_of};
+ghost use Rattle.node_steps.specs.Spelled.{then_effects, spelled};
+ghost use Rattle.node_view.specs.Views.{IsInView, IsNodeInView, facts_seen, viewed_key};
 ghost use Rattle.node_steps.specs.Viewing.{finishes_with};
 
 use crate::effects::Effects;
@@ -31,7 +31,8 @@ pub fn state_effects(
     to: NodeId,
     wants: bool,
 ) -> Result<Effects, NoMemory>
-    requires { IsProper (message.State (key_of view.now) false (own_row_in (facts_seen view.now))) }
+    requires { IsProper
+        (message.State (viewed_key view.now) false (own_row_in (facts_seen view.now))) }
     ensures { (f : Facts) → IsInView f view.now → IfOk result (λ e. e ≡ spelled (sends_only (answer_state f to wants))) }
 {
     let mut out = Effects::new(alloc);
@@ -51,10 +52,10 @@ pub fn plan_row(
     row: &StateRow,
     out: &mut Effects,
 ) -> Result<Planned, NoMemory>
-    requires member { Contains (others view.old.me (members_of view.old.exchange.view)) from }
-    ensures lines { OnOk result (out.new ≡ followed_by out.old (lines_only (only_if (line.Exchanged view.old.me (key_of view.old)) (finishes_with view.old from row.now)))) }
-    ensures planned { IfOk result (λ p. (f : Facts) → IsNodeOf f view.old store.now → taken f p ≡ after_row f from row.now) }
-    ensures fits { IfOk result (λ p. (f : Facts) → IsNodeOf f view.old store.now → IsSome f.exchange.view → Fits f p) }
+    requires member { Contains (others_among view.old.me (members_of view.old.exchange.view)) from }
+    ensures lines { OnOk result (out.new ≡ then_effects out.old (lines_only (only_if (line.Exchanged view.old.me (viewed_key view.old)) (finishes_with view.old from row.now)))) }
+    ensures planned { IfOk result (λ p. (f : Facts) → IsNodeInView f view.old store.now → taken f p ≡ after_row f from row.now) }
+    ensures fits { IfOk result (λ p. (f : Facts) → IsNodeInView f view.old store.now → IsSome f.exchange.view → FitsPlanned f p) }
     ensures room { IfOk result NeedsNoRoom }
     ensures same { view.new ≡ view.old }
 {

@@ -4,7 +4,7 @@ ghost use Rattle.wire_messages.specs.Keys.{IsKeyField};
 ghost use Rattle.node_rules.specs.Facts.{Facts};
 ghost use Rattle.node_rules.specs.Messages.{due_map_ask, map_table};
 ghost use Rattle.node_steps.specs.Spelled.{spelled};
-ghost use Rattle.node_view.specs.Views.{IsInView, key_of};
+ghost use Rattle.node_view.specs.Views.{IsInView, viewed_key};
 
 use crate::effects::Effects;
 use crate::fields::ids_fit;
@@ -19,7 +19,7 @@ const CLIENT: u16 = 0;
 
 /// The table to the client, once the exchange is finished.
 pub fn tell_table(alloc: Global, view: &View) -> Result<Effects, NoMemory>
-    requires { IsKeyField (key_of view.now) }
+    requires { IsKeyField (viewed_key view.now) }
     ensures { (f : Facts) → IsInView f view.now → IfOk result (λ e. e ≡ spelled (due_map_ask f)) }
 {
     let mut out = Effects::new(alloc);

@@ -11,7 +11,7 @@ ghost use Rattle.record_store.specs.Store.{HoldsTheSame, room_at};
 ghost use Rattle.node_rules.specs.Effects.{lines_only, sends_only, to_one};
 ghost use Rattle.node_steps.specs.Plans.{only_if};
 ghost use Rattle.node_view.specs.Plans.{some_if};
-ghost use Rattle.node_steps.specs.Spelled.{followed_by, spelled};
+ghost use Rattle.node_steps.specs.Spelled.{then_effects, spelled};
 
 use crate::effects::Effects;
 use cluster_types::{ClusterKey, Digest, NoMemory, NodeId};
@@ -53,7 +53,7 @@ pub fn acknowledge(
     out: &mut Effects,
 ) -> Result<(), NoMemory>
     requires { IsProper (message.ReplAck key transaction) }
-    ensures { OnOk result (out.new ≡ followed_by out.old (sends_only (to_one to (message.ReplAck key transaction)))) }
+    ensures { OnOk result (out.new ≡ then_effects out.old (sends_only (to_one to (message.ReplAck key transaction)))) }
 {
     let ack = Message::ReplAck { key, transaction };
     out.send(alloc, to.number(), &ack)

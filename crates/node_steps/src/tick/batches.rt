@@ -8,7 +8,7 @@ ghost use Rattle.node_rules.specs.ByParts.{batches_due};
 ghost use Rattle.node_rules.specs.Facts.{view_key};
 ghost use Rattle.node_rules.specs.Tick as tick;
 ghost use Rattle.node_steps.specs.Counts.{HaveNumbers};
-ghost use Rattle.node_steps.specs.Spelled.{followed_by, with_sends};
+ghost use Rattle.node_steps.specs.Spelled.{then_effects, with_sends};
 ghost use Rattle.node_view.specs.Fits.{AreNext};
 
 use crate::effects::Effects;
@@ -25,7 +25,7 @@ pub fn batches(
     out: &mut Effects,
 ) -> Result<Vec<(NodeId, Batch)>, NoMemory>
     requires { HaveNumbers f.now }
-    ensures sends { OnOk result (out.new ≡ followed_by out.old (tick.batches f.now)) }
+    ensures sends { OnOk result (out.new ≡ then_effects out.old (tick.batches f.now)) }
     ensures sent { IfOk result (λ bs. bs.items ≡ batches_due (view_key f.now) f.now.store.content f.now.batches) }
     ensures next { IfOk result (λ bs. AreNext f.now.exchange.exchanged (view_key f.now) f.now.batches bs.items) }
 {

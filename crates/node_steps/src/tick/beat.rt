@@ -1,7 +1,7 @@
 //! Heartbeats.
 ghost use Rattle.std.specs.Prelude.{◌≡◌, OnOk};
 ghost use Rattle.node_rules.specs.Tick as tick;
-ghost use Rattle.node_steps.specs.Spelled.{followed_by};
+ghost use Rattle.node_steps.specs.Spelled.{then_effects};
 
 use crate::effects::Effects;
 use crate::fields::ids_fit;
@@ -12,7 +12,7 @@ use wire_messages::Message;
 
 /// A heartbeat to every other declared node, in rising order.
 pub fn beat(alloc: Global, f: &Ground<'_>, out: &mut Effects) -> Result<(), NoMemory>
-    ensures { OnOk result (out.new ≡ followed_by out.old (tick.beat f.now)) }
+    ensures { OnOk result (out.new ≡ then_effects out.old (tick.beat f.now)) }
 {
     let hears = f.hearing.hears();
     ids_fit(hears.as_slice());

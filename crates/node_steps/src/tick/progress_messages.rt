@@ -4,11 +4,11 @@ ghost use Rattle.std.specs.List.{count_by};
 ghost use Rattle.cluster_types.specs.Partitions.{partition_count};
 ghost use Rattle.node_rules.specs.Bits.{with_bit};
 ghost use Rattle.node_rules.specs.Notes.{noted};
-ghost use Rattle.node_rules.specs.Settling.{settling};
+ghost use Rattle.node_rules.specs.Settling.{settling_due};
 ghost use Rattle.node_rules.specs.Tick as tick;
 ghost use Rattle.node_view.specs.Fits.{AreSettlings};
 ghost use Rattle.node_view.specs.Plans.{settled_by};
-ghost use Rattle.node_steps.specs.Spelled.{followed_by};
+ghost use Rattle.node_steps.specs.Spelled.{then_effects};
 
 use crate::effects::Effects;
 use crate::ground::Ground;
@@ -26,8 +26,8 @@ pub fn progress(
     out: &mut Effects,
 ) -> Result<(), NoMemory>
     requires due { AreSettlings f.now settlings.now }
-    requires settled { settled_by f.now settlings.now ≡ noted None f.now (settling partition_count f.now) }
-    ensures { OnOk result (out.new ≡ followed_by out.old (tick.progress partition_count (settled_by f.now settlings.now))) }
+    requires settled { settled_by f.now settlings.now ≡ noted None f.now (settling_due partition_count f.now) }
+    ensures { OnOk result (out.new ≡ then_effects out.old (tick.progress partition_count (settled_by f.now settlings.now))) }
 {
     // What it knows has a spelling.
     let _ = &f.me;

@@ -8,10 +8,10 @@ ghost use Rattle.node_rules.specs.Facts.{Facts};
 ghost use Rattle.node_rules.specs.Tick as tick;
 ghost use Rattle.node_rules.specs.Tick.{sends_again};
 ghost use Rattle.node_rules.specs.Transactions as rules;
-ghost use Rattle.node_steps.specs.Ranges.{IsSpelled};
-ghost use Rattle.node_steps.specs.Spelled.{followed_by};
+ghost use Rattle.node_steps.specs.Ranges.{HasSpelling};
+ghost use Rattle.node_steps.specs.Spelled.{then_effects};
 ghost use Rattle.node_steps.specs.Viewing.{IsAsKept};
-ghost use Rattle.node_view.specs.Views.{IsInView, key_of};
+ghost use Rattle.node_view.specs.Views.{IsInView, viewed_key};
 
 use crate::effects::Effects;
 use crate::ground::Ground;
@@ -24,7 +24,7 @@ use wire_messages::Message;
 /// For each open transaction, in rising order, an Ask to each that hasn't answered, or a Repl to
 /// each that hasn't acknowledged, in list order.
 pub fn transactions(alloc: Global, f: &Ground<'_>, out: &mut Effects) -> Result<(), NoMemory>
-    ensures { OnOk result (out.new ≡ followed_by out.old (tick.transactions f.now)) }
+    ensures { OnOk result (out.new ≡ then_effects out.old (tick.transactions f.now)) }
 {
     let Some(view) = f.view else {
         return Ok(());
@@ -40,11 +40,11 @@ pub fn transactions(alloc: Global, f: &Ground<'_>, out: &mut Effects) -> Result<
 
 /// What an open transaction of the view sends again.
 fn send_again(alloc: Global, view: &View, txn: &Txn, out: &mut Effects) -> Result<(), NoMemory>
-    requires key { IsKeyField (key_of view.now) }
+    requires key { IsKeyField (viewed_key view.now) }
     requires open_one { IsSome (rules.transaction view.now.transactions txn.now.id) }
-    requires spelled { ForSome (rules.transaction view.now.transactions txn.now.id) IsSpelled }
+    requires spelled { ForSome (rules.transaction view.now.transactions txn.now.id) HasSpelling }
     requires same { ForSome (rules.transaction view.now.transactions txn.now.id) (IsAsKept txn.now) }
-    ensures { (f : Facts) → IsInView f view.now → ForSome (rules.transaction f.transactions txn.now.id) (λ t. OnOk result (out.new ≡ followed_by out.old (sends_only (sends_again f t t.applied)))) }
+    ensures { (f : Facts) → IsInView f view.now → ForSome (rules.transaction f.transactions txn.now.id) (λ t. OnOk result (out.new ≡ then_effects out.old (sends_only (sends_again f t t.applied)))) }
 {
     let message = match view.written(txn.id) {
         None => ask(view, txn),
@@ -55,7 +55,7 @@ fn send_again(alloc: Global, view: &View, txn: &Txn, out: &mut Effects) -> Resul
 
 /// The message that asks for the version that another node holds.
 fn ask(view: &View, txn: &Txn) -> Message
-    ensures { result ≡ message.Ask (key_of view.now) txn.now.id txn.now.digest }
+    ensures { result ≡ message.Ask (viewed_key view.now) txn.now.id txn.now.digest }
 {
     Message::Ask {
         key: view.key(),
@@ -66,7 +66,7 @@ fn ask(view: &View, txn: &Txn) -> Message
 
 /// The message by which the transaction's write goes to a replica.
 fn repl(alloc: Global, view: &View, txn: &Txn, write: &Write) -> Result<Message, NoMemory>
-    ensures { IfOk result (λ m. m ≡ message.Repl (key_of view.now) txn.now.id write.now.nth txn.now.digest write.now.version) }
+    ensures { IfOk result (λ m. m ≡ message.Repl (viewed_key view.now) txn.now.id write.now.nth txn.now.digest write.now.version) }
 {
     Ok(Message::Repl {
         key: view.key(),

@@ -1,7 +1,7 @@
 //! The commands of the client.
 ghost use Rattle.script_lang.specs.Forms as forms;
 ghost use Rattle.script_lang.specs.Outcomes.{map_ok};
-ghost use Rattle.script_lang.specs.Reading.{Reads};
+ghost use Rattle.script_lang.specs.Reading.{ReadsOutcome};
 
 use super::parts::{at_node, key, key_and_value, number, partition};
 use crate::before::Before;
@@ -12,7 +12,8 @@ use std::alloc::Global;
 
 /// `ask N`.
 pub fn ask(before: &Before, fields: Fields) -> Result<Command, LineFault>
-    ensures { Reads result (map_ok (λ id. Command.Ask id) (forms.at_node before.now fields.entry)) }
+    ensures { ReadsOutcome result
+        (map_ok (λ id. Command.Ask id) (forms.at_node before.now fields.entry)) }
 {
     let node = at_node(before, fields)?;
     Ok(Command::Ask { node })
@@ -20,7 +21,7 @@ pub fn ask(before: &Before, fields: Fields) -> Result<Command, LineFault>
 
 /// `cput KEY VALUE`.
 pub fn client_put(alloc: Global, fields: Fields) -> Result<Command, LineFault>
-    ensures { Reads result (map_ok (λ p. Command.ClientPut p.0 p.1) (forms.key_and_value fields.entry)) }
+    ensures { ReadsOutcome result (map_ok (λ p. Command.ClientPut p.0 p.1) (forms.key_and_value fields.entry)) }
 {
     let (digest, value) = key_and_value(alloc, fields)?;
     Ok(Command::ClientPut { digest, value })
@@ -28,7 +29,8 @@ pub fn client_put(alloc: Global, fields: Fields) -> Result<Command, LineFault>
 
 /// `cget KEY`.
 pub fn client_get(fields: Fields) -> Result<Command, LineFault>
-    ensures { Reads result (map_ok (λ digest. Command.ClientGet digest) (forms.key fields.entry)) }
+    ensures { ReadsOutcome result
+        (map_ok (λ digest. Command.ClientGet digest) (forms.key fields.entry)) }
 {
     let digest = key(fields)?;
     Ok(Command::ClientGet { digest })
@@ -36,7 +38,8 @@ pub fn client_get(fields: Fields) -> Result<Command, LineFault>
 
 /// `cdel KEY`.
 pub fn client_del(fields: Fields) -> Result<Command, LineFault>
-    ensures { Reads result (map_ok (λ digest. Command.ClientDel digest) (forms.key fields.entry)) }
+    ensures { ReadsOutcome result
+        (map_ok (λ digest. Command.ClientDel digest) (forms.key fields.entry)) }
 {
     let digest = key(fields)?;
     Ok(Command::ClientDel { digest })
@@ -44,7 +47,7 @@ pub fn client_del(fields: Fields) -> Result<Command, LineFault>
 
 /// `oput KEY VALUE`.
 pub fn call_put(alloc: Global, fields: Fields) -> Result<Command, LineFault>
-    ensures { Reads result (map_ok (λ p. Command.CallPut p.0 p.1) (forms.key_and_value fields.entry)) }
+    ensures { ReadsOutcome result (map_ok (λ p. Command.CallPut p.0 p.1) (forms.key_and_value fields.entry)) }
 {
     let (digest, value) = key_and_value(alloc, fields)?;
     Ok(Command::CallPut { digest, value })
@@ -52,7 +55,8 @@ pub fn call_put(alloc: Global, fields: Fields) -> Result<Command, LineFault>
 
 /// `oget KEY`.
 pub fn call_get(fields: Fields) -> Result<Command, LineFault>
-    ensures { Reads result (map_ok (λ digest. Command.CallGet digest) (forms.key fields.entry)) }
+    ensures { ReadsOutcome result
+        (map_ok (λ digest. Command.CallGet digest) (forms.key fields.entry)) }
 {
     let digest = key(fields)?;
     Ok(Command::CallGet { digest })
@@ -60,7 +64,8 @@ pub fn call_get(fields: Fields) -> Result<Command, LineFault>
 
 /// `odel KEY`.
 pub fn call_del(fields: Fields) -> Result<Command, LineFault>
-    ensures { Reads result (map_ok (λ digest. Command.CallDel digest) (forms.key fields.entry)) }
+    ensures { ReadsOutcome result
+        (map_ok (λ digest. Command.CallDel digest) (forms.key fields.entry)) }
 {
     let digest = key(fields)?;
     Ok(Command::CallDel { digest })
@@ -68,7 +73,7 @@ pub fn call_del(fields: Fields) -> Result<Command, LineFault>
 
 /// `again Q`.
 pub fn call_again(fields: Fields) -> Result<Command, LineFault>
-    ensures { Reads result (map_ok (λ n. Command.CallAgain n) (forms.number fields.entry)) }
+    ensures { ReadsOutcome result (map_ok (λ n. Command.CallAgain n) (forms.number fields.entry)) }
 {
     let call = number(fields)?;
     Ok(Command::CallAgain { call })
@@ -76,7 +81,7 @@ pub fn call_again(fields: Fields) -> Result<Command, LineFault>
 
 /// `scan P`.
 pub fn scan(fields: Fields) -> Result<Command, LineFault>
-    ensures { Reads result (map_ok (λ p. Command.Scan p) (forms.partition fields.entry)) }
+    ensures { ReadsOutcome result (map_ok (λ p. Command.Scan p) (forms.partition fields.entry)) }
 {
     let partition = partition(fields)?;
     Ok(Command::Scan { partition })
@@ -84,7 +89,7 @@ pub fn scan(fields: Fields) -> Result<Command, LineFault>
 
 /// `scannext S`.
 pub fn scan_next(fields: Fields) -> Result<Command, LineFault>
-    ensures { Reads result (map_ok (λ n. Command.ScanNext n) (forms.number fields.entry)) }
+    ensures { ReadsOutcome result (map_ok (λ n. Command.ScanNext n) (forms.number fields.entry)) }
 {
     let scan = number(fields)?;
     Ok(Command::ScanNext { scan })

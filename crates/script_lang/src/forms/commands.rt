@@ -1,6 +1,6 @@
 //! The command of each word.
 ghost use Rattle.script_lang.specs.Forms as forms;
-ghost use Rattle.script_lang.specs.Reading.{Reads};
+ghost use Rattle.script_lang.specs.Reading.{ReadsOutcome};
 
 use super::{client, groups, network, node, showing};
 use crate::before::Before;
@@ -17,7 +17,7 @@ pub fn command_line(
     word: CommandWord,
     fields: Fields,
 ) -> Result<Command, LineFault>
-    ensures { Reads result (forms.command_line before.now word fields.entry) }
+    ensures { ReadsOutcome result (forms.command_line before.now word fields.entry) }
 {
     match word {
         CommandWord::Clock => node::clock(before, fields),

@@ -7,7 +7,7 @@ use crate::fields::{Field, Fields};
 
 /// No field.
 pub fn none(mut fields: Fields) -> Result<(), Cause>
-    ensures { result ≡ counts.none fields.entry }
+    ensures { result ≡ counts.no_fields fields.entry }
 {
     match fields.take_first() {
         None => Ok(()),

@@ -2,7 +2,7 @@
 ghost use Rattle.std.specs.Prelude.{◌≡◌};
 ghost use Rattle.script_lang.specs.Forms as forms;
 ghost use Rattle.script_lang.specs.Outcomes.{map_ok};
-ghost use Rattle.script_lang.specs.Reading.{GroupsIds, Reads};
+ghost use Rattle.script_lang.specs.Reading.{GroupsIds, ReadsOutcome};
 
 use crate::before::Before;
 use crate::fault::{Cause, LineFault};
@@ -14,7 +14,7 @@ use std::alloc::Global;
 
 /// `groups`, and then ids, with a bar between two groups.
 pub fn groups(alloc: Global, before: &Before, fields: Fields) -> Result<Command, LineFault>
-    ensures { Reads result (forms.groups before.now fields.entry) }
+    ensures { ReadsOutcome result (forms.groups before.now fields.entry) }
 {
     let Some(_) = fields.again().take_first() else {
         return Err(LineFault::Bad(Cause::MissingField));

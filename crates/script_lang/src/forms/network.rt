@@ -2,7 +2,7 @@
 ghost use Rattle.script_lang.specs.Counts as counts;
 ghost use Rattle.script_lang.specs.Forms as forms;
 ghost use Rattle.script_lang.specs.Outcomes.{map_ok};
-ghost use Rattle.script_lang.specs.Reading.{Reads};
+ghost use Rattle.script_lang.specs.Reading.{ReadsOutcome};
 
 use super::counts::{none, two};
 use super::parts::number;
@@ -13,7 +13,7 @@ use crate::script::Command;
 
 /// `deliver I`.
 pub fn deliver(fields: Fields) -> Result<Command, LineFault>
-    ensures { Reads result (map_ok (λ n. Command.Deliver n) (forms.number fields.entry)) }
+    ensures { ReadsOutcome result (map_ok (λ n. Command.Deliver n) (forms.number fields.entry)) }
 {
     let message = number(fields)?;
     Ok(Command::Deliver { message })
@@ -21,7 +21,7 @@ pub fn deliver(fields: Fields) -> Result<Command, LineFault>
 
 /// `repeat I`.
 pub fn repeat(fields: Fields) -> Result<Command, LineFault>
-    ensures { Reads result (map_ok (λ n. Command.Repeat n) (forms.number fields.entry)) }
+    ensures { ReadsOutcome result (map_ok (λ n. Command.Repeat n) (forms.number fields.entry)) }
 {
     let message = number(fields)?;
     Ok(Command::Repeat { message })
@@ -29,7 +29,7 @@ pub fn repeat(fields: Fields) -> Result<Command, LineFault>
 
 /// `lose I`.
 pub fn lose(fields: Fields) -> Result<Command, LineFault>
-    ensures { Reads result (map_ok (λ n. Command.Lose n) (forms.number fields.entry)) }
+    ensures { ReadsOutcome result (map_ok (λ n. Command.Lose n) (forms.number fields.entry)) }
 {
     let message = number(fields)?;
     Ok(Command::Lose { message })
@@ -37,7 +37,7 @@ pub fn lose(fields: Fields) -> Result<Command, LineFault>
 
 /// `flow`.
 pub fn flow(fields: Fields) -> Result<Command, LineFault>
-    ensures { Reads result (map_ok (λ _. Command.Flow) (counts.none fields.entry)) }
+    ensures { ReadsOutcome result (map_ok (λ _. Command.Flow) (counts.no_fields fields.entry)) }
 {
     none(fields)?;
     Ok(Command::Flow)
@@ -45,7 +45,7 @@ pub fn flow(fields: Fields) -> Result<Command, LineFault>
 
 /// `round`.
 pub fn round(fields: Fields) -> Result<Command, LineFault>
-    ensures { Reads result (map_ok (λ _. Command.Round) (counts.none fields.entry)) }
+    ensures { ReadsOutcome result (map_ok (λ _. Command.Round) (counts.no_fields fields.entry)) }
 {
     none(fields)?;
     Ok(Command::Round)
@@ -53,7 +53,7 @@ pub fn round(fields: Fields) -> Result<Command, LineFault>
 
 /// `calm`.
 pub fn calm(fields: Fields) -> Result<Command, LineFault>
-    ensures { Reads result (map_ok (λ _. Command.Calm) (counts.none fields.entry)) }
+    ensures { ReadsOutcome result (map_ok (λ _. Command.Calm) (counts.no_fields fields.entry)) }
 {
     none(fields)?;
     Ok(Command::Calm)
@@ -61,7 +61,7 @@ pub fn calm(fields: Fields) -> Result<Command, LineFault>
 
 /// `cut I LEN`.
 pub fn cut(fields: Fields) -> Result<Command, LineFault>
-    ensures { Reads result (forms.cut fields.entry) }
+    ensures { ReadsOutcome result (forms.cut fields.entry) }
 {
     let (message, length) = two(fields)?;
     let message = numbers::number(&message)?;

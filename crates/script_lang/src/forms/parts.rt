@@ -1,7 +1,7 @@
 //! Fields that several forms have.
 ghost use Rattle.std.specs.Prelude.{◌≡◌};
 ghost use Rattle.script_lang.specs.Forms as forms;
-ghost use Rattle.script_lang.specs.Reading.{Reads};
+ghost use Rattle.script_lang.specs.Reading.{ReadsOutcome};
 
 use super::counts::{one, three, two};
 use crate::before::Before;
@@ -37,7 +37,7 @@ pub fn node_key_and_value(
     before: &Before,
     fields: Fields,
 ) -> Result<(NodeId, Digest, ValueBytes), LineFault>
-    ensures { Reads result (forms.node_key_and_value before.now fields.entry) }
+    ensures { ReadsOutcome result (forms.node_key_and_value before.now fields.entry) }
 {
     let (name, key, value) = three(fields)?;
     let node = declared_node(before, &name)?;
@@ -56,7 +56,7 @@ pub fn key(fields: Fields) -> Result<Digest, Cause>
 
 /// `KEY VALUE`.
 pub fn key_and_value(alloc: Global, fields: Fields) -> Result<(Digest, ValueBytes), LineFault>
-    ensures { Reads result (forms.key_and_value fields.entry) }
+    ensures { ReadsOutcome result (forms.key_and_value fields.entry) }
 {
     let (key, value) = two(fields)?;
     let digest = keys::digest(&key)?;

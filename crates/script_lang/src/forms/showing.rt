@@ -1,7 +1,7 @@
 //! The commands that show something.
 ghost use Rattle.script_lang.specs.Forms as forms;
 ghost use Rattle.script_lang.specs.Outcomes.{map_ok};
-ghost use Rattle.script_lang.specs.Reading.{Reads};
+ghost use Rattle.script_lang.specs.Reading.{ReadsOutcome};
 
 use super::counts::three;
 use super::parts::{key, node_and_key, partition};
@@ -14,7 +14,8 @@ use crate::script::Command;
 
 /// `hash KEY`.
 pub fn hash(fields: Fields) -> Result<Command, LineFault>
-    ensures { Reads result (map_ok (λ digest. Command.Hash digest) (forms.key fields.entry)) }
+    ensures { ReadsOutcome result
+        (map_ok (λ digest. Command.Hash digest) (forms.key fields.entry)) }
 {
     let digest = key(fields)?;
     Ok(Command::Hash { digest })
@@ -22,7 +23,7 @@ pub fn hash(fields: Fields) -> Result<Command, LineFault>
 
 /// `place P`.
 pub fn place(fields: Fields) -> Result<Command, LineFault>
-    ensures { Reads result (map_ok (λ p. Command.Place p) (forms.partition fields.entry)) }
+    ensures { ReadsOutcome result (map_ok (λ p. Command.Place p) (forms.partition fields.entry)) }
 {
     let partition = partition(fields)?;
     Ok(Command::Place { partition })
@@ -30,7 +31,7 @@ pub fn place(fields: Fields) -> Result<Command, LineFault>
 
 /// `show N KEY`.
 pub fn show(before: &Before, fields: Fields) -> Result<Command, LineFault>
-    ensures { Reads result (map_ok (λ p. Command.Show p.0 p.1) (forms.node_and_key before.now fields.entry)) }
+    ensures { ReadsOutcome result (map_ok (λ p. Command.Show p.0 p.1) (forms.node_and_key before.now fields.entry)) }
 {
     let (node, digest) = node_and_key(before, fields)?;
     Ok(Command::Show { node, digest })
@@ -38,7 +39,7 @@ pub fn show(before: &Before, fields: Fields) -> Result<Command, LineFault>
 
 /// `map N FROM TO`.
 pub fn map(before: &Before, fields: Fields) -> Result<Command, LineFault>
-    ensures { Reads result (forms.map before.now fields.entry) }
+    ensures { ReadsOutcome result (forms.map before.now fields.entry) }
 {
     let (name, from, to) = three(fields)?;
     let node = declared_node(before, &name)?;

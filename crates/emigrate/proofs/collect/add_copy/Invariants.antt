@@ -1,9 +1,9 @@
 use Rattle.std.proofs.Common.{◌≡◌, ◌++◌, ℕ, length}
-use Rattle.record_store.specs.Store.{above, digests_of}
+use Rattle.record_store.specs.Store.{digests_above, digests_of}
 use Rattle.emigrate.proofs.collect.add_copy.Given as goal
 
 abbrev pub invariant-loop-page : goal.invariant-loop-page
-invariant-loop-page l = l.digests.items ++ above l.last (digests_of l.store.versions l.p) ≡ l.fn.digests.items ++ digests_of l.store.versions l.p
+invariant-loop-page l = l.digests.items ++ digests_above l.last (digests_of l.store.versions l.p) ≡ l.fn.digests.items ++ digests_of l.store.versions l.p
 
 abbrev pub decreases-loop-page : goal.decreases-loop-page
-decreases-loop-page l = length (above l.last (digests_of l.store.versions l.p))
+decreases-loop-page l = length (digests_above l.last (digests_of l.store.versions l.p))

@@ -1,6 +1,6 @@
 use Rattle.std.proofs.Common.{◌≡◌, ◌+◌, ℕ, List, ap, arith, refl, set, subst, sym, ◌∙◌}
 use Rattle.partition_state.specs.Copies.{copies_at}
-use Rattle.exchange.specs.Rows.{ArePlaces, IsNext}
+use Rattle.exchange.specs.Rows.{ArePlaces, AreNextPlaces}
 use Rattle.exchange.proofs.ServedLaws.{next_served, told_served}
 use Rattle.exchange.proofs.served.fill_from.Goals as goal
 use Rattle.exchange.proofs.served.fill_from.Goals.{in-Some, in_default}
@@ -20,8 +20,9 @@ loop-number-preserved c =
                 subst (λ (k : ℕ). ArePlaces (k + 1) c.args.rows.now c.match-new.places) is
                 (subst (λ (places : List ℕ). ArePlaces (w.in-Some.p + 1) c.args.rows.now places) (sym w.places-is) w.serve.ensures.places);
             next =
-                subst (λ (n : ℕ). IsNext n c.args.rows.now c.match-new.places) (sym w.next-is)
-                (subst (λ (places : List ℕ). IsNext w.serve.new.next c.args.rows.now places) (sym w.places-is) w.serve.ensures.next);
+                subst (λ (n : ℕ). AreNextPlaces n c.args.rows.now c.match-new.places)
+                (sym w.next-is)
+                (subst (λ (places : List ℕ). AreNextPlaces w.serve.new.next c.args.rows.now places) (sym w.places-is) w.serve.ensures.next);
           }
       | in_default w ↦ absurd (w.in_default.ensures c.loop-number-test.true)
     ]

@@ -9,7 +9,7 @@ use Rattle.wire_messages.specs.Versions.{IsBody, IsVersion}
 use Rattle.node_rules.specs.Facts.{list_at}
 use Rattle.node_rules.specs.Resolving.{resolving_want}
 use Rattle.node_steps.specs.Resolvings.{due_outcome, due_write, transaction_of}
-use Rattle.node_steps.specs.Spelled.{followed_by}
+use Rattle.node_steps.specs.Spelled.{then_effects}
 use Rattle.node_steps.proofs.WritingLaws.{next_fits, told_value}
 use Rattle.node_steps.proofs.resolving.plan_outcome.Goals.{in-Put, in-Del}
 use Rattle.node_steps.proofs.resolving.plan_outcome.Goals as goal
@@ -41,6 +41,6 @@ returns-clause-effects c = λ f h.
           ∙ ap (λ (w : Want). resolving_want f r.clock (list_at f (partition_of r.digest)) (transaction_of r) w) (sym w.in-Del.is)
     ] in
     c.in_ok-writing.ensures.effects f h.view.viewed
-    ∙ ap (λ (v : Version). followed_by out (due_write f r.transaction r.digest v)) c.next_version-version.ensures
-    ∙ ap (λ (o : Option Version). followed_by out (due_write f r.transaction r.digest (next o r.clock c.match-want.body))) c.as_ref.ensures.value
-    ∙ ap (followed_by out) due
+    ∙ ap (λ (v : Version). then_effects out (due_write f r.transaction r.digest v)) c.next_version-version.ensures
+    ∙ ap (λ (o : Option Version). then_effects out (due_write f r.transaction r.digest (next o r.clock c.match-want.body))) c.as_ref.ensures.value
+    ∙ ap (then_effects out) due

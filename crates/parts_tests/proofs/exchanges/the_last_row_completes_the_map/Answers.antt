@@ -7,19 +7,19 @@ use Rattle.cluster_types.specs.Members.{ids_of, plain_member}
 use Rattle.node_rules.specs.Copies.{Row}
 use Rattle.node_rules.specs.Exchange.{begun, finished, first_missing}
 use Rattle.exchange.specs.declared.exchanging.ExchangeStep.TheVariants.{Complete, Waiting}
-use Rattle.exchange.specs.Met.{Met, members, with_row_of}
+use Rattle.exchange.specs.Met.{Met, met_members, with_row_of}
 use Rattle.exchange.specs.Steps.{step_if, step_of}
 use Rattle.parts_tests.proofs.exchanges.the_last_row_completes_the_map.Goals as goal
 
 waits : (x w : Met) → Waiting w ≡ step_of x → w ≡ x
-waits x w is = go (is_none (first_missing x.exchange.rows (members x))) is
+waits x w is = go (is_none (first_missing x.exchange.rows (met_members x))) is
   where
     go : (b : Bool) → Waiting w ≡ step_if b x → w ≡ x
     go true h = cc
     go false h = cc
 
 ends : (x d : Met) → Complete d ≡ step_of x → d ≡ record x { exchange = finished x.exchange }
-ends x d is = go (is_none (first_missing x.exchange.rows (members x))) is
+ends x d is = go (is_none (first_missing x.exchange.rows (met_members x))) is
   where
     go : (b : Bool) → Complete d ≡ step_if b x → d ≡ record x { exchange = finished x.exchange }
     go true h = cc
@@ -32,8 +32,8 @@ began me factor key ms row = record { me = me; factor = factor; exchange = begun
 same_node : (me factor : ℕ) (key : ClusterKey) (ms : List Member) (row sent : Row) (from : ℕ) (w d : Met) → Waiting w ≡ step_of (began me factor key ms row) → Complete d ≡ step_of (with_row_of w from sent) → d.me ≡ me
 same_node me factor key ms row sent from w d waiting ended = ap (λ (z : Met). z.me) (ends (with_row_of w from sent) d ended) ∙ ap (λ (z : Met). z.me) (waits (began me factor key ms row) w waiting)
 
-same_members : (me factor : ℕ) (key : ClusterKey) (ms : List Member) (row sent : Row) (from : ℕ) (w d : Met) → Waiting w ≡ step_of (began me factor key ms row) → Complete d ≡ step_of (with_row_of w from sent) → members d ≡ ms
-same_members me factor key ms row sent from w d waiting ended = ap members (ends (with_row_of w from sent) d ended) ∙ ap members (waits (began me factor key ms row) w waiting)
+same_members : (me factor : ℕ) (key : ClusterKey) (ms : List Member) (row sent : Row) (from : ℕ) (w d : Met) → Waiting w ≡ step_of (began me factor key ms row) → Complete d ≡ step_of (with_row_of w from sent) → met_members d ≡ ms
+same_members me factor key ms row sent from w d waiting ended = ap met_members (ends (with_row_of w from sent) d ended) ∙ ap met_members (waits (began me factor key ms row) w waiting)
 
 made : {E : Type 0} (r : Result (List Member) E) (ms ns : List Member) → r ≡ Ok ms → IfOk r (λ x. x ≡ ns) → ms ≡ ns
 made {E} r ms ns is h = subst (λ (o : Result (List Member) E). IfOk o (λ x. x ≡ ns)) is h
@@ -44,8 +44,8 @@ listed ms a b is = subst (λ (xs : List Member). Contains (ids_of xs) a) (sym is
 pub without_last-waiting-requires-clause-member : goal.without_last-waiting-requires-clause-member
 without_last-waiting-requires-clause-member g c =
     let all : c.expect-members.result ≡ map plain_member (c.node-two.result ∷ c.node-one.result ∷ []) = made _ _ _ c.expect-members.ensures c.from_slice.ensures.ok in
-    let kept : members c.in-Complete.done ≡ c.expect-members.result = same_members c.node-one.result 2 _ c.expect-members.result _ _ c.node-two.result c.in-Waiting.waiting c.in-Complete.done (sym c.in-Waiting.is ∙ c.in_ok-waiting.ensures) c.in-Complete.ensures in
-    listed (members c.in-Complete.done) c.node-two.result c.node-one.result (kept ∙ all)
+    let kept : met_members c.in-Complete.done ≡ c.expect-members.result = same_members c.node-one.result 2 _ c.expect-members.result _ _ c.node-two.result c.in-Waiting.waiting c.in-Complete.done (sym c.in-Waiting.is ∙ c.in_ok-waiting.ensures) c.in-Complete.ensures in
+    listed (met_members c.in-Complete.done) c.node-two.result c.node-one.result (kept ∙ all)
 
 pub without_last-waiting-requires-clause-other : goal.without_last-waiting-requires-clause-other
 without_last-waiting-requires-clause-other g c =

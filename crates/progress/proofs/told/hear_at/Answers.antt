@@ -2,13 +2,13 @@ use Rattle.std.proofs.Common.{◌≡◌, ◌+◌, Bool, List, get_or, slice_inde
 use Rattle.std.proofs.lemmas.List.{get_or_default}
 use Rattle.cluster_types.specs.Rows.{bit}
 use Rattle.progress.specs.declared.told.Told.{Told}
-use Rattle.progress.specs.Told.{AreTold, nodes_of, one_if, table_of}
+use Rattle.progress.specs.Told.{AreTold, told_nodes, one_if, told_table}
 use Rattle.progress.proofs.ToldLaws.{nodes_telling, table_heard, told_telling}
 use Rattle.progress.proofs.told.hear_at.Goals as goal
 
 pub returns-clause-nodes : goal.returns-clause-nodes
 returns-clause-nodes c =
-    ap (λ (t : Told). nodes_of (slice_set c.args.heard.now c.args.place t)) c.hear.ensures ∙ nodes_telling c.args.heard.now c.args.place c.index-heard-place-2.result c.args.done.now
+    ap (λ (t : Told). told_nodes (slice_set c.args.heard.now c.args.place t)) c.hear.ensures ∙ nodes_telling c.args.heard.now c.args.place c.index-heard-place-2.result c.args.done.now
 
 pub returns-clause-told : goal.returns-clause-told
 returns-clause-told c =
@@ -23,5 +23,5 @@ returns-clause-told c =
 
 pub returns-clause-table : goal.returns-clause-table
 returns-clause-table c =
-    ap (λ (t : Told). table_of (slice_set c.args.heard.now c.args.place t)) c.hear.ensures
+    ap (λ (t : Told). told_table (slice_set c.args.heard.now c.args.place t)) c.hear.ensures
     ∙ table_heard c.args.heard.now c.args.known.now c.args.place c.index-heard-place-2.result c.args.done.now c.requires.told c.requires.place

@@ -1,6 +1,6 @@
 use Rattle.std.proofs.Common.{◌<◌, ◌-◌, None, length, sym, ap, ◌∙◌, subst, arith}
 use Rattle.std.specs.VecDeque.{deque_len}
-use Rattle.dup_resolve.specs.Open.{closing, digest_at, digest_in}
+use Rattle.dup_resolve.specs.Open.{without_txn, txn_digest_at, txn_digest}
 use Rattle.dup_resolve.specs.Places.{AreNumbered, Slotted, running_of}
 use Rattle.dup_resolve.proofs.SlotLaws.{are_rising, closing_missing, emptied, in_no_slot, in_slot, keeps_none, numbered_set}
 use Rattle.dup_resolve.proofs.slots.Slots.take.Goals as goal
@@ -11,8 +11,8 @@ returns-in_err-place-clause-digest c =
     let at : AreNumbered (c.self.inside.opened - c.len.result) slots.items = subst (λ n. AreNumbered (c.self.inside.opened - n) slots.items) (sym c.len.ensures) c.self.invariant.1 in
     let none = in_no_slot c.self.inside.opened c.len.result slots.items c.args.t at (omega (arith, c.len.ensures, slots.ok)) (omega (arith, c.len.ensures, c.self.invariant.0)) c.in_err-place.ensures in
     c.from_residual.ensures
-    ∙ sym (ap digest_in none)
-    ∙ ap (λ (s : Slotted). digest_at s.running c.args.t) c.self.view_is
+    ∙ sym (ap txn_digest none)
+    ∙ ap (λ (s : Slotted). txn_digest_at s.running c.args.t) c.self.view_is
 
 pub returns-in_err-place-clause-running : goal.returns-in_err-place-clause-running
 returns-in_err-place-clause-running c =
@@ -42,14 +42,14 @@ returns-clause-digest c =
     let slots = c.self.inside.slots in
     let found = in_slot (c.self.inside.opened - deque_len slots) slots.items c.in_ok-place.place c.args.t None c.self.invariant.1 (omega (arith, c.in_ok-place.ensures, c.len.ensures, slots.ok)) (omega (arith, c.in_ok-place.ensures, c.len.ensures)) in
     c.digest_of.ensures
-    ∙ ap digest_in (c.take_at-txn.ensures.txn ∙ sym found)
-    ∙ ap (λ (s : Slotted). digest_at s.running c.args.t) c.self.view_is
+    ∙ ap txn_digest (c.take_at-txn.ensures.txn ∙ sym found)
+    ∙ ap (λ (s : Slotted). txn_digest_at s.running c.args.t) c.self.view_is
 
 pub returns-clause-running : goal.returns-clause-running
 returns-clause-running c =
     let slots = c.self.inside.slots in
     let left = emptied (c.self.inside.opened - deque_len slots) slots.items c.in_ok-place.place c.args.t c.self.invariant.1 (omega (arith, c.in_ok-place.ensures, c.len.ensures, slots.ok)) (omega (arith, c.in_ok-place.ensures, c.len.ensures)) in
-    c.drop_taken.ensures.running ∙ ap running_of c.take_at-txn.ensures.items ∙ left ∙ ap (λ (s : Slotted). closing s.running c.args.t) c.self.view_is
+    c.drop_taken.ensures.running ∙ ap running_of c.take_at-txn.ensures.items ∙ left ∙ ap (λ (s : Slotted). without_txn s.running c.args.t) c.self.view_is
 
 pub returns-clause-numbers : goal.returns-clause-numbers
 returns-clause-numbers c =

@@ -3,7 +3,7 @@ use Rattle.std.specs.Prelude.{IfSome, ◌^◌}
 use Rattle.cluster_types.specs.declared.member.Member.{Member}
 use Rattle.cluster_types.specs.Members.{AreMembers}
 use Rattle.cluster_types.specs.Partitions.{partition_of}
-use Rattle.node_rules.specs.Agreement.{others}
+use Rattle.node_rules.specs.Agreement.{others_among}
 use Rattle.node_rules.specs.Batches.{Target, Targets, target, targets_of}
 use Rattle.emigrate.specs.declared.outgoing.Outgoing.{Outgoing}
 use Rattle.emigrate.specs.Going.{AreApart, AreCounts, AreHeld}
@@ -25,7 +25,7 @@ loop-member-preserved g c =
     let items = c.as_slice-member-items.result.now in
     let i = c.loop-member.member-index in
     let member = c.member-item.result in
-    let before = targets_of is_for versions (others c.args.me (take i items)) in
+    let before = targets_of is_for versions (others_among c.args.me (take i items)) in
     let old = c.loop-member.targets.items in
     elim c.if-ne.branch [
       | then-ne+in_ok-outgoing+in_ok-push w ↦
@@ -58,22 +58,23 @@ pub invariant_of-result : goal.invariant_of-result
 invariant_of-result g c =
     let is_for : ℕ → List ℕ → Bool = λ to d. g.X.MapView.sends_to c.args.x.now (partition_of d) c.args.me to in
     let versions = c.args.store.now.versions in
-    let sent : List Member → Targets = λ ms. targets_of is_for versions (others c.args.me ms) in
+    let sent : List Member
+    → Targets = λ ms. targets_of is_for versions (others_among c.args.me ms) in
     let all : c.loop-member.targets.items ≡ sent c.args.members.now =
     c.loop-member.invariant.targets ∙ ap sent (all_members c.as_slice-member-items.result.now c.loop-member.member-index c.loop-member-test.false ∙ c.as_slice-member-items.ensures.same) in
     (subst AreApart (sym all) (targets_apart is_for versions c.args.members.now c.args.me c.as_slice-member-items.ensures.valid), c.loop-member.invariant.counts)
 
 pub returns-clause-targets : goal.returns-clause-targets
 returns-clause-targets g c =
-    let sent : List Member → Targets = λ ms. targets_of (λ to d. g.X.MapView.sends_to c.args.x.now (partition_of d) c.args.me to) c.args.store.now.versions (others c.args.me ms) in
+    let sent : List Member → Targets = λ ms. targets_of (λ to d. g.X.MapView.sends_to c.args.x.now (partition_of d) c.args.me to) c.args.store.now.versions (others_among c.args.me ms) in
     c.loop-member.invariant.targets ∙ ap sent (all_members c.as_slice-member-items.result.now c.loop-member.member-index c.loop-member-test.false ∙ c.as_slice-member-items.ensures.same)
 
 pub returns-clause-held : goal.returns-clause-held
 returns-clause-held g c =
     let is_for : ℕ → List ℕ → Bool = λ to d. g.X.MapView.sends_to c.args.x.now (partition_of d) c.args.me to in
-    subst (AreHeld c.args.store.now.versions) (sym (returns-clause-targets g c)) (pending_held is_for c.args.store.now.versions (others c.args.me c.args.members.now))
+    subst (AreHeld c.args.store.now.versions) (sym (returns-clause-targets g c)) (pending_held is_for c.args.store.now.versions (others_among c.args.me c.args.members.now))
 
 pub returns-clause-limit : goal.returns-clause-limit
 returns-clause-limit g c = λ n.
     let is_for : ℕ → List ℕ → Bool = λ to d. g.X.MapView.sends_to c.args.x.now (partition_of d) c.args.me to in
-    subst (λ (ts : Targets). IfSome (target ts n) (λ t. t.batches < 2 ^ 32 - 1)) (sym (returns-clause-targets g c)) (unsent is_for c.args.store.now.versions (others c.args.me c.args.members.now) n)
+    subst (λ (ts : Targets). IfSome (target ts n) (λ t. t.batches < 2 ^ 32 - 1)) (sym (returns-clause-targets g c)) (unsent is_for c.args.store.now.versions (others_among c.args.me c.args.members.now) n)

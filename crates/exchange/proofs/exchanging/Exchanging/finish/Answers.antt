@@ -1,7 +1,7 @@
 use Rattle.std.proofs.Common.{◌≡◌, true, Contains, arith, subst, sym}
 use Rattle.cluster_types.specs.Members.{ids_of}
 use Rattle.node_rules.specs.Map.{lacks}
-use Rattle.exchange.specs.Met.{Met, members}
+use Rattle.exchange.specs.Met.{Met, met_members}
 use Rattle.exchange.proofs.RowsLaws.{room_for, rows_more}
 use Rattle.exchange.proofs.exchanging.Exchanging.finish.Goals as goal
 
@@ -11,7 +11,7 @@ add_row-requires c =
       arith,
       c.self.inside.view.rows.ok,
       room_for c.self.inside.view.me c.self.inside.view.lists c.self.inside.view.rows.items _ c.args.last c.self.invariant.0
-          (subst (λ (x : Met). Contains (ids_of (members x)) c.args.last) (sym c.self.view_is) c.requires.member)
+          (subst (λ (x : Met). Contains (ids_of (met_members x)) c.args.last) (sym c.self.view_is) c.requires.member)
           (subst (λ (x : Met). lacks x.exchange.rows c.args.last ≡ true) (sym c.self.view_is) c.requires.lacking),
     )
 
@@ -19,6 +19,6 @@ pub of-requires-clause-rows : goal.of-requires-clause-rows
 of-requires-clause-rows c =
     rows_more c.self.inside.view.me c.self.inside.view.lists c.self.inside.view.rows.items c.add_row.new.rows.items _ _ c.args.last c.args.row
     c.self.invariant.0 c.add_row.ensures.room
-    (subst (λ (x : Met). Contains (ids_of (members x)) c.args.last) (sym c.self.view_is) c.requires.member)
+    (subst (λ (x : Met). Contains (ids_of (met_members x)) c.args.last) (sym c.self.view_is) c.requires.member)
     (subst (λ (x : Met). lacks x.exchange.rows c.args.last ≡ true) (sym c.self.view_is) c.requires.lacking)
     c.add_row.ensures.rows

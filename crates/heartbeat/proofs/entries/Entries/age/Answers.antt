@@ -1,7 +1,7 @@
 use Rattle.std.proofs.Common.{◌≡◌, ◌∙◌, ap, arith, length, length-take, sym, take, true}
 use Rattle.std.specs.List.{list_all}
 use Rattle.std.proofs.lemmas.List.{length-map, take_at}
-use Rattle.heartbeat.specs.Entries.{aged, one_older, still_heard}
+use Rattle.heartbeat.specs.Entries.{aged_entries, one_older, still_heard}
 use Rattle.heartbeat.proofs.EntryLaws.{aged_each}
 use Rattle.heartbeat.proofs.entries.Entries.age.Goals as goal
 
@@ -15,4 +15,4 @@ returns c =
     take_at c.age_each.new.entries _ i.len size
     ∙ c.age_each.ensures
     ∙ aged_each es all
-    ∙ ap aged c.self.view_is
+    ∙ ap aged_entries c.self.view_is

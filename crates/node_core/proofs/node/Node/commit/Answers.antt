@@ -1,10 +1,10 @@
 use Rattle.std.proofs.Common.{Some, sym, ap, subst, ◌∙◌}
 use Rattle.node_steps.specs.declared.planned.Planned.TheVariants as planned
 use Rattle.node_core.proofs.CommitLaws.{has_view, if_next, next_is, ready_to_step, stepping_from}
-use Rattle.node_core.specs.Nodes.{facts_of}
+use Rattle.node_core.specs.Nodes.{node_facts}
 use Rattle.node_steps.specs.declared.planned.Ticked.{Ticked}
 use Rattle.node_steps.specs.Fits.{FitsTick}
-use Rattle.node_steps.specs.Plans.{taken, ticked}
+use Rattle.node_steps.specs.Plans.{taken, tick_taken}
 use Rattle.node_steps.specs.Ranges.{HasRanges}
 use Rattle.node_core.proofs.NodeLaws.{given_up}
 use Rattle.node_core.proofs.node.Node.commit.Goals as goal
@@ -16,10 +16,10 @@ pub invariant_of-self-in-Tick : goal.invariant_of-self-in-Tick
 invariant_of-self-in-Tick c = rw c.take.ensures.after (given_up c.self.inside c.self.invariant.0)
 
 pub take_tick-requires-clause-fits : goal.take_tick-requires-clause-fits
-take_tick-requires-clause-fits c = subst (λ (t : Ticked). FitsTick (facts_of c.self.inside) t) (sym c.into_inner.ensures) (c.self.invariant.1 (planned.Tick c.in-Tick.tick) (sym c.take.ensures.value ∙ c.in-Some.is ∙ ap Some c.in-Tick.is)).fits
+take_tick-requires-clause-fits c = subst (λ (t : Ticked). FitsTick (node_facts c.self.inside) t) (sym c.into_inner.ensures) (c.self.invariant.1 (planned.Tick c.in-Tick.tick) (sym c.take.ensures.value ∙ c.in-Some.is ∙ ap Some c.in-Tick.is)).fits
 
 pub take_tick-requires-clause-ranges : goal.take_tick-requires-clause-ranges
-take_tick-requires-clause-ranges c = subst (λ (t : Ticked). HasRanges (ticked (facts_of c.self.inside) t)) (sym c.into_inner.ensures) (c.self.invariant.1 (planned.Tick c.in-Tick.tick) (sym c.take.ensures.value ∙ c.in-Some.is ∙ ap Some c.in-Tick.is)).ranges
+take_tick-requires-clause-ranges c = subst (λ (t : Ticked). HasRanges (tick_taken (node_facts c.self.inside) t)) (sym c.into_inner.ensures) (c.self.invariant.1 (planned.Tick c.in-Tick.tick) (sym c.take.ensures.value ∙ c.in-Some.is ∙ ap Some c.in-Tick.is)).ranges
 
 pub invariant_of-self-in-Agreed : goal.invariant_of-self-in-Agreed
 invariant_of-self-in-Agreed c = rw c.take.ensures.after (given_up c.self.inside c.self.invariant.0)
@@ -58,7 +58,7 @@ invariant_of-self-in-View c =
 
 pub returns-in-View : goal.returns-in-View
 returns-in-View c =
-    if_next _ c.args.self.now.next (taken (facts_of c.self.inside) (planned.View c.in-View.step))
+    if_next _ c.args.self.now.next (taken (node_facts c.self.inside) (planned.View c.in-View.step))
     (next_is c.self.inside c.args.self.now (planned.View c.in-View.step) c.self.view_is (sym c.take.ensures.value ∙ c.in-Some.is ∙ ap Some c.in-View.is))
     (stepping_from c.self.inside c.take.new.self c.take_view_step.new.view c.take_view_step.new.store c.in-View.step c.self.invariant
     (sym c.take.ensures.value ∙ c.in-Some.is ∙ ap Some c.in-View.is) c.take.ensures.after c.take_view_step.ensures).seen

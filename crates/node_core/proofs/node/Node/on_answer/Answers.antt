@@ -60,7 +60,7 @@ returns-then-not-awaits_answer-clause-effects c =
     let of_view = sym c.in-Some.ensures.some in
     let it = found_one c.in-Some-transaction.txn.now (transaction c.in-Some.view.now.transactions c.args.transaction) c.in-Some-transaction.ensures in
     let found : transaction f.transactions c.args.transaction ≡ Some it.txn = ap (λ (g : Facts). transaction g.transactions c.args.transaction) (sym c.in-Some.ensures.view.viewed.view) ∙ it.found in
-    let awaited : awaits_answer it.txn from ≡ false = ap (λ (x : Txn). table.awaits_answer x from) (sym it.kept) ∙ sym c.if-not-awaits_answer.ensures in
+    let awaited : awaits_answer it.txn from ≡ false = ap (λ (x : Txn). table.txn_awaits_answer x from) (sym it.kept) ∙ sym c.if-not-awaits_answer.ensures in
     subst (λ (e : rules.Effects). IfOk c.spent-then-not-awaits_answer.result (λ x. x ≡ spelled e)) (sym (unawaited_due f c.args.clock from c.args.key c.args.transaction v it.txn of_view found awaited)) c.spent-then-not-awaits_answer.ensures.effects
 
 pub returns-then-not-awaits_answer-clause-planned : goal.returns-then-not-awaits_answer-clause-planned
@@ -71,7 +71,7 @@ returns-then-not-awaits_answer-clause-planned c =
     let of_view = sym c.in-Some.ensures.some in
     let it = found_one c.in-Some-transaction.txn.now (transaction c.in-Some.view.now.transactions c.args.transaction) c.in-Some-transaction.ensures in
     let found : transaction f.transactions c.args.transaction ≡ Some it.txn = ap (λ (g : Facts). transaction g.transactions c.args.transaction) (sym c.in-Some.ensures.view.viewed.view) ∙ it.found in
-    let awaited : awaits_answer it.txn from ≡ false = ap (λ (x : Txn). table.awaits_answer x from) (sym it.kept) ∙ sym c.if-not-awaits_answer.ensures in
+    let awaited : awaits_answer it.txn from ≡ false = ap (λ (x : Txn). table.txn_awaits_answer x from) (sym it.kept) ∙ sym c.if-not-awaits_answer.ensures in
     subst (λ (g : Facts). OnOk c.spent-then-not-awaits_answer.result (c.spent-then-not-awaits_answer.new.self ≡ planning f g)) (ap (λ (w : Option Version). with_answer f from c.args.transaction w) c.in_ok-copy_of.ensures ∙ sym (unresolved_after f c.args.clock from c.args.key c.args.transaction v it.txn of_view found (ap (λ (b : Bool). b && is_last_awaited it.txn from) awaited))) c.spent-then-not-awaits_answer.ensures.planned
 
 pub returns-then-not-awaits_answer-clause-err : goal.returns-then-not-awaits_answer-clause-err
@@ -84,8 +84,8 @@ plan_last_answer-requires-clause-last c =
     let from = c.args.from in
     let it = found_one c.in-Some-transaction.txn.now (transaction c.in-Some.view.now.transactions c.args.transaction) c.in-Some-transaction.ensures in
     let found : transaction f.transactions c.args.transaction ≡ Some it.txn = ap (λ (g : Facts). transaction g.transactions c.args.transaction) (sym c.in-Some.ensures.view.viewed.view) ∙ it.found in
-    let awaited : awaits_answer it.txn from ≡ true = ap (λ (x : Txn). table.awaits_answer x from) (sym it.kept) ∙ sym c.if-not-awaits_answer.ensures in
-    let last : is_last_awaited it.txn from ≡ true = ap (λ (x : Txn). table.is_last_awaited x from) (sym it.kept) ∙ sym c.if-is_last_awaited.ensures in
+    let awaited : awaits_answer it.txn from ≡ true = ap (λ (x : Txn). table.txn_awaits_answer x from) (sym it.kept) ∙ sym c.if-not-awaits_answer.ensures in
+    let last : is_last_awaited it.txn from ≡ true = ap (λ (x : Txn). table.txn_awaits_only x from) (sym it.kept) ∙ sym c.if-is_last_awaited.ensures in
     awaits_last f from c.args.transaction it.txn found awaited last
 
 pub plan_last_answer-requires-clause-in_one : goal.plan_last_answer-requires-clause-in_one
@@ -126,8 +126,8 @@ returns-clause-effects c =
     let of_view = sym c.in-Some.ensures.some in
     let it = found_one c.in-Some-transaction.txn.now (transaction c.in-Some.view.now.transactions c.args.transaction) c.in-Some-transaction.ensures in
     let found : transaction f.transactions c.args.transaction ≡ Some it.txn = ap (λ (g : Facts). transaction g.transactions c.args.transaction) (sym c.in-Some.ensures.view.viewed.view) ∙ it.found in
-    let awaited : awaits_answer it.txn from ≡ true = ap (λ (x : Txn). table.awaits_answer x from) (sym it.kept) ∙ sym c.if-not-awaits_answer.ensures in
-    let last : is_last_awaited it.txn from ≡ false = ap (λ (x : Txn). table.is_last_awaited x from) (sym it.kept) ∙ sym c.if-is_last_awaited.ensures in
+    let awaited : awaits_answer it.txn from ≡ true = ap (λ (x : Txn). table.txn_awaits_answer x from) (sym it.kept) ∙ sym c.if-not-awaits_answer.ensures in
+    let last : is_last_awaited it.txn from ≡ false = ap (λ (x : Txn). table.txn_awaits_only x from) (sym it.kept) ∙ sym c.if-is_last_awaited.ensures in
     subst (λ (e : rules.Effects). IfOk c.plan_unless_spent.result (λ x. x ≡ spelled e)) (sym (waiting_due f c.args.clock from c.args.key c.args.transaction v it.txn of_view found awaited last)) c.plan_unless_spent.ensures.effects
 
 pub returns-clause-planned : goal.returns-clause-planned
@@ -138,8 +138,8 @@ returns-clause-planned c =
     let of_view = sym c.in-Some.ensures.some in
     let it = found_one c.in-Some-transaction.txn.now (transaction c.in-Some.view.now.transactions c.args.transaction) c.in-Some-transaction.ensures in
     let found : transaction f.transactions c.args.transaction ≡ Some it.txn = ap (λ (g : Facts). transaction g.transactions c.args.transaction) (sym c.in-Some.ensures.view.viewed.view) ∙ it.found in
-    let awaited : awaits_answer it.txn from ≡ true = ap (λ (x : Txn). table.awaits_answer x from) (sym it.kept) ∙ sym c.if-not-awaits_answer.ensures in
-    let last : is_last_awaited it.txn from ≡ false = ap (λ (x : Txn). table.is_last_awaited x from) (sym it.kept) ∙ sym c.if-is_last_awaited.ensures in
+    let awaited : awaits_answer it.txn from ≡ true = ap (λ (x : Txn). table.txn_awaits_answer x from) (sym it.kept) ∙ sym c.if-not-awaits_answer.ensures in
+    let last : is_last_awaited it.txn from ≡ false = ap (λ (x : Txn). table.txn_awaits_only x from) (sym it.kept) ∙ sym c.if-is_last_awaited.ensures in
     subst (λ (g : Facts). OnOk c.plan_unless_spent.result (c.plan_unless_spent.new.self ≡ planning f g)) (ap (λ (w : Option Version). with_answer f from c.args.transaction w) c.in_ok-copy_of.ensures ∙ sym (unresolved_after f c.args.clock from c.args.key c.args.transaction v it.txn of_view found (both_are it.txn from true false awaited last))) c.plan_unless_spent.ensures.planned
 
 pub returns-clause-err : goal.returns-clause-err

@@ -7,7 +7,7 @@ use Rattle.node_rules.specs.Steps.{Planning, planning}
 use Rattle.node_view.specs.declared.view_step.ViewStep.TheVariants as step
 use Rattle.node_steps.specs.declared.planned.Planned.{Planned}
 use Rattle.node_steps.specs.declared.planned.Planned.TheVariants as planned
-use Rattle.node_core.specs.Nodes.{facts_of}
+use Rattle.node_core.specs.Nodes.{node_facts}
 use Rattle.node_steps.specs.Spelled.{spelled}
 use Rattle.node_core.proofs.PlannedMessageLaws.{batch_effects_due, batch_is_after}
 use Rattle.node_steps.proofs.BatchMessageLaws.{batch_fits, batch_ranges}
@@ -50,9 +50,9 @@ invariant_of-self-2 c =
     let m : Merged = c.in_ok-merged.merged in
     let p : Planned = planned.View (step.Merged m) in
     let of_view : in_view c.args.self.now.now b.key ≡ true = sym c.view_of.ensures.some ∙ c.if-is_none.ensures in
-    let inside_one : IsSome (facts_of n).exchange.view = subst (λ (q : Planning). IsSome q.now.exchange.view) (sym c.self.view_is) (in_one c.args.self.now.now b.key of_view) in
+    let inside_one : IsSome (node_facts n).exchange.view = subst (λ (q : Planning). IsSome q.now.exchange.view) (sym c.self.view_is) (in_one c.args.self.now.now b.key of_view) in
     node_roomier_planned n n.view c.plan_batch.new.store p c.self.invariant.0 (more_in_store n c.plan_batch.new.store c.plan_batch.ensures.same)
-    (batch_fits (facts_of n) b m inside_one c.in_ok-merged.ensures.newer) (batch_ranges (facts_of n) b m c.requires.proper c.in_ok-merged.ensures.newer c.self.invariant.0.ranges)
+    (batch_fits (node_facts n) b m inside_one c.in_ok-merged.ensures.newer) (batch_ranges (node_facts n) b m c.requires.proper c.in_ok-merged.ensures.newer c.self.invariant.0.ranges)
     (λ v e. c.in_ok-merged.ensures.room)
 
 pub returns-clause-effects : goal.returns-clause-effects

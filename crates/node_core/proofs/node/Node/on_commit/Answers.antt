@@ -10,14 +10,14 @@ use Rattle.node_rules.specs.Effects.{lines_only}
 use Rattle.node_rules.specs.Entering.{entering}
 use Rattle.node_rules.specs.Exchange.{is_member}
 use Rattle.node_rules.specs.Facts.{Facts}
-use Rattle.node_rules.specs.Messages.{entering_if}
+use Rattle.node_rules.specs.Messages.{entry_effects_if}
 use Rattle.node_rules.specs.Steps.{Planning, planning}
-use Rattle.node_view.specs.Views.{view_entered}
+use Rattle.node_view.specs.Views.{view_at_entry}
 use Rattle.node_steps.specs.declared.effects.Effects.{Effects}
 use Rattle.node_steps.specs.Fits.{FitsAgreed}
 use Rattle.node_steps.specs.Plans.{agreed}
 use Rattle.node_steps.specs.Ranges.{HasRanges}
-use Rattle.node_steps.specs.Spelled.{followed_by, spelled}
+use Rattle.node_steps.specs.Spelled.{then_effects, spelled}
 use Rattle.node_core.proofs.EnteringLaws.{agreed_alike}
 use Rattle.node_core.proofs.HandlerLaws.{commit_enters, commit_stale, still}
 use Rattle.node_core.proofs.LeadLaws.{after_commit, after_stale_commit, committed_member, fits_entered, ranges_in_view, stale_commit}
@@ -95,9 +95,9 @@ returns-in_ok-view-in-Enter-clause-effects c =
     let h = commit_enters _ key ms c.in-Enter.key c.in-Enter.members (sym told ∙ c.in-Enter.is) in
     let may : may_enter p.now.me p.now.agreement key ms ≡ true = ap (λ (n : ℕ). may_enter n p.now.agreement key ms) (sym me) ∙ h.may in
     c.plan.ensures.same ∙ c.in_ok-view-in-Enter.ensures.lines
-    ∙ ap (λ (e : Effects). followed_by e (lines_only (entering p.now c.in-Enter.key c.in-Enter.members))) c.new-out.ensures
+    ∙ ap (λ (e : Effects). then_effects e (lines_only (entering p.now c.in-Enter.key c.in-Enter.members))) c.new-out.ensures
     ∙ ap₂ (λ (k : ClusterKey) (ns : List Member). spelled (lines_only (entering p.now k ns))) h.key_of h.members
-    ∙ ap (λ (e : rules.Effects). spelled e) (ap (entering_if p.now key ms) (sym may))
+    ∙ ap (λ (e : rules.Effects). spelled e) (ap (entry_effects_if p.now key ms) (sym may))
 
 pub returns-in_ok-view-in-Enter-clause-planned : goal.returns-in_ok-view-in-Enter-clause-planned
 returns-in_ok-view-in-Enter-clause-planned c =
@@ -117,6 +117,6 @@ returns-in_ok-view-in-Enter-clause-planned c =
     c.plan.ensures.planned
     ∙ ap (λ (q : Planning). planning q.now (agreed q.now now (Some view))) c.in_ok-view-in-Enter.ensures.same
     ∙ ap (planning p.now)
-    (agreed_alike p.now now (view_entered p.now c.in-Enter.key c.in-Enter.members) view c.in_ok-view-in-Enter.ensures.view.alike
-    ∙ ap₂ (λ (k : ClusterKey) (ns : List Member). agreed p.now now (Some (view_entered p.now k ns))) h.key_of h.members
+    (agreed_alike p.now now (view_at_entry p.now c.in-Enter.key c.in-Enter.members) view c.in_ok-view-in-Enter.ensures.view.alike
+    ∙ ap₂ (λ (k : ClusterKey) (ns : List Member). agreed p.now now (Some (view_at_entry p.now k ns))) h.key_of h.members
     ∙ after_commit p.now key ms now may is)

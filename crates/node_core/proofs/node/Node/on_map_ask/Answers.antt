@@ -3,7 +3,7 @@ use Rattle.std.specs.Option.{ForSome}
 use Rattle.wire_messages.specs.Keys.{IsKeyField}
 use Rattle.node_rules.specs.Exchange as exchange
 use Rattle.node_rules.specs.Steps.{Planning}
-use Rattle.node_view.specs.Views.{IsInView, Viewed, key_of}
+use Rattle.node_view.specs.Views.{IsInView, Viewed, viewed_key}
 use Rattle.node_steps.specs.Ranges.{HasRanges}
 use Rattle.node_core.proofs.NodeLaws.{in_view}
 use Rattle.node_steps.proofs.TableLaws.{key_in_view}
@@ -15,10 +15,10 @@ tell_table-requires c =
     let own = in_view c.self.inside c.in-Some.view c.self.invariant.0 c.in-Some.is in
     let same = exchange_is _ c.in-Some.view.value own.viewed in
     let some = c.self.invariant.0.in_one c.in-Some.view c.in-Some.is in
-    let key : IsKeyField (key_of c.in-Some.view.value) =
+    let key : IsKeyField (viewed_key c.in-Some.view.value) =
     key_in_view c.in-Some.view.value.exchange.view some
     (subst (λ (x : exchange.Exchange). ForSome x.view (λ v. IsKeyField v.key)) (sym same) c.self.invariant.0.ranges.view) in
-    subst (λ (v : Viewed). IsKeyField (key_of v)) (sym c.deref.ensures) key
+    subst (λ (v : Viewed). IsKeyField (viewed_key v)) (sym c.deref.ensures) key
 
 pub plan-requires-clause-ranges : goal.plan-requires-clause-ranges
 plan-requires-clause-ranges c = subst (λ (p : Planning). HasRanges p.now) c.self.view_is c.self.invariant.0.ranges

@@ -13,7 +13,7 @@ use Rattle.node_rules.proofs.PartLaws.{propose_is}
 use Rattle.node_steps.specs.declared.effects.Effects.{Effects}
 use Rattle.node_steps.specs.Plans.{only_if}
 use Rattle.node_steps.specs.Ranges.{HasRanges}
-use Rattle.node_steps.specs.Spelled.{message_of, spelled, with_sends}
+use Rattle.node_steps.specs.Spelled.{vote_message, spelled, with_sends}
 use Rattle.node_core.proofs.HandlerLaws.{told_vote, vote_proper}
 use Rattle.node_core.proofs.CopyLaws.{agreement_is, answer_is, ranges_after}
 use Rattle.node_steps.proofs.RangeLaws.{voted_keys}
@@ -24,7 +24,7 @@ send-requires c =
     let p = c.args.self.now in
     let told = answer_is c.self.inside p c.copy.result c.on_propose-agree.result.1 (λ (a : Agreement). vote_of a c.args.key) c.self.view_is c.copy.ensures c.on_propose-agree.ensures.vote in
     let now : HasRanges p.now = subst (λ (q : Planning). HasRanges q.now) c.self.view_is c.self.invariant.0.ranges in
-    subst IsProper (sym (c.message_of.ensures ∙ ap message_of told)) (vote_proper p.now.agreement c.args.key c.requires.proper.0 now.promised)
+    subst IsProper (sym (c.message_of.ensures ∙ ap vote_message told)) (vote_proper p.now.agreement c.args.key c.requires.proper.0 now.promised)
 
 pub plan_agreed-requires-clause-ranges : goal.plan_agreed-requires-clause-ranges
 plan_agreed-requires-clause-ranges c =
@@ -43,7 +43,7 @@ returns-clause-effects c =
     let out_is : c.in_ok-out.out ≡ promise (onward p.now.agreement).promised = c.in_ok-out.ensures ∙ ap promise (c.promised.ensures.value ∙ ap (λ (a : Agreement). a.promised) is) in
     c.plan_agreed.ensures.same ∙ c.in_ok-send.ensures
     ∙ ap (λ (n : ℕ). with_sends c.in_ok-out.out ((n, spelling c.message_of.result) ∷ [])) c.number.ensures.same
-    ∙ ap₂ (λ (o : Effects) (m : Message). with_sends o ((c.args.from, spelling m) ∷ [])) out_is (c.message_of.ensures ∙ ap message_of told)
+    ∙ ap₂ (λ (o : Effects) (m : Message). with_sends o ((c.args.from, spelling m) ∷ [])) out_is (c.message_of.ensures ∙ ap vote_message told)
     ∙ told_vote p.now c.args.from c.args.key
 
 pub returns-clause-planned : goal.returns-clause-planned

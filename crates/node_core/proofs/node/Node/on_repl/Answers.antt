@@ -9,7 +9,7 @@ use Rattle.cluster_types.specs.Partitions.{partition_of}
 use Rattle.wire_messages.specs.declared.message.Message.TheVariants as message
 use Rattle.node_rules.specs.Effects.{sends_only, to_one}
 use Rattle.node_rules.specs.Facts.{list_at}
-use Rattle.node_rules.specs.Map.{master}
+use Rattle.node_rules.specs.Map.{list_master}
 use Rattle.node_rules.specs.Messages.{repl_came}
 use Rattle.node_rules.specs.Notes.{in_view}
 use Rattle.node_rules.specs.Steps.{Planning, planning}
@@ -21,9 +21,9 @@ use Rattle.node_view.specs.Views.{IsSame, Viewed}
 use Rattle.node_steps.specs.declared.effects.Effects.{Effects}
 use Rattle.node_steps.specs.declared.planned.Planned.{Planned}
 use Rattle.node_steps.specs.declared.planned.Planned.TheVariants as planned
-use Rattle.node_core.specs.Nodes.{facts_of}
-use Rattle.node_steps.specs.Rooms.{HasRoomIn}
-use Rattle.node_steps.specs.Spelled.{followed_by, spelled}
+use Rattle.node_core.specs.Nodes.{node_facts}
+use Rattle.node_steps.specs.Rooms.{HasRoomForStep}
+use Rattle.node_steps.specs.Spelled.{then_effects, spelled}
 use Rattle.node_core.proofs.HandlerLaws.{in_one, still}
 use Rattle.node_core.proofs.NodeLaws.{has_no_plan}
 use Rattle.node_core.proofs.PlannedMessageLaws.{count_seen, repl_effects_due, version_seen}
@@ -107,12 +107,12 @@ invariant_of-self-2 c =
     let w : Box View = with_value v c.plan_count.new.self in
     let same : IsSame v.value w.value = subst (λ (x : Viewed). IsSame x c.plan_count.new.self) c.deref_mut.ensures.value c.plan_count.ensures.same in
     let s = c.plan_merge.new.store in
-    let f = facts_of n in
+    let f = node_facts n in
     let digest = c.args.digest.now in
     let version = c.args.version.now in
     let newer = c.in_ok-newer.newer in
     let counted = c.in_ok-counted.counted in
-    let sent : Bool = c.args.from == master (list_at f (partition_of digest)) in
+    let sent : Bool = c.args.from == list_master (list_at f (partition_of digest)) in
     let p : Planned = planned.View (step.Replicated (record { digest = digest; newer = newer; counted = counted })) in
     let of_view : in_view c.args.self.now.now c.args.key ≡ true = sym c.view_of.ensures.some ∙ c.if-is_none.ensures in
     let inside_one : IsSome f.exchange.view = subst (λ (q : Planning). IsSome q.now.exchange.view) (sym c.self.view_is) (in_one c.args.self.now.now c.args.key of_view) in
@@ -122,13 +122,13 @@ invariant_of-self-2 c =
     node_roomier_planned n (Some w) s p c.self.invariant.0 (more_in_both n v w s c.in-Some.is same c.plan_merge.ensures.kept)
     (repl_fits f c.args.from c.args.nth digest version newer counted sent inside_one c.requires.proper.2 c.in_ok-newer.ensures.newer counts)
     (repl_ranges f c.args.nth digest version newer counted (is_newer f.store.by version (finite.get f.store.content digest)) sent c.requires.proper.2 c.requires.proper.3 c.requires.proper.4 c.in_ok-newer.ensures.newer counts c.self.invariant.0.ranges)
-    (planned_for (λ (x : Box View). HasRoomIn x.value s.spare p) w (c.in_ok-newer.ensures.room, room))
+    (planned_for (λ (x : Box View). HasRoomForStep x.value s.spare p) w (c.in_ok-newer.ensures.room, room))
 
 pub returns-clause-effects : goal.returns-clause-effects
 returns-clause-effects c =
     let of_view : in_view c.args.self.now.now c.args.key ≡ true = sym c.view_of.ensures.some ∙ c.if-is_none.ensures in
     c.in_ok-acknowledge.ensures
-    ∙ ap (λ (e : Effects). followed_by e (sends_only (to_one c.args.from (message.ReplAck c.args.key c.args.transaction)))) c.in_ok-out.ensures
+    ∙ ap (λ (e : Effects). then_effects e (sends_only (to_one c.args.from (message.ReplAck c.args.key c.args.transaction)))) c.in_ok-out.ensures
     ∙ repl_effects_due c.self.inside c.args.self.now c.args.from c.args.key c.args.transaction c.args.digest.now c.args.version.now c.in_ok-newer.newer c.is_some.result c.self.view_is of_view
     c.in_ok-newer.ensures.newer c.is_some.ensures
 
@@ -150,4 +150,4 @@ returns-clause-planned c =
     ∙ ap (planning seen.now)
     (sym (repl_after seen.now c.args.from c.args.key c.args.transaction c.args.nth digest c.args.version.now newer counted of_view
     (version_seen n seen digest c.args.version.now newer c.self.view_is c.in_ok-newer.ensures.newer)
-    (counts ∙ ap (λ (q : Planning). some_if (c.args.from == master (list_at q.now (partition_of digest))) c.args.nth) c.self.view_is)))
+    (counts ∙ ap (λ (q : Planning). some_if (c.args.from == list_master (list_at q.now (partition_of digest))) c.args.nth) c.self.view_is)))

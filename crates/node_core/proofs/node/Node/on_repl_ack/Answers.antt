@@ -47,7 +47,7 @@ returns-then-not-awaits_ack-clause-effects c =
     let from = c.args.from in
     let it = found_one c.in-Some-transaction.txn.now (transaction c.in-Some.view.now.transactions c.args.transaction) c.in-Some-transaction.ensures in
     let found : transaction f.transactions c.args.transaction ≡ Some it.txn = ap (λ (g : Facts). transaction g.transactions c.args.transaction) (sym c.in-Some.ensures.view.viewed.view) ∙ it.found in
-    let awaited : awaits_ack it.txn from ≡ false = ap (λ (x : Txn). table.awaits_ack x from) (sym it.kept) ∙ sym c.if-not-awaits_ack.ensures in
+    let awaited : awaits_ack it.txn from ≡ false = ap (λ (x : Txn). table.txn_awaits_ack x from) (sym it.kept) ∙ sym c.if-not-awaits_ack.ensures in
     subst (λ (e : rules.Effects). IfOk c.spent-then-not-awaits_ack.result (λ x. x ≡ spelled e)) (sym (unawaited_told f from c.args.key c.args.transaction it.txn (sym c.in-Some.ensures.some) found awaited)) c.spent-then-not-awaits_ack.ensures.effects
 
 pub returns-then-not-awaits_ack-clause-planned : goal.returns-then-not-awaits_ack-clause-planned
@@ -56,7 +56,7 @@ returns-then-not-awaits_ack-clause-planned c =
     let from = c.args.from in
     let it = found_one c.in-Some-transaction.txn.now (transaction c.in-Some.view.now.transactions c.args.transaction) c.in-Some-transaction.ensures in
     let found : transaction f.transactions c.args.transaction ≡ Some it.txn = ap (λ (g : Facts). transaction g.transactions c.args.transaction) (sym c.in-Some.ensures.view.viewed.view) ∙ it.found in
-    let awaited : awaits_ack it.txn from ≡ false = ap (λ (x : Txn). table.awaits_ack x from) (sym it.kept) ∙ sym c.if-not-awaits_ack.ensures in
+    let awaited : awaits_ack it.txn from ≡ false = ap (λ (x : Txn). table.txn_awaits_ack x from) (sym it.kept) ∙ sym c.if-not-awaits_ack.ensures in
     subst (λ (g : Facts). OnOk c.spent-then-not-awaits_ack.result (c.spent-then-not-awaits_ack.new.self ≡ planning f g))
     (sym (ack_spent f from c.args.key c.args.transaction (sym c.in-Some.ensures.some) (ap (λ (o : Option Transaction). ends_by_ack o from) found ∙ ap (λ (b : Bool). b && is_last_awaited it.txn from) awaited))) c.spent-then-not-awaits_ack.ensures.planned
 
@@ -78,8 +78,8 @@ returns-clause-effects c =
     let from = c.args.from in
     let it = found_one c.in-Some-transaction.txn.now (transaction c.in-Some.view.now.transactions c.args.transaction) c.in-Some-transaction.ensures in
     let found : transaction f.transactions c.args.transaction ≡ Some it.txn = ap (λ (g : Facts). transaction g.transactions c.args.transaction) (sym c.in-Some.ensures.view.viewed.view) ∙ it.found in
-    let awaited : awaits_ack it.txn from ≡ true = ap (λ (x : Txn). table.awaits_ack x from) (sym it.kept) ∙ sym c.if-not-awaits_ack.ensures in
-    let last : is_last_awaited it.txn from ≡ c.is_last_awaited-is_last.result = ap (λ (x : Txn). table.is_last_awaited x from) (sym it.kept) ∙ sym c.is_last_awaited-is_last.ensures in
+    let awaited : awaits_ack it.txn from ≡ true = ap (λ (x : Txn). table.txn_awaits_ack x from) (sym it.kept) ∙ sym c.if-not-awaits_ack.ensures in
+    let last : is_last_awaited it.txn from ≡ c.is_last_awaited-is_last.result = ap (λ (x : Txn). table.txn_awaits_only x from) (sym it.kept) ∙ sym c.is_last_awaited-is_last.ensures in
     subst (λ (e : rules.Effects). IfOk c.plan_ack.result (λ x. x ≡ spelled e)) (sym (ack_told f from c.args.key c.args.transaction it.txn c.is_last_awaited-is_last.result (sym c.in-Some.ensures.some) found awaited last)) c.plan_ack.ensures.effects
 
 pub returns-clause-planned : goal.returns-clause-planned
@@ -88,8 +88,8 @@ returns-clause-planned c =
     let from = c.args.from in
     let it = found_one c.in-Some-transaction.txn.now (transaction c.in-Some.view.now.transactions c.args.transaction) c.in-Some-transaction.ensures in
     let found : transaction f.transactions c.args.transaction ≡ Some it.txn = ap (λ (g : Facts). transaction g.transactions c.args.transaction) (sym c.in-Some.ensures.view.viewed.view) ∙ it.found in
-    let awaited : awaits_ack it.txn from ≡ true = ap (λ (x : Txn). table.awaits_ack x from) (sym it.kept) ∙ sym c.if-not-awaits_ack.ensures in
-    let last : is_last_awaited it.txn from ≡ c.is_last_awaited-is_last.result = ap (λ (x : Txn). table.is_last_awaited x from) (sym it.kept) ∙ sym c.is_last_awaited-is_last.ensures in
+    let awaited : awaits_ack it.txn from ≡ true = ap (λ (x : Txn). table.txn_awaits_ack x from) (sym it.kept) ∙ sym c.if-not-awaits_ack.ensures in
+    let last : is_last_awaited it.txn from ≡ c.is_last_awaited-is_last.result = ap (λ (x : Txn). table.txn_awaits_only x from) (sym it.kept) ∙ sym c.is_last_awaited-is_last.ensures in
     subst (λ (g : Facts). OnOk c.plan_ack.result (c.plan_ack.new.self ≡ planning f g)) (sym (ack_after f from c.args.key c.args.transaction it.txn c.is_last_awaited-is_last.result (sym c.in-Some.ensures.some) found awaited last)) c.plan_ack.ensures.planned
 
 pub returns-clause-err : goal.returns-clause-err

@@ -9,13 +9,13 @@ use Rattle.node_rules.specs.Messages.{state_came}
 use Rattle.node_rules.specs.Notes.{in_view, row_came}
 use Rattle.node_rules.specs.Steps.{Planning, planning}
 use Rattle.node_view.specs.declared.view.View.{View}
-use Rattle.node_view.specs.Views.{key_of}
+use Rattle.node_view.specs.Views.{viewed_key}
 use Rattle.node_steps.specs.declared.effects.Effects.{Effects}
-use Rattle.node_steps.specs.Fits.{Fits}
-use Rattle.node_core.specs.Nodes.{facts_of, planning_of}
+use Rattle.node_steps.specs.Fits.{FitsPlanned}
+use Rattle.node_core.specs.Nodes.{node_facts, planning_of}
 use Rattle.node_steps.specs.Plans.{only_if, taken}
 use Rattle.node_steps.specs.Ranges.{HasRanges}
-use Rattle.node_steps.specs.Spelled.{followed_by, spelled}
+use Rattle.node_steps.specs.Spelled.{then_effects, spelled}
 use Rattle.node_steps.specs.Viewing.{finishes_with}
 use Rattle.node_core.proofs.HandlerLaws.{in_one}
 use Rattle.node_core.proofs.NodeLaws.{has_no_plan}
@@ -74,8 +74,8 @@ plan-requires-clause-fits c =
     let more : HasMoreRoom n (Some w) n.store = more_in_both n v w n.store c.in-Some.is (same_view v.value c.plan_row.new.view (c.plan_row.ensures.same ∙ c.deref_mut.ensures.value)) (holds_itself n.store) in
     let node = node_lent n (planning_of n) v c.deref_mut.result.now c.self.invariant.0 refl c.in-Some.is c.deref_mut.ensures.value in
     let of_view : in_view c.args.self.now.now c.args.key ≡ true = sym c.view_of.ensures.some ∙ c.if-is_none.ensures in
-    let inside_one : IsSome (facts_of n).exchange.view = subst (λ (q : Planning). IsSome q.now.exchange.view) (sym c.self.view_is) (in_one c.args.self.now.now c.args.key of_view) in
-    subst (λ (g : Facts). Fits g c.in_ok-planned.planned) (sym (facts_roomier n (Some w) n.store more)) (c.in_ok-planned.ensures.fits (facts_of n) node inside_one)
+    let inside_one : IsSome (node_facts n).exchange.view = subst (λ (q : Planning). IsSome q.now.exchange.view) (sym c.self.view_is) (in_one c.args.self.now.now c.args.key of_view) in
+    subst (λ (g : Facts). FitsPlanned g c.in_ok-planned.planned) (sym (facts_roomier n (Some w) n.store more)) (c.in_ok-planned.ensures.fits (node_facts n) node inside_one)
 
 pub plan-requires-clause-ranges : goal.plan-requires-clause-ranges
 plan-requires-clause-ranges c =
@@ -85,9 +85,9 @@ plan-requires-clause-ranges c =
     let more : HasMoreRoom n (Some w) n.store = more_in_both n v w n.store c.in-Some.is (same_view v.value c.plan_row.new.view (c.plan_row.ensures.same ∙ c.deref_mut.ensures.value)) (holds_itself n.store) in
     let node = node_lent n (planning_of n) v c.deref_mut.result.now c.self.invariant.0 refl c.in-Some.is c.deref_mut.ensures.value in
     let of_view : in_view c.args.self.now.now c.args.key ≡ true = sym c.view_of.ensures.some ∙ c.if-is_none.ensures in
-    let inside_one : IsSome (facts_of n).exchange.view = subst (λ (q : Planning). IsSome q.now.exchange.view) (sym c.self.view_is) (in_one c.args.self.now.now c.args.key of_view) in
+    let inside_one : IsSome (node_facts n).exchange.view = subst (λ (q : Planning). IsSome q.now.exchange.view) (sym c.self.view_is) (in_one c.args.self.now.now c.args.key of_view) in
     subst (λ (g : Facts). HasRanges (taken g c.in_ok-planned.planned)) (sym (facts_roomier n (Some w) n.store more))
-    (subst HasRanges (sym (c.in_ok-planned.ensures.planned (facts_of n) node)) (row_message_ranges (facts_of n) c.args.from c.args.row.now c.requires.proper.1 inside_one c.self.invariant.0.ranges))
+    (subst HasRanges (sym (c.in_ok-planned.ensures.planned (node_facts n) node)) (row_message_ranges (node_facts n) c.args.from c.args.row.now c.requires.proper.1 inside_one c.self.invariant.0.ranges))
 
 pub returns-clause-effects : goal.returns-clause-effects
 returns-clause-effects c =
@@ -97,7 +97,7 @@ returns-clause-effects c =
     let node = node_lent c.self.inside seen c.in-Some.view lent c.self.invariant.0 c.self.view_is c.in-Some.is c.deref_mut.ensures.value in
     let of_view : in_view seen.now c.args.key ≡ true = sym c.view_of.ensures.some ∙ c.if-is_none.ensures in
     c.plan.ensures.same ∙ c.in_ok-planned.ensures.lines
-    ∙ ap (λ (e : Effects). followed_by e (lines_only (only_if (line.Exchanged lent.me (key_of lent)) (finishes_with lent c.args.from c.args.row.now)))) (c.in_ok-out.ensures seen.now first.view.viewed)
+    ∙ ap (λ (e : Effects). then_effects e (lines_only (only_if (line.Exchanged lent.me (viewed_key lent)) (finishes_with lent c.args.from c.args.row.now)))) (c.in_ok-out.ensures seen.now first.view.viewed)
     ∙ state_told seen.now lent c.args.from c.args.key c.args.wants c.args.row.now node.view.viewed of_view
 
 pub returns-clause-planned : goal.returns-clause-planned

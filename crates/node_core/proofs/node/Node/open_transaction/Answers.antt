@@ -4,15 +4,15 @@ use Rattle.std.specs.FinMap as finite
 use Rattle.std.specs.Prelude.{IsSome}
 use Rattle.cluster_types.specs.Partitions.{partition_of}
 use Rattle.node_rules.specs.Facts.{Facts, list_at}
-use Rattle.node_rules.specs.Requests.{refusal_of}
+use Rattle.node_rules.specs.Requests.{request_refusal}
 use Rattle.node_rules.specs.Steps.{Planning, after_request}
 use Rattle.node_rules.specs.Transactions.{transaction_on}
 use Rattle.node_view.specs.declared.view_step.ViewStep.{ViewStep}
 use Rattle.node_view.specs.Fits.{FitsStep}
 use Rattle.node_view.specs.Plans as plans
-use Rattle.node_view.specs.Views.{IsNodeOf, IsSame, Viewed}
+use Rattle.node_view.specs.Views.{IsNodeInView, IsSame, Viewed}
 use Rattle.node_steps.specs.Counts.{HaveNumbers}
-use Rattle.node_core.specs.Nodes.{facts_of}
+use Rattle.node_core.specs.Nodes.{node_facts}
 use Rattle.node_steps.specs.Ranges.{HasRanges}
 use Rattle.node_steps.specs.Resolvings.{due_opening, opened_step}
 use Rattle.node_steps.specs.Spelled.{spelled}
@@ -29,12 +29,12 @@ unreachable-requires c =
 
 pub plan_opened-requires-clause-counts : goal.plan_opened-requires-clause-counts
 plan_opened-requires-clause-counts c =
-    let numbers : HaveNumbers (facts_of c.self.inside) = subst (λ (p : Planning). HaveNumbers p.now) (sym c.self.view_is) c.requires.counts in
-    rw c.deref_mut.ensures.value (numbers_of (facts_of c.self.inside) c.in-Some.view.value (c.self.invariant.0.view c.in-Some.view c.in-Some.is).view.viewed numbers)
+    let numbers : HaveNumbers (node_facts c.self.inside) = subst (λ (p : Planning). HaveNumbers p.now) (sym c.self.view_is) c.requires.counts in
+    rw c.deref_mut.ensures.value (numbers_of (node_facts c.self.inside) c.in-Some.view.value (c.self.invariant.0.view c.in-Some.view c.in-Some.is).view.viewed numbers)
 
 pub plan_opened-requires-clause-key : goal.plan_opened-requires-clause-key
 plan_opened-requires-clause-key c =
-    rw c.deref_mut.ensures.value (key_of_view (facts_of c.self.inside) c.in-Some.view.value (c.self.invariant.0.view c.in-Some.view c.in-Some.is).view.viewed
+    rw c.deref_mut.ensures.value (key_of_view (node_facts c.self.inside) c.in-Some.view.value (c.self.invariant.0.view c.in-Some.view c.in-Some.is).view.viewed
     (in_its_view c.self.inside c.in-Some.view c.self.invariant.0 c.in-Some.is) c.self.invariant.0.ranges)
 
 pub plan_opened-requires-clause-exchanged : goal.plan_opened-requires-clause-exchanged
@@ -58,28 +58,28 @@ invariant_of-self c =
 pub invariant_of-self-2 : goal.invariant_of-self-2
 invariant_of-self-2 c =
     let n = c.self.inside in
-    let f = facts_of n in
+    let f = node_facts n in
     let v = c.in-Some.view.value in
     let now : c.args.self.now.now ≡ f = sym (ap (λ (p : Planning). p.now) c.self.view_is) in
-    let node : IsNodeOf f v n.store = c.self.invariant.0.view c.in-Some.view c.in-Some.is in
+    let node : IsNodeInView f v n.store = c.self.invariant.0.view c.in-Some.view c.in-Some.is in
     let numbers : HaveNumbers f = subst HaveNumbers now c.requires.counts in
     let same : IsSame v c.plan_opened.new.view = subst (λ (w : Viewed). IsSame w c.plan_opened.new.view) c.deref_mut.ensures.value c.in_ok-transaction.ensures.same in
     let step : opened_step f v c.args.clock c.args.digest c.args.want ≡ c.in_ok-transaction.step =
     ap (λ (w : Viewed). opened_step f w c.args.clock c.args.digest c.args.want) (sym c.deref_mut.ensures.value)
-    ∙ sym (c.in_ok-transaction.ensures.step f (subst (λ (w : Viewed). IsNodeOf f w n.store) (sym c.deref_mut.ensures.value) node)) in
+    ∙ sym (c.in_ok-transaction.ensures.step f (subst (λ (w : Viewed). IsNodeInView f w n.store) (sym c.deref_mut.ensures.value) node)) in
     let held = option_version (finite.get n.store.versions c.args.digest) (c.self.invariant.0.ranges.store.versions c.args.digest) in
     room_and_step n c.in-Some.view (with_value c.in-Some.view c.plan_opened.new.view) c.plan_opened.new.store c.in_ok-transaction.step c.self.invariant.0
     c.in-Some.is same c.in_ok-transaction.ensures.kept
     (subst (λ (p : ViewStep). FitsStep f p) step (opened_fits f v c.args.clock c.args.digest c.args.want node.view.viewed numbers (subst (λ (g : Facts). transaction_on g.transactions c.args.digest ≡ None) now (is_accepted c.args.self.now.now c.args.digest c.requires.accepted).free)))
-    (subst (λ (p : ViewStep). HasRanges (plans.taken f p)) step (opened_spelled f v c.args.clock c.args.digest c.args.want numbers c.ranges.clock.fits c.are_spelled.ensures.digest c.are_spelled.ensures.want held c.self.invariant.0.ranges))
+    (subst (λ (p : ViewStep). HasRanges (plans.view_taken f p)) step (opened_spelled f v c.args.clock c.args.digest c.args.want numbers c.ranges.clock.fits c.are_spelled.ensures.digest c.are_spelled.ensures.want held c.self.invariant.0.ranges))
     c.in_ok-transaction.ensures.room
 
 pub returns-clause-effects : goal.returns-clause-effects
 returns-clause-effects c =
     let n = c.self.inside in
-    let f = facts_of n in
+    let f = node_facts n in
     let now : c.args.self.now.now ≡ f = sym (ap (λ (p : Planning). p.now) c.self.view_is) in
-    let node : IsNodeOf f c.deref_mut.result.now n.store = subst (λ (w : Viewed). IsNodeOf f w n.store) (sym c.deref_mut.ensures.value) (c.self.invariant.0.view c.in-Some.view c.in-Some.is) in
+    let node : IsNodeInView f c.deref_mut.result.now n.store = subst (λ (w : Viewed). IsNodeInView f w n.store) (sym c.deref_mut.ensures.value) (c.self.invariant.0.view c.in-Some.view c.in-Some.is) in
     c.in_ok-transaction.ensures.effects f node
     ∙ ap (λ (g : Facts). spelled (due_opening g c.args.clock c.args.digest c.args.want)) (sym now)
     ∙ ap spelled (opening_due c.args.self.now.now c.args.clock c.args.digest c.args.want c.requires.accepted)
@@ -87,17 +87,17 @@ returns-clause-effects c =
 pub returns-clause-planned : goal.returns-clause-planned
 returns-clause-planned c =
     let n = c.self.inside in
-    let f = facts_of n in
+    let f = node_facts n in
     let v = c.in-Some.view.value in
     let now : c.args.self.now.now ≡ f = sym (ap (λ (p : Planning). p.now) c.self.view_is) in
-    let node : IsNodeOf f v n.store = c.self.invariant.0.view c.in-Some.view c.in-Some.is in
+    let node : IsNodeInView f v n.store = c.self.invariant.0.view c.in-Some.view c.in-Some.is in
     let same : IsSame v c.plan_opened.new.view = subst (λ (w : Viewed). IsSame w c.plan_opened.new.view) c.deref_mut.ensures.value c.in_ok-transaction.ensures.same in
     let step : c.in_ok-transaction.step ≡ opened_step f v c.args.clock c.args.digest c.args.want =
-    c.in_ok-transaction.ensures.step f (subst (λ (w : Viewed). IsNodeOf f w n.store) (sym c.deref_mut.ensures.value) node)
+    c.in_ok-transaction.ensures.step f (subst (λ (w : Viewed). IsNodeInView f w n.store) (sym c.deref_mut.ensures.value) node)
     ∙ ap (λ (w : Viewed). opened_step f w c.args.clock c.args.digest c.args.want) c.deref_mut.ensures.value in
-    let accepted = subst (λ (g : Facts). refusal_of g (list_at g (partition_of c.args.digest)) c.args.digest ≡ None) now c.requires.accepted in
-    let taken : plans.taken f c.in_ok-transaction.step ≡ after_request f c.args.clock c.args.digest c.args.want =
-    ap (plans.taken f) step ∙ opened_after f v c.args.clock c.args.digest c.args.want node.view.viewed accepted in
+    let accepted = subst (λ (g : Facts). request_refusal g (list_at g (partition_of c.args.digest)) c.args.digest ≡ None) now c.requires.accepted in
+    let taken : plans.view_taken f c.in_ok-transaction.step ≡ after_request f c.args.clock c.args.digest c.args.want =
+    ap (plans.view_taken f) step ∙ opened_after f v c.args.clock c.args.digest c.args.want node.view.viewed accepted in
     step_planned n c.in-Some.view (with_value c.in-Some.view c.plan_opened.new.view) c.plan_opened.new.store c.in_ok-transaction.step c.args.self.now.now
     (after_request c.args.self.now.now c.args.clock c.args.digest c.args.want) c.in-Some.is same c.in_ok-transaction.ensures.kept (sym now)
-    (subst (λ (g : Facts). plans.taken g c.in_ok-transaction.step ≡ after_request g c.args.clock c.args.digest c.args.want) (sym now) taken)
+    (subst (λ (g : Facts). plans.view_taken g c.in_ok-transaction.step ≡ after_request g c.args.clock c.args.digest c.args.want) (sym now) taken)

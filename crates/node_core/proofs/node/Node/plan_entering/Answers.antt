@@ -4,7 +4,7 @@ use Rattle.node_rules.specs.Entering.{exchanging}
 use Rattle.node_rules.specs.Facts.{Facts}
 use Rattle.node_rules.specs.Steps.{Planning}
 use Rattle.node_view.specs.Views.{IsEntered, IsWithStore, Viewed}
-use Rattle.node_core.specs.Nodes.{facts_of}
+use Rattle.node_core.specs.Nodes.{node_facts}
 use Rattle.node_core.proofs.LeadLaws.{one_member, several_members, told_entering}
 use Rattle.node_core.proofs.node.Node.plan_entering.Goals.{then-len-eq1+in_ok-push-2, else-len-eq1}
 use Rattle.node_core.proofs.node.Node.plan_entering.Goals as goal
@@ -33,7 +33,7 @@ returns-clause-lines c =
 pub returns-clause-view : goal.returns-clause-view
 returns-clause-view c =
     let f = c.args.self.now.now in
-    let now : facts_of c.self.inside ≡ f = ap (λ (p : Planning). p.now) c.self.view_is in
+    let now : node_facts c.self.inside ≡ f = ap (λ (p : Planning). p.now) c.self.view_is in
     let stored : IsWithStore f c.self.inside.store = subst (λ (g : Facts). IsWithStore g c.self.inside.store) now (record { content = refl; stamps = refl; by = refl }) in
     let entered : IsEntered f c.args.key c.in_ok-lists.lists c.in_ok-view.view =
     c.in_ok-view.ensures f (ap (λ (g : Facts). g.me) (sym now)) (ap (λ (g : Facts). g.factor) (sym now)) stored in

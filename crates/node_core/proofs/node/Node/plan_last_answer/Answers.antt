@@ -10,14 +10,14 @@ use Rattle.node_view.specs.declared.view_step.ViewStep.{ViewStep}
 use Rattle.node_view.specs.declared.view_step.ViewStep.TheVariants as step
 use Rattle.node_view.specs.Fits.{FitsStep}
 use Rattle.node_view.specs.Plans as plans
-use Rattle.node_view.specs.Views.{IsInView, IsNodeOf, IsSame, Viewed}
+use Rattle.node_view.specs.Views.{IsInView, IsNodeInView, IsSame, Viewed}
 use Rattle.node_steps.specs.declared.effects.Effects.{Effects}
 use Rattle.node_steps.specs.declared.resolving.Resolving.{Resolving}
 use Rattle.node_steps.specs.Counts.{HaveNumbers}
-use Rattle.node_core.specs.Nodes.{facts_of}
+use Rattle.node_core.specs.Nodes.{node_facts}
 use Rattle.node_steps.specs.Ranges.{HasRanges, IsResolvingField}
 use Rattle.node_steps.specs.Resolvings.{due_outcome}
-use Rattle.node_steps.specs.Spelled.{followed_by, spelled}
+use Rattle.node_steps.specs.Spelled.{then_effects, spelled}
 use Rattle.node_core.proofs.NodeLaws.{has_no_plan}
 use Rattle.node_core.proofs.OpeningRooms.{in_its_view, room_alone, room_and_step, step_planned}
 use Rattle.node_steps.proofs.OpeningLaws.{key_of_view, numbers_of}
@@ -26,12 +26,12 @@ use Rattle.node_core.proofs.node.Node.plan_last_answer.Goals as goal
 
 pub plan_outcome-requires-clause-counts : goal.plan_outcome-requires-clause-counts
 plan_outcome-requires-clause-counts c =
-    let numbers : HaveNumbers (facts_of c.self.inside) = subst (λ (p : Planning). HaveNumbers p.now) (sym c.self.view_is) c.requires.counts in
-    rw c.deref_mut.ensures.value (numbers_of (facts_of c.self.inside) c.in-Some.view.value (c.self.invariant.0.view c.in-Some.view c.in-Some.is).view.viewed numbers)
+    let numbers : HaveNumbers (node_facts c.self.inside) = subst (λ (p : Planning). HaveNumbers p.now) (sym c.self.view_is) c.requires.counts in
+    rw c.deref_mut.ensures.value (numbers_of (node_facts c.self.inside) c.in-Some.view.value (c.self.invariant.0.view c.in-Some.view c.in-Some.is).view.viewed numbers)
 
 pub plan_outcome-requires-clause-key : goal.plan_outcome-requires-clause-key
 plan_outcome-requires-clause-key c =
-    rw c.deref_mut.ensures.value (key_of_view (facts_of c.self.inside) c.in-Some.view.value (c.self.invariant.0.view c.in-Some.view c.in-Some.is).view.viewed
+    rw c.deref_mut.ensures.value (key_of_view (node_facts c.self.inside) c.in-Some.view.value (c.self.invariant.0.view c.in-Some.view c.in-Some.is).view.viewed
     (in_its_view c.self.inside c.in-Some.view c.self.invariant.0 c.in-Some.is) c.self.invariant.0.ranges)
 
 pub plan_outcome-requires-clause-fields : goal.plan_outcome-requires-clause-fields
@@ -56,7 +56,7 @@ invariant_of-self-2 c =
     let u = c.in-Some.view.value in
     let v = option_copied c.args.version in
     let o = c.in_ok-outcome.outcome in
-    let now : f ≡ facts_of n = sym (ap (λ (p : Planning). p.now) c.self.view_is) in
+    let now : f ≡ node_facts n = sym (ap (λ (p : Planning). p.now) c.self.view_is) in
     let viewed : IsInView f u = subst (λ (g : Facts). IsInView g u) (sym now) (c.self.invariant.0.view c.in-Some.view c.in-Some.is).view.viewed in
     let ranges : HasRanges f = subst HasRanges (sym now) c.self.invariant.0.ranges in
     let same : IsSame u c.plan_outcome.new.view = subst (λ (w : Viewed). IsSame w c.plan_outcome.new.view) c.deref_mut.ensures.value c.in_ok-outcome.ensures.same in
@@ -66,11 +66,11 @@ invariant_of-self-2 c =
     c.in_ok-version.ensures c.deref_mut.ensures.value is c.in_ok-outcome.ensures.outcome) in
     let p : ViewStep = step.Resolved c.args.from c.args.transaction c.in_ok-version.version o in
     let fits : FitsStep f p = subst (FitsStep f) made (resolved_fits f u c.args.clock c.args.from c.args.transaction v one.0 viewed one.1 c.requires.counts) in
-    let spelled_after : HasRanges (plans.taken f p) =
-    subst (λ (q : ViewStep). HasRanges (plans.taken f q)) made
+    let spelled_after : HasRanges (plans.view_taken f p) =
+    subst (λ (q : ViewStep). HasRanges (plans.view_taken f q)) made
     (resolved_spelled f u c.args.clock c.args.from c.args.transaction v one.0 one.1 c.requires.counts c.requires.answer c.ranges.clock.fits ranges) in
     room_and_step n c.in-Some.view (with_value c.in-Some.view c.plan_outcome.new.view) c.plan_outcome.new.store p c.self.invariant.0 c.in-Some.is same c.in_ok-outcome.ensures.kept
-    (subst (λ (g : Facts). FitsStep g p) now fits) (subst (λ (g : Facts). HasRanges (plans.taken g p)) now spelled_after)
+    (subst (λ (g : Facts). FitsStep g p) now fits) (subst (λ (g : Facts). HasRanges (plans.view_taken g p)) now spelled_after)
     (room_found f u c.plan_outcome.new.view c.plan_outcome.new.store.spare c.args.from c.args.transaction one.0 c.in_ok-resolving.resolving.digest o viewed same one.1
     (ap (λ (r : Resolving). r.digest) is) c.in_ok-outcome.ensures.room)
 
@@ -79,13 +79,13 @@ returns-clause-effects c =
     let n = c.self.inside in
     let f = c.args.self.now.now in
     let v = option_copied c.args.version in
-    let now : f ≡ facts_of n = sym (ap (λ (p : Planning). p.now) c.self.view_is) in
-    let node : IsNodeOf (facts_of n) c.deref_mut.result.now n.store = subst (λ (w : Viewed). IsNodeOf (facts_of n) w n.store) (sym c.deref_mut.ensures.value) (c.self.invariant.0.view c.in-Some.view c.in-Some.is) in
-    let seen : IsNodeOf f c.deref_mut.result.now n.store = subst (λ (g : Facts). IsNodeOf g c.deref_mut.result.now n.store) (sym now) node in
+    let now : f ≡ node_facts n = sym (ap (λ (p : Planning). p.now) c.self.view_is) in
+    let node : IsNodeInView (node_facts n) c.deref_mut.result.now n.store = subst (λ (w : Viewed). IsNodeInView (node_facts n) w n.store) (sym c.deref_mut.ensures.value) (c.self.invariant.0.view c.in-Some.view c.in-Some.is) in
+    let seen : IsNodeInView f c.deref_mut.result.now n.store = subst (λ (g : Facts). IsNodeInView g c.deref_mut.result.now n.store) (sym now) node in
     let one = answered_one f c.args.from c.args.transaction c.requires.last in
     let is = answered_found f.transactions c.args.transaction c.args.clock f.store.by v one.0 c.in_ok-resolving.resolving one.1.found c.in_ok-resolving.ensures in
     c.in_ok-outcome.ensures.effects f seen
-    ∙ ap (λ (e : Effects). followed_by e (due_outcome f c.in_ok-resolving.resolving)) c.new-out.ensures
+    ∙ ap (λ (e : Effects). then_effects e (due_outcome f c.in_ok-resolving.resolving)) c.new-out.ensures
     ∙ ap (λ (r : Resolving). spelled (due_outcome f r)) is
     ∙ ap spelled (answer_due f c.args.clock c.args.from c.args.transaction v one.0 one.1)
 
@@ -96,7 +96,7 @@ returns-clause-planned c =
     let u = c.in-Some.view.value in
     let v = option_copied c.args.version in
     let o = c.in_ok-outcome.outcome in
-    let now : f ≡ facts_of n = sym (ap (λ (p : Planning). p.now) c.self.view_is) in
+    let now : f ≡ node_facts n = sym (ap (λ (p : Planning). p.now) c.self.view_is) in
     let viewed : IsInView f u = subst (λ (g : Facts). IsInView g u) (sym now) (c.self.invariant.0.view c.in-Some.view c.in-Some.is).view.viewed in
     let same : IsSame u c.plan_outcome.new.view = subst (λ (w : Viewed). IsSame w c.plan_outcome.new.view) c.deref_mut.ensures.value c.in_ok-outcome.ensures.same in
     let one = answered_one f c.args.from c.args.transaction c.requires.last in
@@ -105,5 +105,5 @@ returns-clause-planned c =
     c.in_ok-version.ensures c.deref_mut.ensures.value is c.in_ok-outcome.ensures.outcome in
     let p : ViewStep = step.Resolved c.args.from c.args.transaction c.in_ok-version.version o in
     let after : Facts = resolved_with (answer_came f c.args.from c.args.transaction v true) c.args.clock c.args.from v (transaction f.transactions c.args.transaction) in
-    let taken : plans.taken f p ≡ after = ap (plans.taken f) made ∙ resolved_after f u c.args.clock c.args.from c.args.transaction v one.0 viewed one.1 in
+    let taken : plans.view_taken f p ≡ after = ap (plans.view_taken f) made ∙ resolved_after f u c.args.clock c.args.from c.args.transaction v one.0 viewed one.1 in
     step_planned n c.in-Some.view (with_value c.in-Some.view c.plan_outcome.new.view) c.plan_outcome.new.store p f after c.in-Some.is same c.in_ok-outcome.ensures.kept (sym now) taken

@@ -3,9 +3,9 @@ use Rattle.cluster_types.specs.Partitions.{partition_count}
 use Rattle.node_rules.specs.ByParts.{batches_due}
 use Rattle.node_rules.specs.Effects as rules
 use Rattle.node_rules.specs.Facts.{Facts, view_key}
-use Rattle.node_rules.specs.Settling.{settling}
+use Rattle.node_rules.specs.Settling.{settling_due}
 use Rattle.node_rules.specs.Steps.{Planning}
-use Rattle.node_rules.specs.Tick.{in_order}
+use Rattle.node_rules.specs.Tick.{parts_in_order}
 use Rattle.node_view.specs.declared.here.Settling.{Settling}
 use Rattle.node_view.specs.Fits.{AreNext, AreSettlings}
 use Rattle.node_view.specs.Plans.{settled_by}
@@ -14,7 +14,7 @@ use Rattle.node_view.specs.Views.{Viewed, with_view}
 use Rattle.node_steps.specs.Counts.{HaveNumbers}
 use Rattle.node_steps.specs.Grounds.{lent, with_view_fields}
 use Rattle.node_steps.specs.Ranges.{HasRanges}
-use Rattle.node_steps.specs.Spelled.{followed_by}
+use Rattle.node_steps.specs.Spelled.{then_effects}
 use Rattle.node_steps.specs.Ticks.{later_parts}
 use Rattle.node_steps.proofs.TickingLaws.{agreeing_with, ground_in_newest, later_ground, later_numbers, later_plan, later_told, lent_view, told_later}
 use Rattle.node_core.proofs.node.Node.plan_rest.Goals as goal
@@ -46,8 +46,9 @@ returns-clause-lines c =
     told_later c.args.out.now c.rows.new.out c.transactions.new.out c.batches.new.out c.settlings.new.out c.progress.new.out g (settled_by g c.deref.result.now)
     c.in_ok-rows.ensures c.in_ok-transactions.ensures c.in_ok-batches.ensures.sends c.in_ok-settlings.ensures.lines c.in_ok-progress.ensures
     (ap (λ (ss : List Settling). settled_by g ss) c.deref.ensures.value ∙ c.in_ok-settlings.ensures.settled)
-    ∙ ap (λ (x : Facts). followed_by c.args.out.now (in_order (later_parts partition_count) x)) same
-    ∙ ap (λ (e : rules.Effects). followed_by c.args.out.now e) (later_told f c.args.hearing.now c.args.agree c.args.entered own is c.requires.ranges)
+    ∙ ap (λ (x : Facts). then_effects c.args.out.now
+    (parts_in_order (later_parts partition_count) x)) same
+    ∙ ap (λ (e : rules.Effects). then_effects c.args.out.now e) (later_told f c.args.hearing.now c.args.agree c.args.entered own is c.requires.ranges)
 
 pub returns-clause-ticked : goal.returns-clause-ticked
 returns-clause-ticked c =
@@ -63,4 +64,4 @@ returns-clause-ticked c =
     (c.in_ok-batches.ensures.sent ∙ ap (λ (x : Facts). batches_due (view_key x) x.store.content x.batches) same)
     (subst (λ (x : Facts). AreNext x.exchange.exchanged (view_key x) x.batches c.in_ok-batches.batches.items) same c.in_ok-batches.ensures.next)
     (subst (λ (x : Facts). AreSettlings x c.in_ok-settlings.settlings.items) same c.in_ok-settlings.ensures.due)
-    (subst (λ (x : Facts). settling_lines x.me (view_key x) c.in_ok-settlings.settlings.items ≡ settling partition_count x) same c.in_ok-settlings.ensures.told)
+    (subst (λ (x : Facts). settling_lines x.me (view_key x) c.in_ok-settlings.settlings.items ≡ settling_due partition_count x) same c.in_ok-settlings.ensures.told)

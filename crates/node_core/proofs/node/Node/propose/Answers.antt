@@ -16,7 +16,7 @@ use Rattle.node_view.specs.declared.view.View.{View}
 use Rattle.node_view.specs.Views.{IsEntered}
 use Rattle.node_steps.specs.declared.effects.Effects.{Effects}
 use Rattle.node_steps.specs.Ranges.{HasRanges}
-use Rattle.node_steps.specs.Spelled.{followed_by}
+use Rattle.node_steps.specs.Spelled.{then_effects}
 use Rattle.node_steps.specs.Ticks.{EntersBy, HasEntered}
 use Rattle.node_core.proofs.PlannedTickLaws.{among_itself, entered_aged, still_keys, ticking_keys}
 use Rattle.node_core.proofs.ProposeLaws.{due_answer, entered_set, promise_lines, proposed_as, sent_key, still_twice, told_answer}
@@ -49,10 +49,10 @@ returns-in-Nothing-clause-effects c =
     let f : Facts = c.args.self.now.now in
     let g : Facts = after_ages f in
     let a : Agreement = c.args.agree.now.agreement in
-    let told : Effects = followed_by c.args.out.now (lines_only (promise_lines g a.promised)) in
-    let promised : c.tell_promise.new.out ≡ told = c.in_ok-tell_promise.ensures ∙ ap (λ (k : ClusterKey). followed_by c.args.out.now (lines_only (promise_lines g k))) c.promised.ensures.value in
+    let told : Effects = then_effects c.args.out.now (lines_only (promise_lines g a.promised)) in
+    let promised : c.tell_promise.new.out ≡ told = c.in_ok-tell_promise.ensures ∙ ap (λ (k : ClusterKey). then_effects c.args.out.now (lines_only (promise_lines g k))) c.promised.ensures.value in
     promised ∙ sym (told_nothing told)
-    ∙ ap (λ (x : Proposal). followed_by told (due_answer g x)) (sym c.in-Nothing.is)
+    ∙ ap (λ (x : Proposal). then_effects told (due_answer g x)) (sym c.in-Nothing.is)
     ∙ told_answer c.args.out.now g a c.args.proposal.now (proposed_as g a c.args.proposal.now (still_twice f.agreement (neighbours g)) c.requires.agreement c.requires.answered)
 
 pub returns-in_ok-tell_proposal-in-Send-clause-effects : goal.returns-in_ok-tell_proposal-in-Send-clause-effects
@@ -60,12 +60,12 @@ returns-in_ok-tell_proposal-in-Send-clause-effects c =
     let f : Facts = c.args.self.now.now in
     let g : Facts = after_ages f in
     let a : Agreement = c.args.agree.now.agreement in
-    let told : Effects = followed_by c.args.out.now (lines_only (promise_lines g a.promised)) in
-    let promised : c.tell_promise.new.out ≡ told = c.in_ok-tell_promise.ensures ∙ ap (λ (k : ClusterKey). followed_by c.args.out.now (lines_only (promise_lines g k))) c.promised.ensures.value in
+    let told : Effects = then_effects c.args.out.now (lines_only (promise_lines g a.promised)) in
+    let promised : c.tell_promise.new.out ≡ told = c.in_ok-tell_promise.ensures ∙ ap (λ (k : ClusterKey). then_effects c.args.out.now (lines_only (promise_lines g k))) c.promised.ensures.value in
     c.in_ok-tell_proposal-in-Send.ensures
     ∙ told_each c.tell_promise.new.out c.as_slice.result.now (message.Propose c.in-Send.key c.in-Send.members)
-    ∙ ap₂ (λ (o : Effects) (ns : List ℕ). followed_by o (sends_only (to_each ns (message.Propose c.in-Send.key c.in-Send.members)))) promised c.as_slice.ensures.same
-    ∙ ap (λ (x : Proposal). followed_by told (due_answer g x)) (sym c.in-Send.is)
+    ∙ ap₂ (λ (o : Effects) (ns : List ℕ). then_effects o (sends_only (to_each ns (message.Propose c.in-Send.key c.in-Send.members)))) promised c.as_slice.ensures.same
+    ∙ ap (λ (x : Proposal). then_effects told (due_answer g x)) (sym c.in-Send.is)
     ∙ told_answer c.args.out.now g a c.args.proposal.now (proposed_as g a c.args.proposal.now (still_twice f.agreement (neighbours g)) c.requires.agreement c.requires.answered)
 
 pub returns-in_ok-plan_entering-in-Enter-clause-effects : goal.returns-in_ok-plan_entering-in-Enter-clause-effects
@@ -73,11 +73,11 @@ returns-in_ok-plan_entering-in-Enter-clause-effects c =
     let f : Facts = c.args.self.now.now in
     let g : Facts = after_ages f in
     let a : Agreement = c.args.agree.now.agreement in
-    let told : Effects = followed_by c.args.out.now (lines_only (promise_lines g a.promised)) in
-    let promised : c.tell_promise.new.out ≡ told = c.in_ok-tell_promise.ensures ∙ ap (λ (k : ClusterKey). followed_by c.args.out.now (lines_only (promise_lines g k))) c.promised.ensures.value in
+    let told : Effects = then_effects c.args.out.now (lines_only (promise_lines g a.promised)) in
+    let promised : c.tell_promise.new.out ≡ told = c.in_ok-tell_promise.ensures ∙ ap (λ (k : ClusterKey). then_effects c.args.out.now (lines_only (promise_lines g k))) c.promised.ensures.value in
     c.in_ok-plan_entering-in-Enter.ensures.lines
-    ∙ ap (λ (o : Effects). followed_by o (lines_only (entering f c.in-Enter.key c.in-Enter.members))) promised
-    ∙ ap (λ (x : Proposal). followed_by told (due_answer g x)) (sym c.in-Enter.is)
+    ∙ ap (λ (o : Effects). then_effects o (lines_only (entering f c.in-Enter.key c.in-Enter.members))) promised
+    ∙ ap (λ (x : Proposal). then_effects told (due_answer g x)) (sym c.in-Enter.is)
     ∙ told_answer c.args.out.now g a c.args.proposal.now (proposed_as g a c.args.proposal.now (still_twice f.agreement (neighbours g)) c.requires.agreement c.requires.answered)
 
 pub returns-in_ok-plan_entering-in-Enter-clause-view : goal.returns-in_ok-plan_entering-in-Enter-clause-view

@@ -2,7 +2,7 @@ use Rattle.std.proofs.Common.{◌≡◌, None, Contains, ap, subst, sym, ◌∙�
 use Rattle.node_rules.specs.Steps.{Planning}
 use Rattle.heartbeat.specs.Adjacent.{HasRoomFor}
 use Rattle.node_steps.specs.declared.planned.Planned.TheVariants as planned
-use Rattle.node_core.specs.Nodes.{facts_of}
+use Rattle.node_core.specs.Nodes.{node_facts}
 use Rattle.node_steps.specs.Plans.{taken}
 use Rattle.node_steps.specs.Ranges.{HasRanges}
 use Rattle.node_core.proofs.CommitLaws.{heard_node, that_heard}
@@ -16,7 +16,7 @@ pub invariant_of-self : goal.invariant_of-self
 invariant_of-self c =
     let none : c.self.inside.planned ≡ None = none_planned _ c.self.inside.planned (ap (λ (p : Planning). p.next) c.self.view_is ∙ c.requires.unplanned) in
     let peer : Contains c.self.inside.peers c.args.from = subst (λ (p : Planning). Contains p.now.peers c.args.from) (sym c.self.view_is) c.requires.fits.peer in
-    let ranges : HasRanges (taken (facts_of c.self.inside) (planned.Heard c.args.from c.args.beat.now)) = subst (λ (p : Planning). HasRanges (taken p.now (planned.Heard c.args.from c.args.beat.now))) (sym c.self.view_is) c.requires.ranges in
+    let ranges : HasRanges (taken (node_facts c.self.inside) (planned.Heard c.args.from c.args.beat.now)) = subst (λ (p : Planning). HasRanges (taken p.now (planned.Heard c.args.from c.args.beat.now))) (sym c.self.view_is) c.requires.ranges in
     rw (c.heard.ensures, c.see.ensures) (that_heard c.self.inside c.args.from c.args.beat.now c.self.invariant.0 none peer ranges)
 
 pub returns : goal.returns

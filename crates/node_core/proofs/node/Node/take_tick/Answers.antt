@@ -4,7 +4,7 @@ use Rattle.node_rules.specs.Facts.{Facts}
 use Rattle.node_rules.specs.Steps.{unplanned}
 use Rattle.node_view.specs.Fits.{IsReadyToSend}
 use Rattle.node_view.specs.Plans.{settled_by}
-use Rattle.node_view.specs.Views.{IsNodeOf, Viewed}
+use Rattle.node_view.specs.Views.{IsNodeInView, Viewed}
 use Rattle.node_steps.specs.Fits.{ticked_facts}
 use Rattle.node_core.specs.Nodes.{planning_of}
 use Rattle.node_steps.specs.Ranges.{HasRanges}
@@ -33,7 +33,7 @@ pub send_batches-requires : goal.send_batches-requires
 send_batches-requires c =
     let f : Facts = ticked_facts c.args.self.now.now c.args.tick in
     let seen : planning_of c.self-2.inside ≡ unplanned f = c.self-2.view_is ∙ c.take_agreed.ensures ∙ ap unplanned (aged_is c.self.inside c.args.self.now c.tick.new.self c.args.tick c.self.invariant.0 c.tick.ensures c.self.view_is) in
-    let node : IsNodeOf (settled_by f c.args.tick.settlings.items) c.settle_all.new.self c.settle_all.new.store =
+    let node : IsNodeInView (settled_by f c.args.tick.settlings.items) c.settle_all.new.self c.settle_all.new.store =
     settled_node c.self-2.inside f c.in-Some.view c.deref_mut.result.now c.settle_all.new.self c.settle_all.new.store c.args.tick.settlings.items c.deref.result.now
     c.self-2.invariant.0 seen c.in-Some.is c.deref_mut.ensures.value c.deref.ensures.value c.settle_all.ensures in
     subst (λ (x : Viewed). IsReadyToSend x c.args.tick.batches.items) (sym c.deref_mut-in-Some.ensures.value)
@@ -43,7 +43,7 @@ pub invariant_of-self-in-Some-1 : goal.invariant_of-self-in-Some-1
 invariant_of-self-in-Some-1 c =
     let f : Facts = ticked_facts c.args.self.now.now c.args.tick in
     let seen : planning_of c.self-2.inside ≡ unplanned f = c.self-2.view_is ∙ c.take_agreed.ensures ∙ ap unplanned (aged_is c.self.inside c.args.self.now c.tick.new.self c.args.tick c.self.invariant.0 c.tick.ensures c.self.view_is) in
-    let node : IsNodeOf (settled_by f c.args.tick.settlings.items) c.settle_all.new.self c.settle_all.new.store =
+    let node : IsNodeInView (settled_by f c.args.tick.settlings.items) c.settle_all.new.self c.settle_all.new.store =
     settled_node c.self-2.inside f c.in-Some.view c.deref_mut.result.now c.settle_all.new.self c.settle_all.new.store c.args.tick.settlings.items c.deref.result.now
     c.self-2.invariant.0 seen c.in-Some.is c.deref_mut.ensures.value c.deref.ensures.value c.settle_all.ensures in
     (ticking c.self-2.inside f c.in-Some.view (with_value (with_value c.in-Some.view c.settle_all.new.self) c.send_batches.new.self) c.settle_all.new.self c.settle_all.new.store c.args.tick.settlings.items c.args.tick.batches.items
@@ -53,7 +53,7 @@ pub returns-in-Some : goal.returns-in-Some
 returns-in-Some c =
     let f : Facts = ticked_facts c.args.self.now.now c.args.tick in
     let seen : planning_of c.self-2.inside ≡ unplanned f = c.self-2.view_is ∙ c.take_agreed.ensures ∙ ap unplanned (aged_is c.self.inside c.args.self.now c.tick.new.self c.args.tick c.self.invariant.0 c.tick.ensures c.self.view_is) in
-    let node : IsNodeOf (settled_by f c.args.tick.settlings.items) c.settle_all.new.self c.settle_all.new.store =
+    let node : IsNodeInView (settled_by f c.args.tick.settlings.items) c.settle_all.new.self c.settle_all.new.store =
     settled_node c.self-2.inside f c.in-Some.view c.deref_mut.result.now c.settle_all.new.self c.settle_all.new.store c.args.tick.settlings.items c.deref.result.now
     c.self-2.invariant.0 seen c.in-Some.is c.deref_mut.ensures.value c.deref.ensures.value c.settle_all.ensures in
     (ticking c.self-2.inside f c.in-Some.view (with_value (with_value c.in-Some.view c.settle_all.new.self) c.send_batches.new.self) c.settle_all.new.self c.settle_all.new.store c.args.tick.settlings.items c.args.tick.batches.items

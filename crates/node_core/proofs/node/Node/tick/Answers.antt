@@ -14,18 +14,18 @@ use Rattle.node_rules.specs.Hearing.{neighbours_of, ticked}
 use Rattle.node_rules.specs.Notes.{after_ages, neighbours}
 use Rattle.node_rules.specs.Steps.{Planning, after_tick, planning}
 use Rattle.node_rules.specs.Tick as tick
-use Rattle.node_rules.specs.Tick.{due_tick, in_order, propose}
+use Rattle.node_rules.specs.Tick.{due_tick, parts_in_order, propose}
 use Rattle.node_view.specs.declared.view.View.{View}
 use Rattle.node_steps.specs.declared.effects.Effects.{Effects}
 use Rattle.node_steps.specs.declared.planned.Planned.TheVariants as planned
 use Rattle.node_steps.specs.declared.planned.Ticked.{Ticked}
 use Rattle.node_steps.specs.Counts.{HaveNumbers}
 use Rattle.node_steps.specs.Fits.{FitsAgreed, FitsTick}
-use Rattle.node_core.specs.Nodes.{facts_of}
+use Rattle.node_core.specs.Nodes.{node_facts}
 use Rattle.node_steps.specs.Grounds.{lent}
 use Rattle.node_steps.specs.Plans.{taken}
 use Rattle.node_steps.specs.Ranges.{HasRanges}
-use Rattle.node_steps.specs.Spelled.{followed_by, spelled}
+use Rattle.node_steps.specs.Spelled.{then_effects, spelled}
 use Rattle.node_steps.specs.Ticks.{IsProposed, TicksFrom, agreed, later_parts}
 use Rattle.node_core.proofs.PlannedTickLaws.{IsTicking, beats_so, candidate_so, entered_fits, later_count, later_fit, on_err, pending_so, proposed_so, stands_so, taken_fits, tick_fits, tick_told, ticked_is}
 use Rattle.node_core.proofs.CopyLaws.{heard_so}
@@ -44,7 +44,7 @@ ground-before-requires c =
     let up : f.up ≡ true = ap (λ (p : Planning). p.now.up) c.give_up.ensures ∙ c.requires.up in
     ground_in_own f hearing c.self.inside.agree c.own_view.result c.own_view.ensures.some c.own_view.ensures.none c.own_view.ensures.view up
     (ap (λ (x : Adjacent). x.me) heard) (c.self.invariant.0.agree ∙ ap (λ (p : Planning). p.now.me) c.self.view_is)
-    (ranges_agreed f hearing.hearing c.self.inside.agree.agreement ranges (keys_of (facts_of c.self.inside) c.self.invariant.0.ranges))
+    (ranges_agreed f hearing.hearing c.self.inside.agree.agreement ranges (keys_of (node_facts c.self.inside) c.self.invariant.0.ranges))
 
 pub on_tick-agree-requires : goal.on_tick-agree-requires
 on_tick-agree-requires c =
@@ -266,12 +266,13 @@ returns-clause-effects c =
     (c.in_ok-push.ensures.ok ∙ ap (λ (e : Effects). e.lines ++ line.Tick c.self.inside.me ∷ []) c.new-out.ensures ∙ ap (λ (p : Planning). line.Tick p.now.me ∷ []) c.self.view_is)
     c.new-out.ensures in
     let beats : tick.beat c.ground-before.result ≡ tick.beat (after_ages f) = beats_so f c.ground-before.result hearing c.self.inside.agree.agreement seen agreed_on heard in
-    let beaten : c.beat.new.out ≡ followed_by (told (line.Tick f.me ∷ []) []) (tick.beat (after_ages f)) =
-    c.in_ok-beat.ensures ∙ ap₂ (λ (o : Effects) (e : rules.Effects). followed_by o e) first beats in
-    let proposes : c.propose.new.out ≡ followed_by (followed_by (told (line.Tick f.me ∷ []) []) (tick.beat (after_ages f))) (propose (after_ages f)) =
-    c.in_ok-entered.ensures.effects ∙ ap (λ (o : Effects). followed_by o (propose (after_ages f))) beaten in
+    let beaten : c.beat.new.out ≡ then_effects (told (line.Tick f.me ∷ []) []) (tick.beat (after_ages f)) =
+    c.in_ok-beat.ensures
+    ∙ ap₂ (λ (o : Effects) (e : rules.Effects). then_effects o e) first beats in
+    let proposes : c.propose.new.out ≡ then_effects (then_effects (told (line.Tick f.me ∷ []) []) (tick.beat (after_ages f))) (propose (after_ages f)) =
+    c.in_ok-entered.ensures.effects ∙ ap (λ (o : Effects). then_effects o (propose (after_ages f))) beaten in
     c.plan.ensures.same ∙ c.in_ok-ticked.ensures.lines
-    ∙ ap₂ (λ (o : Effects) (p : Planning). followed_by o (in_order (later_parts partition_count) (agreed p.now hearing agree entered))) proposes c.propose.ensures.same
+    ∙ ap₂ (λ (o : Effects) (p : Planning). then_effects o (parts_in_order (later_parts partition_count) (agreed p.now hearing agree entered))) proposes c.propose.ensures.same
     ∙ tick_told f hearing agree answer entered up h ranges
     ∙ ap (λ (p : Planning). spelled (due_tick p.now)) c.give_up.ensures
 

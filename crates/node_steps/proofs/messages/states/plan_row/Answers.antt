@@ -7,8 +7,8 @@ use Rattle.node_rules.specs.Exchange.{Exchange, first_missing, members_of}
 use Rattle.node_rules.specs.Facts.{view_key}
 use Rattle.node_rules.specs.Map.{lacks}
 use Rattle.node_rules.specs.Notes.{exchanged}
-use Rattle.node_view.specs.Plans.{with_row_of}
-use Rattle.node_view.specs.Views.{key_of}
+use Rattle.node_view.specs.Plans.{facts_with_row}
+use Rattle.node_view.specs.Views.{viewed_key}
 use Rattle.node_steps.specs.declared.effects.Effects.{Effects}
 use Rattle.node_steps.specs.Viewing.{finishes_with}
 use Rattle.node_steps.proofs.MemberLaws.{not_false, not_true}
@@ -36,7 +36,7 @@ returns-then-not-is_last_missing-clause-lines c =
     let from = c.args.from in
     let lacking : lacks v.exchange.rows from ≡ true = ap (λ (x : Exchange). lacks x.rows from) (sym c.in-Some.ensures.exchange) ∙ sym c.lacks.ensures ∙ c.if-not-lacks.false in
     let more = is_more v from c.args.row.now c.is_last_missing.result c.is_last_missing.ensures lacking c.if-not-is_last_missing.true in
-    told_no_line c.args.out.now (line.Exchanged v.me (key_of v)) (finishes_with v from c.args.row.now) (more_goes_on v from c.args.row.now more)
+    told_no_line c.args.out.now (line.Exchanged v.me (viewed_key v)) (finishes_with v from c.args.row.now) (more_goes_on v from c.args.row.now more)
 
 pub returns-then-not-is_last_missing-clause-planned : goal.returns-then-not-is_last_missing-clause-planned
 returns-then-not-is_last_missing-clause-planned c = λ f h.
@@ -44,7 +44,7 @@ returns-then-not-is_last_missing-clause-planned c = λ f h.
     let from = c.args.from in
     let lacking : lacks v.exchange.rows from ≡ true = ap (λ (x : Exchange). lacks x.rows from) (sym c.in-Some.ensures.exchange) ∙ sym c.lacks.ensures ∙ c.if-not-lacks.false in
     let more = is_more v from c.args.row.now c.is_last_missing.result c.is_last_missing.ensures lacking c.if-not-is_last_missing.true in
-    ap (with_row_of f from) c.in_ok-row.ensures ∙ after_more f v from c.args.row.now h.view.viewed (more_goes_on v from c.args.row.now more)
+    ap (facts_with_row f from) c.in_ok-row.ensures ∙ after_more f v from c.args.row.now h.view.viewed (more_goes_on v from c.args.row.now more)
 
 pub returns-then-not-is_last_missing-clause-fits : goal.returns-then-not-is_last_missing-clause-fits
 returns-then-not-is_last_missing-clause-fits c = λ f h some.
@@ -76,7 +76,7 @@ returns-clause-lines c =
     let last = is_last v from c.args.row.now c.is_last_missing.result c.is_last_missing.ensures lacking c.if-not-is_last_missing.false (not_true v.exchange.exchanged c.in-Some.ensures.some) in
     let with_lines : List Line → Effects = λ (ls : List Line). record { lines = ls; sends = out.sends } in
     ap with_lines (c.in_ok-push.ensures.ok ∙ ap₂ (λ (me : ℕ) (key : ClusterKey). out.lines ++ line.Exchanged me key ∷ []) c.me.ensures c.key.ensures)
-    ∙ told_last out (line.Exchanged v.me (key_of v)) (finishes_with v from c.args.row.now) (last_finishes v from c.args.row.now last)
+    ∙ told_last out (line.Exchanged v.me (viewed_key v)) (finishes_with v from c.args.row.now) (last_finishes v from c.args.row.now last)
 
 pub returns-clause-planned : goal.returns-clause-planned
 returns-clause-planned c = λ f h.
@@ -84,7 +84,7 @@ returns-clause-planned c = λ f h.
     let from = c.args.from in
     let lacking : lacks v.exchange.rows from ≡ true = ap (λ (x : Exchange). lacks x.rows from) (sym c.in-Some.ensures.exchange) ∙ sym c.lacks.ensures ∙ c.if-not-lacks.false in
     let last = is_last v from c.args.row.now c.is_last_missing.result c.is_last_missing.ensures lacking c.if-not-is_last_missing.false (not_true v.exchange.exchanged c.in-Some.ensures.some) in
-    ap₂ (λ (n : ℕ) (r : Row). exchanged (with_row_of f n r) (view_key f)) c.in_ok-last.ensures.row.0 (c.in_ok-last.ensures.row.1 ∙ c.in_ok-row.ensures)
+    ap₂ (λ (n : ℕ) (r : Row). exchanged (facts_with_row f n r) (view_key f)) c.in_ok-last.ensures.row.0 (c.in_ok-last.ensures.row.1 ∙ c.in_ok-row.ensures)
     ∙ after_last f v from c.args.row.now h.view.viewed (last_finishes v from c.args.row.now last)
 
 pub returns-clause-fits : goal.returns-clause-fits

@@ -7,9 +7,9 @@ use Rattle.node_rules.specs.Batches.{Targets}
 use Rattle.node_rules.specs.ByParts.{batches_due}
 use Rattle.node_rules.specs.Copies.{Content}
 use Rattle.node_rules.specs.Facts.{Facts, view_key}
-use Rattle.node_view.specs.Counts.{last_count}
+use Rattle.node_view.specs.Counts.{greatest_count}
 use Rattle.node_view.specs.Fits.{AreNext}
-use Rattle.node_view.specs.Views.{IsViewOf, key_of}
+use Rattle.node_view.specs.Views.{IsViewOf, viewed_key}
 use Rattle.node_steps.specs.Ranges.{HasRanges}
 use Rattle.node_steps.specs.Spelled.{with_sends}
 use Rattle.node_steps.proofs.AgainLaws.{batches_fit, batches_told, batch_spelled, due_is, first_sent, next_is, none_next, sends_nothing}
@@ -22,7 +22,7 @@ pub next_batches-requires-clause-counts : goal.next_batches-requires-clause-coun
 next_batches-requires-clause-counts c =
     let f : Facts = c.args.f.now in
     let own : IsViewOf f c.in-Some.view.now = subst (λ (g : Facts). IsViewOf g c.in-Some.view.now) c.f.view_is (c.f.invariant.view c.in-Some.view c.in-Some.is) in
-    subst (λ (ts : Targets). All (λ t. t.batches < last_count) ts) (sym (ap (λ (g : Facts). g.batches) own.viewed.view)) c.requires.batches
+    subst (λ (ts : Targets). All (λ t. t.batches < greatest_count) ts) (sym (ap (λ (g : Facts). g.batches) own.viewed.view)) c.requires.batches
 
 pub loop-to-init : goal.loop-to-init
 loop-to-init c =
@@ -31,8 +31,8 @@ loop-to-init c =
     let own : IsViewOf f v = subst (λ (g : Facts). IsViewOf g v) c.f.view_is (c.f.invariant.view c.in-Some.view c.in-Some.is) in
     let ranges : HasRanges f = subst HasRanges c.f.view_is c.f.invariant.ranges in
     let content : c.f.inside.store.now.versions ≡ f.store.content = ap (λ (g : Facts). g.store.content) c.f.view_is in
-    let due : c.into_iter-to-iterator.result.rest.items ≡ batches_due (key_of v) f.store.content v.batches =
-    c.into_iter-to-iterator.ensures.into_iter_gives.0 ∙ c.in_ok-items.ensures.due ∙ ap (λ (m : Content). batches_due (key_of v) m v.batches) content in
+    let due : c.into_iter-to-iterator.result.rest.items ≡ batches_due (viewed_key v) f.store.content v.batches =
+    c.into_iter-to-iterator.ensures.into_iter_gives.0 ∙ c.in_ok-items.ensures.due ∙ ap (λ (m : Content). batches_due (viewed_key v) m v.batches) content in
     (refl, refl, subst (λ (bs : List (ℕ × Batch)). All (λ b. IsBatch b.1) bs) (sym due) (batches_fit f v own (c.f.invariant.in_one c.in-Some.view c.in-Some.is) c.requires ranges))
 
 pub send_batch-requires : goal.send_batch-requires
@@ -63,7 +63,7 @@ returns-clause-sends c =
     let content : c.f.inside.store.now.versions ≡ f.store.content = ap (λ (g : Facts). g.store.content) c.f.view_is in
     let none : c.loop-to.to-iterator.rest.items ≡ [] = nil_from_length c.loop-to.to-iterator.rest.items (sym c.loop-to.to-iterator.rest.ok.0 ∙ c.in-None.ensures.steps.0) in
     let due : c.into_iter-to-iterator.result.rest.items ≡ batches_due (view_key f) f.store.content f.batches =
-    c.into_iter-to-iterator.ensures.into_iter_gives.0 ∙ c.in_ok-items.ensures.due ∙ ap (λ (m : Content). batches_due (key_of v) m v.batches) content ∙ due_is f v own.viewed in
+    c.into_iter-to-iterator.ensures.into_iter_gives.0 ∙ c.in_ok-items.ensures.due ∙ ap (λ (m : Content). batches_due (viewed_key v) m v.batches) content ∙ due_is f v own.viewed in
     sym (sends_nothing c.loop-to.out)
     ∙ ap (λ (bs : List (ℕ × Batch)). with_sends c.loop-to.out (map batch_spelled bs)) (sym none)
     ∙ c.loop-to.invariant.0
@@ -77,7 +77,7 @@ returns-clause-sent c =
     let content : c.f.inside.store.now.versions ≡ f.store.content = ap (λ (g : Facts). g.store.content) c.f.view_is in
     let none : c.loop-to.to-iterator.rest.items ≡ [] = nil_from_length c.loop-to.to-iterator.rest.items (sym c.loop-to.to-iterator.rest.ok.0 ∙ c.in-None.ensures.steps.0) in
     let due : c.into_iter-to-iterator.result.rest.items ≡ batches_due (view_key f) f.store.content f.batches =
-    c.into_iter-to-iterator.ensures.into_iter_gives.0 ∙ c.in_ok-items.ensures.due ∙ ap (λ (m : Content). batches_due (key_of v) m v.batches) content ∙ due_is f v own.viewed in
+    c.into_iter-to-iterator.ensures.into_iter_gives.0 ∙ c.in_ok-items.ensures.due ∙ ap (λ (m : Content). batches_due (viewed_key v) m v.batches) content ∙ due_is f v own.viewed in
     sym (append-nil c.loop-to.sent.items)
     ∙ ap (λ (bs : List (ℕ × Batch)). c.loop-to.sent.items ++ bs) (sym none)
     ∙ c.loop-to.invariant.1

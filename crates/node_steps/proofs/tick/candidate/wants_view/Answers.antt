@@ -4,7 +4,7 @@ use Rattle.cluster_types.specs.declared.member.Member.{Member}
 use Rattle.cluster_types.specs.MembersEqual.{same_members}
 use Rattle.std.proofs.Common.{List}
 use Rattle.std.specs.Prelude.{IsSome}
-use Rattle.node_rules.specs.Exchange.{Exchange, key_of, members_of}
+use Rattle.node_rules.specs.Exchange.{Exchange, exchange_key, members_of}
 use Rattle.node_rules.specs.Facts.{Facts, view_key}
 use Rattle.node_rules.specs.Hearing.{all_show}
 use Rattle.node_rules.specs.Notes.{neighbours}
@@ -35,7 +35,7 @@ returns-else-ne c =
     c.ne.ensures ∙ ap₂ (λ (a b : List Member). not (same_members a b)) c.requires members ∙ sym (differs_by (neighbours f) f.exchange.view some) in
     let me : c.f.inside.hearing.now.me ≡ f.me = c.f.invariant.hearing ∙ ap (λ (g : Facts). g.me) c.f.view_is in
     let heard = ap (λ (g : Facts). g.hearing.heard) c.f.view_is in
-    let key = c.key.ensures ∙ ap (λ (x : Exchange). key_of x.view) same in
+    let key = c.key.ensures ∙ ap (λ (x : Exchange). exchange_key x.view) same in
     let shown : c.all_show.result ≡ all_show f.me f.hearing.heard (view_key f) =
     c.all_show.ensures ∙ ap₂ (λ (n : ℕ) (k : ClusterKey). all_show n c.f.inside.hearing.now.hearing.heard k) me key ∙ ap (λ (g : Facts). all_show f.me g.hearing.heard (view_key f)) c.f.view_is in
     ap not shown ∙ sym (ap (λ (b : Bool). b || not (all_show f.me f.hearing.heard (view_key f))) (sym differs ∙ c.if-ne.false))

@@ -16,7 +16,7 @@ use Rattle.node_rules.specs.Tick as tick
 use Rattle.node_rules.specs.Tick.{progress_message}
 use Rattle.node_view.specs.Plans.{settled_by}
 use Rattle.node_steps.specs.Ranges.{HasRanges}
-use Rattle.node_steps.specs.Spelled.{followed_by, with_sends}
+use Rattle.node_steps.specs.Spelled.{then_effects, with_sends}
 use Rattle.node_steps.proofs.ProgressLaws.{alike_progress, done_whole, each_told, key_to_others, none_alone, none_settled, others_told, progress_of, row_whole, settled_now, some_left}
 use Rattle.node_steps.proofs.SpelledLaws.{on_ok_then, told_each, told_nothing}
 use Rattle.node_steps.proofs.ViewLaws.{exchange_is}
@@ -38,7 +38,7 @@ returns-then-from-settled c =
       | then-from-settled-via-else-from-settled+then-is_empty w ↦
           none_alone partition_count (settled_by f ss) (sym (others_told f v ss own.viewed) ∙ sym w.others.ensures ∙ w.is_empty.ensures.0 w.if-is_empty.true)
     ] in
-    sym (told_nothing c.args.out.now) ∙ ap (λ (e : rules.Effects). followed_by c.args.out.now e) (sym none)
+    sym (told_nothing c.args.out.now) ∙ ap (λ (e : rules.Effects). then_effects c.args.out.now e) (sym none)
 
 pub send_to_each-requires : goal.send_to_each-requires
 send_to_each-requires c =
@@ -49,8 +49,9 @@ send_to_each-requires c =
     let ranges : HasRanges f = subst HasRanges c.f.view_is c.f.invariant.ranges in
     let same : v.exchange ≡ f.exchange = exchange_is f v own.viewed in
     let bits : v.bits ≡ f.bits = ap (λ (g : Facts). g.bits) own.viewed.view in (
-      subst IsKeyField (sym (c.key.ensures ∙ ap (λ (x : Exchange). exchange.key_of x.view) same))
-          (key_to_others f.exchange.view v.me (λ none. let wrong : false ≡ true = sym c.if-is_empty.false ∙ c.is_empty.ensures.1 (c.others.ensures ∙ ap (λ (x : Exchange). agreement.others v.me (members_of x.view)) same ∙ none) in cc) ranges.view),
+      subst IsKeyField
+          (sym (c.key.ensures ∙ ap (λ (x : Exchange). exchange.exchange_key x.view) same))
+          (key_to_others f.exchange.view v.me (λ none. let wrong : false ≡ true = sym c.if-is_empty.false ∙ c.is_empty.ensures.1 (c.others.ensures ∙ ap (λ (x : Exchange). agreement.others_among v.me (members_of x.view)) same ∙ none) in cc) ranges.view),
       record { size = ap length (c.in_ok-new.ensures ∙ c.done_row.ensures) ∙ done_whole v.exchange.exchanged v.batches },
       record { size = ap length (c.in_ok-new-2.ensures ∙ c.handed_row.ensures) ∙ row_whole (λ s. s.hands) v.bits.handed ss (ap (λ (b : Bits). length b.handed) bits ∙ ranges.bits.handed) },
       record { size = ap length (c.in_ok-new-3.ensures ∙ c.settled_row.ensures) ∙ row_whole (λ s. s.settles) v.bits.settled ss (ap (λ (b : Bits). length b.settled) bits ∙ ranges.bits.settled) },
@@ -74,9 +75,9 @@ returns c =
     (c.from.ensures ∙ c.unsettled.ensures ∙ own.watch.unsettled) c.settled_count-settled.ensures.count c.if-from-settled.false in
     on_ok_then c.send_to_each.result
     (c.send_to_each.new.self ≡ with_sends out (map (λ n. (n, spelling m)) to))
-    (c.send_to_each.new.self ≡ followed_by out (tick.progress partition_count (settled_by f ss)))
+    (c.send_to_each.new.self ≡ then_effects out (tick.progress partition_count (settled_by f ss)))
     c.send_to_each.ensures
     (λ e.
     e ∙ told_each out to m
-    ∙ ap₂ (λ (ns : List ℕ) (x : Message). followed_by out (sends_only (to_each ns x))) same told
-    ∙ ap (λ (d : rules.Effects). followed_by out d) (sym (each_told partition_count f ss (sym c.in-Some.ensures.some) left)))
+    ∙ ap₂ (λ (ns : List ℕ) (x : Message). then_effects out (sends_only (to_each ns x))) same told
+    ∙ ap (λ (d : rules.Effects). then_effects out d) (sym (each_told partition_count f ss (sym c.in-Some.ensures.some) left)))

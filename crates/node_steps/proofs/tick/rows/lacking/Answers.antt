@@ -1,6 +1,6 @@
 use Rattle.std.proofs.Common.{◌≡◌, ◌<◌, ◌≤◌, Bool, ℕ, length, ap, sym, ◌∙◌, arith}
 use Rattle.cluster_types.specs.NodeLists.{IsNodeList}
-use Rattle.node_rules.specs.Agreement.{others}
+use Rattle.node_rules.specs.Agreement.{others_among}
 use Rattle.node_rules.specs.Exchange.{members_of}
 use Rattle.node_rules.specs.Map.{lacks}
 use Rattle.node_steps.proofs.MemberLaws.{filter_fresh, filter_kept, filter_left, filter_short_so_far, not_false, not_true, other_is_member, other_is_other}
@@ -11,8 +11,9 @@ pub has_row-requires : goal.has_row-requires
 has_row-requires c =
     let v = c.args.view.now in
     let ms = members_of v.exchange.view in
-    let same : c.as_slice-n-items.result.now ≡ others v.me ms = c.as_slice-n-items.ensures.same ∙ c.others.ensures in
-    let within : c.loop-n.n-index < length (others v.me ms) = rw (← same) c.loop-n-test.true in
+    let same : c.as_slice-n-items.result.now ≡ others_among v.me ms = c.as_slice-n-items.ensures.same ∙ c.others.ensures in
+    let within : c.loop-n.n-index < length (others_among v.me ms) = rw
+    (← same) c.loop-n-test.true in
     let is = rw same at c.n-item.is in
     record {
       member = other_is_member v.me ms c.loop-n.n-index c.n-item.result within is;

@@ -7,10 +7,10 @@ use Rattle.node_rules.specs.Exchange.{Exchange}
 use Rattle.node_rules.specs.Facts.{Facts}
 use Rattle.node_rules.specs.Here.{HasRows}
 use Rattle.node_view.specs.declared.here.Settling.{Settling}
-use Rattle.node_view.specs.Settlings.{lines_of, settling_lines}
-use Rattle.node_view.specs.Views.{key_of}
+use Rattle.node_view.specs.Settlings.{lines_of_settling, settling_lines}
+use Rattle.node_view.specs.Views.{viewed_key}
 use Rattle.node_steps.specs.declared.effects.Effects.{Effects}
-use Rattle.node_steps.specs.Spelled.{followed_by}
+use Rattle.node_steps.specs.Spelled.{then_effects}
 use Rattle.node_steps.proofs.SettledLaws.{lines_more}
 use Rattle.node_steps.proofs.SpelledLaws.{told_twice}
 use Rattle.node_steps.proofs.ViewLaws.{exchange_is}
@@ -24,9 +24,9 @@ loop-settling-preserved c =
     let out : Effects = c.args.out.now in
     let i : ℕ = c.loop-settling.settling-index in
     c.in_ok-write_lines.ensures
-    ∙ ap (λ (told : Effects). followed_by told (lines_only (lines_of v.me (key_of v) s))) c.loop-settling.invariant
-    ∙ told_twice out (lines_only (settling_lines v.me (key_of v) (take i ss))) (lines_only (lines_of v.me (key_of v) s))
-    ∙ ap (λ (ls : List Line). followed_by out (lines_only ls)) (sym (lines_more v.me (key_of v) ss i s c.loop-settling-test.true c.settling-item.is))
+    ∙ ap (λ (told : Effects). then_effects told (lines_only (lines_of_settling v.me (viewed_key v) s))) c.loop-settling.invariant
+    ∙ told_twice out (lines_only (settling_lines v.me (viewed_key v) (take i ss))) (lines_only (lines_of_settling v.me (viewed_key v) s))
+    ∙ ap (λ (ls : List Line). then_effects out (lines_only ls)) (sym (lines_more v.me (viewed_key v) ss i s c.loop-settling-test.true c.settling-item.is))
 
 pub returns-clause-lines : goal.returns-clause-lines
 returns-clause-lines c =
@@ -36,9 +36,9 @@ returns-clause-lines c =
     let rows : HasRows f = subst HasRows c.f.view_is c.f.invariant.ranges.bits in
     let whole = take_all c.loop-settling.settling-index c.deref-settling-items.result.now c.loop-settling-test.false in
     c.loop-settling.invariant
-    ∙ ap (λ (ls : List Line). followed_by c.args.out.now (lines_only ls))
-    (ap (settling_lines v.me (key_of v)) (whole ∙ c.deref-settling-items.ensures.value)
-    ∙ ap₂ (λ (me : ℕ) (x : Exchange). settling_lines me (exchange.key_of x.view) ss) (sym c.in-Some.ensures.view.viewed.me) (exchange_is f v c.in-Some.ensures.view.viewed)
+    ∙ ap (λ (ls : List Line). then_effects c.args.out.now (lines_only ls))
+    (ap (settling_lines v.me (viewed_key v)) (whole ∙ c.deref-settling-items.ensures.value)
+    ∙ ap₂ (λ (me : ℕ) (x : Exchange). settling_lines me (exchange.exchange_key x.view) ss) (sym c.in-Some.ensures.view.viewed.me) (exchange_is f v c.in-Some.ensures.view.viewed)
     ∙ c.in_ok-settlings.ensures.lines f rows c.in-Some.ensures.view (ap (λ (g : Facts). g.store.content) (sym c.f.view_is)))
 
 pub returns-clause-due : goal.returns-clause-due

@@ -6,8 +6,8 @@ use Rattle.wire_messages.specs.Spelling.{spelling}
 use Rattle.node_rules.specs.Effects.{sends_only, to_each}
 use Rattle.node_rules.specs.Tick.{sends_again}
 use Rattle.node_rules.specs.Transactions as rules
-use Rattle.node_view.specs.Views.{key_of}
-use Rattle.node_steps.specs.Spelled.{followed_by, with_sends}
+use Rattle.node_view.specs.Views.{viewed_key}
+use Rattle.node_steps.specs.Spelled.{then_effects, with_sends}
 use Rattle.node_steps.proofs.SpelledLaws.{on_ok_then, told_each}
 use Rattle.node_steps.proofs.TransactionLaws.{asks_again, found_in_view, proper_ask, proper_repl, writes_again}
 use Rattle.node_steps.proofs.tick.transactions.send_again.Goals.{in-None, in-Some+in_ok-message-in-Some}
@@ -19,9 +19,9 @@ send_to_each-requires c =
     let x = c.args.txn.now in
     let o : Option rules.Transaction = rules.transaction v.transactions x.id in
     elim c.match-written.branch [
-      | in-None w ↦ subst IsProper (sym (w.message-is ∙ w.ask-message.ensures)) (proper_ask o x (key_of v) c.requires.open_one c.requires.spelled c.requires.same c.requires.key)
+      | in-None w ↦ subst IsProper (sym (w.message-is ∙ w.ask-message.ensures)) (proper_ask o x (viewed_key v) c.requires.open_one c.requires.spelled c.requires.same c.requires.key)
       | in-Some+in_ok-message-in-Some w ↦
-          subst IsProper (sym (w.message-is ∙ w.in_ok-message-in-Some.ensures)) (proper_repl o x w.in-Some.write.now (key_of v) w.in-Some.ensures c.requires.spelled c.requires.same c.requires.key)
+          subst IsProper (sym (w.message-is ∙ w.in_ok-message-in-Some.ensures)) (proper_repl o x w.in-Some.write.now (viewed_key v) w.in-Some.ensures c.requires.spelled c.requires.same c.requires.key)
     ]
 
 pub returns : goal.returns
@@ -43,6 +43,6 @@ returns c = λ f h t found.
     ] in
     on_ok_then c.send_to_each.result
     (c.send_to_each.new.self ≡ with_sends out (map (λ n. (n, spelling m)) to))
-    (c.send_to_each.new.self ≡ followed_by out (sends_only (sends_again f t t.applied)))
+    (c.send_to_each.new.self ≡ then_effects out (sends_only (sends_again f t t.applied)))
     c.send_to_each.ensures
-    (λ e. e ∙ told_each out to m ∙ ap (λ (ms : List (ℕ × Message)). followed_by out (sends_only ms)) due)
+    (λ e. e ∙ told_each out to m ∙ ap (λ (ms : List (ℕ × Message)). then_effects out (sends_only ms)) due)

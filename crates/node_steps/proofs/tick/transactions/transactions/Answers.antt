@@ -12,8 +12,8 @@ use Rattle.node_rules.specs.Facts.{Facts}
 use Rattle.node_rules.specs.Transactions as rules
 use Rattle.node_view.specs.Transactions.{kept_of}
 use Rattle.node_view.specs.Views.{IsViewOf}
-use Rattle.node_steps.specs.Ranges.{HasRanges, IsSpelled}
-use Rattle.node_steps.specs.Spelled.{followed_by}
+use Rattle.node_steps.specs.Ranges.{HasRanges, HasSpelling}
+use Rattle.node_steps.specs.Spelled.{then_effects}
 use Rattle.node_steps.specs.Viewing.{IsAsKept}
 use Rattle.node_steps.proofs.AgainLaws.{IsFound, all_found, first_told, found_has, key_in_view, sends_for, sent_again}
 use Rattle.node_steps.proofs.SpelledLaws.{told_nothing}
@@ -37,7 +37,7 @@ send_again-requires-clause-key c =
     let own : IsViewOf f v = subst (λ (g : Facts). IsViewOf g v) c.f.view_is (c.f.invariant.view c.in-Some.view c.in-Some.is) in
     let ranges : HasRanges f = subst HasRanges c.f.view_is c.f.invariant.ranges in
     let same : v.exchange ≡ f.exchange = exchange_is f v own.viewed in
-    subst (λ (x : Exchange). IsKeyField (exchange.key_of x.view)) (sym same)
+    subst (λ (x : Exchange). IsKeyField (exchange.exchange_key x.view)) (sym same)
     (key_in_view f.exchange.view (subst (λ (x : Exchange). IsSome x.view) same (c.f.invariant.in_one c.in-Some.view c.in-Some.is)) ranges.view)
 
 pub send_again-requires-clause-open_one : goal.send_again-requires-clause-open_one
@@ -56,8 +56,8 @@ send_again-requires-clause-spelled c =
     let x : Txn = c.in-Some-txn.txn.now in
     let own : IsViewOf f v = subst (λ (g : Facts). IsViewOf g v) c.f.view_is (c.f.invariant.view c.in-Some.view c.in-Some.is) in
     let ranges : HasRanges f = subst HasRanges c.f.view_is c.f.invariant.ranges in
-    subst (λ (ts : rules.Transactions). ForSome (rules.transaction ts x.id) IsSpelled) (sym (transactions_are f v own.viewed))
-    (found_has IsSpelled (λ t. t.number == x.id) f.transactions.running ranges.transactions)
+    subst (λ (ts : rules.Transactions). ForSome (rules.transaction ts x.id) HasSpelling) (sym (transactions_are f v own.viewed))
+    (found_has HasSpelling (λ t. t.number == x.id) f.transactions.running ranges.transactions)
 
 pub send_again-requires-clause-same : goal.send_again-requires-clause-same
 send_again-requires-clause-same c =
@@ -78,7 +78,7 @@ loop-txn-preserved c =
     let before : All (IsFound f) (x ∷ c.next.new.self) = subst (λ (xs : List Txn). All (IsFound f) xs) steps c.loop-txn.invariant.1 in
     let found : IsFound f x = All-head (IsFound f) x c.next.new.self before in (
       first_told f c.loop-txn.out c.send_again.new.out x c.next.new.self found.open_one (c.in_ok-send_again.ensures f own.viewed)
-          ∙ ap (λ (xs : List Txn). followed_by c.loop-txn.out (sends_only (sends_for f xs))) (sym steps) ∙ c.loop-txn.invariant.0,
+          ∙ ap (λ (xs : List Txn). then_effects c.loop-txn.out (sends_only (sends_for f xs))) (sym steps) ∙ c.loop-txn.invariant.0,
       All-tail (IsFound f) x c.next.new.self before,
     )
 
@@ -91,7 +91,7 @@ returns c =
     let rise : AllPairs (λ x y. x.id < y.id) (map kept_of f.transactions.running) = subst (λ (xs : List Txn). AllPairs (λ x y. x.id < y.id) xs) kept c.opened.ensures.numbers.rising in
     let left : c.into_iter-txn-iterator.result ≡ map kept_of f.transactions.running = c.into_iter-txn-iterator.ensures.into_iter_gives ∙ c.iter-txn-items.ensures ∙ kept in
     sym (told_nothing c.loop-txn.out)
-    ∙ ap (λ (xs : List Txn). followed_by c.loop-txn.out (sends_only (sends_for f xs))) (sym c.in-None.ensures.steps.0)
+    ∙ ap (λ (xs : List Txn). then_effects c.loop-txn.out (sends_only (sends_for f xs))) (sym c.in-None.ensures.steps.0)
     ∙ c.loop-txn.invariant.0
-    ∙ ap (λ (xs : List Txn). followed_by c.args.out.now (sends_only (sends_for f xs))) left
-    ∙ ap (λ (ms : List (ℕ × Message)). followed_by c.args.out.now (sends_only ms)) (sent_again f rise)
+    ∙ ap (λ (xs : List Txn). then_effects c.args.out.now (sends_only (sends_for f xs))) left
+    ∙ ap (λ (ms : List (ℕ × Message)). then_effects c.args.out.now (sends_only ms)) (sent_again f rise)

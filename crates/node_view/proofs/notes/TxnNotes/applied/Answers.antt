@@ -10,11 +10,12 @@ returns-in-Some-clause-notes c =
     let slots = c.self.inside.slots in
     let within : c.in-Some.place < length slots.items = omega (arith, c.in-Some.ensures, c.len.ensures, slots.ok.0) in
     let number : c.args.t ≡ c.self.inside.opened - deque_len slots + 1 + c.in-Some.place = omega (arith, c.in-Some.ensures, c.len.ensures) in
-    slot_changed (kept.with_write c.args.write) (c.self.inside.opened - deque_len slots) slots.items c.in-Some.place c.args.t c.index_mut.result.now c.put_write.new.slot within number c.index_mut.ensures.value c.put_write.ensures
-    ∙ ap (λ (n : Noted). with_note n.kept c.args.t (kept.with_write c.args.write)) c.self.view_is
+    slot_changed (kept.note_with_write c.args.write) (c.self.inside.opened - deque_len slots) slots.items c.in-Some.place c.args.t c.index_mut.result.now c.put_write.new.slot within number c.index_mut.ensures.value c.put_write.ensures
+    ∙ ap (λ (n : Noted). with_note n.kept c.args.t
+    (kept.note_with_write c.args.write)) c.self.view_is
 
 pub returns-in-None-clause-notes : goal.returns-in-None-clause-notes
 returns-in-None-clause-notes c =
     let slots = c.self.inside.slots in
     let none = none_of_last c.self.inside.opened c.len.result (deque_len slots) (length slots.items) c.args.t c.len.ensures slots.ok.0 c.self.invariant c.in-None.ensures in
-    sym (rw (← c.self.view_is) (none_changed (kept.with_write c.args.write) (c.self.inside.opened - deque_len slots) slots.items c.args.t none))
+    sym (rw (← c.self.view_is) (none_changed (kept.note_with_write c.args.write) (c.self.inside.opened - deque_len slots) slots.items c.args.t none))

@@ -8,7 +8,7 @@ use Rattle.node_rules.specs.Stamps.{applies_at}
 use Rattle.node_rules.specs.Standing.{other_replicas}
 use Rattle.node_rules.specs.Transactions as rules
 use Rattle.node_view.specs.Transactions.{kept_of}
-use Rattle.node_view.specs.Views.{Viewed, digest_in, facts_in, key_of}
+use Rattle.node_view.specs.Views.{Viewed, digest_in, facts_in, viewed_key}
 use Rattle.node_view.proofs.OutcomeLaws.{applies_at_place, found_writing, is_writing}
 use Rattle.node_view.proofs.ResolveLaws.{found_changed}
 use Rattle.node_view.proofs.view.View.apply.Goals as goal
@@ -46,7 +46,7 @@ returns-clause-node c f h =
       stamps = c.write_version.ensures.stamps;
       by = c.write_version.ensures.policy;
       numbered = c.count_at.ensures;
-      keyed = c.self.invariant.key ∙ ap key_of c.self.view_is;
+      keyed = c.self.invariant.key ∙ ap viewed_key c.self.view_is;
       versions_after = c.count_own_write.ensures.versions;
       stamps_after = c.count_own_write.ensures.stamps;
       by_after = c.count_own_write.ensures.policy;

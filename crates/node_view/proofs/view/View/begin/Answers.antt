@@ -1,6 +1,6 @@
 use Rattle.std.proofs.Common.{◌≡◌, ◌<◌, ◌+◌, ℕ, Some, None, min, refl, sym, ap, ap₂, subst, ◌∙◌, arith}
 use Rattle.node_rules.specs.Transactions as rules
-use Rattle.node_view.specs.Counts.{last_count}
+use Rattle.node_view.specs.Counts.{greatest_count}
 use Rattle.node_view.specs.Transactions.{note_of}
 use Rattle.node_view.specs.Views.{Viewed, view_of}
 use Rattle.node_view.proofs.ResolveLaws.{agrees, found_opened, never_refused, none_on, opened_noted, opened_shown, shows}
@@ -15,11 +15,11 @@ open-requires-clause-room c =
 pub open-requires-clause-count : goal.open-requires-clause-count
 open-requires-clause-count c =
     let i = c.self.inside in
-    let count : i.txns.opened < last_count = subst (λ (v : Viewed). v.transactions.opened < last_count) (sym c.self.view_is) c.requires.count in
-    subst (λ (k : ℕ). k < last_count) (sym c.self.invariant.noted.opened) count
+    let count : i.txns.opened < greatest_count = subst (λ (v : Viewed). v.transactions.opened < greatest_count) (sym c.self.view_is) c.requires.count in
+    subst (λ (k : ℕ). k < greatest_count) (sym c.self.invariant.noted.opened) count
 
 pub begin-requires : goal.begin-requires
-begin-requires c = subst (λ (v : Viewed). v.transactions.opened < last_count) (sym c.self.view_is) c.requires.count
+begin-requires c = subst (λ (v : Viewed). v.transactions.opened < greatest_count) (sym c.self.view_is) c.requires.count
 
 pub unreachable-requires : goal.unreachable-requires
 unreachable-requires c =

@@ -23,4 +23,4 @@ returns c =
     let n = c.close.new.self in
     let room = (view_of (record i { txns = o; notes = n })).room in
     shows i o n _ room c.finish.ensures.policy (closed_shown i.txns o i.notes n c.args.transaction c.finish.ensures.opened c.finish.ensures.running c.close.ensures.notes c.self.invariant.noted) refl
-    ∙ ap (λ (v : Viewed). record v { transactions = rules.closing v.transactions c.args.transaction; room = room }) c.self.view_is
+    ∙ ap (λ (v : Viewed). record v { transactions = rules.without_transaction v.transactions c.args.transaction; room = room }) c.self.view_is

@@ -1,6 +1,6 @@
 use Rattle.std.proofs.Common.{ℕ, List, ◌∙◌, subst}
 use Rattle.node_view.specs.Plans.{with_answer, with_outcome}
-use Rattle.node_view.specs.Views.{IsNodeOf}
+use Rattle.node_view.specs.Views.{IsNodeInView}
 use Rattle.node_view.proofs.OutcomeLaws.{answers}
 use Rattle.node_view.proofs.ReadyLaws.{digest_kept, digest_seen, ready_with_answer}
 use Rattle.node_view.proofs.view.View.end_answers.Goals as goal
@@ -15,5 +15,5 @@ returns c f h =
     let u = c.answer.new.self in
     let n = c.args.transaction in
     let g = with_answer f c.args.from n c.args.version in
-    subst (λ (d : List ℕ). IsNodeOf (with_outcome g n d c.args.outcome) c.resolve.new.self c.resolve.new.store) (digest_kept v u c.args.from n c.args.version c.answer.ensures ∙ digest_seen f v c.args.store.now n h)
+    subst (λ (d : List ℕ). IsNodeInView (with_outcome g n d c.args.outcome) c.resolve.new.self c.resolve.new.store) (digest_kept v u c.args.from n c.args.version c.answer.ensures ∙ digest_seen f v c.args.store.now n h)
     (c.resolve.ensures g (answers f v u c.args.store.now c.args.from n c.args.version c.answer.ensures h))

@@ -1,6 +1,6 @@
 use Rattle.std.proofs.Common.{subst}
 use Rattle.node_rules.specs.Facts.{Facts}
-use Rattle.node_view.specs.Views.{IsNodeOf}
+use Rattle.node_view.specs.Views.{IsNodeInView}
 use Rattle.node_view.proofs.FinishLaws.{all_finished, finished_node, finishing, handed_on}
 use Rattle.node_view.proofs.HeardLaws.{other_member}
 use Rattle.node_view.proofs.view.View.end_exchange.Goals as goal
@@ -19,4 +19,4 @@ returns c f h =
     let u = c.stamp_empty_copies.new.store in
     let l = c.args.last in
     let after = finished_node f v w s l c.requires.fits c.take_last_row.ensures.alike c.take_last_row.ensures.watch h in
-    subst (λ (g : Facts). IsNodeOf g w u) (all_finished f l) (c.stamp_empty_copies.ensures (finishing f l) after)
+    subst (λ (g : Facts). IsNodeInView g w u) (all_finished f l) (c.stamp_empty_copies.ensures (finishing f l) after)

@@ -31,7 +31,7 @@ invariant_of-view c =
     record {
       stage_of = first.stage_of;
       viewed = sym (ap (λ (x : Exchange). exchange.members_of x.view) first.exchange);
-      key = sym (ap (λ (x : Exchange). exchange.key_of x.view) first.exchange);
+      key = sym (ap (λ (x : Exchange). exchange.exchange_key x.view) first.exchange);
       member = member;
       others = c.others_of.ensures.others;
       told = ap (λ (k : Known). k.me) told ∙ ap (λ (k : Known). k.me) new;

@@ -4,7 +4,7 @@ use Rattle.std.specs.Bool.{beq}
 use Rattle.std.specs.List.{list_all}
 use Rattle.std.proofs.lemmas.Bool.{not-false}
 use Rattle.cluster_types.specs.declared.member.Member.{Member}
-use Rattle.node_rules.specs.Agreement.{others}
+use Rattle.node_rules.specs.Agreement.{others_among}
 use Rattle.node_rules.specs.Exchange.{Exchange, first_missing, is_member, members_of, with_row}
 use Rattle.node_rules.specs.Map.{lacks}
 use Rattle.node_view.specs.Views.{Viewed}
@@ -34,5 +34,5 @@ returns-in-Some c =
     c.lacks_alone.ensures
     ∙ ap (λ (y : Exchange). list_all (λ n. beq (n == from) (lacks y.rows n)) v.others) c.in-Some.ensures.exchange
     ∙ ap (list_all (λ n. beq (n == from) (lacks x.rows n))) c.self.invariant.others
-    ∙ ap (λ (ms : List Member). list_all (λ n. beq (n == from) (lacks x.rows n)) (others v.me ms)) all
+    ∙ ap (λ (ms : List Member). list_all (λ n. beq (n == from) (lacks x.rows n)) (others_among v.me ms)) all
     ∙ last_missing v.me from x.rows [] (members_of x.view) c.requires.member (λ i. c.requires.other (i ∙ own)) there

@@ -1,11 +1,11 @@
 use Rattle.std.proofs.Common.{◌≡◌, Contains, true, refl, sym, ap, subst, ◌∙◌}
 use Rattle.cluster_types.specs.Members.{ids_of}
-use Rattle.exchange.specs.Met.{Met, members}
+use Rattle.exchange.specs.Met.{Met, met_members}
 use Rattle.exchange.specs.Served.{AreServed}
 use Rattle.node_rules.specs.Exchange.{Exchange, is_member, members_of, with_row}
 use Rattle.node_rules.specs.Map.{lacks}
 use Rattle.node_view.specs.declared.view.Stage.{Stage}
-use Rattle.node_view.specs.Views.{Agrees, IsStageOf, Viewed, exchange_at, view_of}
+use Rattle.node_view.specs.Views.{FieldsAgree, IsStageOf, Viewed, exchange_at, view_of}
 use Rattle.node_view.proofs.HandingLaws.{hands_on, is_before, row_back, stage_back}
 use Rattle.node_view.proofs.MissingLaws.{listed}
 use Rattle.node_view.proofs.WaitingLaws.{lacking_waits}
@@ -34,7 +34,7 @@ without_last-waiting-requires-clause-member c =
     let before = is_before c.self.inside c.args.self.now x c.in-Complete.map from c.args.row c.self.view_is c.self.invariant at c.requires.lacking c.in-Complete.ensures in
     let member = subst (λ (w : Viewed). is_member (members_of w.exchange.view) from ≡ true) (sym c.self.view_is) c.requires.member.member in
     let here = subst (λ (y : Exchange). is_member (members_of y.view) from ≡ true) (ap exchange_at at) member in
-    subst (λ (m : Met). Contains (ids_of (members m)) from) (sym before.whole) (listed (members_of x.exchange.view) from here)
+    subst (λ (m : Met). Contains (ids_of (met_members m)) from) (sym before.whole) (listed (members_of x.exchange.view) from here)
 
 pub invariant_of-self : goal.invariant_of-self
 invariant_of-self c =
@@ -43,7 +43,7 @@ invariant_of-self c =
     let at = sym c.replace.ensures.value ∙ c.in-Exchanging.is in
     let before = is_before v c.args.self.now x c.in-Complete.map c.args.from c.args.row c.self.view_is c.self.invariant at c.requires.lacking c.in-Complete.ensures in
     let back = stage_back v.stage x c.in-Complete.map c.without_last-waiting.result.0 c.args.from c.args.row at before c.without_last-waiting.ensures.exchanging in
-    subst (λ (s : Stage). Agrees (record v { stage = s })) (sym back) c.self.invariant
+    subst (λ (s : Stage). FieldsAgree (record v { stage = s })) (sym back) c.self.invariant
 
 pub returns-in_err-served-clause-same : goal.returns-in_err-served-clause-same
 returns-in_err-served-clause-same c =
@@ -61,7 +61,7 @@ invariant_of-self-in_err-begun c =
     let at = sym c.replace.ensures.value ∙ c.in-Exchanging.is in
     let before = is_before v c.args.self.now x c.in-Complete.map c.args.from c.args.row c.self.view_is c.self.invariant at c.requires.lacking c.in-Complete.ensures in
     let back = stage_back v.stage x c.in-Complete.map c.without_last-waiting.result.0 c.args.from c.args.row at before c.without_last-waiting.ensures.exchanging in
-    subst (λ (s : Stage). Agrees (record v { stage = s })) (sym back) c.self.invariant
+    subst (λ (s : Stage). FieldsAgree (record v { stage = s })) (sym back) c.self.invariant
 
 pub returns-in_err-begun-clause-same : goal.returns-in_err-begun-clause-same
 returns-in_err-begun-clause-same c =
@@ -79,7 +79,7 @@ invariant_of-self-2 c =
     let at = sym c.replace.ensures.value ∙ c.in-Exchanging.is in
     let before = is_before v c.args.self.now x c.in-Complete.map c.args.from c.args.row c.self.view_is c.self.invariant at c.requires.lacking c.in-Complete.ensures in
     let back = stage_back v.stage x c.in-Complete.map c.without_last-waiting.result.0 c.args.from c.args.row at before c.without_last-waiting.ensures.exchanging in
-    subst (λ (s : Stage). Agrees (record v { stage = s })) (sym back) c.self.invariant
+    subst (λ (s : Stage). FieldsAgree (record v { stage = s })) (sym back) c.self.invariant
 
 pub returns-clause-row : goal.returns-clause-row
 returns-clause-row c =
@@ -97,7 +97,7 @@ returns-clause-served c =
     let before = is_before v c.args.self.now x c.in-Complete.map c.args.from c.args.row c.self.view_is c.self.invariant at c.requires.lacking c.in-Complete.ensures in
     let seen = sym (ap exchange_at at) ∙ ap (λ (w : Viewed). w.exchange) c.self.view_is in
     subst (λ (y : Exchange). AreServed (members_of y.view) (with_row y.rows c.args.from c.args.row) c.in_ok-served.field-0) seen
-    (subst (λ (m : Met). AreServed (members m) m.exchange.rows c.in_ok-served.field-0) before.whole c.in_ok-served.ensures)
+    (subst (λ (m : Met). AreServed (met_members m) m.exchange.rows c.in_ok-served.field-0) before.whole c.in_ok-served.ensures)
 
 pub returns-clause-targets : goal.returns-clause-targets
 returns-clause-targets c =

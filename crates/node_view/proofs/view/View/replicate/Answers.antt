@@ -3,7 +3,7 @@ use Rattle.cluster_types.specs.Partitions.{partition_of}
 use Rattle.record_store.specs.Store.{room_at}
 use Rattle.node_view.specs.Plans.{with_count}
 use Rattle.node_view.specs.Rooms.{HasRoomToCount}
-use Rattle.node_view.specs.Views.{IsNodeOf}
+use Rattle.node_view.specs.Views.{IsNodeInView}
 use Rattle.node_view.proofs.view.View.replicate.Goals as goal
 
 pub count-requires-clause-room : goal.count-requires-clause-room
@@ -16,4 +16,4 @@ pub returns : goal.returns
 returns c f h =
     let p = partition_of c.args.write.digest in
     c.merge_newer.ensures (with_count f p c.args.write.counted)
-    (subst (λ (q : ℕ). IsNodeOf (with_count f q c.args.write.counted) c.count.new.self c.count.new.store) c.partition_of.ensures (c.count.ensures.node f h))
+    (subst (λ (q : ℕ). IsNodeInView (with_count f q c.args.write.counted) c.count.new.self c.count.new.store) c.partition_of.ensures (c.count.ensures.node f h))

@@ -5,7 +5,7 @@ use Rattle.node_rules.specs.Batches.{Target, done_row}
 use Rattle.node_rules.specs.Exchange as exchange
 use Rattle.node_view.specs.declared.view.Stage.{Stage}
 use Rattle.node_view.specs.declared.view.View.TheInside.{Inside}
-use Rattle.node_view.specs.Views.{Agrees, IsStageOf, exchange_at, targets_at}
+use Rattle.node_view.specs.Views.{FieldsAgree, IsStageOf, exchange_at, targets_at}
 use Rattle.node_view.proofs.TargetLaws.{done_sending, nodes_sending}
 use Rattle.node_view.proofs.view.View.send_batch.Goals.{in-Exchanged, in_default}
 use Rattle.node_view.proofs.view.View.send_batch.Goals as goal
@@ -20,7 +20,7 @@ invariant_of-self c =
           let stage = subst (IsStageOf v.me v.factor v.key) w.in-Exchanged.is i.stage_of in
           let view = ap exchange_at w.in-Exchanged.is in
           let after = w.sent.ensures in
-          subst (λ (inside : Inside). Agrees inside) (sym w.self-inside-is) (record {
+          subst (λ (inside : Inside). FieldsAgree inside) (sym w.self-inside-is) (record {
             stage_of = record {
               met = stage.met;
               finished = stage.finished;
@@ -29,7 +29,7 @@ invariant_of-self c =
               targeted = ap (λ (g : Going). map (λ (t : Target). t.node) g.targets) after ∙ nodes_sending m.emigration.targets c.args.to c.args.batch ∙ stage.targeted;
             };
             viewed = i.viewed ∙ ap (λ (x : exchange.Exchange). exchange.members_of x.view) view;
-            key = i.key ∙ ap (λ (x : exchange.Exchange). exchange.key_of x.view) view;
+            key = i.key ∙ ap (λ (x : exchange.Exchange). exchange.exchange_key x.view) view;
             member = i.member;
             others = i.others;
             told = i.told;
@@ -41,5 +41,5 @@ invariant_of-self c =
                 ∙ sym (ap (λ (g : Going). done_row m.map.exchange.exchanged g.targets partition_count 0) after);
             noted = i.noted;
           })
-      | in_default w ↦ subst (λ (inside : Inside). Agrees inside) (sym w.self-inside-is) i
+      | in_default w ↦ subst (λ (inside : Inside). FieldsAgree inside) (sym w.self-inside-is) i
     ]

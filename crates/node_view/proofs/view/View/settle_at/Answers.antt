@@ -5,7 +5,7 @@ use Rattle.node_rules.specs.Here.{here}
 use Rattle.node_view.specs.declared.here.Settling.{Settling}
 use Rattle.node_view.specs.Plans.{settled_at}
 use Rattle.node_view.specs.Settlings.{settling_of}
-use Rattle.node_view.specs.Views.{IsNodeOf, Viewed, facts_in}
+use Rattle.node_view.specs.Views.{IsNodeInView, Viewed, facts_in}
 use Rattle.node_view.proofs.NodeLaws.{but_in_view, here_in, node_seen}
 use Rattle.node_view.proofs.SettleLaws.{AreSteps, first_is, done_there, set_where_dropped, settled_node, settles_after_hand, settles_counted}
 use Rattle.node_view.proofs.view.View.settle_at.Goals as goal
@@ -66,4 +66,4 @@ returns c f h =
       drop = c.drop_settled.ensures;
     } in
     let but = settled_node f t v c.hand.new.self c.settle.new.self w s c.learn.new.store u steps within is h in
-    subst (λ (x : Viewed). IsNodeOf g x u) (sym c.refresh.ensures.same) (node_seen p g w u live but (c.refresh.ensures.live g (but_in_view p g w u but) but.content))
+    subst (λ (x : Viewed). IsNodeInView g x u) (sym c.refresh.ensures.same) (node_seen p g w u live but (c.refresh.ensures.live g (but_in_view p g w u but) but.content))

@@ -2,7 +2,7 @@ use Rattle.std.proofs.Common.{◌+◌, ◌∙◌, ℕ, sym, ap, arith}
 use Rattle.record_store.specs.Store as held
 use Rattle.node_rules.specs.Copies.{Stamps}
 use Rattle.node_rules.specs.Stamps.{stamped_with}
-use Rattle.node_view.specs.Views.{count_seen, is_stamped, key_of}
+use Rattle.node_view.specs.Views.{count_seen, is_stamped, viewed_key}
 use Rattle.node_view.proofs.StampLaws.{all_come_to, no_more, one_stamped, stamped_node, stamps_of, unstamped}
 use Rattle.node_view.proofs.view.View.stamp_empty_copies.Goals as goal
 
@@ -20,10 +20,10 @@ loop-number-preserved c =
     record {
       stamps = λ n e.
           ap (λ (m : Stamps). stamps_of v m n (p + 1))
-          (ap (λ (u : held.Store). u.stamps) after ∙ ap (λ (q : ℕ). stamped_with (key_of v) (count_seen v q) q s.stamps (is_stamped v q)) c.partition_at.ensures)
+          (ap (λ (u : held.StoreWithRoom). u.stamps) after ∙ ap (λ (q : ℕ). stamped_with (viewed_key v) (count_seen v q) q s.stamps (is_stamped v q)) c.partition_at.ensures)
           ∙ (sym (one_stamped v s.stamps n p) ∙ i.stamps (n + 1) (omega (arith, e)));
-      versions = ap (λ (u : held.Store). u.versions) after ∙ i.versions;
-      policy = ap (λ (u : held.Store). u.by) after ∙ i.policy;
+      versions = ap (λ (u : held.StoreWithRoom). u.versions) after ∙ i.versions;
+      policy = ap (λ (u : held.StoreWithRoom). u.by) after ∙ i.policy;
     }
 
 pub returns : goal.returns

@@ -26,7 +26,7 @@ invariant_of-self c =
         targeted = ap (λ (g : Going). map (λ (t : Target). t.node) g.targets) after ∙ nodes_acking m.emigration.targets c.args.from c.args.number ∙ stage.targeted;
       };
       viewed = i.viewed ∙ ap (λ (x : exchange.Exchange). exchange.members_of x.view) view;
-      key = i.key ∙ ap (λ (x : exchange.Exchange). exchange.key_of x.view) view;
+      key = i.key ∙ ap (λ (x : exchange.Exchange). exchange.exchange_key x.view) view;
       member = i.member;
       others = i.others;
       told = ap (λ (k : Known). k.me) c.own_done.ensures ∙ i.told;

@@ -1,6 +1,6 @@
 use Rattle.std.proofs.Common.{◌≡◌, true, ap, refl, subst, sym, ◌∙◌}
 use Rattle.node_rules.specs.Bits.{progressing}
-use Rattle.node_view.specs.Views.{AreLive, IsInView, IsNodeOf, Viewed, facts_seen, unsettled_count, with_bits, with_live, with_settled_row, with_unsettled, with_watch}
+use Rattle.node_view.specs.Views.{AreLive, IsInView, IsNodeInView, Viewed, facts_seen, unsettled_count, with_bits, with_live, with_settled_row, with_unsettled, with_watch}
 use Rattle.cluster_types.specs.Rows.{bit}
 use Rattle.node_view.proofs.ByNumberLaws.{unsettled_seen}
 use Rattle.node_view.proofs.HeardLaws.{bits_kept, bits_seen, counted_before, heard_anew, in_view_uncounted, other_member, quiet_before}
@@ -41,4 +41,4 @@ returns c f h =
     let j = in_view_uncounted g (with_bits v bs) count i in
     c.see_settled.ensures.live g (subst (λ (w : Viewed). IsInView g w) (sym heard) j) held
     (subst (λ (w : Viewed). AreLive (with_settled_row g before) w.watch.live) (sym heard) (quiet_before f g v s bs before h j held c.settled_row.ensures refl refl))) in
-    bits_seen f v new s p.from p.done p.handed p.settled h (subst (λ (w : Viewed). IsNodeOf (record f { bits = bs }) w s) (sym seen) after)
+    bits_seen f v new s p.from p.done p.handed p.settled h (subst (λ (w : Viewed). IsNodeInView (record f { bits = bs }) w s) (sym seen) after)

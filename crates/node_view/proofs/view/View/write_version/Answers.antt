@@ -8,7 +8,7 @@ use Rattle.write_path.specs.Writes.{IsToWrite, records_with, version_in}
 use Rattle.node_rules.specs.Stamps.{Writes, applies_at, applying}
 use Rattle.node_rules.specs.Transactions as rules
 use Rattle.node_view.specs.declared.notes.Write.{Write}
-use Rattle.node_view.specs.Counts.{last_count}
+use Rattle.node_view.specs.Counts.{greatest_count}
 use Rattle.node_view.specs.Views.{Viewed, view_of}
 use Rattle.node_view.specs.Writes.{writes_of}
 use Rattle.node_view.proofs.OutcomeLaws.{found_writing, is_to_write, is_writing, one_room}
@@ -20,7 +20,7 @@ overflow_add-nth c =
     let i = c.self.inside in
     let x = is_writing c.args.self.now c.args.store.now c.args.transaction c.args.writing c.requires.ready in
     let here : partition_of x.0.digest ≡ c.args.p = sym (c.requires.partition ∙ ap partition_of x.1.digest) in
-    let few : applies_at c.args.self.now.writes c.args.p < last_count = subst (λ (q : ℕ). applies_at c.args.self.now.writes q < last_count) here x.1.fits.count in
+    let few : applies_at c.args.self.now.writes c.args.p < greatest_count = subst (λ (q : ℕ). applies_at c.args.self.now.writes q < greatest_count) here x.1.fits.count in
     let same : c.applies_at-nth.result ≡ applies_at c.args.self.now.writes c.args.p = c.applies_at-nth.ensures ∙ ap (λ (v : Viewed). applies_at v.writes c.args.p) c.self.view_is in
     omega (arith, few, same)
 
@@ -43,7 +43,7 @@ apply_planned-requires-clause-room c =
     let i = c.self.inside in
     let x = is_writing c.args.self.now c.args.store.now c.args.transaction c.args.writing c.requires.ready in
     let there = found_writing i c.args.self.now c.args.store.now c.args.transaction c.args.writing x.0 c.self.invariant.noted c.self.view_is x.1 in
-    subst (λ (o : Option Txn). IfSome (table.digest_in o) (λ d. HasRoom (d ∷ []) c.args.store.now.spare)) (sym there) (one_room x.0.digest c.args.store.now.spare x.1.room.store)
+    subst (λ (o : Option Txn). IfSome (table.txn_digest o) (λ d. HasRoom (d ∷ []) c.args.store.now.spare)) (sym there) (one_room x.0.digest c.args.store.now.spare x.1.room.store)
 
 pub apply-requires-clause-room : goal.apply-requires-clause-room
 apply-requires-clause-room c =
@@ -54,8 +54,8 @@ pub apply-requires-clause-count : goal.apply-requires-clause-count
 apply-requires-clause-count c =
     let x = is_writing c.args.self.now c.args.store.now c.args.transaction c.args.writing c.requires.ready in
     let here : partition_of x.0.digest ≡ c.args.p = sym (c.requires.partition ∙ ap partition_of x.1.digest) in
-    let few : applies_at c.args.self.now.writes c.args.p < last_count = subst (λ (q : ℕ). applies_at c.args.self.now.writes q < last_count) here x.1.fits.count in
-    subst (λ (v : Viewed). applies_at v.writes c.args.p < last_count) (sym c.self.view_is) few
+    let few : applies_at c.args.self.now.writes c.args.p < greatest_count = subst (λ (q : ℕ). applies_at c.args.self.now.writes q < greatest_count) here x.1.fits.count in
+    subst (λ (v : Viewed). applies_at v.writes c.args.p < greatest_count) (sym c.self.view_is) few
 
 pub invariant_of-self : goal.invariant_of-self
 invariant_of-self c =

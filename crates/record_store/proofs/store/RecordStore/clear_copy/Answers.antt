@@ -1,6 +1,6 @@
 use Rattle.std.proofs.Common.{◌≡◌, None, slice_set, ap, ◌∙◌, arith, length-set}
 use Rattle.std.specs.FinMap.{remove}
-use Rattle.record_store.specs.Store.{Store, without_copy}
+use Rattle.record_store.specs.Store.{StoreWithRoom, without_copy}
 use Rattle.record_store.specs.Copies.{copies_of, rooms_of, versions_of}
 use Rattle.record_store.specs.StampList.{stamps_of}
 use Rattle.record_store.proofs.RoomLaws.{same_rooms}
@@ -29,4 +29,4 @@ returns c =
     = λ i. record { versions = made.versions i; stamps = stamps i; by = c.self.inside.by; spare = rooms i } in
     all
     ∙ ap (λ p. record { versions = without_copy (versions_of (copies_of cs)) p; stamps = remove (stamps_of ss) p; by = c.self.inside.by; spare = rooms_of cs }) place.ensures.same
-    ∙ ap (λ (store : Store). record store { versions = without_copy store.versions c.args.p; stamps = remove store.stamps c.args.p }) c.self.view_is
+    ∙ ap (λ (store : StoreWithRoom). record store { versions = without_copy store.versions c.args.p; stamps = remove store.stamps c.args.p }) c.self.view_is

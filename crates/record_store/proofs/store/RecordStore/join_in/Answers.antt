@@ -1,7 +1,7 @@
 use Rattle.std.proofs.Common.{◌≡◌, is_some, slice_set, sym, ap, subst, ◌∙◌}
 use Rattle.std.proofs.lemmas.Bool.{false≢true}
 use Rattle.std.specs.FinMap.{find, put, get, insert}
-use Rattle.record_store.specs.Store.{Store, UsesRoom}
+use Rattle.record_store.specs.Store.{StoreWithRoom, UsesRoom}
 use Rattle.record_store.specs.Copies.{rooms_of}
 use Rattle.record_store.proofs.CopyLaws.{digest_cmp, joined_newer, joined_kept}
 use Rattle.record_store.proofs.RoomLaws.{uses_at}
@@ -17,7 +17,7 @@ returns-in_err-put-in-Newer-clause-held c some =
     let found : find digest_cmp c.bytes.result.now x.items ≡ get c.args.self.now.versions d
     = ap (λ k. find digest_cmp k x.items) c.bytes.ensures.same
     ∙ held c.self.inside.copies.items c.self.invariant.0 place.result place.ensures.within x c.index_mut.ensures.value d of
-    ∙ ap (λ (store : Store). get store.versions d) c.self.view_is in
+    ∙ ap (λ (store : StoreWithRoom). get store.versions d) c.self.view_is in
     absurd (false≢true (c.in_err-put-in-Newer.ensures.present (ap is_some found ∙ some)))
 
 pub invariant_of-self-in-Newer : goal.invariant_of-self-in-Newer
@@ -39,7 +39,7 @@ returns-in_ok-put-in-Newer-clause-joined c =
     let x = c.index_mut.result.now in
     let made = took c.self.inside.copies.items c.self.invariant.0 place.result place.ensures.within x c.index_mut.ensures.value c.put.new.self d v of (c.in_ok-put-in-Newer.ensures.items ∙ ap (λ k. put digest_cmp k v x.items) c.bytes.ensures.same) in
     made.versions
-    ∙ ap (λ (store : Store). insert store.versions d v) c.self.view_is
+    ∙ ap (λ (store : StoreWithRoom). insert store.versions d v) c.self.view_is
     ∙ joined_newer c.args.self.now.by c.args.self.now.versions d v (is_newer_of _ _ _ (sym c.would_join.ensures ∙ c.in-Newer.is))
 
 pub returns-in_ok-put-in-Newer-clause-room : goal.returns-in_ok-put-in-Newer-clause-room
@@ -50,7 +50,7 @@ returns-in_ok-put-in-Newer-clause-room c =
     let x = c.index_mut.result.now in
     let y = c.put.new.self in
     let uses = uses_at cs place.result (chain_within cs c.self.invariant.0 place.result place.ensures.within x c.index_mut.ensures.value) x c.index_mut.ensures.value y (lowered _ x.spare y.spare c.in_ok-put-in-Newer.ensures.spare) in
-    subst (λ p. UsesRoom p c.args.self.now.spare (rooms_of (slice_set cs place.result y))) of (subst (λ (store : Store). UsesRoom place.result store.spare (rooms_of (slice_set cs place.result y))) c.self.view_is uses)
+    subst (λ p. UsesRoom p c.args.self.now.spare (rooms_of (slice_set cs place.result y))) of (subst (λ (store : StoreWithRoom). UsesRoom place.result store.spare (rooms_of (slice_set cs place.result y))) c.self.view_is uses)
 
 pub returns-in-Kept-clause-joined : goal.returns-in-Kept-clause-joined
 returns-in-Kept-clause-joined c = joined_kept c.args.self.now.by c.args.self.now.versions c.args.d c.args.v (is_not_newer_of _ _ _ (sym c.would_join.ensures ∙ c.in-Kept.is))

@@ -1,7 +1,7 @@
 use Rattle.std.proofs.Common.{ℕ, ap, ◌∙◌, arith}
 use Rattle.std.specs.FinMap.{insert}
 use Rattle.cluster_types.specs.declared.cluster_key.ClusterKey.{ClusterKey}
-use Rattle.record_store.specs.Store.{Store, Stamps}
+use Rattle.record_store.specs.Store.{StoreWithRoom, Stamps}
 use Rattle.record_store.specs.Copies.{copies_of, rooms_of, versions_of}
 use Rattle.record_store.specs.StampList.{stamps_of}
 use Rattle.record_store.proofs.StampLaws.{stamps_set}
@@ -14,6 +14,6 @@ returns c =
     let place = c.place_of.result in
     let stamp : ClusterKey × ℕ = (c.args.key, c.args.writes) in
     let made = stamps_set ss place (record { key = c.args.key; writes = c.args.writes }) (omega (arith, c.place_of.ensures.within, c.self.invariant.1)) in
-    let store : Stamps → Store = λ stamps. record { versions = versions_of (copies_of cs); stamps = stamps; by = c.self.inside.by; spare = rooms_of cs } in
+    let store : Stamps → StoreWithRoom = λ stamps. record { versions = versions_of (copies_of cs); stamps = stamps; by = c.self.inside.by; spare = rooms_of cs } in
     ap store (made ∙ ap (λ p. insert (stamps_of ss) p stamp) c.place_of.ensures.same)
-    ∙ ap (λ (seen : Store). record seen { stamps = insert seen.stamps c.args.p stamp }) c.self.view_is
+    ∙ ap (λ (seen : StoreWithRoom). record seen { stamps = insert seen.stamps c.args.p stamp }) c.self.view_is

@@ -1,7 +1,7 @@
 use Rattle.std.proofs.Common.{sym, ap, ◌∙◌, arith}
-use Rattle.record_store.specs.Store.{Store, state_with, state_at, digests_of}
+use Rattle.record_store.specs.Store.{StoreWithRoom, state_with, copy_state_at, digests_of}
 use Rattle.record_store.specs.Copies.{copies_of, rooms_of, versions_of}
-use Rattle.record_store.specs.StampList.{shown, stamps_of}
+use Rattle.record_store.specs.StampList.{shown_stamp, stamps_of}
 use Rattle.record_store.proofs.StampLaws.{get_stamps}
 use Rattle.record_store.proofs.StoreLaws.{digests_held}
 use Rattle.record_store.proofs.store.RecordStore.state.Goals as goal
@@ -14,9 +14,9 @@ returns c =
     let s = c.index-2.result.now in
     let place = c.place_of-place.result in
     let within = c.place_of-place.ensures.within in
-    let seen : Store = record { versions = versions_of (copies_of cs); stamps = stamps_of ss; by = c.self.inside.by; spare = rooms_of cs } in
+    let seen : StoreWithRoom = record { versions = versions_of (copies_of cs); stamps = stamps_of ss; by = c.self.inside.by; spare = rooms_of cs } in
     c.copy_state.ensures
-    ∙ ap (λ ds. state_with ds (shown s)) (sym (digests_held cs c.self.invariant.0 place within x c.index.ensures))
-    ∙ ap (state_with (digests_of seen.versions place)) (ap shown c.index-2.ensures ∙ sym (get_stamps ss place s (omega (arith, within, c.self.invariant.1))))
-    ∙ ap (state_at seen) c.place_of-place.ensures.same
-    ∙ ap (λ (store : Store). state_at store c.args.p) c.self.view_is
+    ∙ ap (λ ds. state_with ds (shown_stamp s)) (sym (digests_held cs c.self.invariant.0 place within x c.index.ensures))
+    ∙ ap (state_with (digests_of seen.versions place)) (ap shown_stamp c.index-2.ensures ∙ sym (get_stamps ss place s (omega (arith, within, c.self.invariant.1))))
+    ∙ ap (copy_state_at seen) c.place_of-place.ensures.same
+    ∙ ap (λ (store : StoreWithRoom). copy_state_at store c.args.p) c.self.view_is

@@ -2,7 +2,7 @@ use Rattle.std.proofs.Common.{ℕ, List, Option, Some, None, Bor, take, ap, sym,
 use Rattle.std.proofs.lemmas.Result.{IfOk-weaker}
 use Rattle.std.specs.Option.{option_copied}
 use Rattle.sorted_chain.specs.Chain as chain
-use Rattle.record_store.specs.Store.{Store, above, digests_of}
+use Rattle.record_store.specs.Store.{StoreWithRoom, digests_above, digests_of}
 use Rattle.record_store.specs.Copies.{copies_of, versions_of}
 use Rattle.record_store.proofs.StoreLaws.{walked}
 use Rattle.record_store.proofs.store.RecordStore.walk.Goals as goal
@@ -16,9 +16,10 @@ returns-in-None c =
     IfOk-weaker c.first_digests.result _ _ (λ ds is.
     is
     ∙ walked cs c.self.invariant.0 place.result place.ensures.within x.result.now x.ensures None max _ c.iter_after.ensures
-    ∙ ap (λ p. take max (above None (digests_of (versions_of (copies_of cs)) p))) place.ensures.same
-    ∙ ap (λ (store : Store). take max (above None (digests_of store.versions c.args.p))) c.self.view_is
-    ∙ ap (λ (after : Option (Bor (List ℕ))). take max (above (option_copied after) (digests_of c.args.self.now.versions c.args.p))) (sym c.in-None.is)) c.first_digests.ensures
+    ∙ ap (λ p. take max
+    (digests_above None (digests_of (versions_of (copies_of cs)) p))) place.ensures.same
+    ∙ ap (λ (store : StoreWithRoom). take max (digests_above None (digests_of store.versions c.args.p))) c.self.view_is
+    ∙ ap (λ (after : Option (Bor (List ℕ))). take max (digests_above (option_copied after) (digests_of c.args.self.now.versions c.args.p))) (sym c.in-None.is)) c.first_digests.ensures
 
 pub returns-in-Some : goal.returns-in-Some
 returns-in-Some c =
@@ -30,6 +31,6 @@ returns-in-Some c =
     IfOk-weaker c.first_digests-in-Some.result _ _ (λ ds is.
     is
     ∙ walked cs c.self.invariant.0 place.result place.ensures.within x.result.now x.ensures (Some d) max _ (c.iter_after-in-Some.ensures ∙ ap (λ k. chain.above (Some k) x.result.now.items) c.bytes.ensures.same)
-    ∙ ap (λ p. take max (above (Some d) (digests_of (versions_of (copies_of cs)) p))) place.ensures.same
-    ∙ ap (λ (store : Store). take max (above (Some d) (digests_of store.versions c.args.p))) c.self.view_is
-    ∙ ap (λ (after : Option (Bor (List ℕ))). take max (above (option_copied after) (digests_of c.args.self.now.versions c.args.p))) (sym c.in-Some.is)) c.first_digests-in-Some.ensures
+    ∙ ap (λ p. take max (digests_above (Some d) (digests_of (versions_of (copies_of cs)) p))) place.ensures.same
+    ∙ ap (λ (store : StoreWithRoom). take max (digests_above (Some d) (digests_of store.versions c.args.p))) c.self.view_is
+    ∙ ap (λ (after : Option (Bor (List ℕ))). take max (digests_above (option_copied after) (digests_of c.args.self.now.versions c.args.p))) (sym c.in-Some.is)) c.first_digests-in-Some.ensures

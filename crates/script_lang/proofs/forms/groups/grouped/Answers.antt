@@ -1,6 +1,6 @@
 use Rattle.std.proofs.Common.{◌≡◌, ◌≤◌, [], ◌∷◌, ◌++◌, length, append_assoc, Ok, true, sym, ap, subst, ◌∙◌, refl, arith, inl, inr, ◌⊎◌, Contains}
 use Rattle.std.specs.List.{concat}
-use Rattle.script_lang.specs.Values.{is_among}
+use Rattle.script_lang.specs.Values.{is_one_of}
 use Rattle.script_lang.proofs.Groups.{Continues, at_start, after_bar, after_id, not_read}
 use Rattle.script_lang.proofs.Grouped.{is_some, is_some_by, contains_behind, bad_bar, bad_end, bad_count, bad_id, bar_seen, bar_filled, good_end, are_groups}
 use Rattle.script_lang.proofs.forms.groups.grouped.Goals as goal
@@ -65,7 +65,7 @@ returns c = λ lists e.
 
 pub returns-then-len : goal.returns-then-len
 returns-then-len c = λ lists e.
-    let go : (is_among c.in_ok-id.id c.loop-field.seen ≡ true) ⊎ (length c.args.before.now.nodes ≤ length c.loop-field.seen) =
+    let go : (is_one_of c.in_ok-id.id c.loop-field.seen ≡ true) ⊎ (length c.args.before.now.nodes ≤ length c.loop-field.seen) =
     elim c.then-len.branch [
       | then-len-via-then-len w ↦ let x = w.if-len.true in inr (omega arith)
       | then-len-via-else-len+then-contains w ↦ inl (sym w.contains.ensures.value ∙ w.if-contains.true)

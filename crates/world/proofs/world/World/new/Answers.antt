@@ -9,7 +9,7 @@ use Rattle.node_rules.specs.Steps.{unplanned}
 use Rattle.cluster_rules.specs.Opening.{Header, declared_nodes}
 use Rattle.cluster_rules.specs.World.{declared}
 use Rattle.world.specs.Stands.{AreDivided}
-use Rattle.world.specs.Steps.{begun, run_of_events}
+use Rattle.world.specs.Steps.{run_begun, run_of_events}
 use Rattle.world.proofs.OpeningLaws.{first_run, opened_keeps}
 use Rattle.world.proofs.world.World.new.Goals as goal
 
@@ -35,4 +35,4 @@ invariant_of-result c =
 pub returns-clause-ok : goal.returns-clause-ok
 returns-clause-ok c =
     let none : c.append.new.self.events.items ≡ [] = rw c.append.ensures.events (c.make_room.ensures.same.events ∙ c.new-ledger.ensures.events) in
-    ap₂ run_of_events c.in_ok-header.ensures.items none ∙ first_run c.as_slice-header.result.now ∙ ap begun c.as_slice-header.ensures
+    ap₂ run_of_events c.in_ok-header.ensures.items none ∙ first_run c.as_slice-header.result.now ∙ ap run_begun c.as_slice-header.ensures
