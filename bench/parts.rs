@@ -250,7 +250,8 @@ fn exchange(members: &[u16], rows: &[Row]) -> u64 {
 
 // Progress.
 
-type Bits = [bool; PARTITIONS];
+/// A bit for each partition.
+type Bits = [u8; PARTITIONS / 8];
 
 /// The done row of each other member, in how many of them a bit is set, and the other bits.
 struct Progress {
@@ -266,8 +267,10 @@ impl Progress {
         let Some((_, told)) = self.told.iter_mut().find(|(node, _)| *node == from) else {
             return;
         };
-        for ((known, before), after) in self.known.iter_mut().zip(&mut **told).zip(done) {
-            *known = *known - u8::from(*before) + u8::from(*after);
+        for ((counts, before), after) in self.known.chunks_exact_mut(8).zip(&mut **told).zip(done) {
+            for (bit, count) in counts.iter_mut().enumerate() {
+                *count = *count - (*before >> bit) % 2 + (*after >> bit) % 2;
+            }
             *before = *after;
         }
         or(&mut self.handed, handed);
@@ -275,7 +278,7 @@ impl Progress {
     }
 
     fn all_done(&self, p: usize) -> bool {
-        self.own[p] && usize::from(self.known[p]) == self.told.len()
+        is_set(&self.own, p) && usize::from(self.known[p]) == self.told.len()
     }
 }
 
@@ -285,13 +288,18 @@ fn or(bits: &mut Bits, other: &Bits) {
     }
 }
 
+fn is_set(bits: &Bits, p: usize) -> bool {
+    (bits[p / 8] >> (p % 8)) % 2 == 1
+}
+
+/// Every other bit, from that one on.
 fn bits(first: usize) -> Bits {
-    std::array::from_fn(|p| p % 2 == first)
+    [0x55 << first; PARTITIONS / 8]
 }
 
 fn progress(members: &[u16], rounds: u32) -> u64 {
     let rows = [bits(0), bits(1)];
-    let clear = || Box::new([false; PARTITIONS]);
+    let clear = || Box::new([0; PARTITIONS / 8]);
     let mut known = Progress {
         told: members.iter().filter(|n| **n != ME).map(|n| (*n, clear())).collect(),
         known: vec![0; PARTITIONS],

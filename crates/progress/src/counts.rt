@@ -1,12 +1,16 @@
 //! How many of the other members are known done, by partition.
+ghost use Rattle.std.specs.Int.{bit_at};
 ghost use Rattle.std.specs.Prelude.{◌≡◌, ◌<◌, ◌≤◌, ◌+◌, ℕ, IfOk, length, replicate, slice_index};
 ghost use Rattle.cluster_types.specs.Partitions.{partition_count};
 ghost use Rattle.cluster_types.specs.Rows.{bit};
 ghost use Rattle.progress.specs.Told.{one_if};
 
 use cluster_types::partition::PARTITIONS;
-use cluster_types::{NoMemory, PartitionId, Row4096};
+use cluster_types::{NoMemory, Row4096};
 use std::alloc::Global;
+
+/// The bytes of a row.
+const ROW_BYTES: usize = 512;
 
 /// None is known done anywhere.
 pub(crate) fn no_counts(alloc: Global) -> Result<Vec<u8>, NoMemory>
@@ -27,25 +31,27 @@ pub(crate) fn recount(known: &mut [u8], before: &Row4096, after: &Row4096)
     ensures counts { (p : ℕ) → p < partition_count → slice_index known.new p + one_if (bit before.now p) ≡ slice_index known.old p + one_if (bit after.now p) }
     ensures size { length known.new ≡ partition_count }
 {
-    // Over all of them, since one step of the machine then takes many.
-    for number in 0..PARTITIONS {
-        if let Some(p) = PartitionId::new(number) {
-            let place = usize::from(number);
-            known[place] = recounted(known[place], before.get(p), after.get(p));
+    let was = before.as_bytes();
+    let is = after.as_bytes();
+    for i in 0..ROW_BYTES {
+        // Mostly few of them change.
+        if was[i] != is[i] {
+            recount_byte(&mut known[8 * i..8 * i + 8], was[i], is[i]);
         }
     }
 }
 
-/// The count once one that it counts was done or not, and is or isn't.
-fn recounted(count: u8, before: bool, after: bool) -> u8
-    requires room { count < 255 }
-    requires counted { one_if before ≤ count }
-    ensures { result + one_if before ≡ count + one_if after }
+/// The counts of the eight partitions of one byte of a row, once that byte was `before` and is
+/// `after`.
+fn recount_byte(counts: &mut [u8], before: u8, after: u8)
+    requires size { length counts.old ≡ 8 }
+    requires room { (b : ℕ) → b < 8 → slice_index counts.old b < 255 }
+    requires counted { (b : ℕ) → b < 8 → bit_at before b ≤ slice_index counts.old b }
+    ensures counts { (b : ℕ) → b < 8 → slice_index counts.new b + bit_at before b ≡ slice_index counts.old b + bit_at after b }
+    ensures size { length counts.new ≡ 8 }
 {
-    match (before, after) {
-        (true, true) => count,
-        (true, false) => count - 1,
-        (false, true) => count + 1,
-        (false, false) => count,
+    // Without a branch, so that one step of the machine takes many.
+    for b in 0..8usize {
+        counts[b] = counts[b] - (before >> b) % 2 + (after >> b) % 2;
     }
 }

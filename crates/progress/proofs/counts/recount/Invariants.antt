@@ -1,11 +1,11 @@
-use Rattle.std.proofs.Common.{◌≡◌, ◌<◌, ◌≤◌, ◌+◌, ℕ}
+use Rattle.std.proofs.Common.{◌≡◌, ◌<◌, ◌≤◌, ◌+◌, ◌*◌, ℕ}
 use Rattle.std.specs.Prelude.{slice_index}
 use Rattle.cluster_types.specs.Rows.{bit}
 use Rattle.progress.specs.Told.{one_if}
 use Rattle.progress.proofs.counts.recount.Given as goal
 
-abbrev pub invariant-loop-number : goal.invariant-loop-number
-invariant-loop-number l = record {
-  done : (p : ℕ) → p < l.number → slice_index l.known p + one_if (bit l.before p) ≡ slice_index l.initial.known p + one_if (bit l.after p);
-  rest : (p : ℕ) → l.number ≤ p → slice_index l.known p ≡ slice_index l.initial.known p;
+abbrev pub invariant-loop-i : goal.invariant-loop-i
+invariant-loop-i l = record {
+  done : (p : ℕ) → p < 8 * l.i → slice_index l.known p + one_if (bit l.before p) ≡ slice_index l.initial.known p + one_if (bit l.after p);
+  rest : (p : ℕ) → 8 * l.i ≤ p → slice_index l.known p ≡ slice_index l.initial.known p;
 }
