@@ -34,8 +34,10 @@ impl From<NoMemory> for TextFault {
 /// Otherwise the first line at which they cease to be one.
 pub fn lines_of(alloc: Global, bytes: &[u8]) -> Result<Journal, TextFault>
     ensures found { IfOk result (λ j. IsTranscript bytes.now j.lines) }
-    ensures only { (lines : List Line) → IsTranscript bytes.now lines → IfOk result (λ j. j.lines ≡ lines) }
-    ensures taken { (lines : List Line) → IsTranscript bytes.now lines → IsOkUnless result TextFault.NoMemory }
+    ensures only { (lines : List Line) → IsTranscript bytes.now lines
+        → IfOk result (λ j. j.lines ≡ lines) }
+    ensures taken { (lines : List Line) → IsTranscript bytes.now lines
+        → IsOkUnless result TextFault.NoMemory }
     ensures at { (n : ℕ) → IsErrOf result (TextFault.At n) → IsFirstFault bytes.now n }
 {
     let mut journal = Journal::new(alloc);
@@ -52,8 +54,10 @@ fn read_next<'a>(
     journal: &mut Journal,
     bytes: &'a [u8],
 ) -> Result<&'a [u8], TextFault>
-    ensures ok { IfOk result (λ rest. ReadsLine journal.old.lines journal.new.lines bytes.now rest.now) }
-    ensures at { (n : ℕ) → IsErrOf result (TextFault.At n) → (n ≡ length journal.old.lines + 1) × IsUnreadable journal.old.lines bytes.now }
+    ensures ok { IfOk result
+        (λ rest. ReadsLine journal.old.lines journal.new.lines bytes.now rest.now) }
+    ensures at { (n : ℕ) → IsErrOf result (TextFault.At n)
+        → (n ≡ length journal.old.lines + 1) × IsUnreadable journal.old.lines bytes.now }
 {
     let next = journal.lines() as u64 + 1;
     let Some((piece, rest)) = cut(bytes) else {

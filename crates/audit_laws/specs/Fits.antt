@@ -49,13 +49,16 @@ pub record FitsShape (j : List Line) (l : Line) : Type 0 where
 
 -- the newest version of the record that a node other than this one holds
 abbrev pub newest_elsewhere : List Line → ℕ → List ℕ → Option Version
-newest_elsewhere j n d = join_all (policy_of j) (map (λ m. content (policy_of j) m d j) (filter (λ m. not (m == n)) (nodes j)))
+newest_elsewhere j n d =
+    join_all (policy_of j)
+    (map (λ m. content (policy_of j) m d j) (filter (λ m. not (m == n)) (nodes j)))
 
 -- a version that comes from another node was applied, or one above it; and of a copy that is dropped another node holds
 -- the newest version of each record
 abbrev pub LosesNothing : List Line → Line → Type 0
 LosesNothing j (line.Merge n k d v) = AtMost (policy_of j) (Some v) (applied (policy_of j) d j)
-LosesNothing j (line.Drop n k p) = (d : List ℕ) → partition_of d ≡ p → newest_elsewhere j n d ≡ applied (policy_of j) d j
+LosesNothing j (line.Drop n k p) =
+    (d : List ℕ) → partition_of d ≡ p → newest_elsewhere j n d ≡ applied (policy_of j) d j
 LosesNothing j _ = Unit {0}
 
 -- ---- settled partitions
@@ -67,7 +70,8 @@ abbrev pub may_part : List Line → Line → ClusterKey → List ℕ → Bool
 may_part j (line.Apply n l t e v) k d = same_digest e d && (same_key l k || is_in_view k n j)
 may_part j (line.Merge n l e v) k d = same_digest e d && is_in_view k n j
 may_part j (line.Drop n l p) k d = (p == partition_of d) && is_in_view k n j
-may_part j (line.Settled n l p) k d = (n == master k (partition_of d) j) && (same_key l k && (p == partition_of d))
+may_part j (line.Settled n l p) k d =
+    (n == master k (partition_of d) j) && (same_key l k && (p == partition_of d))
 may_part j (line.Exchanged n l) k d = (n == master k (partition_of d) j) && same_key l k
 may_part j (line.Done n l t) k d = (n == master k (partition_of d) j) && same_key l k
 may_part j (line.Enter n l ms) k d = same_key l k

@@ -10,10 +10,14 @@ ghost use Rattle.audit_laws.specs.Lawful.{Lawful};
 /// by itself, and each other law where the journal has its shape.
 pub fn each_law_goes_line_by_line()
     ensures shape { (j : List Line) → (l : Line) → Shape (j ++ l ∷ []) ↔ (Shape j × FitsShape j l) }
-    ensures one_map { (j : List Line) → (l : Line) → Shape (j ++ l ∷ []) → OneMap (j ++ l ∷ []) ↔ (OneMap j × ShowsMap j l) }
-    ensures no_loss { (j : List Line) → (l : Line) → Shape (j ++ l ∷ []) → NoLoss (j ++ l ∷ []) ↔ (NoLoss j × LosesNothing j l) }
-    ensures settled_join { (j : List Line) → (l : Line) → Shape (j ++ l ∷ []) → SettledJoin (j ++ l ∷ []) ↔ (SettledJoin j × JoinsReplicas j l) }
-    ensures read_join { (j : List Line) → (l : Line) → Shape (j ++ l ∷ []) → ReadJoin (j ++ l ∷ []) ↔ (ReadJoin j × JoinsView j j l) }
+    ensures one_map { (j : List Line) → (l : Line) → Shape (j ++ l ∷ [])
+        → OneMap (j ++ l ∷ []) ↔ (OneMap j × ShowsMap j l) }
+    ensures no_loss { (j : List Line) → (l : Line) → Shape (j ++ l ∷ [])
+        → NoLoss (j ++ l ∷ []) ↔ (NoLoss j × LosesNothing j l) }
+    ensures settled_join { (j : List Line) → (l : Line) → Shape (j ++ l ∷ [])
+        → SettledJoin (j ++ l ∷ []) ↔ (SettledJoin j × JoinsReplicas j l) }
+    ensures read_join { (j : List Line) → (l : Line) → Shape (j ++ l ∷ [])
+        → ReadJoin (j ++ l ∷ []) ↔ (ReadJoin j × JoinsView j j l) }
 {}
 
 /// A journal with one line more keeps all laws exactly where it kept them before and the line fits.

@@ -22,4 +22,6 @@ held_since has r records = if has then records else records ++ r ∷ []
 
 -- whether there is a record, from the line on at which there is one
 abbrev pub holding_since : ℕ → List Change → List Change
-holding_since line holding = if is_some (value_now holding) then holding else holding ++ record { line = line; value = Some line } ∷ []
+holding_since line holding =
+    if is_some (value_now holding) then holding
+    else holding ++ record { line = line; value = Some line } ∷ []

@@ -17,27 +17,54 @@ pub record SetsStand (p : ℕ) (stand : Stand) (old new : View) : Type 0 where
 
 -- the list master's `settled` line stands
 abbrev pub settled_stand : Stand → Stand
-settled_stand s = record { settled = true; open_writes = s.open_writes; untried = s.untried; suspects = s.suspects }
+settled_stand s = record {
+  settled = true;
+  open_writes = s.open_writes;
+  untried = s.untried;
+  suspects = s.suspects;
+}
 
 -- all records are to be tried
 abbrev pub untried_stand : Stand → Stand
-untried_stand s = record { settled = s.settled; open_writes = s.open_writes; untried = true; suspects = s.suspects }
+untried_stand s = record {
+  settled = s.settled;
+  open_writes = s.open_writes;
+  untried = true;
+  suspects = s.suspects;
+}
 
 -- the record of this number is to be tried too
 abbrev pub suspect_stand : ℕ → Stand → Stand
-suspect_stand r s = record { settled = s.settled; open_writes = s.open_writes; untried = s.untried; suspects = s.suspects ++ r ∷ [] }
+suspect_stand r s = record {
+  settled = s.settled;
+  open_writes = s.open_writes;
+  untried = s.untried;
+  suspects = s.suspects ++ r ∷ [];
+}
 
 -- one write more is open
 abbrev pub opened_stand : Stand → Stand
-opened_stand s = record { settled = s.settled; open_writes = s.open_writes + 1; untried = s.untried; suspects = s.suspects }
+opened_stand s = record {
+  settled = s.settled;
+  open_writes = s.open_writes + 1;
+  untried = s.untried;
+  suspects = s.suspects;
+}
 
 -- where no write is open, nothing is to be tried any longer
 abbrev pub left_stand : Stand → Stand
-left_stand s = if nat_lt 0 s.open_writes then s else record { settled = s.settled; open_writes = s.open_writes; untried = false; suspects = [] }
+left_stand s =
+    if nat_lt 0 s.open_writes then s
+    else record { settled = s.settled; open_writes = s.open_writes; untried = false; suspects = [] }
 
 -- one write less is open, and where none is left nothing is to be tried any longer
 abbrev pub fewer_stand : Stand → Stand
-fewer_stand s = record { settled = s.settled; open_writes = s.open_writes - 1; untried = s.untried; suspects = s.suspects }
+fewer_stand s = record {
+  settled = s.settled;
+  open_writes = s.open_writes - 1;
+  untried = s.untried;
+  suspects = s.suspects;
+}
 
 abbrev pub ended_stand : Stand → Stand
 ended_stand s = left_stand (fewer_stand s)
@@ -57,7 +84,8 @@ EndsWrite p old new = SetsStand p (ended_stand (stand_of old p)) old new
 -- the partition is listed as settled, and stands so
 pub record SettlesPartition (p : ℕ) (old new : View) : Type 0 where
   pub listed : new.settled.items ≡ old.settled.items ++ p ∷ []
-  pub stands : (q : ℕ) → stand_of new q ≡ cond (nat_eq p q) (settled_stand (stand_of old p)) (stand_of old q)
+  pub stands : (q : ℕ)
+      → stand_of new q ≡ cond (nat_eq p q) (settled_stand (stand_of old p)) (stand_of old q)
   pub written : (q : ℕ) → written_of new q ≡ written_of old q
   pub rest : record new { partitions = old.partitions; settled = old.settled } ≡ old
 
@@ -97,15 +125,18 @@ open_of v n t = open_in (write_at v n t)
 
 -- a write of the transaction is open in the partition
 pub record ListsOpen (n t p : ℕ) (old new : View) : Type 0 where
-  pub partitions : (m u : ℕ) → open_of new m u ≡ cond (pair_eq (n, t) (m, u)) (open_of old n t ++ p ∷ []) (open_of old m u)
+  pub partitions : (m u : ℕ)
+      → open_of new m u ≡ cond (pair_eq (n, t) (m, u)) (open_of old n t ++ p ∷ []) (open_of old m u)
   pub done : (m u : ℕ) → is_done_write new m u ≡ is_done_write old m u
   pub rest : record new { writes = old.writes } ≡ old
 
 -- ... and it is one more that is open there
 pub record TakesWrite (n t p : ℕ) (old new : View) : Type 0 where
-  pub partitions : (m u : ℕ) → open_of new m u ≡ cond (pair_eq (n, t) (m, u)) (open_of old n t ++ p ∷ []) (open_of old m u)
+  pub partitions : (m u : ℕ)
+      → open_of new m u ≡ cond (pair_eq (n, t) (m, u)) (open_of old n t ++ p ∷ []) (open_of old m u)
   pub done : (m u : ℕ) → is_done_write new m u ≡ is_done_write old m u
-  pub stands : (q : ℕ) → stand_of new q ≡ cond (nat_eq p q) (opened_stand (stand_of old p)) (stand_of old q)
+  pub stands : (q : ℕ)
+      → stand_of new q ≡ cond (nat_eq p q) (opened_stand (stand_of old p)) (stand_of old q)
   pub written : (q : ℕ) → written_of new q ≡ written_of old q
   pub rest : record new { partitions = old.partitions; writes = old.writes } ≡ old
 

@@ -52,20 +52,33 @@ changes_of s n p = changes_in (copy_at s n p)
 
 -- the node's history of the record has one change more, and every other is as it was
 abbrev pub PutsContent : Stores → Stores → ℕ → ℕ → Change → Type 0
-PutsContent old new n r c = (m q : ℕ) → history_of new m q ≡ cond (pair_eq (n, r) (m, q)) (history_of old n r ++ c ∷ []) (history_of old m q)
+PutsContent old new n r c =
+    (m q : ℕ)
+    → history_of new m q
+    ≡ cond (pair_eq (n, r) (m, q)) (history_of old n r ++ c ∷ []) (history_of old m q)
 
 -- a version of the record comes to the node's copy of the partition, which held it before or not, and maybe ever
 pub record AddsToCopy (old new : Stores) (line n p r : ℕ) (holds ever : Bool) : Type 0 where
-  pub held : (m q : ℕ) → held_of new m q ≡ cond (pair_eq (n, p) (m, q)) (held_since holds r (held_of old n p)) (held_of old m q)
-  pub touched : (m q : ℕ) → touched_of new m q ≡ cond (pair_eq (n, p) (m, q)) (held_since ever r (touched_of old n p)) (touched_of old m q)
-  pub holding : (m q : ℕ) → holding_of new m q ≡ cond (pair_eq (n, p) (m, q)) (holding_since line (holding_of old n p)) (holding_of old m q)
-  pub changes : (m q : ℕ) → changes_of new m q ≡ cond (pair_eq (n, p) (m, q)) (changes_of old n p ++ record { line = line; number = r } ∷ []) (changes_of old m q)
+  pub held : (m q : ℕ)
+      → held_of new m q
+      ≡ cond (pair_eq (n, p) (m, q)) (held_since holds r (held_of old n p)) (held_of old m q)
+  pub touched : (m q : ℕ)
+      → touched_of new m q
+      ≡ cond (pair_eq (n, p) (m, q)) (held_since ever r (touched_of old n p)) (touched_of old m q)
+  pub holding : (m q : ℕ)
+      → holding_of new m q ≡ cond (pair_eq (n, p) (m, q)) (holding_since line (holding_of old n p))
+      (holding_of old m q)
+  pub changes : (m q : ℕ)
+      → changes_of new m q ≡ cond (pair_eq (n, p) (m, q))
+      (changes_of old n p ++ record { line = line; number = r } ∷ []) (changes_of old m q)
 
 -- the node's copy of the partition has no record from the line on
 pub record ClearsCopy (old new : Stores) (line n p : ℕ) : Type 0 where
   pub held : (m q : ℕ) → held_of new m q ≡ cond (pair_eq (n, p) (m, q)) [] (held_of old m q)
   pub touched : (m q : ℕ) → touched_of new m q ≡ touched_of old m q
-  pub holding : (m q : ℕ) → holding_of new m q ≡ cond (pair_eq (n, p) (m, q)) (holding_of old n p ++ record { line = line; value = None } ∷ []) (holding_of old m q)
+  pub holding : (m q : ℕ)
+      → holding_of new m q ≡ cond (pair_eq (n, p) (m, q))
+      (holding_of old n p ++ record { line = line; value = None } ∷ []) (holding_of old m q)
   pub changes : (m q : ℕ) → changes_of new m q ≡ changes_of old m q
 
 -- a record of the node's copy of the partition changes at the line
@@ -73,4 +86,6 @@ pub record NotesChange (old new : Stores) (line n p r : ℕ) : Type 0 where
   pub held : (m q : ℕ) → held_of new m q ≡ held_of old m q
   pub touched : (m q : ℕ) → touched_of new m q ≡ touched_of old m q
   pub holding : (m q : ℕ) → holding_of new m q ≡ holding_of old m q
-  pub changes : (m q : ℕ) → changes_of new m q ≡ cond (pair_eq (n, p) (m, q)) (changes_of old n p ++ record { line = line; number = r } ∷ []) (changes_of old m q)
+  pub changes : (m q : ℕ)
+      → changes_of new m q ≡ cond (pair_eq (n, p) (m, q))
+      (changes_of old n p ++ record { line = line; number = r } ∷ []) (changes_of old m q)

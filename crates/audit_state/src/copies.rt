@@ -64,7 +64,8 @@ impl RecordChanges {
     /// The place, from 0, of the first change behind so many lines.
     pub fn first_behind(&self, lines: usize) -> usize
         ensures bound { result ≤ length self.now }
-        ensures point { IsPartitionPoint (λ x. nat_lt x.line lines ≡ true) (λ x. nat_lt x.line lines ≡ false) self.now result }
+        ensures point { IsPartitionPoint (λ x. nat_lt x.line lines ≡ true)
+            (λ x. nat_lt x.line lines ≡ false) self.now result }
     {
         stand_before(&self.changes, lines)
     }
@@ -72,7 +73,8 @@ impl RecordChanges {
     /// The record changes at a line, which stands behind all that changed one so far.
     pub fn put(&mut self, line: usize, number: usize) -> Result<(), NoMemory>
         requires { StandUpTo line self.old }
-        ensures ok { OnOk result (self.new ≡ self.old ++ record { line = line; number = number } ∷ []) }
+        ensures ok { OnOk result
+            (self.new ≡ self.old ++ record { line = line; number = number } ∷ []) }
         ensures err { OnErr result (self.new ≡ self.old) }
     {
         self.changes.push(RecordChange { line, number })?;
@@ -84,7 +86,8 @@ impl RecordChanges {
 fn stand_before(changes: &[RecordChange], lines: usize) -> usize
     requires { IsNonDecreasingBy (λ x. x.line) changes.now }
     ensures bound { result ≤ length changes.now }
-    ensures point { IsPartitionPoint (λ x. nat_lt x.line lines ≡ true) (λ x. nat_lt x.line lines ≡ false) changes.now result }
+    ensures point { IsPartitionPoint (λ x. nat_lt x.line lines ≡ true)
+        (λ x. nat_lt x.line lines ≡ false) changes.now result }
 {
     changes.partition_point(|x| x.line < lines)
 }
@@ -132,10 +135,13 @@ impl PartitionCopy {
     pub fn add(&mut self, line: usize, number: usize, known: Known) -> Result<(), NoMemory>
         requires holding { AreUpTo line self.old.holding }
         requires changes { StandUpTo line self.old.changes }
-        ensures held { OnOk result (self.new.held.items ≡ held_since known.now number self.old.held.items) }
-        ensures touched { OnOk result (self.new.touched.items ≡ held_since known.ever number self.old.touched.items) }
+        ensures held { OnOk result
+            (self.new.held.items ≡ held_since known.now number self.old.held.items) }
+        ensures touched { OnOk result
+            (self.new.touched.items ≡ held_since known.ever number self.old.touched.items) }
         ensures holding { OnOk result (self.new.holding ≡ holding_since line self.old.holding) }
-        ensures changes { OnOk result (self.new.changes ≡ self.old.changes ++ record { line = line; number = number } ∷ []) }
+        ensures changes { OnOk result
+            (self.new.changes ≡ self.old.changes ++ record { line = line; number = number } ∷ []) }
     {
         list_unless(&mut self.held, number, known.now)?;
         list_unless(&mut self.touched, number, known.ever)?;
@@ -149,7 +155,8 @@ impl PartitionCopy {
         ensures held { OnOk result (self.new.held.items ≡ self.old.held.items) }
         ensures touched { OnOk result (self.new.touched.items ≡ self.old.touched.items) }
         ensures holding { OnOk result (self.new.holding ≡ self.old.holding) }
-        ensures changes { OnOk result (self.new.changes ≡ self.old.changes ++ record { line = line; number = number } ∷ []) }
+        ensures changes { OnOk result
+            (self.new.changes ≡ self.old.changes ++ record { line = line; number = number } ∷ []) }
     {
         self.changes.put(line, number)
     }
@@ -160,7 +167,8 @@ impl PartitionCopy {
         ensures dropped { IfOk result (λ dropped. dropped.items ≡ self.old.held.items) }
         ensures held { OnOk result (self.new.held.items ≡ []) }
         ensures touched { OnOk result (self.new.touched.items ≡ self.old.touched.items) }
-        ensures holding { OnOk result (self.new.holding ≡ self.old.holding ++ record { line = line; value = None } ∷ []) }
+        ensures holding { OnOk result
+            (self.new.holding ≡ self.old.holding ++ record { line = line; value = None } ∷ []) }
         ensures changes { OnOk result (self.new.changes ≡ self.old.changes) }
     {
         self.holding.put(line, None)?;

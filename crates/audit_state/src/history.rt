@@ -77,7 +77,8 @@ impl History {
     /// A line, behind all that changed it so far, makes it this.
     pub fn put(&mut self, line: usize, value: Option<usize>) -> Result<(), NoMemory>
         requires { AreUpTo line self.old }
-        ensures ok { OnOk result (self.new ≡ self.old ++ record { line = line; value = value } ∷ []) }
+        ensures ok { OnOk result
+            (self.new ≡ self.old ++ record { line = line; value = value } ∷ []) }
         ensures err { OnErr result (self.new ≡ self.old) }
     {
         self.changes.push(Change { line, value })?;
@@ -98,7 +99,8 @@ fn last_in(changes: &[Change], lines: usize) -> Option<Change>
 fn changes_before(changes: &[Change], lines: usize) -> usize
     requires { IsNonDecreasingBy (λ c. c.line) changes.now }
     ensures bound { result ≤ length changes.now }
-    ensures point { IsPartitionPoint (λ c. nat_lt c.line lines ≡ true) (λ c. nat_lt c.line lines ≡ false) changes.now result }
+    ensures point { IsPartitionPoint (λ c. nat_lt c.line lines ≡ true)
+        (λ c. nat_lt c.line lines ≡ false) changes.now result }
 {
     changes.partition_point(|c| c.line < lines)
 }

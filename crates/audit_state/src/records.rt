@@ -113,8 +113,14 @@ impl Records {
     pub fn raise(&mut self, versions: Versions<'_>, number: usize, place: usize)
         requires { IsSome (numbered_record self.old number) }
         ensures numbers { KeepsNumbers self.old self.new }
-        ensures newest { (q : ℕ) → newest_of self.new q ≡ cond (nat_eq number q) (raised versions.entry.by versions.entry.lines.now place (newest_of self.old number)) (newest_of self.old q) }
-        ensures holders { (q : ℕ) → holders_of self.new q ≡ cond (nat_eq number q) (raised_holders versions.entry.by versions.entry.lines.now place (newest_of self.old number) (holders_of self.old number)) (holders_of self.old q) }
+        ensures newest { (q : ℕ)
+            → newest_of self.new q ≡ cond (nat_eq number q)
+            (raised versions.entry.by versions.entry.lines.now place (newest_of self.old number))
+            (newest_of self.old q) }
+        ensures holders { (q : ℕ)
+            → holders_of self.new q ≡ cond (nat_eq number q)
+            (raised_holders versions.entry.by versions.entry.lines.now place
+            (newest_of self.old number) (holders_of self.old number)) (holders_of self.old q) }
     {
         if let Some(known) = self.known.get_mut(number) {
             *known = raise(versions, *known, place);
@@ -128,7 +134,9 @@ impl Records {
         requires room { holders_of self.old number < 2 ^ 64 - 1 }
         ensures numbers { KeepsNumbers self.old self.new }
         ensures newest { (q : ℕ) → newest_of self.new q ≡ newest_of self.old q }
-        ensures holders { (q : ℕ) → holders_of self.new q ≡ cond (nat_eq number q) (holder_count held holds (holders_of self.old number)) (holders_of self.old q) }
+        ensures holders { (q : ℕ)
+            → holders_of self.new q ≡ cond (nat_eq number q)
+            (holder_count held holds (holders_of self.old number)) (holders_of self.old q) }
     {
         if let Some(known) = self.known.get_mut(number) {
             known.holders = count(known.holders, held, holds);
@@ -139,8 +147,10 @@ impl Records {
 /// What is known of the record as the version at the place is applied.
 fn raise(versions: Versions<'_>, known: Record, place: usize) -> Record
     ensures digest { result.digest ≡ known.digest }
-    ensures newest { result.newest ≡ raised versions.entry.by versions.entry.lines.now place known.newest }
-    ensures holders { result.holders ≡ raised_holders versions.entry.by versions.entry.lines.now place known.newest known.holders }
+    ensures newest { result.newest
+        ≡ raised versions.entry.by versions.entry.lines.now place known.newest }
+    ensures holders { result.holders ≡ raised_holders versions.entry.by versions.entry.lines.now
+        place known.newest known.holders }
 {
     if versions.at_most(Some(place), known.newest) {
         known

@@ -36,7 +36,8 @@ impl Stamps {
         requires room { self.old.judged + 1 < 2 ^ 64 }
         ensures marks { OnOk result (self.new.marks ≡ self.old.marks) }
         ensures judged { OnOk result (self.new.judged ≡ self.old.judged + 1) }
-        ensures wholes { OnOk result (self.new.wholes ≡ self.old.wholes ++ whole_changes whole line) }
+        ensures wholes { OnOk result
+            (self.new.wholes ≡ self.old.wholes ++ whole_changes whole line) }
     {
         self.judged += 1;
         if whole {

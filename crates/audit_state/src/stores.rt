@@ -115,7 +115,8 @@ impl Stores {
 
     /// The record of the change at that place.
     pub fn change_at(&self, node: NodeId, p: PartitionId, place: usize) -> Option<usize>
-        ensures { result ≡ option_map (λ x. x.number) (slice_get (changes_of self.now node p) place) }
+        ensures { result
+            ≡ option_map (λ x. x.number) (slice_get (changes_of self.now node p) place) }
     {
         match self.copies.get(&(node.number(), p.number())) {
             None => None,
@@ -126,7 +127,8 @@ impl Stores {
     /// The place, from 0, of the first change behind so many lines.
     pub fn first_change(&self, node: NodeId, p: PartitionId, lines: usize) -> usize
         ensures bound { result ≤ length (changes_of self.now node p) }
-        ensures point { IsPartitionPoint (λ x. nat_lt x.line lines ≡ true) (λ x. nat_lt x.line lines ≡ false) (changes_of self.now node p) result }
+        ensures point { IsPartitionPoint (λ x. nat_lt x.line lines ≡ true)
+            (λ x. nat_lt x.line lines ≡ false) (changes_of self.now node p) result }
     {
         match self.copies.get(&(node.number(), p.number())) {
             None => 0,
@@ -146,8 +148,11 @@ impl Stores {
         requires contents { AreUpTo line (history_of self.old node number) }
         requires holding { AreUpTo line (holding_of self.old node p) }
         requires changes { StandUpTo line (changes_of self.old node p) }
-        ensures contents { OnOk result (PutsContent self.old self.new node number (record { line = line; value = Some line })) }
-        ensures copies { OnOk result (AddsToCopy self.old self.new line node p number (is_some (value_now (history_of self.old node number))) (not (length (history_of self.old node number) == 0))) }
+        ensures contents { OnOk result (PutsContent self.old self.new node number
+            (record { line = line; value = Some line })) }
+        ensures copies { OnOk result (AddsToCopy self.old self.new line node p number
+            (is_some (value_now (history_of self.old node number)))
+            (not (length (history_of self.old node number) == 0))) }
     {
         let known = self.known(node, number);
         self.put(alloc, line, node, number, Some(line))?;
@@ -165,7 +170,8 @@ impl Stores {
     ) -> Result<(), NoMemory>
         requires contents { AreUpTo line (history_of self.old node number) }
         requires changes { StandUpTo line (changes_of self.old node p) }
-        ensures contents { OnOk result (PutsContent self.old self.new node number (record { line = line; value = None })) }
+        ensures contents { OnOk result
+            (PutsContent self.old self.new node number (record { line = line; value = None })) }
         ensures copies { OnOk result (NotesChange self.old self.new line node p number) }
     {
         self.put(alloc, line, node, number, None)?;
@@ -182,7 +188,8 @@ impl Stores {
         place: Option<usize>,
     ) -> Result<(), NoMemory>
         requires { AreUpTo line (history_of self.old node number) }
-        ensures contents { OnOk result (PutsContent self.old self.new node number (record { line = line; value = place })) }
+        ensures contents { OnOk result
+            (PutsContent self.old self.new node number (record { line = line; value = place })) }
         ensures copies { OnOk result (self.new.copies ≡ self.old.copies) }
     {
         let mut history = self.take_history(alloc, node, number);
@@ -201,7 +208,8 @@ impl Stores {
     ) -> Result<(), NoMemory>
         requires holding { AreUpTo line (holding_of self.old node p) }
         requires changes { StandUpTo line (changes_of self.old node p) }
-        ensures copies { OnOk result (AddsToCopy self.old self.new line node p number known.now known.ever) }
+        ensures copies { OnOk result
+            (AddsToCopy self.old self.new line node p number known.now known.ever) }
         ensures contents { OnOk result (self.new.contents ≡ self.old.contents) }
     {
         let mut copy = self.take_copy(alloc, node, p);
@@ -249,7 +257,9 @@ impl Stores {
     /// Takes the history out, which is empty where there is none.
     fn take_history(&mut self, alloc: Global, node: NodeId, number: usize) -> History
         ensures history { result ≡ history_of self.old node number }
-        ensures others { (q : ℕ × ℕ) → hash.get pair_eq self.new.contents q ≡ cond (pair_eq (node, number) q) None (hash.get pair_eq self.old.contents q) }
+        ensures others { (q : ℕ × ℕ)
+            → hash.get pair_eq self.new.contents q
+            ≡ cond (pair_eq (node, number) q) None (hash.get pair_eq self.old.contents q) }
         ensures copies { self.new.copies ≡ self.old.copies }
     {
         match self.contents.remove(&(node.number(), number)) {
@@ -259,7 +269,10 @@ impl Stores {
     }
 
     fn put_history(&mut self, node: NodeId, number: usize, history: History) -> Result<(), NoMemory>
-        ensures history { OnOk result ((q : ℕ × ℕ) → hash.get pair_eq self.new.contents q ≡ cond (pair_eq (node, number) q) (Some history) (hash.get pair_eq self.old.contents q)) }
+        ensures history { OnOk result
+            ((q : ℕ × ℕ)
+            → hash.get pair_eq self.new.contents q ≡ cond (pair_eq (node, number) q)
+            (Some history) (hash.get pair_eq self.old.contents q)) }
         ensures copies { OnOk result (self.new.copies ≡ self.old.copies) }
     {
         self.contents.insert((node.number(), number), history)?;
@@ -272,7 +285,9 @@ impl Stores {
         ensures touched { result.touched.items ≡ touched_of self.old node p }
         ensures holding { result.holding ≡ holding_of self.old node p }
         ensures changes { result.changes ≡ changes_of self.old node p }
-        ensures others { (q : ℕ × ℕ) → hash.get pair_eq self.new.copies q ≡ cond (pair_eq (node, p) q) None (hash.get pair_eq self.old.copies q) }
+        ensures others { (q : ℕ × ℕ)
+            → hash.get pair_eq self.new.copies q
+            ≡ cond (pair_eq (node, p) q) None (hash.get pair_eq self.old.copies q) }
         ensures contents { self.new.contents ≡ self.old.contents }
     {
         match self.copies.remove(&(node.number(), p.number())) {
@@ -287,7 +302,10 @@ impl Stores {
         p: PartitionId,
         copy: PartitionCopy,
     ) -> Result<(), NoMemory>
-        ensures copy { OnOk result ((q : ℕ × ℕ) → hash.get pair_eq self.new.copies q ≡ cond (pair_eq (node, p) q) (Some copy) (hash.get pair_eq self.old.copies q)) }
+        ensures copy { OnOk result
+            ((q : ℕ × ℕ)
+            → hash.get pair_eq self.new.copies q
+            ≡ cond (pair_eq (node, p) q) (Some copy) (hash.get pair_eq self.old.copies q)) }
         ensures contents { OnOk result (self.new.contents ≡ self.old.contents) }
     {
         self.copies.insert((node.number(), p.number()), copy)?;

@@ -45,7 +45,8 @@ impl<'a> Versions<'a> {
 
     /// Whether the first is at most the second; nothing is below every version.
     pub fn at_most(&self, a: Option<usize>, b: Option<usize>) -> bool
-        ensures { result ≡ is_at_most self.now.by (placed self.now.lines.now a) (placed self.now.lines.now b) }
+        ensures { result
+            ≡ is_at_most self.now.by (placed self.now.lines.now a) (placed self.now.lines.now b) }
     {
         match self.found(a) {
             None => true,
@@ -62,7 +63,8 @@ impl<'a> Versions<'a> {
 
     /// The greater of both; the first where they are equal.
     pub fn join(&self, a: Option<usize>, b: Option<usize>) -> Option<usize>
-        ensures { placed self.now.lines.now result ≡ order.join self.now.by (placed self.now.lines.now a) (placed self.now.lines.now b) }
+        ensures { placed self.now.lines.now result
+            ≡ order.join self.now.by (placed self.now.lines.now a) (placed self.now.lines.now b) }
     {
         if self.at_most(b, a) { a } else { b }
     }

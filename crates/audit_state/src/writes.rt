@@ -62,7 +62,9 @@ impl View {
     ) -> Result<(), NoMemory>
         requires room { (stand_of self.old p).open_writes < 2 ^ 64 - 1 }
         ensures opens { OnOk result (OpensWrite node transaction p self.old self.new) }
-        ensures refused { OnErr result (record self.new { partitions = self.old.partitions; writes = self.old.writes } ≡ self.old) }
+        ensures refused { OnErr result
+            (record self.new { partitions = self.old.partitions; writes = self.old.writes }
+            ≡ self.old) }
     {
         if self.is_done(node, transaction) {
             return Ok(());
@@ -88,8 +90,10 @@ impl View {
 
     fn count_open(&mut self, alloc: Global, p: PartitionId) -> Result<(), NoMemory>
         requires room { (stand_of self.old p).open_writes < 2 ^ 64 - 1 }
-        ensures counts { OnOk result (SetsStand p (opened_stand (stand_of self.old p)) self.old self.new) }
-        ensures refused { OnErr result (record self.new { partitions = self.old.partitions } ≡ self.old) }
+        ensures counts { OnOk result
+            (SetsStand p (opened_stand (stand_of self.old p)) self.old self.new) }
+        ensures refused { OnErr result
+            (record self.new { partitions = self.old.partitions } ≡ self.old) }
     {
         let mut partition = self.take_partition(alloc, p);
         partition.open += 1;
@@ -121,7 +125,8 @@ impl View {
         requires { 0 < (stand_of self.old p).open_writes }
         ensures doubts { IfOk result (λ doubts. IsToTry (stand_of self.old p) doubts) }
         ensures ends { OnOk result (EndsWrite p self.old self.new) }
-        ensures refused { OnErr result (record self.new { partitions = self.old.partitions } ≡ self.old) }
+        ensures refused { OnErr result
+            (record self.new { partitions = self.old.partitions } ≡ self.old) }
     {
         let mut partition = self.take_partition(alloc, p);
         partition.open -= 1;
@@ -135,7 +140,9 @@ impl View {
     /// The list master's `settled` line of the partition stands.
     pub fn settle(&mut self, alloc: Global, p: PartitionId) -> Result<(), NoMemory>
         ensures settles { OnOk result (SettlesPartition p self.old self.new) }
-        ensures refused { OnErr result (record self.new { partitions = self.old.partitions; settled = self.old.settled } ≡ self.old) }
+        ensures refused { OnErr result
+            (record self.new { partitions = self.old.partitions; settled = self.old.settled }
+            ≡ self.old) }
     {
         self.settled.push(p)?;
         let mut partition = self.take_partition(alloc, p);
@@ -146,7 +153,8 @@ impl View {
     /// All records of the partition are to be tried once no write is open.
     pub fn distrust(&mut self, alloc: Global, p: PartitionId) -> Result<(), NoMemory>
         ensures distrusts { OnOk result (Distrusts p self.old self.new) }
-        ensures refused { OnErr result (record self.new { partitions = self.old.partitions } ≡ self.old) }
+        ensures refused { OnErr result
+            (record self.new { partitions = self.old.partitions } ≡ self.old) }
     {
         let mut partition = self.take_partition(alloc, p);
         partition.untried = true;
@@ -156,7 +164,8 @@ impl View {
     /// The record is to be tried once no write is open.
     pub fn suspect(&mut self, alloc: Global, number: usize, p: PartitionId) -> Result<(), NoMemory>
         ensures suspects { OnOk result (Suspects number p self.old self.new) }
-        ensures refused { OnErr result (record self.new { partitions = self.old.partitions } ≡ self.old) }
+        ensures refused { OnErr result
+            (record self.new { partitions = self.old.partitions } ≡ self.old) }
     {
         let mut partition = self.take_partition(alloc, p);
         partition.suspects.push(number)?;
@@ -174,8 +183,14 @@ impl View {
         number: usize,
         p: PartitionId,
     ) -> Result<(), NoMemory>
-        ensures writes { OnOk result (WritesRecord versions.entry.by versions.entry.lines.now line number p self.old self.new) }
-        ensures rest { record self.new { applied = self.old.applied; written = self.old.written; partitions = self.old.partitions } ≡ self.old }
+        ensures writes { OnOk result (WritesRecord versions.entry.by versions.entry.lines.now line
+            number p self.old self.new) }
+        ensures rest { record self.new {
+          applied = self.old.applied;
+          written = self.old.written;
+          partitions = self.old.partitions;
+        }
+            ≡ self.old }
     {
         let newest = self.applied.get(&number).copied();
         match newest {
@@ -196,7 +211,8 @@ impl View {
         newest: Option<usize>,
     ) -> Result<(), NoMemory>
         requires { newest ≡ hash.get nat_eq self.old.applied number }
-        ensures applied { OnOk result (RaisesApplied versions.entry.by versions.entry.lines.now line number newest self.old self.new) }
+        ensures applied { OnOk result (RaisesApplied versions.entry.by versions.entry.lines.now line
+            number newest self.old self.new) }
         ensures rest { record self.new { applied = self.old.applied } ≡ self.old }
     {
         if versions.at_most(Some(line), newest) {
@@ -209,7 +225,9 @@ impl View {
     /// Lists a record that is written for the first time.
     fn list_written(&mut self, alloc: Global, number: usize, p: PartitionId) -> Result<(), NoMemory>
         ensures lists { OnOk result (ListsRecord number p self.old self.new) }
-        ensures rest { record self.new { written = self.old.written; partitions = self.old.partitions } ≡ self.old }
+        ensures rest { record self.new
+            { written = self.old.written; partitions = self.old.partitions }
+            ≡ self.old }
     {
         self.written.push(number)?;
         let mut partition = self.take_partition(alloc, p);
@@ -221,7 +239,9 @@ impl View {
     fn take_partition(&mut self, alloc: Global, p: PartitionId) -> Partition
         ensures written { result.written.items ≡ written_of self.old p }
         ensures stand { stand_in (Some result) ≡ stand_of self.old p }
-        ensures others { (q : ℕ) → hash.get nat_eq self.new.partitions q ≡ cond (nat_eq p q) None (hash.get nat_eq self.old.partitions q) }
+        ensures others { (q : ℕ)
+            → hash.get nat_eq self.new.partitions q
+            ≡ cond (nat_eq p q) None (hash.get nat_eq self.old.partitions q) }
         ensures rest { record self.new { partitions = self.old.partitions } ≡ self.old }
     {
         match self.partitions.remove(&p.number()) {
@@ -231,7 +251,10 @@ impl View {
     }
 
     fn put_partition(&mut self, p: PartitionId, partition: Partition) -> Result<(), NoMemory>
-        ensures partition { OnOk result ((q : ℕ) → hash.get nat_eq self.new.partitions q ≡ cond (nat_eq p q) (Some partition) (hash.get nat_eq self.old.partitions q)) }
+        ensures partition { OnOk result
+            ((q : ℕ)
+            → hash.get nat_eq self.new.partitions q
+            ≡ cond (nat_eq p q) (Some partition) (hash.get nat_eq self.old.partitions q)) }
         ensures rest { record self.new { partitions = self.old.partitions } ≡ self.old }
     {
         self.partitions.insert(p.number(), partition)?;
@@ -242,7 +265,9 @@ impl View {
     fn take_write(&mut self, alloc: Global, node: NodeId, transaction: u32) -> Write
         ensures done { result.done ≡ is_done_write self.old node transaction }
         ensures partitions { result.open_in.items ≡ open_of self.old node transaction }
-        ensures others { (q : ℕ × ℕ) → hash.get pair_eq self.new.writes q ≡ cond (pair_eq (node, transaction) q) None (hash.get pair_eq self.old.writes q) }
+        ensures others { (q : ℕ × ℕ)
+            → hash.get pair_eq self.new.writes q
+            ≡ cond (pair_eq (node, transaction) q) None (hash.get pair_eq self.old.writes q) }
         ensures rest { record self.new { writes = self.old.writes } ≡ self.old }
     {
         match self.writes.remove(&(node.number(), transaction)) {
@@ -252,7 +277,10 @@ impl View {
     }
 
     fn put_write(&mut self, node: NodeId, transaction: u32, write: Write) -> Result<(), NoMemory>
-        ensures write { OnOk result ((q : ℕ × ℕ) → hash.get pair_eq self.new.writes q ≡ cond (pair_eq (node, transaction) q) (Some write) (hash.get pair_eq self.old.writes q)) }
+        ensures write { OnOk result
+            ((q : ℕ × ℕ)
+            → hash.get pair_eq self.new.writes q ≡ cond (pair_eq (node, transaction) q)
+            (Some write) (hash.get pair_eq self.old.writes q)) }
         ensures rest { record self.new { writes = self.old.writes } ≡ self.old }
     {
         self.writes.insert((node.number(), transaction), write)?;

@@ -36,7 +36,14 @@ pub struct MemSource {
 impl Model for MemSource {
     ghost Value = { SourceState };
 
-    ghost view = { λ s. record { left = drop s.at s.bytes.items; piece = s.piece; fails = s.fails.items; calls = s.calls; faults = s.faults } };
+    ghost view = { λ s.
+        record {
+          left = drop s.at s.bytes.items;
+          piece = s.piece;
+          fails = s.fails.items;
+          calls = s.calls;
+          faults = s.faults;
+        } };
 
     ghost invariant = { λ s. (0 < s.piece) × (s.at ≤ length s.bytes.items) };
 }
@@ -51,7 +58,8 @@ impl MemSource {
         fails: &[u64],
     ) -> Result<MemSource, NoMemory>
         requires { 1 ≤ piece }
-        ensures { IfOk result (λ s. s ≡ record { left = bytes.now; piece = piece; fails = fails.now; calls = 0; faults = 0 }) }
+        ensures { IfOk result (λ s. s ≡ record
+            { left = bytes.now; piece = piece; fails = fails.now; calls = 0; faults = 0 }) }
     {
         let bytes = Vec::from_slice(alloc, bytes)?;
         let fails = Vec::from_slice(alloc, fails)?;
@@ -75,9 +83,12 @@ impl Source for MemSource {
         ensures fits { PullFits result (length into.old) }
         ensures never_falls { self.old.faults ≤ self.new.faults }
         ensures failed { (result ≡ Pulled.Failed) ↔ NextFails self.old.fails self.old.calls }
-        ensures ended { (result ≡ Pulled.End) ↔ ((¬ NextFails self.old.fails self.old.calls) × (self.old.left ≡ [])) }
-        ensures got { (n : ℕ) → result ≡ Pulled.Got n → n ≡ min (min (length into.old) self.old.piece) (length self.old.left) }
-        ensures piece { into.new ≡ take (pulled_count result) self.old.left ++ drop (pulled_count result) into.old }
+        ensures ended { (result ≡ Pulled.End)
+            ↔ ((¬ NextFails self.old.fails self.old.calls) × (self.old.left ≡ [])) }
+        ensures got { (n : ℕ) → result ≡ Pulled.Got n
+            → n ≡ min (min (length into.old) self.old.piece) (length self.old.left) }
+        ensures piece { into.new
+            ≡ take (pulled_count result) self.old.left ++ drop (pulled_count result) into.old }
         ensures after { self.new ≡ record self.old {
           left = drop (pulled_count result) self.old.left;
           calls = counted self.old.calls;
@@ -115,7 +126,14 @@ pub struct MemSink {
 impl Model for MemSink {
     ghost Value = { SinkState };
 
-    ghost view = { λ s. record { taken = s.bytes.items; room = s.room; fails = s.fails.items; calls = s.calls; faults = s.faults } };
+    ghost view = { λ s.
+        record {
+          taken = s.bytes.items;
+          room = s.room;
+          fails = s.fails.items;
+          calls = s.calls;
+          faults = s.faults;
+        } };
 
     ghost invariant = { λ s. length s.bytes.items + s.room ≤ vec_capacity s.bytes };
 }
@@ -124,7 +142,8 @@ impl MemSink {
     /// A sink with room for so many bytes, which it takes at once. Of the pushes, counted from 1,
     /// those whose numbers stand in `fails` fail, and so does a push of bytes where no room is left.
     pub fn new(alloc: Global, room: usize, fails: &[u64]) -> Result<MemSink, NoMemory>
-        ensures { IfOk result (λ s. s ≡ record { taken = []; room = room; fails = fails.now; calls = 0; faults = 0 }) }
+        ensures { IfOk result (λ s.
+            s ≡ record { taken = []; room = room; fails = fails.now; calls = 0; faults = 0 }) }
     {
         let bytes = Vec::with_capacity(alloc, room)?;
         let fails = Vec::from_slice(alloc, fails)?;

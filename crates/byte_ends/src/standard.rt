@@ -37,7 +37,8 @@ impl<R: Read> Source for StdSource<R> {
         ensures counts { self.new.faults ≡ counted_if (pull_failed result) self.old.faults }
         ensures never_falls { self.old.faults ≤ self.new.faults }
         // A reader that tells its bytes gives these.
-        ensures reader { Pulls (R.remaining self.old.reader) (R.remaining self.new.reader) result into.new }
+        ensures reader { Pulls (R.remaining self.old.reader) (R.remaining self.new.reader) result
+            into.new }
     {
         if into.is_empty() {
             return Pulled::Got(0);
@@ -56,7 +57,8 @@ impl<R: Read> Source for StdSource<R> {
 // Writes from the front of the bytes and flushes. To write none of them is an error.
 fn write_through<W: Write>(writer: &mut W, bytes: &[u8]) -> io::Result<usize>
     ensures fits { IfOk result (λ n. CountFits n (length bytes.now)) }
-    ensures writer { IfOk result (λ n. Appends (W.contents writer.old) (W.contents writer.new) (take n bytes.now)) }
+    ensures writer { IfOk result
+        (λ n. Appends (W.contents writer.old) (W.contents writer.new) (take n bytes.now)) }
 {
     let count = writer.write(bytes)?;
     if count == 0 && !bytes.is_empty() {
@@ -94,7 +96,8 @@ impl<W: Write> Sink for StdSink<W> {
         ensures counts { self.new.faults ≡ counted_if (push_failed result) self.old.faults }
         ensures never_falls { self.old.faults ≤ self.new.faults }
         // A writer that tells its bytes has these.
-        ensures writer { (n : ℕ) → result ≡ Pushed.Took n → Appends (W.contents self.old.writer) (W.contents self.new.writer) (take n bytes.now) }
+        ensures writer { (n : ℕ) → result ≡ Pushed.Took n
+            → Appends (W.contents self.old.writer) (W.contents self.new.writer) (take n bytes.now) }
     {
         match write_through(&mut self.writer, bytes) {
             Ok(count) => Pushed::Took(count),

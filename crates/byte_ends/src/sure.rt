@@ -40,9 +40,11 @@ impl Source for SureSource {
 
     fn pull(&mut self, into: &mut [u8]) -> Pulled
         ensures ended { (result ≡ Pulled.End) ↔ (self.old ≡ []) }
-        ensures got { (n : ℕ) → result ≡ Pulled.Got n → n ≡ min (length into.old) (length self.old) }
+        ensures got { (n : ℕ) → result ≡ Pulled.Got n
+            → n ≡ min (length into.old) (length self.old) }
         ensures never_fails { result ≢ Pulled.Failed }
-        ensures piece { into.new ≡ take (pulled_count result) self.old ++ drop (pulled_count result) into.old }
+        ensures piece { into.new
+            ≡ take (pulled_count result) self.old ++ drop (pulled_count result) into.old }
         ensures left { self.new ≡ drop (pulled_count result) self.old }
     {
         if self.at >= self.bytes.len() {

@@ -17,7 +17,9 @@ use Rattle.cluster_rules.specs.World.{World}
 pub data Became (w : World) (e : Event) (m : ℕ) (g : Facts) : Type 0 where
   stayed : g ≡ w.facts m → Became w e m g
   ticked : e ≡ event.Tick m → g ≡ after_tick (w.facts m) → Became w e m g
-  heard : (i : ℕ) (p : Posting) (x : Message) → posting_at w.network i ≡ Some p → message_of p.bytes ≡ Some x → p.to ≡ m → g ≡ after_message (w.facts m) (w.clocks m) p.from x → Became w e m g
+  heard : (i : ℕ) (p : Posting) (x : Message) → posting_at w.network i ≡ Some p
+      → message_of p.bytes ≡ Some x → p.to ≡ m → g ≡ after_message (w.facts m) (w.clocks m) p.from x
+      → Became w e m g
   asked : (d : List ℕ) (q : Want) → g ≡ after_request (w.facts m) (w.clocks m) d q → Became w e m g
   stopped : g ≡ after_stop (w.facts m) → Became w e m g
   started : g ≡ after_start (w.facts m) → Became w e m g

@@ -42,4 +42,5 @@ Settling n gs w = (m : ℕ) → has_node gs m ≡ true → knows_all_settled (w.
 
 -- the row of what each of the group learnt has a place for each partition
 abbrev pub Learning : ℕ → List ℕ → World → Type 0
-Learning n gs w = (m : ℕ) → has_node gs m ≡ true → (p : ℕ) → p < n → Reaches (w.facts m).bits.learnt p
+Learning n gs w =
+    (m : ℕ) → has_node gs m ≡ true → (p : ℕ) → p < n → Reaches (w.facts m).bits.learnt p

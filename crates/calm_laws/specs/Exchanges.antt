@@ -18,7 +18,8 @@ finished_if e false = e
 
 -- whether the exchange ends as the rows are these
 abbrev pub ends_with : Exchange → Exchange → Bool
-ends_with before now = is_none (first_missing now.rows (members_of now.view)) && not before.exchanged
+ends_with before now =
+    is_none (first_missing now.rows (members_of now.view)) && not before.exchanged
 
 -- a row of the view came
 abbrev pub row_taken : Exchange → Exchange → Exchange
@@ -38,7 +39,8 @@ abbrev pub LacksRow : Exchange → Type 0
 LacksRow e = e.exchanged ≡ false → is_none (first_missing e.rows (members_of e.view)) ≡ false
 
 -- the node is in that view and has its own row
-pub record Shares (k : ClusterKey) (set : List Member) (m : ℕ) (row : Row) (e : Exchange) : Type 0 where
+pub record Shares (k : ClusterKey) (set : List Member) (m : ℕ) (row : Row) (e : Exchange)
+    : Type 0 where
   pub view : e.view ≡ Some (record { key = k; members = set })
   pub own : row_of_member e.rows m ≡ Some row
 
@@ -57,4 +59,6 @@ Exchanged gs w = (m : ℕ) → has_node gs m ≡ true → (w.facts m).exchange.e
 
 -- each of the group has the row of each
 abbrev pub RowsThere : List ℕ → World → Type 0
-RowsThere gs w = (m a : ℕ) → has_node gs m ≡ true → has_node gs a ≡ true → lacks (w.facts m).exchange.rows a ≡ false
+RowsThere gs w =
+    (m a : ℕ) → has_node gs m ≡ true → has_node gs a ≡ true
+    → lacks (w.facts m).exchange.rows a ≡ false

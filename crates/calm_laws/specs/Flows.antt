@@ -79,7 +79,8 @@ pub record Ticked (n : ℕ) (w v : World) (ns : List ℕ) : Type 0 where
   pub groups : v.network.groups ≡ w.network.groups
   pub ups : (m : ℕ) → is_up v m ≡ is_up w m
   pub posted : List Posting
-  pub from : (a : ℕ) → letters_from a posted ≡ outbox n (w.clocks a) (w.facts a) (ticks_if (has_node ns a))
+  pub from : (a : ℕ)
+      → letters_from a posted ≡ outbox n (w.clocks a) (w.facts a) (ticks_if (has_node ns a))
   pub inbox : (m : ℕ) → inbox v m ≡ inbox w m ++ arriving_at v m posted
   pub named : Named v
   pub in_order : InOrder v
@@ -97,7 +98,10 @@ pub record Rounded (n : ℕ) (w v : World) : Type 0 where
 
 -- the beat's entry
 abbrev pub new_heard : ClusterKey → ClusterKey → List ℕ → Role → Heard
-new_heard view promised hears role = record { age = 0; beat = record { view = view; promised = promised; hears = hears; role = role } }
+new_heard view promised hears role = record {
+  age = 0;
+  beat = record { view = view; promised = promised; hears = hears; role = role };
+}
 
 abbrev pub look : Table Heard → ℕ → Option Heard
 look t a = tables.at t a
@@ -114,7 +118,9 @@ beat_of f = message.Heartbeat (view_key f) f.agreement.promised (heard_ids f.hea
 
 -- the entry that the node's next beat makes
 abbrev pub beat_entry : Facts → Heard
-beat_entry f = new_heard (view_key (after_ages f)) (after_ages f).agreement.promised (heard_ids (after_ages f).hearing.heard) (after_ages f).role
+beat_entry f =
+    new_heard (view_key (after_ages f)) (after_ages f).agreement.promised
+    (heard_ids (after_ages f).hearing.heard) (after_ages f).role
 
 -- its beat can be read
 abbrev pub Speaks : Facts → Type 0
@@ -152,4 +158,5 @@ world_at n w k = (rounds n k w).world
 pub record Plain (n : ℕ) (ns : List ℕ) (w : World) (most : ℕ) : Type 0 where
   pub base : Base ns w
   pub placed : (k : ℕ) → k < most → is_full_round n w k ≡ false
-  pub speaks : (k : ℕ) → k < most → (a : ℕ) → has_node ns a ≡ true → Speaks ((world_at n w k).facts a)
+  pub speaks : (k : ℕ) → k < most → (a : ℕ) → has_node ns a ≡ true
+      → Speaks ((world_at n w k).facts a)

@@ -18,15 +18,22 @@ use Rattle.calm_laws.specs.Flows.{Once, Rounded, inbox}
 -- what is sent at each of the acts is read as it was sent
 abbrev pub Legibly : ℕ → ℕ → Facts → List Input → Type 0
 Legibly n c f [] = Unit {0}
-Legibly n c f (i ∷ is) = (as_read (effects n c f i).sends ≡ (effects n c f i).sends) × Legibly n c (acted n c f i) is
+Legibly n c f (i ∷ is) =
+    (as_read (effects n c f i).sends ≡ (effects n c f i).sends) × Legibly n c (acted n c f i) is
 
 -- what a group sends in a round is read as it was sent
 pub record Legible (n : ℕ) (gs : List ℕ) (w v : World) (r : Rounded n w v) : Type 0 where
-  pub ticks : (m : ℕ) → has_node gs m ≡ true → as_read (effects n (w.clocks m) (w.facts m) Ticks).sends ≡ (effects n (w.clocks m) (w.facts m) Ticks).sends
-  pub first : (m : ℕ) → has_node gs m ≡ true → Legibly n (r.ticks_end.clocks m) (r.ticks_end.facts m) (inbox r.ticks_end m)
-  pub second : (m : ℕ) → has_node gs m ≡ true → Legibly n (r.first_end.clocks m) (r.first_end.facts m) (inbox r.first_end m)
-  pub third : (m : ℕ) → has_node gs m ≡ true → Legibly n (r.second_end.clocks m) (r.second_end.facts m) (inbox r.second_end m)
-  pub fourth : (m : ℕ) → has_node gs m ≡ true → Legibly n (r.third_end.clocks m) (r.third_end.facts m) (inbox r.third_end m)
+  pub ticks : (m : ℕ) → has_node gs m ≡ true
+      → as_read (effects n (w.clocks m) (w.facts m) Ticks).sends
+      ≡ (effects n (w.clocks m) (w.facts m) Ticks).sends
+  pub first : (m : ℕ) → has_node gs m ≡ true
+      → Legibly n (r.ticks_end.clocks m) (r.ticks_end.facts m) (inbox r.ticks_end m)
+  pub second : (m : ℕ) → has_node gs m ≡ true
+      → Legibly n (r.first_end.clocks m) (r.first_end.facts m) (inbox r.first_end m)
+  pub third : (m : ℕ) → has_node gs m ≡ true
+      → Legibly n (r.second_end.clocks m) (r.second_end.facts m) (inbox r.second_end m)
+  pub fourth : (m : ℕ) → has_node gs m ≡ true
+      → Legibly n (r.third_end.clocks m) (r.third_end.facts m) (inbox r.third_end m)
 
 -- the acknowledgements of batches in the view of that key
 abbrev pub acked_if : Targets → ℕ → ℕ → Bool → Targets
@@ -55,21 +62,29 @@ target_acked t = settled_out t t.out
 
 -- the targets of a group in the view: one for each other node, and what is out is of the view
 pub record Handing (gs : List ℕ) (k : ClusterKey) (w : World) : Type 0 where
-  pub once : (m : ℕ) → has_node gs m ≡ true → Once (map (λ (t : Target). t.node) (w.facts m).batches)
-  pub to : (m : ℕ) → has_node gs m ≡ true → (t : Target) → Among (w.facts m).batches t → (has_node gs t.node ≡ true) × (t.node ≡ m → ⊥)
-  pub key : (m : ℕ) → has_node gs m ≡ true → (t : Target) (b : Batch) → Among (w.facts m).batches t → t.out ≡ Some b → b.key ≡ k
+  pub once : (m : ℕ) → has_node gs m ≡ true
+      → Once (map (λ (t : Target). t.node) (w.facts m).batches)
+  pub to : (m : ℕ) → has_node gs m ≡ true → (t : Target) → Among (w.facts m).batches t
+      → (has_node gs t.node ≡ true) × (t.node ≡ m → ⊥)
+  pub key : (m : ℕ) → has_node gs m ≡ true → (t : Target) (b : Batch) → Among (w.facts m).batches t
+      → t.out ≡ Some b → b.key ≡ k
 
 -- nothing is out to anybody
 abbrev pub NothingOut : List ℕ → World → Type 0
-NothingOut gs w = (m : ℕ) → has_node gs m ≡ true → (t : Target) → Among (w.facts m).batches t → t.out ≡ None
+NothingOut gs w =
+    (m : ℕ) → has_node gs m ≡ true → (t : Target) → Among (w.facts m).batches t → t.out ≡ None
 
 -- no target has more digests pending
 abbrev pub AtMostPending : ℕ → List ℕ → World → Type 0
-AtMostPending p gs w = (m : ℕ) → has_node gs m ≡ true → (t : Target) → Among (w.facts m).batches t → length t.pending ≤ p
+AtMostPending p gs w =
+    (m : ℕ) → has_node gs m ≡ true → (t : Target) → Among (w.facts m).batches t
+    → length t.pending ≤ p
 
 -- the node holds a record of each digest that is pending
 abbrev pub PendingHeld : List ℕ → World → Type 0
-PendingHeld gs w = (m : ℕ) → has_node gs m ≡ true → (t : Target) → Among (w.facts m).batches t → (d : List ℕ) → Among t.pending d → is_some (finite.get (w.facts m).store.content d) ≡ true
+PendingHeld gs w =
+    (m : ℕ) → has_node gs m ≡ true → (t : Target) → Among (w.facts m).batches t → (d : List ℕ)
+    → Among t.pending d → is_some (finite.get (w.facts m).store.content d) ≡ true
 
 -- a round in which what the group sends is read as it was sent
 pub record LegibleRound (n : ℕ) (gs : List ℕ) (w v : World) : Type 0 where

@@ -33,5 +33,6 @@ CanBeRead m = message_of (spelling m) ≡ Some m
 
 -- what is proposed can be read
 abbrev pub ReadsWith : Facts → Option Proposal → Type 0
-ReadsWith g None = is_to_propose g ≡ true → CanBeRead (message.Propose (next_key g.me g.agreement) (neighbours g))
+ReadsWith g None =
+    is_to_propose g ≡ true → CanBeRead (message.Propose (next_key g.me g.agreement) (neighbours g))
 ReadsWith g (Some p) = CanBeRead (message.Propose p.key p.members)

@@ -33,7 +33,9 @@ Emptied ts = (t : Target) → Among ts t → t.pending ≡ []
 
 -- what tells of progress and comes to the group tells that each partition is done
 abbrev pub FullInbox : ℕ → List ℕ → World → Type 0
-FullInbox n gs w = (m : ℕ) → has_node gs m ≡ true → (from : ℕ) (x : Message) → Among (inbox w m) (Gets from x) → FullProgress n x
+FullInbox n gs w =
+    (m : ℕ) → has_node gs m ≡ true → (from : ℕ) (x : Message) → Among (inbox w m) (Gets from x)
+    → FullProgress n x
 
 -- the node knows of that one that each partition is done
 pub record KnowsDone (n : ℕ) (x : ℕ) (b : Bits) : Type 0 where

@@ -17,9 +17,12 @@ use Rattle.calm_laws.specs.Handing.{AtMostPending}
 pub record Party (ns group : List ℕ) (w : World) (most q : ℕ) : Type 0 where
   pub lead : ℕ
   pub ground : Basis partition_count ns (up_in w group) lead (as_members w (up_in w group)) w most
-  pub provisions : (a : Agreed partition_count (up_in w group) lead (as_members w (up_in w group)) w most) → Provisions partition_count (up_in w group) w most a.key
+  pub provisions :
+      (a : Agreed partition_count (up_in w group) lead (as_members w (up_in w group)) w most)
+      → Provisions partition_count (up_in w group) w most a.key
   pub pending : AtMostPending q (up_in w group) (world_at partition_count w 17)
-  pub footing : Footing partition_count (up_in w group) (as_members w (up_in w group)) w (17 + q) (20 + q)
+  pub footing : Footing partition_count (up_in w group) (as_members w (up_in w group)) w (17 + q)
+      (20 + q)
 
 -- the node is up in a group of the network
 pub record Home (w : World) (a : ℕ) : Type 0 where
@@ -31,6 +34,7 @@ pub record Home (w : World) (a : ℕ) : Type 0 where
 -- of the groups, and nobody else is up
 pub record Schedule (ns : List ℕ) (w : World) (most q : ℕ) : Type 0 where
   pub plain : Plain partition_count ns w most
-  pub parties : 21 + q ≤ most → (group : List ℕ) → Among w.network.groups group → (up_in w group ≡ []) ⊎ Party ns group w most q
+  pub parties : 21 + q ≤ most → (group : List ℕ) → Among w.network.groups group
+      → (up_in w group ≡ []) ⊎ Party ns group w most q
   pub homes : (a : ℕ) → has_node ns a ≡ true → Home w a
   pub others : (a : ℕ) → has_node ns a ≡ false → is_up w a ≡ false

@@ -20,7 +20,11 @@ stance_of f = record { agreement = f.agreement; view = f.exchange.view; quiet = 
 
 -- the node enters a view
 abbrev pub enters_view : Stance → ClusterKey → List Member → Stance
-enters_view s key ms = record { agreement = agreement.agreement_entered s.agreement key; view = Some (record { key = key; members = ms }); quiet = 0 }
+enters_view s key ms = record {
+  agreement = agreement.agreement_entered s.agreement key;
+  view = Some (record { key = key; members = ms });
+  quiet = 0;
+}
 
 abbrev pub enters_if : Stance → ClusterKey → List Member → Bool → Stance
 enters_if s key ms true = enters_view s key ms
@@ -34,10 +38,18 @@ counts s from (Some p) true = enters_if s p.key p.members (is_nil (without_missi
 
 -- what a message makes of it
 abbrev pub turned : ℕ → Stance → ℕ → Message → Stance
-turned me s from (message.Heartbeat view promised hears role) = record s { agreement = agreement.seeing s.agreement promised }
-turned me s from (message.Propose key ms) = record s { agreement = agreement.voting s.agreement key }
-turned me s from (message.Accept key) = counts (record s { agreement = agreement.accepting s.agreement from key }) from s.agreement.proposal (proposes s.agreement.proposal key)
-turned me s from (message.Refuse key promised) = record s { agreement = agreement.refusing s.agreement key promised }
+turned me s from (message.Heartbeat view promised hears role) = record s {
+  agreement = agreement.seeing s.agreement promised;
+}
+turned me s from (message.Propose key ms) = record s {
+  agreement = agreement.voting s.agreement key;
+}
+turned me s from (message.Accept key) =
+    counts (record s { agreement = agreement.accepting s.agreement from key }) from
+    s.agreement.proposal (proposes s.agreement.proposal key)
+turned me s from (message.Refuse key promised) = record s {
+  agreement = agreement.refusing s.agreement key promised;
+}
 turned me s from (message.Commit key ms) = enters_if s key ms (may_enter me s.agreement key ms)
 turned me s from _ = s
 
@@ -45,13 +57,17 @@ turned me s from _ = s
 
 -- a new view is promised, and entered at once where there are no others
 abbrev pub promises_to : Stance → ClusterKey → List Member → List ℕ → Stance
-promises_to s key set [] = enters_view (record s { agreement = agreement.promising s.agreement key }) key set
+promises_to s key set [] =
+    enters_view (record s { agreement = agreement.promising s.agreement key }) key set
 promises_to s key set (n ∷ ns) = record s { agreement = agreement.promising s.agreement key }
 
 -- and is proposed to the others
 abbrev pub proposes_to : ℕ → Stance → ClusterKey → List Member → List ℕ → Stance
-proposes_to me s key set [] = enters_view (record s { agreement = agreement.promising s.agreement key }) key set
-proposes_to me s key set (n ∷ ns) = record s { agreement = agreement.proposing (agreement.promising s.agreement key) me key set }
+proposes_to me s key set [] =
+    enters_view (record s { agreement = agreement.promising s.agreement key }) key set
+proposes_to me s key set (n ∷ ns) = record s {
+  agreement = agreement.proposing (agreement.promising s.agreement key) me key set;
+}
 
 abbrev pub promises_if : ℕ → Stance → List Member → Bool → Stance
 promises_if me s set true = promises_to s (next_key me s.agreement) set (others_among me set)

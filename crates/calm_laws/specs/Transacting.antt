@@ -46,7 +46,8 @@ pub record Shrinks (from : ℕ) (o : Option Transaction) (z : Option Transaction
   pub some : is_nil now.awaiting ≡ false
 
 -- the write was applied now, and was sent to all that are to acknowledge it, who are other members
-pub record Resolved (k : ClusterKey) (number : ℕ) (f : Facts) (sent : List (ℕ × Message)) (o : Option Transaction) (z : Option Transaction) : Type 0 where
+pub record Resolved (k : ClusterKey) (number : ℕ) (f : Facts) (sent : List (ℕ × Message))
+    (o : Option Transaction) (z : Option Transaction) : Type 0 where
   pub was : Transaction
   pub now : Transaction
   pub before : o ≡ Some was
@@ -54,17 +55,20 @@ pub record Resolved (k : ClusterKey) (number : ℕ) (f : Facts) (sent : List (�
   pub waiting : is_some was.applied ≡ false
   pub applied : is_some now.applied ≡ true
   pub some : is_nil now.awaiting ≡ false
-  pub members : (x : ℕ) → contains now.awaiting x ≡ true → (contains (ids_of (members_of f.exchange.view)) x ≡ true) × (x ≡ f.me → ⊥)
+  pub members : (x : ℕ) → contains now.awaiting x ≡ true
+      → (contains (ids_of (members_of f.exchange.view)) x ≡ true) × (x ≡ f.me → ⊥)
   pub write : Message
   pub writes : WritesFor k number write
   pub goes : (x : ℕ) → contains now.awaiting x ≡ true → Among sent (x, write)
 
 -- it is closed, awaits one less, or is resolved
-abbrev pub MovesOn : ClusterKey → ℕ → Facts → ℕ → List (ℕ × Message) → Option Transaction → Option Transaction → Type 0
+abbrev pub MovesOn : ClusterKey → ℕ → Facts → ℕ → List (ℕ × Message) → Option Transaction
+    → Option Transaction → Type 0
 MovesOn k number f from sent o z = (z ≡ None) ⊎ (Shrinks from o z ⊎ Resolved k number f sent o z)
 
 -- what one act may make of it
-abbrev pub Turns : ClusterKey → ℕ → Facts → ℕ → List (ℕ × Message) → Option Transaction → Option Transaction → Type 0
+abbrev pub Turns : ClusterKey → ℕ → Facts → ℕ → List (ℕ × Message) → Option Transaction
+    → Option Transaction → Type 0
 Turns k number f from sent o z = (z ≡ o) ⊎ MovesOn k number f from sent o z
 
 -- as long as its write isn't applied it doesn't await that node
@@ -82,7 +86,10 @@ pub record In (k : ClusterKey) (set : List Member) (m : ℕ) (f : Facts) : Type 
 
 -- each open transaction of the group awaits somebody, and other nodes of the group alone
 abbrev pub Waiting : List ℕ → World → Type 0
-Waiting gs w = (m : ℕ) → has_node gs m ≡ true → (t : Transaction) → Among (w.facts m).transactions.running t → (is_nil t.awaiting ≡ false) × ((x : ℕ) → contains t.awaiting x ≡ true → (has_node gs x ≡ true) × (x ≡ m → ⊥))
+Waiting gs w =
+    (m : ℕ) → has_node gs m ≡ true → (t : Transaction) → Among (w.facts m).transactions.running t
+    → (is_nil t.awaiting ≡ false)
+    × ((x : ℕ) → contains t.awaiting x ≡ true → (has_node gs x ≡ true) × (x ≡ m → ⊥))
 
 -- no transaction is open
 abbrev pub NoneOpen : List ℕ → World → Type 0

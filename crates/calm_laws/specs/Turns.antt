@@ -81,15 +81,21 @@ NoneProposes gs w = (m : ℕ) → has_node gs m ≡ true → (w.facts m).agreeme
 
 -- nothing of agreement is on its way
 abbrev pub Cleared : List ℕ → World → Type 0
-Cleared gs w = (m : ℕ) → has_node gs m ≡ true → (from : ℕ) (x : Message) → Among (inbox w m) (Gets from x) → is_agreeing (kind x) ≡ false
+Cleared gs w =
+    (m : ℕ) → has_node gs m ≡ true → (from : ℕ) (x : Message) → Among (inbox w m) (Gets from x)
+    → is_agreeing (kind x) ≡ false
 
 -- no key that was entered is above the one that was promised
 abbrev pub Ordered : List ℕ → World → Type 0
-Ordered gs w = (m : ℕ) → has_node gs m ≡ true → KeyAtMost (w.facts m).agreement.last (w.facts m).agreement.promised
+Ordered gs w =
+    (m : ℕ) → has_node gs m ≡ true
+    → KeyAtMost (w.facts m).agreement.last (w.facts m).agreement.promised
 
 -- the greatest has seen the round of every promise
 abbrev pub SeenAll : List ℕ → ℕ → World → Type 0
-SeenAll gs g w = (m : ℕ) → has_node gs m ≡ true → (w.facts m).agreement.promised.round ≤ seen_round (w.facts g).agreement
+SeenAll gs g w =
+    (m : ℕ) → has_node gs m ≡ true
+    → (w.facts m).agreement.promised.round ≤ seen_round (w.facts g).agreement
 
 -- a group at a round's begin, in which a proposal can only be one of the group
 pub record Ready (ns gs : List ℕ) (g : ℕ) (set : List Member) (w : World) : Type 0 where
@@ -104,12 +110,15 @@ pub record Ready (ns gs : List ℕ) (g : ℕ) (set : List Member) (w : World) : 
 -- who proposes lacks an answer of some other member, and of other members alone
 abbrev pub Lacking : ℕ → Option Proposal → Type 0
 Lacking me None = Unit {0}
-Lacking me (Some p) = (is_nil p.missing ≡ false) × ((x : ℕ) → contains p.missing x ≡ true → contains (others_among me p.members) x ≡ true)
+Lacking me (Some p) =
+    (is_nil p.missing ≡ false)
+    × ((x : ℕ) → contains p.missing x ≡ true → contains (others_among me p.members) x ≡ true)
 
 -- what was promised and what is proposed has a spelling
 pub record Fit (gs : List ℕ) (w : World) : Type 0 where
   pub promised : (m : ℕ) → has_node gs m ≡ true → IsKeyOrNone (w.facts m).agreement.promised
-  pub proposed : (m : ℕ) → has_node gs m ≡ true → (p : Proposal) → (w.facts m).agreement.proposal ≡ Some p → IsKeyField p.key
+  pub proposed : (m : ℕ) → has_node gs m ≡ true → (p : Proposal)
+      → (w.facts m).agreement.proposal ≡ Some p → IsKeyField p.key
 
 -- a group at a round's begin whose nodes all see each other, and may propose
 pub record Joined (ns gs : List ℕ) (g : ℕ) (set : List Member) (w : World) : Type 0 where
@@ -125,8 +134,10 @@ pub record Joined (ns gs : List ℕ) (g : ℕ) (set : List Member) (w : World) :
 
 -- each hears each other one, by this round's beat, and nobody else
 pub record Listens (gs : List ℕ) (w : World) : Type 0 where
-  pub near : (a m : ℕ) → has_node gs a ≡ true → has_node gs m ≡ true → (a ≡ m → ⊥) → HeardAs (Fresh (w.facts a).role m) (w.facts m).hearing.heard a
-  pub others : (a m : ℕ) → has_node gs a ≡ false → has_node gs m ≡ true → look (w.facts m).hearing.heard a ≡ None
+  pub near : (a m : ℕ) → has_node gs a ≡ true → has_node gs m ≡ true → (a ≡ m → ⊥)
+      → HeardAs (Fresh (w.facts a).role m) (w.facts m).hearing.heard a
+  pub others : (a m : ℕ) → has_node gs a ≡ false → has_node gs m ≡ true
+      → look (w.facts m).hearing.heard a ≡ None
   pub own : (m : ℕ) → has_node gs m ≡ true → look (w.facts m).hearing.heard m ≡ None
   pub rises : (m : ℕ) → has_node gs m ≡ true → RisesByNumber (w.facts m).hearing.heard
 
@@ -139,6 +150,8 @@ pub record Roster (gs : List ℕ) (set : List Member) (w : World) : Type 0 where
   pub others : (m : ℕ) → has_node gs m ≡ false → at table m ≡ None
 
 -- all of the group are in one view of just it, and the greatest has just entered it or hears that all are in it
-pub record Steady (gs : List ℕ) (g : ℕ) (set : List Member) (k : ClusterKey) (w : World) : Type 0 where
-  pub views : (m : ℕ) → has_node gs m ≡ true → (w.facts m).exchange.view ≡ Some (record { key = k; members = set })
+pub record Steady (gs : List ℕ) (g : ℕ) (set : List Member) (k : ClusterKey) (w : World)
+    : Type 0 where
+  pub views : (m : ℕ) → has_node gs m ≡ true
+      → (w.facts m).exchange.view ≡ Some (record { key = k; members = set })
   pub calm : ((w.facts g).hearing.quiet ≡ 0) ⊎ (all_show g (w.facts g).hearing.heard k ≡ true)

@@ -24,7 +24,8 @@ pub fn play(alloc: Global, world: &mut World, command: &Command) -> Result<(), S
     requires { IsTrue (is_playable (declared_nodes world.old.header) command.now) }
     ensures played { OnOk result (PlaysOn world.old world.new command.now) }
     ensures rests { command.now ≡ command_of.Calm → OnOk result (RestsInTime world.old world.new) }
-    ensures too_long { IsErrOf result StepFault.RunTooLong → StopsIn world.old world.new command.now }
+    ensures too_long { IsErrOf result StepFault.RunTooLong
+        → StopsIn world.old world.new command.now }
     ensures err { OnErr result (StandsIn world.old world.new command.now) }
     ensures claims { HasClaims (run_lines world.new) }
 {
@@ -38,7 +39,8 @@ pub fn play(alloc: Global, world: &mut World, command: &Command) -> Result<(), S
 fn play_command(alloc: Global, world: &mut World, command: &Command) -> Result<(), StepFault>
     requires { IsTrue (is_playable (declared_nodes world.old.header) command.now) }
     ensures played { OnOk result (PlaysOn world.old world.new command.now) }
-    ensures too_long { IsErrOf result StepFault.RunTooLong → StopsIn world.old world.new command.now }
+    ensures too_long { IsErrOf result StepFault.RunTooLong
+        → StopsIn world.old world.new command.now }
     ensures err { OnErr result (StandsIn world.old world.new command.now) }
 {
     if let Some(event) = event_of(alloc, command)? {
@@ -61,7 +63,8 @@ fn play_command(alloc: Global, world: &mut World, command: &Command) -> Result<(
 pub fn calm(alloc: Global, world: &mut World) -> Result<u64, StepFault>
     ensures calm { IfOk result (ComesToRest world.old world.new) }
     ensures in_time { IfOk result (AreInTime (standing world.old)) }
-    ensures too_long { IsErrOf result StepFault.RunTooLong → StopsIn world.old world.new command_of.Calm }
+    ensures too_long { IsErrOf result StepFault.RunTooLong
+        → StopsIn world.old world.new command_of.Calm }
     ensures err { OnErr result (StandsIn world.old world.new command_of.Calm) }
     ensures claims { HasClaims (run_lines world.new) }
 {
@@ -74,7 +77,8 @@ pub fn calm(alloc: Global, world: &mut World) -> Result<u64, StepFault>
 /// The same, but for what holds of the journal.
 fn come_to_rest(alloc: Global, world: &mut World) -> Result<u64, StepFault>
     ensures calm { IfOk result (ComesToRest world.old world.new) }
-    ensures too_long { IsErrOf result StepFault.RunTooLong → StopsIn world.old world.new command_of.Calm }
+    ensures too_long { IsErrOf result StepFault.RunTooLong
+        → StopsIn world.old world.new command_of.Calm }
     ensures err { OnErr result (StandsIn world.old world.new command_of.Calm) }
 {
     let mut rounds = 0u64;
@@ -91,8 +95,10 @@ fn round(alloc: Global, world: &mut World) -> Result<(), StepFault>
     ensures played { OnOk result (PlaysOn world.old world.new command_of.Round) }
 
     // Where the world isn't calm, a node is up, whose tick has a line, or a message is in flight, whose delivery has one.
-    ensures more { is_calm (standing world.old) ≡ false → OnOk result (WritesMore world.old world.new) }
-    ensures too_long { IsErrOf result StepFault.RunTooLong → StopsIn world.old world.new command_of.Round }
+    ensures more { is_calm (standing world.old) ≡ false
+        → OnOk result (WritesMore world.old world.new) }
+    ensures too_long { IsErrOf result StepFault.RunTooLong
+        → StopsIn world.old world.new command_of.Round }
     ensures err { OnErr result (StandsIn world.old world.new command_of.Round) }
 {
     // What the journal ensures of its world: only declared nodes are up.
@@ -111,7 +117,8 @@ fn round(alloc: Global, world: &mut World) -> Result<(), StepFault>
 /// Delivers each message that is in flight as it begins, in rising order of the numbers.
 fn flow(alloc: Global, world: &mut World) -> Result<(), StepFault>
     ensures played { OnOk result (PlaysOn world.old world.new command_of.Flow) }
-    ensures too_long { IsErrOf result StepFault.RunTooLong → StopsIn world.old world.new command_of.Flow }
+    ensures too_long { IsErrOf result StepFault.RunTooLong
+        → StopsIn world.old world.new command_of.Flow }
     ensures err { OnErr result (StandsIn world.old world.new command_of.Flow) }
 {
     let in_flight = world.in_flight(alloc)?;

@@ -67,7 +67,11 @@ impl ClientMap {
 
 /// No entry for each partition.
 fn no_entries(alloc: Global) -> Result<Vec<Option<Entry>>, NoMemory>
-    ensures { IfOk result (λ entries. record { size : length entries.items ≡ partition_count; none : All (λ e. e ≡ None) entries.items }) }
+    ensures { IfOk result (λ entries.
+        record {
+          size : length entries.items ≡ partition_count;
+          none : All (λ e. e ≡ None) entries.items;
+        }) }
 {
     let mut entries = Vec::with_capacity(alloc, PARTITIONS as usize)?;
     for _ in 0..PARTITIONS {
@@ -79,7 +83,9 @@ fn no_entries(alloc: Global) -> Result<Vec<Option<Entry>>, NoMemory>
 /// The later of each partition's entry and of what the table tells of it.
 fn refresh_each(entries: &mut [Option<Entry>], table: &MapTable)
     requires { length entries.old ≡ partition_count }
-    ensures { (p : ℕ) → p < partition_count → slice_index_or entries.new p None ≡ Some (later_entry (slice_index_or entries.old p None) (told_entry p table.now)) }
+    ensures { (p : ℕ) → p < partition_count
+        → slice_index_or entries.new p None
+        ≡ Some (later_entry (slice_index_or entries.old p None) (told_entry p table.now)) }
 {
     for number in 0..PARTITIONS {
         if let Some(p) = PartitionId::new(number) {

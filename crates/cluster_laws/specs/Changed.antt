@@ -32,5 +32,6 @@ abbrev pub at_pair : {A : Type 0} → (ℕ → ℕ → A) → ℕ → ℕ → A 
 at_pair f m n new = at_number f m (at_number (f m) n new)
 
 -- with another value at a key and a digest
-abbrev pub at_record : {A : Type 0} → (ClusterKey → List ℕ → A) → ClusterKey → List ℕ → A → ClusterKey → List ℕ → A
+abbrev pub at_record : {A : Type 0} → (ClusterKey → List ℕ → A) → ClusterKey → List ℕ → A
+    → ClusterKey → List ℕ → A
 at_record f k d new = at_key f k (at_digest (f k) d new)

@@ -53,7 +53,12 @@ stamp_if false new old = old
 -- ---- views
 
 abbrev pub stay_at_entry : ℕ → Versions → Stay
-stay_at_entry n content = record blank { entered = true; entry = content; held = content; rows = at_number (λ _. false) n true }
+stay_at_entry n content = record blank {
+  entered = true;
+  entry = content;
+  held = content;
+  rows = at_number (λ _. false) n true;
+}
 
 abbrev pub enters : Ground → ℕ → ClusterKey → Picture → Picture
 enters G n k w = record w {
@@ -72,7 +77,8 @@ to_hand_on G k n content r d = view_sends_to G k (partition_of d) n r && is_some
 
 -- a copy of a partition that is empty everywhere is whole, where the node is a replica
 abbrev pub whole_where_empty : Ground → ℕ → ClusterKey → Seen → Stay → ℕ → Option (ClusterKey × ℕ)
-whole_where_empty G n k x s p = stamp_if (is_view_empty G k p && is_view_replica G k p n) (k, copy_count G k n s p) (x.stamp p)
+whole_where_empty G n k x s p =
+    stamp_if (is_view_empty G k p && is_view_replica G k p n) (k, copy_count G k n s p) (x.stamp p)
 
 abbrev pub stay_after_exchange : Ground → ℕ → ClusterKey → Versions → Stay → Stay
 stay_after_exchange G n k content s = record s {
@@ -82,7 +88,9 @@ stay_after_exchange G n k content s = record s {
 
 abbrev pub exchanges : Ground → ℕ → ClusterKey → Picture → Picture
 exchanges G n k w = record w {
-  node = at_number w.node n (record (w.node n) { stamp = whole_where_empty G n k (w.node n) (w.stay n k) });
+  node =
+      at_number w.node n
+      (record (w.node n) { stamp = whole_where_empty G n k (w.node n) (w.stay n k) });
   stay = at_stay w.stay n k (stay_after_exchange G n k (w.node n).content (w.stay n k));
 }
 
@@ -110,7 +118,9 @@ beginning G n k t d content s = record s {
 }
 
 abbrev pub opens : Ground → ℕ → ClusterKey → ℕ → List ℕ → Picture → Picture
-opens G n k t d w = record w { stay = at_stay w.stay n k (beginning G n k t d (w.node n).content (w.stay n k)) }
+opens G n k t d w = record w {
+  stay = at_stay w.stay n k (beginning G n k t d (w.node n).content (w.stay n k));
+}
 
 -- the stay without an open transaction
 abbrev pub stay_without_transaction : ℕ → Stay → Stay
@@ -121,26 +131,40 @@ answers n k t w = record w { stay = at_stay w.stay n k (stay_without_transaction
 
 -- the transaction with its write, which these are to acknowledge
 abbrev pub running_with_write : Version → ℕ → List ℕ → Running → Running
-running_with_write v nth awaiting y = record y { applied = Some (record { version = v; nth = nth }); awaiting = awaiting }
+running_with_write v nth awaiting y = record y {
+  applied = Some (record { version = v; nth = nth });
+  awaiting = awaiting;
+}
 
 -- the stay after a write
 abbrev pub stay_after_write : Ground → ℕ → ClusterKey → ℕ → List ℕ → Version → Bool → Stay → Stay
 stay_after_write G n k t d v early s = record s {
   held = with_version G.by s.held d v;
-  running = at_number s.running t (option_map (running_with_write v (s.applies (partition_of d) + 1) (other_view_replicas G k (partition_of d) n)) (s.running t));
-  writes = at_number s.writes t (Some (record { digest = d; version = v; nth = s.applies (partition_of d) + 1; early = early }));
+  running =
+      at_number s.running t
+      (option_map (running_with_write v (s.applies (partition_of d) + 1)
+      (other_view_replicas G k (partition_of d) n)) (s.running t));
+  writes =
+      at_number s.writes t
+      (Some (record
+      { digest = d; version = v; nth = s.applies (partition_of d) + 1; early = early }));
   applies = at_number s.applies (partition_of d) (s.applies (partition_of d) + 1);
 }
 
 -- a write of another than the list master counts as if it had been there before
-abbrev pub with_write_of : Ground → ℕ → ClusterKey → List ℕ → Version → (ClusterKey → Versions) → ClusterKey → Versions
-with_write_of G n k d v base = if view_master G k (partition_of d) == n then base else at_key base k (with_version G.by (base k) d v)
+abbrev pub with_write_of : Ground → ℕ → ClusterKey → List ℕ → Version → (ClusterKey → Versions)
+    → ClusterKey → Versions
+with_write_of G n k d v base =
+    if view_master G k (partition_of d) == n then base
+    else at_key base k (with_version G.by (base k) d v)
 
 -- the node after a write of its own, with the stay after it
 abbrev pub seen_after_write : Ground → ℕ → ClusterKey → List ℕ → Version → Stay → Seen → Seen
 seen_after_write G n k d v s x = record x {
   content = with_version G.by x.content d v;
-  stamp = restamped x (partition_of d) (λ z. recounted k (copy_count G k n s (partition_of d)) (spoiled k z));
+  stamp =
+      restamped x (partition_of d)
+      (λ z. recounted k (copy_count G k n s (partition_of d)) (spoiled k z));
 }
 
 abbrev pub applies : Ground → ℕ → ClusterKey → ℕ → List ℕ → Version → Picture → Picture
@@ -172,7 +196,10 @@ gives_up n k t w = record w { stay = at_stay w.stay n k (giving_up t (w.stay n k
 
 -- the node after a newer version came
 abbrev pub seen_after_merge : Ground → ClusterKey → List ℕ → Version → Seen → Seen
-seen_after_merge G k d v x = record x { content = with_version G.by x.content d v; stamp = restamped x (partition_of d) (spoiled k) }
+seen_after_merge G k d v x = record x {
+  content = with_version G.by x.content d v;
+  stamp = restamped x (partition_of d) (spoiled k);
+}
 
 abbrev pub holding : Ground → List ℕ → Version → Stay → Stay
 holding G d v s = record s { held = with_version G.by s.held d v }
@@ -185,16 +212,28 @@ merges G n k d v w = record w {
 }
 
 abbrev pub stay_after_hand_over : ℕ → Stay → Stay
-stay_after_hand_over p s = record s { handed = at_number s.handed p true; own_handed = at_number s.own_handed p true }
+stay_after_hand_over p s = record s {
+  handed = at_number s.handed p true;
+  own_handed = at_number s.own_handed p true;
+}
 
 abbrev pub hands_over : ℕ → ClusterKey → ℕ → Picture → Picture
-hands_over n k p w = record w { stay = at_stay w.stay n k (stay_after_hand_over p (w.stay n k)); handed = at_part w.handed k p true }
+hands_over n k p w = record w {
+  stay = at_stay w.stay n k (stay_after_hand_over p (w.stay n k));
+  handed = at_part w.handed k p true;
+}
 
 abbrev pub stay_after_settling : ℕ → Stay → Stay
-stay_after_settling p s = record s { settled = at_number s.settled p true; own_settled = at_number s.own_settled p true }
+stay_after_settling p s = record s {
+  settled = at_number s.settled p true;
+  own_settled = at_number s.own_settled p true;
+}
 
 abbrev pub settles_partition : ℕ → ClusterKey → ℕ → Picture → Picture
-settles_partition n k p w = record w { stay = at_stay w.stay n k (stay_after_settling p (w.stay n k)); settled = at_part w.settled k p true }
+settles_partition n k p w = record w {
+  stay = at_stay w.stay n k (stay_after_settling p (w.stay n k));
+  settled = at_part w.settled k p true;
+}
 
 -- the node with a copy that is whole by the view
 abbrev pub seen_after_learning : Ground → ℕ → ClusterKey → ℕ → Stay → Seen → Seen
@@ -221,7 +260,11 @@ drops_copy n p w = record w { node = at_number w.node n (seen_after_drop p (w.no
 
 -- a batch that was sent is out, and is kept by its number
 abbrev pub stay_after_batch : ℕ → Batch → Stay → Stay
-stay_after_batch r b s = record s { out = at_number s.out r (Some b); batches = at_number s.batches r b.number; batch = at_pair s.batch r b.number (Some b.records) }
+stay_after_batch r b s = record s {
+  out = at_number s.out r (Some b);
+  batches = at_number s.batches r b.number;
+  batch = at_pair s.batch r b.number (Some b.records);
+}
 
 abbrev pub sends_message : ℕ → ℕ → Option Message → (ℕ → ClusterKey → Stay) → ℕ → ClusterKey → Stay
 sends_message n r (Some (message.Batch b)) stay = at_stay stay n b.key
@@ -229,7 +272,10 @@ sends_message n r (Some (message.Batch b)) stay = at_stay stay n b.key
 sends_message n r _ stay = stay
 
 abbrev pub sends_packet : ℕ → Packet → Picture → Picture
-sends_packet i p w = record w { packet = at_number w.packet i (Some p); stay = sends_message p.from p.to p.message w.stay }
+sends_packet i p w = record w {
+  packet = at_number w.packet i (Some p);
+  stay = sends_message p.from p.to p.message w.stay;
+}
 
 abbrev pub stay_with_row : ℕ → Stay → Stay
 stay_with_row from s = record s { rows = at_number s.rows from true }
@@ -245,7 +291,9 @@ stay_without_batch from b s = record s {
 }
 
 abbrev pub takes_batch_ack : ℕ → ClusterKey → ℕ → Batch → Picture → Picture
-takes_batch_ack n k from b w = record w { stay = at_stay w.stay n k (stay_without_batch from b (w.stay n k)) }
+takes_batch_ack n k from b w = record w {
+  stay = at_stay w.stay n k (stay_without_batch from b (w.stay n k));
+}
 
 -- the sender's done row takes the place of its last one, and the other two are joined
 abbrev pub stay_with_bits : ℕ → List Bool → List Bool → List Bool → Stay → Stay
@@ -257,7 +305,9 @@ stay_with_bits from done handed settled s = record s {
 
 abbrev pub takes_progress : ℕ → ClusterKey → ℕ → List Bool → List Bool → List Bool → Picture
     → Picture
-takes_progress n k from done handed settled w = record w { stay = at_stay w.stay n k (stay_with_bits from done handed settled (w.stay n k)) }
+takes_progress n k from done handed settled w = record w {
+  stay = at_stay w.stay n k (stay_with_bits from done handed settled (w.stay n k));
+}
 
 -- the numbers with one more, where the list master sent it
 abbrev pub heard : Bool → List ℕ → ℕ → List ℕ
@@ -266,7 +316,9 @@ heard false numbers nth = numbers
 
 -- the stay after a write came
 abbrev pub hearing : Ground → ClusterKey → ℕ → ℕ → ℕ → Stay → Stay
-hearing G k from nth p s = record s { numbers = at_number s.numbers p (heard (from == view_master G k p) (s.numbers p) nth) }
+hearing G k from nth p s = record s {
+  numbers = at_number s.numbers p (heard (from == view_master G k p) (s.numbers p) nth);
+}
 
 -- a stamp of the view's key counts again, where the list master sent the write
 abbrev pub recounted_if : Bool → ClusterKey → ℕ → ClusterKey × ℕ → ClusterKey × ℕ
@@ -279,13 +331,20 @@ owes o true = Some o
 owes o false = None
 
 abbrev pub seen_after_count : Ground → ℕ → ClusterKey → ℕ → ℕ → Stay → Seen → Seen
-seen_after_count G n k from p s x = record x { stamp = restamped x p (recounted_if (from == view_master G k p) k (copy_count G k n s p)) }
+seen_after_count G n k from p s x = record x {
+  stamp = restamped x p (recounted_if (from == view_master G k p) k (copy_count G k n s p));
+}
 
 abbrev pub takes_write : Ground → ℕ → ClusterKey → ℕ → ℕ → List ℕ → Version → Picture → Picture
 takes_write G n k from nth d v w = record w {
-  node = at_number w.node n (seen_after_count G n k from (partition_of d) (hearing G k from nth (partition_of d) (w.stay n k)) (w.node n));
+  node =
+      at_number w.node n
+      (seen_after_count G n k from (partition_of d)
+      (hearing G k from nth (partition_of d) (w.stay n k)) (w.node n));
   stay = at_stay w.stay n k (hearing G k from nth (partition_of d) (w.stay n k));
-  owed = owes (record { node = n; key = k; digest = d; version = v }) (is_newer G.by v ((w.node n).content d));
+  owed =
+      owes (record { node = n; key = k; digest = d; version = v })
+      (is_newer G.by v ((w.node n).content d));
 }
 
 -- the transaction is as this now
@@ -297,7 +356,9 @@ abbrev pub running_acknowledged : ℕ → Running → Running
 running_acknowledged from y = record y { awaiting = without y.awaiting from }
 
 abbrev pub takes_write_ack : ℕ → ClusterKey → ℕ → ℕ → Running → Picture → Picture
-takes_write_ack n k from t y w = record w { stay = at_stay w.stay n k (running_as t (running_acknowledged from y) (w.stay n k)) }
+takes_write_ack n k from t y w = record w {
+  stay = at_stay w.stay n k (running_as t (running_acknowledged from y) (w.stay n k));
+}
 
 abbrev pub running_with_answer : Policy → ℕ → Option Version → Running → Running
 running_with_answer by from v y = record y {
@@ -307,13 +368,17 @@ running_with_answer by from v y = record y {
 
 abbrev pub takes_answer : Ground → ℕ → ClusterKey → ℕ → ℕ → Option Version → Running → Picture
     → Picture
-takes_answer G n k from t v y w = record w { stay = at_stay w.stay n k (running_as t (running_with_answer G.by from v y) (w.stay n k)) }
+takes_answer G n k from t v y w = record w {
+  stay = at_stay w.stay n k (running_as t (running_with_answer G.by from v y) (w.stay n k));
+}
 
 -- ---- all effects
 
 abbrev pub act : Ground → Effect → Picture → Picture
 act G Nothing w = w
-act G (Sets_clock n time) w = record w { node = at_number w.node n (record (w.node n) { clock = time }) }
+act G (Sets_clock n time) w = record w {
+  node = at_number w.node n (record (w.node n) { clock = time });
+}
 act G (Enters n k) w = enters G n k w
 act G (Stops n) w = stops n w
 act G (Exchanges n k) w = exchanges G n k w

@@ -26,7 +26,8 @@ pub data Effect : Type 0 where
   -- transactions
   Opens : (n : ℕ) → (key : ClusterKey) → (number : ℕ) → (digest : List ℕ) → Effect
   Answers : (n : ℕ) → (key : ClusterKey) → (number : ℕ) → Effect
-  Applies : (n : ℕ) → (key : ClusterKey) → (number : ℕ) → (digest : List ℕ) → (version : Version) → Effect
+  Applies : (n : ℕ) → (key : ClusterKey) → (number : ℕ) → (digest : List ℕ) → (version : Version)
+      → Effect
   Finishes : (n : ℕ) → (key : ClusterKey) → (number : ℕ) → Effect
   Gives_up : (n : ℕ) → (key : ClusterKey) → (number : ℕ) → Effect
   -- copies
@@ -40,9 +41,12 @@ pub data Effect : Type 0 where
   Row_came : (n : ℕ) → (key : ClusterKey) → (from : ℕ) → Effect
   Batch_acked : (n : ℕ) → (key : ClusterKey) → (from : ℕ) → (batch : Batch) → Effect
   Told : (n : ℕ) → (key : ClusterKey) → (from : ℕ) → (done handed settled : List Bool) → Effect
-  Write_came : (n : ℕ) → (key : ClusterKey) → (from : ℕ) → (nth : ℕ) → (digest : List ℕ) → (version : Version) → Effect
-  Write_acked : (n : ℕ) → (key : ClusterKey) → (from : ℕ) → (number : ℕ) → (transaction : Running) → Effect
-  Answered : (n : ℕ) → (key : ClusterKey) → (from : ℕ) → (number : ℕ) → (version : Option Version) → (transaction : Running) → Effect
+  Write_came : (n : ℕ) → (key : ClusterKey) → (from : ℕ) → (nth : ℕ) → (digest : List ℕ)
+      → (version : Version) → Effect
+  Write_acked : (n : ℕ) → (key : ClusterKey) → (from : ℕ) → (number : ℕ) → (transaction : Running)
+      → Effect
+  Answered : (n : ℕ) → (key : ClusterKey) → (from : ℕ) → (number : ℕ) → (version : Option Version)
+      → (transaction : Running) → Effect
 
 -- ---- messages that came
 
@@ -64,21 +68,29 @@ batch_ack n k from number (Some b) = effect_if (Batch_acked n k from b) (b.numbe
 -- a write is acknowledged where it is applied and the sender is awaited
 abbrev pub write_ack : ℕ → ClusterKey → ℕ → ℕ → Option Running → Effect
 write_ack n k from t None = Nothing
-write_ack n k from t (Some y) = effect_if (Write_acked n k from t y) (is_some y.applied && contains y.awaiting from)
+write_ack n k from t (Some y) =
+    effect_if (Write_acked n k from t y) (is_some y.applied && contains y.awaiting from)
 
 -- an answer counts where no write is applied and the sender is awaited
 abbrev pub answer_effect : ℕ → ClusterKey → ℕ → ℕ → Option Version → Option Running → Effect
 answer_effect n k from t v None = Nothing
-answer_effect n k from t v (Some y) = effect_if (Answered n k from t v y) (not (is_some y.applied) && contains y.awaiting from)
+answer_effect n k from t v (Some y) =
+    effect_if (Answered n k from t v y) (not (is_some y.applied) && contains y.awaiting from)
 
 -- what a message of the view does
 abbrev pub comes : Picture → ℕ → ℕ → Message → Effect
-comes w n from (message.State k wants row) = effect_if (Row_came n k from) (is_view_key (w.node n).view k)
-comes w n from (message.BatchAck k number) = effect_if (batch_ack n k from number ((w.stay n k).out from)) (is_view_key (w.node n).view k)
-comes w n from (message.Progress k wants done handed settled) = effect_if (Told n k from done handed settled) (is_view_key (w.node n).view k)
-comes w n from (message.Repl k t nth d v) = effect_if (Write_came n k from nth d v) (is_view_key (w.node n).view k)
-comes w n from (message.ReplAck k t) = effect_if (write_ack n k from t ((w.stay n k).running t)) (is_view_key (w.node n).view k)
-comes w n from (message.Answer k t v) = effect_if (answer_effect n k from t v ((w.stay n k).running t)) (is_view_key (w.node n).view k)
+comes w n from (message.State k wants row) =
+    effect_if (Row_came n k from) (is_view_key (w.node n).view k)
+comes w n from (message.BatchAck k number) =
+    effect_if (batch_ack n k from number ((w.stay n k).out from)) (is_view_key (w.node n).view k)
+comes w n from (message.Progress k wants done handed settled) =
+    effect_if (Told n k from done handed settled) (is_view_key (w.node n).view k)
+comes w n from (message.Repl k t nth d v) =
+    effect_if (Write_came n k from nth d v) (is_view_key (w.node n).view k)
+comes w n from (message.ReplAck k t) =
+    effect_if (write_ack n k from t ((w.stay n k).running t)) (is_view_key (w.node n).view k)
+comes w n from (message.Answer k t v) =
+    effect_if (answer_effect n k from t v ((w.stay n k).running t)) (is_view_key (w.node n).view k)
 comes w n from _ = Nothing
 
 -- bytes that spell no message do nothing
@@ -114,7 +126,8 @@ effect w (line.Handed n k p) = Hands n k p
 effect w (line.Settled n k p) = Settles n k p
 effect w (line.Learn n k p) = Learns n k p
 effect w (line.Drop n k p) = Drops n k p
-effect w (line.Sent i a b bytes) = Sends i (record { from = a; to = b; size = length bytes; message = message_of bytes })
+effect w (line.Sent i a b bytes) =
+    Sends i (record { from = a; to = b; size = length bytes; message = message_of bytes })
 effect w (line.Deliver i a b) = arrives w (w.packet i)
 effect w (line.Repeat i a b) = arrives w (w.packet i)
 effect w (line.Cut i a b size) = arrives_cut w size (w.packet i)

@@ -65,7 +65,9 @@ other_view_replicas G k p n = without (view_replicas G k p) n
 -- whether the member's copy is whole, and none in the list is whole under a greater key
 abbrev pub is_view_wholest : Ground → ClusterKey → ℕ → ℕ → Bool
 is_view_wholest G k p n =
-    is_whole (G.row k n p) && list_all (λ m. not (keys.key_lt (whole_key (G.row k n p)) (whole_key (G.row k m p)))) (view_list G k p)
+    is_whole (G.row k n p)
+    && list_all (λ m. not (keys.key_lt (whole_key (G.row k n p)) (whole_key (G.row k m p))))
+    (view_list G k p)
 
 -- the acting master: the first of the list whose copy is whole under the greatest key, and the list
 -- master where no copy is whole
@@ -82,7 +84,8 @@ is_view_empty G k p = list_all (λ n. is_empty (G.row k n p)) (view_list G k p)
 abbrev pub is_in_view_class : Ground → ClusterKey → ℕ → ℕ → ℕ → CopyState → Bool
 is_in_view_class G k p a b Empty = false
 is_in_view_class G k p a b Part = a == b
-is_in_view_class G k p a b (Whole key writes) = if writes == no_class then a == b else is_whole_with key writes (G.row k b p)
+is_in_view_class G k p a b (Whole key writes) =
+    if writes == no_class then a == b else is_whole_with key writes (G.row k b p)
 
 -- whether the second node is in the class of the first
 unfoldable pub same_view_class : Ground → ClusterKey → ℕ → ℕ → ℕ → Bool
@@ -100,7 +103,10 @@ is_view_class_first G k p n = is_that (view_class_first G k p n) n
 -- other is a replica, another node and not in that class
 unfoldable pub view_sends_to : Ground → ClusterKey → ℕ → ℕ → ℕ → Bool
 view_sends_to G k p from to =
-    is_view_replica G k p to && (not (from == to) && (not (is_empty (G.row k from p)) && (is_view_class_first G k p from && not (same_view_class G k p from to))))
+    is_view_replica G k p to
+    && (not (from == to)
+    && (not (is_empty (G.row k from p))
+    && (is_view_class_first G k p from && not (same_view_class G k p from to))))
 
 -- whom a node asks for their versions of a record: the firsts of all classes but its own, in list order
 unfoldable pub asks : Ground → ClusterKey → ℕ → ℕ → List ℕ

@@ -26,7 +26,8 @@ IsFor w i b = (p : Packet) → w.packet i ≡ Some p → p.to ≡ b
 
 -- a member shows its map once it has finished the exchange: the list by its view's members, each with its role, and the
 -- acting master by their rows
-pub record ShowsGround (G : Ground) (w : Picture) (n : ℕ) (k : ClusterKey) (p : ℕ) (ms : List Member) (a : ℕ) : Type 0 where
+pub record ShowsGround (G : Ground) (w : Picture) (n : ℕ) (k : ClusterKey) (p : ℕ)
+    (ms : List Member) (a : ℕ) : Type 0 where
   pub exchanged : (w.stay n k).exchanged ≡ true
   pub members : ms ≡ with_roles (G.members k) (view_list G k p)
   pub acting : a ≡ view_acting G k p
@@ -50,11 +51,13 @@ pub record IsJournal (h : Header) (G : Ground) (lines : List Line) : Type 0 wher
   pub factor : G.factor ≡ factor_of (journal h lines)
   -- each line has its licence and fits
   pub licensed : Licensed G start lines
-  pub fits : (i : ℕ) (l : Line) → slice_get lines i ≡ Some l → FitsGround G (nodes (journal h lines)) (picture G lines i) l
+  pub fits : (i : ℕ) (l : Line) → slice_get lines i ≡ Some l
+      → FitsGround G (nodes (journal h lines)) (picture G lines i) l
 
 -- it holds of every journal
 abbrev pub OfJournals : (List Line → Type 0) → Type 0
-OfJournals P = (h : Header) (G : Ground) (lines : List Line) → IsJournal h G lines → P (journal h lines)
+OfJournals P =
+    (h : Header) (G : Ground) (lines : List Line) → IsJournal h G lines → P (journal h lines)
 
 -- the header of the node that runs alone
 abbrev pub lone_header : Header

@@ -78,7 +78,8 @@ pub record IsFree (s : Stay) (p : ℕ) : Type 0 where
 -- another, from its settling on. Both go by its own lines
 abbrev pub Acts : Ground → ℕ → ClusterKey → Stay → ℕ → Type 0
 Acts G n k s p =
-    ((n ≡ view_acting G k p) × (s.own_handed p ≡ false)) ⊎ ((n ≡ view_master G k p) × (n ≡ view_acting G k p → ⊥) × (s.own_settled p ≡ true))
+    ((n ≡ view_acting G k p) × (s.own_handed p ≡ false))
+    ⊎ ((n ≡ view_master G k p) × (n ≡ view_acting G k p → ⊥) × (s.own_settled p ≡ true))
 
 -- ---- lines
 
@@ -94,7 +95,8 @@ pub record MayExchange (G : Ground) (w : Picture) (n : ℕ) (k : ClusterKey) : T
   pub first : (w.stay n k).exchanged ≡ false
   pub rows : (m : ℕ) → is_view_member G k m ≡ true → (w.stay n k).rows m ≡ true
 
-pub record MayOpen (G : Ground) (w : Picture) (n : ℕ) (k : ClusterKey) (t : ℕ) (d : List ℕ) : Type 0 where
+pub record MayOpen (G : Ground) (w : Picture) (n : ℕ) (k : ClusterKey) (t : ℕ) (d : List ℕ)
+    : Type 0 where
   pub is_in : IsIn w n k
   pub exchanged : (w.stay n k).exchanged ≡ true
   pub number : t ≡ (w.stay n k).opened + 1
@@ -102,19 +104,22 @@ pub record MayOpen (G : Ground) (w : Picture) (n : ℕ) (k : ClusterKey) (t : �
   pub free : (u : ℕ) (y : Running) → (w.stay n k).running u ≡ Some y → y.digest ≡ d → ⊥
 
 -- the transaction is open on the digest, has applied nothing, and all that were asked have answered
-pub record IsResolved (w : Picture) (n : ℕ) (k : ClusterKey) (t : ℕ) (d : List ℕ) (y : Running) : Type 0 where
+pub record IsResolved (w : Picture) (n : ℕ) (k : ClusterKey) (t : ℕ) (d : List ℕ) (y : Running)
+    : Type 0 where
   pub is_in : IsIn w n k
   pub running : (w.stay n k).running t ≡ Some y
   pub digest : y.digest ≡ d
   pub unapplied : y.applied ≡ None
   pub answered : y.awaiting ≡ []
 
-pub record MayAnswer (w : Picture) (n : ℕ) (k : ClusterKey) (t : ℕ) (d : List ℕ) (v : Option Version) : Type 0 where
+pub record MayAnswer (w : Picture) (n : ℕ) (k : ClusterKey) (t : ℕ) (d : List ℕ)
+    (v : Option Version) : Type 0 where
   pub transaction : Running
   pub resolved : IsResolved w n k t d transaction
   pub best : v ≡ transaction.best
 
-pub record MayApply (w : Picture) (n : ℕ) (k : ClusterKey) (t : ℕ) (d : List ℕ) (v : Version) : Type 0 where
+pub record MayApply (w : Picture) (n : ℕ) (k : ClusterKey) (t : ℕ) (d : List ℕ) (v : Version)
+    : Type 0 where
   pub transaction : Running
   pub resolved : IsResolved w n k t d transaction
   pub next : v ≡ next transaction.best (w.node n).clock v.body
@@ -132,22 +137,28 @@ pub record MayGiveUp (w : Picture) (n : ℕ) (k : ClusterKey) : Type 0 where
   pub view : (w.node n).view ≡ Some k
 
 -- a write came, and counts where the list master sent it
-pub record CameCounted (G : Ground) (w : Picture) (n : ℕ) (k : ClusterKey) (d : List ℕ) (v : Version) (from : ℕ) : Type 0 where
+pub record CameCounted (G : Ground) (w : Picture) (n : ℕ) (k : ClusterKey) (d : List ℕ)
+    (v : Version) (from : ℕ) : Type 0 where
   pub number : ℕ
   pub nth : ℕ
   pub came : WasSent w from n (message.Repl k number nth d v)
-  pub counted : from ≡ view_master G k (partition_of d) → contains ((w.stay n k).numbers (partition_of d)) nth ≡ true
+  pub counted : from ≡ view_master G k (partition_of d)
+      → contains ((w.stay n k).numbers (partition_of d)) nth ≡ true
 
 -- a batch or a write of the view brought the version
 abbrev pub Brought : Ground → Picture → ℕ → ClusterKey → List ℕ → Version → ℕ → Type 0
-Brought G w n k d v from = ((b : Batch) × WasSent w from n (message.Batch b) × (b.key ≡ k) × IsAmong b.records d v) ⊎ CameCounted G w n k d v from
+Brought G w n k d v from =
+    ((b : Batch) × WasSent w from n (message.Batch b) × (b.key ≡ k) × IsAmong b.records d v)
+    ⊎ CameCounted G w n k d v from
 
-pub record MayMerge (G : Ground) (w : Picture) (n : ℕ) (k : ClusterKey) (d : List ℕ) (v : Version) : Type 0 where
+pub record MayMerge (G : Ground) (w : Picture) (n : ℕ) (k : ClusterKey) (d : List ℕ) (v : Version)
+    : Type 0 where
   pub is_in : IsIn w n k
   pub from : ℕ
   pub brought : Brought G w n k d v from
   -- where a merge is owed, it is this one
-  pub owed : (o : Owed) → w.owed ≡ Some o → o ≡ record { node = n; key = k; digest = d; version = v }
+  pub owed : (o : Owed) → w.owed ≡ Some o
+      → o ≡ record { node = n; key = k; digest = d; version = v }
 
 pub record MayHand (G : Ground) (w : Picture) (n : ℕ) (k : ClusterKey) (p : ℕ) : Type 0 where
   pub is_in : IsIn w n k
@@ -179,13 +190,16 @@ pub record MayDrop (G : Ground) (w : Picture) (n : ℕ) (k : ClusterKey) (p : �
 -- ---- messages
 
 -- each record is held so, and is pending to the receiver
-pub record AreHeldAndPending (content : Versions) (s : Stay) (r : ℕ) (records : List (List ℕ × Version)) : Type 0 where
+pub record AreHeldAndPending (content : Versions) (s : Stay) (r : ℕ)
+    (records : List (List ℕ × Version)) : Type 0 where
   pub held : (d : List ℕ) (v : Version) → IsAmong records d v → content d ≡ Some v
   pub pending : (d : List ℕ) (v : Version) → IsAmong records d v → s.pending r d ≡ true
 
 -- the batch that is out goes again, or the next one, where none is out
 abbrev pub IsBatchToSend : Versions → Stay → ℕ → Batch → Type 0
-IsBatchToSend content s r b = (s.out r ≡ Some b) ⊎ ((s.out r ≡ None) × (b.number ≡ s.batches r + 1) × AreHeldAndPending content s r b.records)
+IsBatchToSend content s r b =
+    (s.out r ≡ Some b)
+    ⊎ ((s.out r ≡ None) × (b.number ≡ s.batches r + 1) × AreHeldAndPending content s r b.records)
 
 pub record MayBatch (w : Picture) (n r : ℕ) (b : Batch) : Type 0 where
   pub is_in : IsIn w n b.key
@@ -193,20 +207,24 @@ pub record MayBatch (w : Picture) (n r : ℕ) (b : Batch) : Type 0 where
   pub batch : IsBatchToSend (w.node n).content (w.stay n b.key) r b
 
 -- the batch came, and each of its records is held now
-pub record MayAckBatch (G : Ground) (w : Picture) (n r : ℕ) (k : ClusterKey) (number : ℕ) : Type 0 where
+pub record MayAckBatch (G : Ground) (w : Picture) (n r : ℕ) (k : ClusterKey) (number : ℕ)
+    : Type 0 where
   pub is_in : IsIn w n k
   pub batch : Batch
   pub named : (batch.key ≡ k) × (batch.number ≡ number)
   pub came : WasSent w r n (message.Batch batch)
-  pub held : (d : List ℕ) (v : Version) → IsAmong batch.records d v → AtMost G.by (Some v) ((w.node n).content d)
+  pub held : (d : List ℕ) (v : Version) → IsAmong batch.records d v
+      → AtMost G.by (Some v) ((w.node n).content d)
 
-pub record MayTell (w : Picture) (n : ℕ) (k : ClusterKey) (done_bits handed_bits settled_bits : List Bool) : Type 0 where
+pub record MayTell (w : Picture) (n : ℕ) (k : ClusterKey)
+    (done_bits handed_bits settled_bits : List Bool) : Type 0 where
   pub is_in : IsIn w n k
   pub done : (p : ℕ) → bit done_bits p ≡ true → IsDone (w.stay n k) p
   pub handed : (p : ℕ) → bit handed_bits p ≡ true → (w.stay n k).handed p ≡ true
   pub settled : (p : ℕ) → bit settled_bits p ≡ true → (w.stay n k).settled p ≡ true
 
-pub record MayReplicate (G : Ground) (w : Picture) (n r : ℕ) (k : ClusterKey) (t nth : ℕ) (d : List ℕ) (v : Version) : Type 0 where
+pub record MayReplicate (G : Ground) (w : Picture) (n r : ℕ) (k : ClusterKey) (t nth : ℕ)
+    (d : List ℕ) (v : Version) : Type 0 where
   pub is_in : IsIn w n k
   pub transaction : Running
   pub running : (w.stay n k).running t ≡ Some transaction
@@ -222,7 +240,8 @@ pub record MayAckWrite (G : Ground) (w : Picture) (n r : ℕ) (k : ClusterKey) (
   pub digest : List ℕ
   pub version : Version
   pub came : WasSent w r n (message.Repl k t nth digest version)
-  pub counted : r ≡ view_master G k (partition_of digest) → contains ((w.stay n k).numbers (partition_of digest)) nth ≡ true
+  pub counted : r ≡ view_master G k (partition_of digest)
+      → contains ((w.stay n k).numbers (partition_of digest)) nth ≡ true
   pub held : AtMost G.by (Some version) ((w.node n).content digest)
 
 pub record MayAsk (w : Picture) (n : ℕ) (k : ClusterKey) (t : ℕ) (d : List ℕ) : Type 0 where
@@ -231,13 +250,15 @@ pub record MayAsk (w : Picture) (n : ℕ) (k : ClusterKey) (t : ℕ) (d : List �
   pub running : (w.stay n k).running t ≡ Some transaction
   pub digest : transaction.digest ≡ d
 
-pub record MayReply (w : Picture) (n r : ℕ) (k : ClusterKey) (t : ℕ) (v : Option Version) : Type 0 where
+pub record MayReply (w : Picture) (n r : ℕ) (k : ClusterKey) (t : ℕ) (v : Option Version)
+    : Type 0 where
   pub is_in : IsIn w n k
   pub digest : List ℕ
   pub came : WasSent w r n (message.Ask k t digest)
   pub held : v ≡ (w.node n).content digest
 
-pub record MayState (G : Ground) (w : Picture) (n : ℕ) (k : ClusterKey) (states : List (ℕ × CopyState)) : Type 0 where
+pub record MayState (G : Ground) (w : Picture) (n : ℕ) (k : ClusterKey)
+    (states : List (ℕ × CopyState)) : Type 0 where
   pub is_in : IsIn w n k
   pub row : (p : ℕ) → state_of states p ≡ G.row k n p
 

@@ -36,7 +36,8 @@ LicensedOr Extra G w (l ∷ ls) = (Ok G w l ⊎ Extra G w l)
 -- ---- what is allowed besides
 
 -- a transaction opens on a record on which one is open
-pub record OpensBusy (w : Picture) (G : Ground) (n : ℕ) (k : ClusterKey) (t : ℕ) (d : List ℕ) : Type 0 where
+pub record OpensBusy (w : Picture) (G : Ground) (n : ℕ) (k : ClusterKey) (t : ℕ) (d : List ℕ)
+    : Type 0 where
   pub is_in : IsIn w n k
   pub exchanged : (w.stay n k).exchanged ≡ true
   pub number : t ≡ (w.stay n k).opened + 1
@@ -85,11 +86,14 @@ conjured = line.Enter 1 (key 1 1) one ∷ line.Merge 1 (key 1 1) digest (version
 abbrev pub first_view : List Line
 first_view =
     line.Enter 1 (key 1 1) one ∷ line.Exchanged 1 (key 1 1)
-    ∷ line.Opened 1 (key 1 1) 1 digest action.Put ∷ line.Apply 1 (key 1 1) 1 digest (version 0 1 97) ∷ line.Done 1 (key 1 1) 1 ∷ []
+    ∷ line.Opened 1 (key 1 1) 1 digest action.Put ∷ line.Apply 1 (key 1 1) 1 digest (version 0 1 97)
+    ∷ line.Done 1 (key 1 1) 1 ∷ []
 
 -- it enters another view, and settles the partition
 abbrev pub lone_run : List Line
-lone_run = first_view ++ line.Enter 1 (key 2 1) one ∷ line.Exchanged 1 (key 2 1) ∷ line.Settled 1 (key 2 1) 4095 ∷ []
+lone_run =
+    first_view ++ line.Enter 1 (key 2 1) one ∷ line.Exchanged 1 (key 2 1)
+    ∷ line.Settled 1 (key 2 1) 4095 ∷ []
 
 -- and drops its copy
 abbrev pub thrown_away : List Line
@@ -122,7 +126,10 @@ abbrev pub pair_members : ClusterKey → List Member
 pair_members k = if same_key k (key 4 2) then both else one
 
 abbrev pub pair_row : ClusterKey → ℕ → ℕ → CopyState
-pair_row k n p = if (same_key k (key 4 2) || same_key k (key 2 1)) && ((n == 1) && (p == 4095)) then Whole (key 1 1) 1 else Empty
+pair_row k n p =
+    if (same_key k (key 4 2) || same_key k (key 2 1)) && ((n == 1) && (p == 4095))
+    then Whole (key 1 1) 1
+    else Empty
 
 abbrev pub pair : Ground
 pair = record { by = Time; factor = 1; members = pair_members; row = pair_row }
@@ -134,10 +141,13 @@ handed_on = record { key = key 4 2; number = 1; records = (digest, version 0 1 9
 abbrev pub met_run : List Line
 met_run =
     lone_run ++ line.Enter 2 (key 4 2) both ∷ line.Enter 1 (key 4 2) both
-    ∷ line.Sent 1 2 1 (spelling (message.State (key 4 2) true [])) ∷ line.Deliver 1 2 1 ∷ line.Exchanged 1 (key 4 2)
-    ∷ line.Sent 2 1 2 (spelling (message.Batch handed_on)) ∷ line.Merge 2 (key 4 2) digest (version 0 1 97)
+    ∷ line.Sent 1 2 1 (spelling (message.State (key 4 2) true [])) ∷ line.Deliver 1 2 1
+    ∷ line.Exchanged 1 (key 4 2)
+    ∷ line.Sent 2 1 2 (spelling (message.Batch handed_on))
+    ∷ line.Merge 2 (key 4 2) digest (version 0 1 97)
     ∷ line.Sent 3 2 1 (spelling (message.BatchAck (key 4 2) 1)) ∷ line.Deliver 3 2 1
-    ∷ line.Opened 1 (key 4 2) 1 digest action.Put ∷ line.Apply 1 (key 4 2) 1 digest (version 0 2 98) ∷ []
+    ∷ line.Opened 1 (key 4 2) 1 digest action.Put ∷ line.Apply 1 (key 4 2) 1 digest (version 0 2 98)
+    ∷ []
 
 -- and drops its copy
 abbrev pub dropped_early : List Line
@@ -146,7 +156,8 @@ dropped_early = met_run ++ line.Drop 1 (key 4 2) 4095 ∷ []
 -- ---- two sides
 
 -- a question of an earlier transaction is answered as if it were that of this one
-pub record AnswersEarlier (w : Picture) (n r : ℕ) (k : ClusterKey) (t : ℕ) (v : Option Version) : Type 0 where
+pub record AnswersEarlier (w : Picture) (n r : ℕ) (k : ClusterKey) (t : ℕ) (v : Option Version)
+    : Type 0 where
   pub is_in : IsIn w n k
   pub earlier : ℕ
   pub before : earlier < t
@@ -184,7 +195,8 @@ abbrev pub side_row : ℕ → ℕ → List (ℕ × CopyState)
 side_row n writes = (4095, Whole (key 1 n) writes) ∷ []
 
 abbrev pub sides_row : ℕ → ClusterKey → ℕ → ℕ → CopyState
-sides_row writes k n p = if same_key k (key 4 2) then state_of (side_row n (if n == 1 then writes else 1)) p else Empty
+sides_row writes k n p =
+    if same_key k (key 4 2) then state_of (side_row n (if n == 1 then writes else 1)) p else Empty
 
 abbrev pub sides : ℕ → Ground
 sides writes = record { by = Time; factor = 1; members = sides_members; row = sides_row writes }
@@ -193,7 +205,8 @@ sides writes = record { by = Time; factor = 1; members = sides_members; row = si
 abbrev pub side : ℕ → List Member → List ℕ → Version → List Line
 side n members d v =
     line.Enter n (key 1 n) members ∷ line.Exchanged n (key 1 n)
-    ∷ line.Opened n (key 1 n) 1 d action.Put ∷ line.Apply n (key 1 n) 1 d v ∷ line.Done n (key 1 n) 1 ∷ []
+    ∷ line.Opened n (key 1 n) 1 d action.Put ∷ line.Apply n (key 1 n) 1 d v
+    ∷ line.Done n (key 1 n) 1 ∷ []
 
 abbrev pub both_sides : List Line
 both_sides = side 1 one digest (version 0 1 97) ++ side 2 two second (version 0 1 98)
@@ -202,7 +215,8 @@ both_sides = side 1 one digest (version 0 1 97) ++ side 2 two second (version 0 
 abbrev pub meeting : List Line
 meeting =
     line.Enter 2 (key 4 2) both ∷ line.Enter 1 (key 4 2) both
-    ∷ line.Sent 1 1 2 (spelling (message.State (key 4 2) true (side_row 1 1))) ∷ line.Deliver 1 1 2 ∷ line.Exchanged 2 (key 4 2) ∷ []
+    ∷ line.Sent 1 1 2 (spelling (message.State (key 4 2) true (side_row 1 1))) ∷ line.Deliver 1 1 2
+    ∷ line.Exchanged 2 (key 4 2) ∷ []
 
 abbrev pub together : List Line
 together = both_sides ++ meeting
@@ -210,7 +224,8 @@ together = both_sides ++ meeting
 -- node 2 reads both records, and its question about the one that it has itself comes to node 1
 abbrev pub question_lines : List Line
 question_lines =
-    line.Opened 2 (key 4 2) 1 second action.Get ∷ line.Sent 2 2 1 (spelling (message.Ask (key 4 2) 1 second)) ∷ line.Deliver 2 2 1
+    line.Opened 2 (key 4 2) 1 second action.Get
+    ∷ line.Sent 2 2 1 (spelling (message.Ask (key 4 2) 1 second)) ∷ line.Deliver 2 2 1
     ∷ line.Opened 2 (key 4 2) 2 digest action.Get ∷ []
 
 abbrev pub asked_run : List Line
@@ -232,7 +247,8 @@ settled_early = together ++ line.Settled 2 (key 4 2) 4095 ∷ []
 -- ---- a batch of two
 
 -- a batch is acknowledged of which one record is held now
-pub record AcksPart (G : Ground) (w : Picture) (n r : ℕ) (k : ClusterKey) (number : ℕ) : Type 0 where
+pub record AcksPart (G : Ground) (w : Picture) (n r : ℕ) (k : ClusterKey) (number : ℕ)
+    : Type 0 where
   pub is_in : IsIn w n k
   pub batch : Batch
   pub named : (batch.key ≡ k) × (batch.number ≡ number)
@@ -257,7 +273,9 @@ third = 255 ∷ 255 ∷ replicate 17 0 ++ 2 ∷ []
 
 -- node 1 writes a second record in its own view
 abbrev pub writing_more : List Line
-writing_more = line.Opened 1 (key 1 1) 2 third action.Put ∷ line.Apply 1 (key 1 1) 2 third (version 0 1 99) ∷ line.Done 1 (key 1 1) 2 ∷ []
+writing_more =
+    line.Opened 1 (key 1 1) 2 third action.Put ∷ line.Apply 1 (key 1 1) 2 third (version 0 1 99)
+    ∷ line.Done 1 (key 1 1) 2 ∷ []
 
 abbrev pub laden : List Line
 laden = side 1 one digest (version 0 1 97) ++ writing_more
@@ -266,15 +284,22 @@ abbrev pub laden_apart : List Line
 laden_apart = laden ++ side 2 two second (version 0 1 98)
 
 abbrev pub two_records : Batch
-two_records = record { key = key 4 2; number = 1; records = (digest, version 0 1 97) ∷ (third, version 0 1 99) ∷ [] }
+two_records = record {
+  key = key 4 2;
+  number = 1;
+  records = (digest, version 0 1 97) ∷ (third, version 0 1 99) ∷ [];
+}
 
 -- they meet, and node 2 merges the first record of node 1's batch
 abbrev pub batch_lines : List Line
 batch_lines =
     line.Enter 2 (key 4 2) both ∷ line.Enter 1 (key 4 2) both
-    ∷ line.Sent 1 1 2 (spelling (message.State (key 4 2) true (side_row 1 2))) ∷ line.Deliver 1 1 2 ∷ line.Exchanged 2 (key 4 2)
-    ∷ line.Sent 2 2 1 (spelling (message.State (key 4 2) false (side_row 2 1))) ∷ line.Deliver 2 2 1 ∷ line.Exchanged 1 (key 4 2)
-    ∷ line.Sent 3 1 2 (spelling (message.Batch two_records)) ∷ line.Merge 2 (key 4 2) digest (version 0 1 97) ∷ []
+    ∷ line.Sent 1 1 2 (spelling (message.State (key 4 2) true (side_row 1 2))) ∷ line.Deliver 1 1 2
+    ∷ line.Exchanged 2 (key 4 2)
+    ∷ line.Sent 2 2 1 (spelling (message.State (key 4 2) false (side_row 2 1))) ∷ line.Deliver 2 2 1
+    ∷ line.Exchanged 1 (key 4 2)
+    ∷ line.Sent 3 1 2 (spelling (message.Batch two_records))
+    ∷ line.Merge 2 (key 4 2) digest (version 0 1 97) ∷ []
 
 abbrev pub batch_run : List Line
 batch_run = laden_apart ++ batch_lines
@@ -292,13 +317,16 @@ last_bit = replicate 511 0 ++ 128 ∷ []
 -- a Progress with a done and a handed row, as bytes: its kind, the key, that none is wanted back, and the rows; nothing is
 -- settled
 abbrev pub progress_bytes : List ℕ → List ℕ → List ℕ
-progress_bytes done handed = concat (byte_field 9 ∷ key_field (key 4 2) ∷ flag_field false ∷ done ∷ handed ∷ no_bits_bytes ∷ [])
+progress_bytes done handed =
+    concat
+    (byte_field 9 ∷ key_field (key 4 2) ∷ flag_field false ∷ done ∷ handed ∷ no_bits_bytes ∷ [])
 
 -- node 2 acknowledges the batch, node 1 says that it is done, and node 2 settles
 abbrev pub early_settling_lines : List Line
 early_settling_lines =
     line.Sent 4 2 1 (spelling (message.BatchAck (key 4 2) 1)) ∷ line.Deliver 4 2 1
-    ∷ line.Sent 5 1 2 (progress_bytes all_bits no_bits_bytes) ∷ line.Deliver 5 1 2 ∷ line.Settled 2 (key 4 2) 4095 ∷ []
+    ∷ line.Sent 5 1 2 (progress_bytes all_bits no_bits_bytes) ∷ line.Deliver 5 1 2
+    ∷ line.Settled 2 (key 4 2) 4095 ∷ []
 
 abbrev pub settled_in_part : List Line
 settled_in_part = batch_run ++ early_settling_lines
@@ -306,7 +334,8 @@ settled_in_part = batch_run ++ early_settling_lines
 -- ---- a late write
 
 -- an acting master opens a transaction, whether it has handed the partition over or not
-pub record OpensLate (G : Ground) (w : Picture) (n : ℕ) (k : ClusterKey) (t : ℕ) (d : List ℕ) : Type 0 where
+pub record OpensLate (G : Ground) (w : Picture) (n : ℕ) (k : ClusterKey) (t : ℕ) (d : List ℕ)
+    : Type 0 where
   pub is_in : IsIn w n k
   pub exchanged : (w.stay n k).exchanged ≡ true
   pub number : t ≡ (w.stay n k).opened + 1
@@ -319,7 +348,8 @@ Late G w _ = ⊥
 
 -- node 1 was alone, with one write; then it meets node 2, which has no record and is the only replica
 abbrev pub handing_row : ClusterKey → ℕ → ℕ → CopyState
-handing_row k n p = if same_key k (key 4 2) then state_of (if n == 1 then side_row 1 1 else []) p else Empty
+handing_row k n p =
+    if same_key k (key 4 2) then state_of (if n == 1 then side_row 1 1 else []) p else Empty
 
 abbrev pub handing_ground : Ground
 handing_ground = record { by = Time; factor = 1; members = sides_members; row = handing_row }
@@ -328,11 +358,15 @@ handing_ground = record { by = Time; factor = 1; members = sides_members; row = 
 abbrev pub moving : List Line
 moving =
     line.Enter 2 (key 4 2) both ∷ line.Enter 1 (key 4 2) both
-    ∷ line.Sent 1 2 1 (spelling (message.State (key 4 2) true [])) ∷ line.Deliver 1 2 1 ∷ line.Exchanged 1 (key 4 2)
-    ∷ line.Sent 2 1 2 (spelling (message.State (key 4 2) false (side_row 1 1))) ∷ line.Deliver 2 1 2 ∷ line.Exchanged 2 (key 4 2)
-    ∷ line.Sent 3 1 2 (spelling (message.Batch handed_on)) ∷ line.Merge 2 (key 4 2) digest (version 0 1 97)
+    ∷ line.Sent 1 2 1 (spelling (message.State (key 4 2) true [])) ∷ line.Deliver 1 2 1
+    ∷ line.Exchanged 1 (key 4 2)
+    ∷ line.Sent 2 1 2 (spelling (message.State (key 4 2) false (side_row 1 1))) ∷ line.Deliver 2 1 2
+    ∷ line.Exchanged 2 (key 4 2)
+    ∷ line.Sent 3 1 2 (spelling (message.Batch handed_on))
+    ∷ line.Merge 2 (key 4 2) digest (version 0 1 97)
     ∷ line.Sent 4 2 1 (spelling (message.BatchAck (key 4 2) 1)) ∷ line.Deliver 4 2 1
-    ∷ line.Sent 5 2 1 (progress_bytes all_bits no_bits_bytes) ∷ line.Deliver 5 2 1 ∷ line.Handed 1 (key 4 2) 4095 ∷ []
+    ∷ line.Sent 5 2 1 (progress_bytes all_bits no_bits_bytes) ∷ line.Deliver 5 2 1
+    ∷ line.Handed 1 (key 4 2) 4095 ∷ []
 
 abbrev pub handed_over : List Line
 handed_over = side 1 one digest (version 0 1 97) ++ moving
@@ -341,7 +375,8 @@ handed_over = side 1 one digest (version 0 1 97) ++ moving
 abbrev pub writing_late : List Line
 writing_late =
     line.Opened 1 (key 4 2) 1 digest action.Put ∷ line.Apply 1 (key 4 2) 1 digest (version 0 2 98)
-    ∷ line.Sent 6 1 2 (progress_bytes no_bits_bytes last_bit) ∷ line.Deliver 6 1 2 ∷ line.Settled 2 (key 4 2) 4095 ∷ []
+    ∷ line.Sent 6 1 2 (progress_bytes no_bits_bytes last_bit) ∷ line.Deliver 6 1 2
+    ∷ line.Settled 2 (key 4 2) 4095 ∷ []
 
 abbrev pub written_late : List Line
 written_late = handed_over ++ writing_late
@@ -349,7 +384,8 @@ written_late = handed_over ++ writing_late
 -- ---- what they show
 
 -- the run is allowed, and the law doesn't hold of it
-pub record Breaks (Extra : Ground → Picture → Line → Type 0) (Law : Ground → List Line → Type 0) (G : Ground) (ls : List Line) : Type 0 where
+pub record Breaks (Extra : Ground → Picture → Line → Type 0) (Law : Ground → List Line → Type 0)
+    (G : Ground) (ls : List Line) : Type 0 where
   pub ground : IsGround G
   pub allowed : LicensedOr Extra G start ls
   pub broken : Law G ls → ⊥

@@ -31,13 +31,15 @@ MayPlay n w command.Calm x = Calms n w x ⊎ AreBegun n w x
 MayPlay n w c x = Plays n w c x
 
 -- the command is begun in that world: these of its steps were taken, and this one comes next
-pub record IsBegun (n : ℕ) (w : World) (c : Command) (taken : List Step) (next : Step) : Type 0 where
+pub record IsBegun (n : ℕ) (w : World) (c : Command) (taken : List Step) (next : Step)
+    : Type 0 where
   pub whole : Played
   pub plays : MayPlay n w c whole
   pub front : ComesNext whole.steps taken next
 
 -- one thing is played whole, and then others are begun in the world after it
-pub record ThenBegun (First : Played → Type 0) (Others : World → List Step → Type 0) (taken : List Step) : Type 0 where
+pub record ThenBegun (First : Played → Type 0) (Others : World → List Step → Type 0)
+    (taken : List Step) : Type 0 where
   pub first : Played
   pub plays : First first
   pub others : List Step
@@ -47,7 +49,8 @@ pub record ThenBegun (First : Played → Type 0) (Others : World → List Step �
 -- commands are begun: those before one of them are played whole, and that one is begun
 abbrev pub AllBegun : ℕ → World → List Command → List Step → Step → Type 0
 AllBegun n w [] taken next = ⊥
-AllBegun n w (c ∷ cs) taken next = IsBegun n w c taken next ⊎ ThenBegun (Plays n w c) (λ v ss. AllBegun n v cs ss next) taken
+AllBegun n w (c ∷ cs) taken next =
+    IsBegun n w c taken next ⊎ ThenBegun (Plays n w c) (λ v ss. AllBegun n v cs ss next) taken
 
 -- ---- runs
 

@@ -20,12 +20,15 @@ as_members w ns = in_order (λ a b. nat_lt b.id a.id) (members_now w ns)
 -- whether these nodes have all finished the exchange of one view, the first one's, whose members are just they
 abbrev pub share_view : World → List ℕ → Bool
 share_view w [] = true
-share_view w (n ∷ ns) = list_all (λ m. has_exchanged_in (view_key (w.facts n)) (as_members w (n ∷ ns)) (w.facts m)) (n ∷ ns)
+share_view w (n ∷ ns) =
+    list_all (λ m. has_exchanged_in (view_key (w.facts n)) (as_members w (n ∷ ns)) (w.facts m))
+    (n ∷ ns)
 
 -- whether the group's up nodes share a view of just them, and each of them knows every partition settled, has
 -- nothing to learn or drop and no open transaction
 abbrev pub is_group_at_rest : ℕ → World → List ℕ → Bool
-is_group_at_rest n w group = share_view w (up_in w group) && list_all (λ m. is_at_rest_of n (w.facts m)) (up_in w group)
+is_group_at_rest n w group =
+    share_view w (up_in w group) && list_all (λ m. is_at_rest_of n (w.facts m)) (up_in w group)
 
 -- whether the world of so many partitions is calm: each group is at rest, and nothing is in flight
 abbrev pub is_calm_of : ℕ → World → Bool

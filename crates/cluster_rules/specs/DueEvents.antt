@@ -38,7 +38,8 @@ abbrev pub sent_lines : ℕ → ℕ → ℕ → List (ℕ × Message) → List L
 sent_lines from sent flying [] = []
 sent_lines from sent flying (m ∷ ms) =
     line.Sent (sent + 1) from m.0 (spelling m.1)
-    ∷ (full_unless (sent + 1) (has_place flying) ++ sent_lines from (sent + 1) (one_more_if flying (has_place flying)) ms)
+    ∷ (full_unless (sent + 1) (has_place flying)
+    ++ sent_lines from (sent + 1) (one_more_if flying (has_place flying)) ms)
 
 -- the lines of what an endpoint does: first its own, and then those of its messages
 abbrev pub written : Network → ℕ → Effects → List Line
@@ -69,7 +70,8 @@ due_at_client _ = line.Stale client ∷ []
 -- a message arrives, where the test says whether at the client
 abbrev pub due_at_end : ℕ → World → Network → Posting → Message → Bool → List Line
 due_at_end n w net p m true = due_at_client m
-due_at_end n w net p m false = written net p.to (due_message_of n (w.facts p.to) (w.clocks p.to) p.from m)
+due_at_end n w net p m false =
+    written net p.to (due_message_of n (w.facts p.to) (w.clocks p.to) p.from m)
 
 -- what arrives, if it is a message
 abbrev pub due_arrival : ℕ → World → Network → Posting → Option Message → List Line
@@ -101,16 +103,22 @@ delivery w i lines (Some p) = unless_blocked i lines p (is_blocked w p)
 
 -- a delivery takes the message out of flight
 abbrev pub due_deliver : ℕ → World → ℕ → List Line
-due_deliver n w i = delivery w i (λ p. line.Deliver i p.from p.to ∷ arriving n w (landed w.network i) p) (flying_at w.network i)
+due_deliver n w i =
+    delivery w i (λ p. line.Deliver i p.from p.to ∷ arriving n w (landed w.network i) p)
+    (flying_at w.network i)
 
 -- a repeated one stays in flight
 abbrev pub due_repeat : ℕ → World → ℕ → List Line
-due_repeat n w i = delivery w i (λ p. line.Repeat i p.from p.to ∷ arriving n w w.network p) (flying_at w.network i)
+due_repeat n w i =
+    delivery w i (λ p. line.Repeat i p.from p.to ∷ arriving n w w.network p) (flying_at w.network i)
 
 -- a cut takes it out of flight, also where it arrives short
 abbrev pub due_cut : ℕ → World → ℕ → ℕ → List Line
 due_cut n w i size =
-    delivery w i (λ p. line.Cut i p.from p.to size ∷ arriving_cut n w (landed w.network i) p (nat_lt size (length p.bytes))) (flying_at w.network i)
+    delivery w i
+    (λ p. line.Cut i p.from p.to size
+    ∷ arriving_cut n w (landed w.network i) p (nat_lt size (length p.bytes)))
+    (flying_at w.network i)
 
 -- the message, if there is one in flight, is lost
 abbrev pub losing : ℕ → Option Posting → List Line
@@ -125,7 +133,8 @@ due_lose w i = losing i (flying_at w.network i)
 
 -- the list of a partition over all declared nodes, with the roles that they now have
 abbrev pub due_place : World → ℕ → List Line
-due_place w p = line.Place p (with_roles (members_now w w.nodes) (list (members_now w w.nodes) p)) ∷ []
+due_place w p =
+    line.Place p (with_roles (members_now w w.nodes) (list (members_now w w.nodes) p)) ∷ []
 
 -- ---- all events
 

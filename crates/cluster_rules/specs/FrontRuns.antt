@@ -21,7 +21,8 @@ pub record IsFrontOf (n : ℕ) (w : World) (c : Command) (taken : List Step) : T
 -- of the steps of commands these were taken: those of the first commands whole, and a front of the next one's
 abbrev pub AreFrontOf : ℕ → World → List Command → List Step → Type 0
 AreFrontOf n w [] taken = taken ≡ []
-AreFrontOf n w (c ∷ cs) taken = IsFrontOf n w c taken ⊎ ThenBegun (Plays n w c) (λ v ss. AreFrontOf n v cs ss) taken
+AreFrontOf n w (c ∷ cs) taken =
+    IsFrontOf n w c taken ⊎ ThenBegun (Plays n w c) (λ v ss. AreFrontOf n v cs ss) taken
 
 -- the journal has the header's lines, and then those of a front of the steps of the script's run, each whole
 pub record FrontRunOf (n : ℕ) (script : Script) (journal : List Line) : Type 0 where

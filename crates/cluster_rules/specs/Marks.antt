@@ -81,7 +81,8 @@ sent_by w a b (Some m) = with_facts w a (sent (w.facts a) b m)
 
 -- a message is sent under this number
 abbrev pub posted_by : World → ℕ → Posting → World
-posted_by w i p = sent_by (record w { network = posting w.network i p }) p.from p.to (message_of p.bytes)
+posted_by w i p =
+    sent_by (record w { network = posting w.network i p }) p.from p.to (message_of p.bytes)
 
 -- ---- a line
 
@@ -91,7 +92,8 @@ after_line w (line.Clock n time) = record w { clocks = changed_at w.clocks n tim
 after_line w (line.Groups groups) = record w { network = record w.network { groups = groups } }
 after_line w (line.Deliver i a b) = came w (option_and_then (arrived b) (posting_at w.network i))
 after_line w (line.Repeat i a b) = came w (option_and_then (arrived b) (posting_at w.network i))
-after_line w (line.Cut i a b size) = came w (option_and_then (arrived_cut b size) (posting_at w.network i))
+after_line w (line.Cut i a b size) =
+    came w (option_and_then (arrived_cut b size) (posting_at w.network i))
 after_line w (line.Sent i a b bytes) = posted_by w i (record { from = a; to = b; bytes = bytes })
 after_line w (line.Full i) = record w { network = landed w.network i }
 after_line w (line.Tick n) = by_node w n (line.Tick n)

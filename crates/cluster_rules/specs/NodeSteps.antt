@@ -77,12 +77,15 @@ full_in net i false = landed net i
 
 -- the network after a message was sent
 abbrev pub sent_in : Network → Posting → Network
-sent_in net p = full_in (posting net (length net.sent + 1) p) (length net.sent + 1) (has_place (length net.flying))
+sent_in net p =
+    full_in (posting net (length net.sent + 1) p) (length net.sent + 1)
+    (has_place (length net.flying))
 
 -- the network after an endpoint sent these
 abbrev pub all_sent_in : Network → ℕ → List (ℕ × Message) → Network
 all_sent_in net from [] = net
-all_sent_in net from (m ∷ ms) = all_sent_in (sent_in net (record { from = from; to = m.0; bytes = spelling m.1 })) from ms
+all_sent_in net from (m ∷ ms) =
+    all_sent_in (sent_in net (record { from = from; to = m.0; bytes = spelling m.1 })) from ms
 
 -- ---- a step
 

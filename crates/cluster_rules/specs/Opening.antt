@@ -47,7 +47,10 @@ rack_in n _ = None
 
 -- the role in which the node begins: with the rack that its line names, or rack 0, and not quiesced
 abbrev pub declared_role : Header → ℕ → Role
-declared_role h n = record { rack = unwrap_or (slice_get (filter_map (rack_in n) h) 0) 0; quiesced = false }
+declared_role h n = record {
+  rack = unwrap_or (slice_get (filter_map (rack_in n) h) 0) 0;
+  quiesced = false;
+}
 
 -- the other declared nodes
 abbrev pub declared_peers : Header → ℕ → List ℕ

@@ -70,7 +70,8 @@ Plays n w (command.Scan p) x = x ≡ play n (event.Scan p) w
 Plays n w (command.ScanNext s) x = x ≡ play n (event.ScanNext s) w
 
 -- one thing is played, and then others in the world after it
-pub record InTurn (First : Played → Type 0) (Others : World → Played → Type 0) (x : Played) : Type 0 where
+pub record InTurn (First : Played → Type 0) (Others : World → Played → Type 0) (x : Played)
+    : Type 0 where
   pub first : Played
   pub plays : First first
   pub others : Played

@@ -64,11 +64,17 @@ telling done = message.Progress (key 2 2) true (done ∷ []) (eight false) (eigh
 
 -- a tick at which the side sends its batch to the other
 abbrev pub handing_on : ℕ → ℕ → Version → Effects
-handing_on me other v = record { lines = line.Tick me ∷ []; sends = (other, hearing other) ∷ (other, batch_of v) ∷ (other, telling false) ∷ [] }
+handing_on me other v = record {
+  lines = line.Tick me ∷ [];
+  sends = (other, hearing other) ∷ (other, batch_of v) ∷ (other, telling false) ∷ [];
+}
 
 -- a tick at which it tells that it is done
 abbrev pub being_done : ℕ → ℕ → Effects
-being_done me other = record { lines = line.Tick me ∷ []; sends = (other, hearing other) ∷ (other, telling true) ∷ [] }
+being_done me other = record {
+  lines = line.Tick me ∷ [];
+  sends = (other, hearing other) ∷ (other, telling true) ∷ [];
+}
 
 -- a tick with these lines, at which it tells no more
 abbrev pub resting : ℕ → List Line → Effects

@@ -40,7 +40,8 @@ pub record World : Type 0 where
 -- a node as the header declares it; a number that it doesn't declare is down
 abbrev pub declared : Header → ℕ → Facts
 declared h n =
-    record (fresh n (declared_role h n) (declared_peers h n) (declared_factor h) (declared_policy h)) { up = has_node (declared_nodes h) n }
+    record (fresh n (declared_role h n) (declared_peers h n) (declared_factor h)
+    (declared_policy h)) { up = has_node (declared_nodes h) n }
 
 -- the world that a header declares: all nodes run with empty stores, all clocks stand at 0, and nothing was sent
 abbrev pub opened : Header → World

@@ -27,21 +27,29 @@ use Rattle.cluster_rules.specs.World.{World, opened}
 abbrev pub one_node : Script
 one_node = record {
   header = header.Node 1 None ∷ [];
-  commands = command.Tick 1 ∷ command.Tick 1 ∷ command.Tick 1 ∷ command.Put 1 zeros hi ∷ command.Get 1 zeros ∷ [];
+  commands =
+      command.Tick 1 ∷ command.Tick 1 ∷ command.Tick 1 ∷ command.Put 1 zeros hi
+      ∷ command.Get 1 zeros ∷ [];
 }
 
 abbrev pub entering_lines : List Line
-entering_lines = line.Tick 1 ∷ line.Promise 1 (key 1 1) ∷ line.Enter 1 (key 1 1) itself ∷ line.Exchanged 1 (key 1 1) ∷ []
+entering_lines =
+    line.Tick 1 ∷ line.Promise 1 (key 1 1) ∷ line.Enter 1 (key 1 1) itself
+    ∷ line.Exchanged 1 (key 1 1) ∷ []
 
 abbrev pub put_lines : List Line
-put_lines = line.Opened 1 (key 1 1) 1 zeros action.Put ∷ line.Apply 1 (key 1 1) 1 zeros first_hi ∷ line.Done 1 (key 1 1) 1 ∷ []
+put_lines =
+    line.Opened 1 (key 1 1) 1 zeros action.Put ∷ line.Apply 1 (key 1 1) 1 zeros first_hi
+    ∷ line.Done 1 (key 1 1) 1 ∷ []
 
 abbrev pub get_lines : List Line
-get_lines = line.Opened 1 (key 1 1) 2 zeros action.Get ∷ line.Value 1 (key 1 1) 2 zeros (Some first_hi) ∷ []
+get_lines =
+    line.Opened 1 (key 1 1) 2 zeros action.Get ∷ line.Value 1 (key 1 1) 2 zeros (Some first_hi) ∷ []
 
 -- its transcript
 abbrev pub one_node_journal : List Line
-one_node_journal = line.Node 1 None ∷ line.Tick 1 ∷ line.Tick 1 ∷ entering_lines ++ (put_lines ++ get_lines)
+one_node_journal =
+    line.Node 1 None ∷ line.Tick 1 ∷ line.Tick 1 ∷ entering_lines ++ (put_lines ++ get_lines)
 
 -- ---- two nodes agree on a view
 
@@ -54,16 +62,20 @@ beat i hears a b = line.Sent i a b (spelling (message.Heartbeat none none hears 
 -- a round in which both nodes tick and hear each other, where so many messages were sent before it
 abbrev pub beats : ℕ → ℕ → List ℕ → List ℕ → List Line
 beats i o one_hears two_hears =
-    line.Tick 1 ∷ beat i one_hears 1 2 ∷ line.Tick 2 ∷ beat o two_hears 2 1 ∷ line.Deliver i 1 2 ∷ line.Deliver o 2 1 ∷ []
+    line.Tick 1 ∷ beat i one_hears 1 2 ∷ line.Tick 2 ∷ beat o two_hears 2 1 ∷ line.Deliver i 1 2
+    ∷ line.Deliver o 2 1 ∷ []
 
 -- the round in which they agree
 abbrev pub agreeing : List Line
 agreeing =
     line.Tick 1 ∷ beat 9 (2 ∷ []) 1 2
-    ∷ line.Tick 2 ∷ line.Promise 2 (key 1 2) ∷ beat 10 (1 ∷ []) 2 1 ∷ line.Sent 11 2 1 (spelling (message.Propose (key 1 2) two))
+    ∷ line.Tick 2 ∷ line.Promise 2 (key 1 2) ∷ beat 10 (1 ∷ []) 2 1
+    ∷ line.Sent 11 2 1 (spelling (message.Propose (key 1 2) two))
     ∷ line.Deliver 9 1 2 ∷ line.Deliver 10 2 1
-    ∷ line.Deliver 11 2 1 ∷ line.Promise 1 (key 1 2) ∷ line.Sent 12 1 2 (spelling (message.Accept (key 1 2)))
-    ∷ line.Deliver 12 1 2 ∷ line.Enter 2 (key 1 2) two ∷ line.Sent 13 2 1 (spelling (message.Commit (key 1 2) two))
+    ∷ line.Deliver 11 2 1 ∷ line.Promise 1 (key 1 2)
+    ∷ line.Sent 12 1 2 (spelling (message.Accept (key 1 2)))
+    ∷ line.Deliver 12 1 2 ∷ line.Enter 2 (key 1 2) two
+    ∷ line.Sent 13 2 1 (spelling (message.Commit (key 1 2) two))
     ∷ line.Deliver 13 2 1 ∷ line.Enter 1 (key 1 2) two ∷ []
 
 -- ---- a message under way
@@ -83,10 +95,14 @@ halved = (play 0 (event.Stop 2) beaten).world
 -- ---- one node comes to calm, twice
 
 abbrev pub calm_twice : Script
-calm_twice = record { header = header.Node 1 None ∷ []; commands = command.Calm ∷ command.Calm ∷ [] }
+calm_twice = record {
+  header = header.Node 1 None ∷ [];
+  commands = command.Calm ∷ command.Calm ∷ [];
+}
 
 abbrev pub calm_twice_journal : List Line
-calm_twice_journal = line.Node 1 None ∷ line.Tick 1 ∷ line.Tick 1 ∷ entering_lines ++ line.Calm 3 ∷ line.Calm 0 ∷ []
+calm_twice_journal =
+    line.Node 1 None ∷ line.Tick 1 ∷ line.Tick 1 ∷ entering_lines ++ line.Calm 3 ∷ line.Calm 0 ∷ []
 
 -- ---- the client's tables
 
@@ -101,7 +117,8 @@ told tables = record (opened two_nodes) { tables = tables }
 -- ---- racks and quiesced nodes
 
 abbrev pub racked : Header
-racked = header.Node 2 (Some 7) ∷ header.Policy Generation ∷ header.Node 1 None ∷ header.Factor 3 ∷ []
+racked =
+    header.Node 2 (Some 7) ∷ header.Policy Generation ∷ header.Node 1 None ∷ header.Factor 3 ∷ []
 
 -- node 2 is quiesced
 abbrev pub leaving : World
@@ -129,19 +146,24 @@ proposing = event.Tick 1 ∷ event.Tick 2 ∷ event.Deliver 17 ∷ []
 
 abbrev pub proposed : List Line
 proposed =
-    line.Tick 1 ∷ line.Sent 15 1 2 (spelling (message.Heartbeat (key 1 1) (key 1 1) (2 ∷ []) plain_role))
-    ∷ line.Tick 2 ∷ line.Promise 2 (key 2 2) ∷ line.Sent 16 2 1 (spelling (message.Heartbeat (key 1 2) (key 1 2) (1 ∷ []) plain_role))
+    line.Tick 1
+    ∷ line.Sent 15 1 2 (spelling (message.Heartbeat (key 1 1) (key 1 1) (2 ∷ []) plain_role))
+    ∷ line.Tick 2 ∷ line.Promise 2 (key 2 2)
+    ∷ line.Sent 16 2 1 (spelling (message.Heartbeat (key 1 2) (key 1 2) (1 ∷ []) plain_role))
     ∷ line.Sent 17 2 1 (spelling (message.Propose (key 2 2) two))
-    ∷ line.Deliver 17 2 1 ∷ line.Promise 1 (key 2 2) ∷ line.Sent 18 1 2 (spelling (message.Accept (key 2 2)))
+    ∷ line.Deliver 17 2 1 ∷ line.Promise 1 (key 2 2)
+    ∷ line.Sent 18 1 2 (spelling (message.Accept (key 2 2)))
     ∷ []
 
 -- node 2 enters it; its Commit comes to node 1, which is then stopped and started, and comes again
 abbrev pub committing : List Event
-committing = event.Deliver 18 ∷ event.Repeat 19 ∷ event.Stop 1 ∷ event.Start 1 ∷ event.Deliver 19 ∷ []
+committing =
+    event.Deliver 18 ∷ event.Repeat 19 ∷ event.Stop 1 ∷ event.Start 1 ∷ event.Deliver 19 ∷ []
 
 abbrev pub committed : List Line
 committed =
-    line.Deliver 18 1 2 ∷ line.Enter 2 (key 2 2) two ∷ line.Sent 19 2 1 (spelling (message.Commit (key 2 2) two))
+    line.Deliver 18 1 2 ∷ line.Enter 2 (key 2 2) two
+    ∷ line.Sent 19 2 1 (spelling (message.Commit (key 2 2) two))
     ∷ line.Repeat 19 2 1 ∷ line.Enter 1 (key 2 2) two
     ∷ line.Stop 1 ∷ line.Start 1 ∷ line.Deliver 19 2 1 ∷ line.Stale 1
     ∷ []

@@ -18,15 +18,23 @@ ghost use Rattle.cluster_rules.specs.World.{World};
 /// The marks of what a node does make of its facts what the node's own rules make of them, and leave
 /// those of all others.
 pub fn marks_of_a_node_are_its_own_step()
-    ensures step { (w : World) → (n : ℕ) → (e : Effects) → AreOf n e.lines → AreRead e.sends → IsNumbered w.network → Moves n (all_sent (noted w.want (w.facts n) e.lines) e.sends) (all_sent_in w.network n e.sends) w (after_all w (map Writes (written w.network n e))) }
-    ensures tick { (w : World) → (n : ℕ) → AreOf n (due_tick (w.facts n)).lines → AreRead (due_tick (w.facts n)).sends → IsNumbered w.network → Moves n (after_tick (w.facts n)) (all_sent_in w.network n (due_tick (w.facts n)).sends) (event_begun w (event.Tick n)) (after_step w (event.Tick n)) }
+    ensures step { (w : World) → (n : ℕ) → (e : Effects) → AreOf n e.lines → AreRead e.sends
+        → IsNumbered w.network
+        → Moves n (all_sent (noted w.want (w.facts n) e.lines) e.sends)
+        (all_sent_in w.network n e.sends) w (after_all w (map Writes (written w.network n e))) }
+    ensures tick { (w : World) → (n : ℕ) → AreOf n (due_tick (w.facts n)).lines
+        → AreRead (due_tick (w.facts n)).sends → IsNumbered w.network
+        → Moves n (after_tick (w.facts n)) (all_sent_in w.network n (due_tick (w.facts n)).sends)
+        (event_begun w (event.Tick n)) (after_step w (event.Tick n)) }
 {}
 
 /// Each line of what a node does is one of that node, or adds nothing.
 pub fn lines_of_a_node_are_its_own()
     ensures tick { (n : ℕ) → (f : Facts) → AreOf f.me (tick_of n f).lines }
-    ensures message { (n : ℕ) → (f : Facts) → (clock : ℕ) → (from : ℕ) → (m : Message) → AreOf f.me (due_message_of n f clock from m).lines }
-    ensures request { (f : Facts) → (clock : ℕ) → (digest : List ℕ) → (want : Want) → AreOf f.me (due_request f clock digest want).lines }
+    ensures message { (n : ℕ) → (f : Facts) → (clock : ℕ) → (from : ℕ) → (m : Message)
+        → AreOf f.me (due_message_of n f clock from m).lines }
+    ensures request { (f : Facts) → (clock : ℕ) → (digest : List ℕ) → (want : Want)
+        → AreOf f.me (due_request f clock digest want).lines }
     ensures stop { (f : Facts) → AreOf f.me (due_stop f).lines }
     ensures start { (f : Facts) → AreOf f.me (due_start f).lines }
 {}

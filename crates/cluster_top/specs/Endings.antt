@@ -21,7 +21,8 @@ abbrev pub fault_of : Status → List ℕ
 fault_of status.Done = []
 fault_of status.NoMemory = codes "no memory"
 fault_of status.BadWords = codes "bad words"
-fault_of (status.BadScript line cause) = codes "line " ++ decimal line ++ codes ": " ++ cause_name cause
+fault_of (status.BadScript line cause) =
+    codes "line " ++ decimal line ++ codes ": " ++ cause_name cause
 fault_of status.ReadFault = codes "read fault"
 fault_of status.WriteFault = codes "write fault"
 fault_of status.ScriptTooLong = codes "script too long"

@@ -31,7 +31,8 @@ table_lines = line (codes "ask 1") ++ line (codes "flow") ++ line (codes "flow")
 
 abbrev pub opening_lines : List ℕ
 opening_lines =
-    line (codes "factor 2") ++ line (codes "node 1") ++ line (codes "node 2") ++ line (codes "node 3") ++ line (codes "node 4") ++ line (codes "node 5")
+    line (codes "factor 2") ++ line (codes "node 1") ++ line (codes "node 2")
+    ++ line (codes "node 3") ++ line (codes "node 4") ++ line (codes "node 5")
     ++ line (codes "calm") ++ table_lines
 
 abbrev pub node_of : ℕ → ℕ
@@ -53,7 +54,9 @@ abbrev pub get_lines : ℕ → List ℕ
 get_lines r = line (codes "cget " ++ key_of r)
 
 abbrev pub restart_lines : ℕ → List ℕ
-restart_lines r = line (codes "stop " ++ decimal (node_of r)) ++ line (codes "round") ++ line (codes "start " ++ decimal (node_of r))
+restart_lines r =
+    line (codes "stop " ++ decimal (node_of r)) ++ line (codes "round")
+    ++ line (codes "start " ++ decimal (node_of r))
 
 -- the five nodes in two groups, of which the first ends with that node
 abbrev pub parted : ℕ → List ℕ
@@ -65,7 +68,9 @@ parted last =
 
 -- twelve rounds, and then one group that comes to calm, with a new table after each
 unfoldable pub split_rest : List ℕ
-split_rest = repeat 12 (line (codes "round")) ++ table_lines ++ line (codes "groups 1 2 3 4 5") ++ line (codes "calm") ++ table_lines
+split_rest =
+    repeat 12 (line (codes "round")) ++ table_lines ++ line (codes "groups 1 2 3 4 5")
+    ++ line (codes "calm") ++ table_lines
 
 -- two groups, and then one again
 abbrev pub split_lines : ℕ → List ℕ
@@ -84,7 +89,8 @@ step_lines j r =
 -- so many steps from step j on, from that state
 unfoldable pub steps_from : ℕ → ℕ → ℕ → List ℕ
 steps_from zero j s = []
-steps_from (suc n) j s = step_lines j (drawn_of (next_state s)) ++ steps_from n (j + 1) (next_state s)
+steps_from (suc n) j s =
+    step_lines j (drawn_of (next_state s)) ++ steps_from n (j + 1) (next_state s)
 
 -- the script that the number stands for
 abbrev pub generated : ℕ → List ℕ

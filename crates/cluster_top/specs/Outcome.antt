@@ -24,12 +24,14 @@ use Rattle.cluster_top.specs.Transcripts.{transcript}
 -- that the source had left
 abbrev pub HadScript : Option ℕ → Option (List ℕ) → Option (List ℕ) → List ℕ → Type 0
 HadScript (Some n) had left bytes = (bytes ≡ generated n) × (left ≡ had)
-HadScript None had left bytes = IfSome had (λ all. (all ≡ bytes) × (left ≡ Some [])) × (length bytes ≤ script_limit)
+HadScript None had left bytes =
+    IfSome had (λ all. (all ≡ bytes) × (left ≡ Some [])) × (length bytes ≤ script_limit)
 
 -- ---- what was played
 
 -- the script was read whole, and this is its run, which fits in a journal
-pub record Replayed (words : Words) (had left : Option (List ℕ)) (journal : List Line) : Type 0 where
+pub record Replayed (words : Words) (had left : Option (List ℕ)) (journal : List Line)
+    : Type 0 where
   pub bytes : List ℕ
   pub script : Script
   pub read : HadScript words.generate had left bytes
@@ -54,7 +56,8 @@ abbrev pub IsCut : Script → List Line → Type 0
 IsCut script journal = StopsAtOnce script journal ⊎ StopsBefore script journal
 
 -- the script was read whole, and its run doesn't fit in a journal
-pub record Outgrown (words : Words) (had left : Option (List ℕ)) (journal : List Line) : Type 0 where
+pub record Outgrown (words : Words) (had left : Option (List ℕ)) (journal : List Line)
+    : Type 0 where
   pub bytes : List ℕ
   pub script : Script
   pub read : HadScript words.generate had left bytes
@@ -64,7 +67,8 @@ pub record Outgrown (words : Words) (had left : Option (List ℕ)) (journal : Li
   pub within : IsWithin journal
 
 -- the bytes were read whole, and are no script
-pub record Misread (words : Words) (had left : Option (List ℕ)) (line : ℕ) (cause : Cause) : Type 0 where
+pub record Misread (words : Words) (had left : Option (List ℕ)) (line : ℕ) (cause : Cause)
+    : Type 0 where
   pub bytes : List ℕ
   pub read : HadScript words.generate had left bytes
   pub bad : script_of bytes ≡ Err (record { line = line; cause = cause })
@@ -81,24 +85,33 @@ pub record BrokeOff (words : Words) (had left old new : Option (List ℕ)) : Typ
   pub front : WroteFront old new (transcript words journal)
 
 -- it took nothing, or such a front: so nothing of what is no script, nor of a run that doesn't fit
-abbrev pub CutOff : Words → Option (List ℕ) → Option (List ℕ) → Option (List ℕ) → Option (List ℕ) → Type 0
+abbrev pub CutOff : Words → Option (List ℕ) → Option (List ℕ) → Option (List ℕ) → Option (List ℕ)
+    → Type 0
 CutOff words had left old new = (new ≡ old) ⊎ BrokeOff words had left old new
 
 -- what each status says where the words ask for that: of the journal, of what the source had left and has left now, and
 -- of what the sink had taken and has taken now
-abbrev pub Ended : Words → Status → List Line → Option (List ℕ) → Option (List ℕ) → Option (List ℕ) → Option (List ℕ) → Type 0
-Ended words status.Done journal had left old new = Replayed words had left journal × Wrote old new (transcript words journal)
-Ended words status.NoMemory journal had left old new = (journal ≡ []) × CutOff words had left old new
+abbrev pub Ended : Words → Status → List Line → Option (List ℕ) → Option (List ℕ) → Option (List ℕ)
+    → Option (List ℕ) → Type 0
+Ended words status.Done journal had left old new =
+    Replayed words had left journal × Wrote old new (transcript words journal)
+Ended words status.NoMemory journal had left old new =
+    (journal ≡ []) × CutOff words had left old new
 Ended words status.BadWords journal had left old new = ⊥
-Ended words (status.BadScript line cause) journal had left old new = Unplayed journal old new × Misread words had left line cause
+Ended words (status.BadScript line cause) journal had left old new =
+    Unplayed journal old new × Misread words had left line cause
 Ended words status.ReadFault journal had left old new = Unplayed journal old new
-Ended words status.WriteFault journal had left old new = Replayed words had left journal × WroteFront old new (transcript words journal)
-Ended words status.ScriptTooLong journal had left old new = Unplayed journal old new × IfSome had (λ bytes. Overlong bytes left) × (words.generate ≡ None)
-Ended words status.RunTooLong journal had left old new = (new ≡ old) × Outgrown words had left journal
+Ended words status.WriteFault journal had left old new =
+    Replayed words had left journal × WroteFront old new (transcript words journal)
+Ended words status.ScriptTooLong journal had left old new =
+    Unplayed journal old new × IfSome had (λ bytes. Overlong bytes left) × (words.generate ≡ None)
+Ended words status.RunTooLong journal had left old new =
+    (new ≡ old) × Outgrown words had left journal
 
 -- wherever the run of a proper script that has this journal begins rounds of calm, they are in time
 abbrev pub CalmsAreInTime : List Line → Type 0
-CalmsAreInTime journal = (script : Script) → IsProper script → (r : FrontRun script journal) → CalmsInTime script.header r.taken
+CalmsAreInTime journal = (script : Script) → IsProper script → (r : FrontRun script journal)
+    → CalmsInTime script.header r.taken
 
 -- ---- on the way
 

@@ -63,9 +63,12 @@ object_of c =
 -- the same as a value of JSON
 abbrev pub value_of : Counts → Data
 value_of c =
-    object (member (codes "applied") (number (unsigned c.applied)) (member (codes "drops") (number (unsigned c.drops))
-    (member (codes "lines") (number (unsigned c.lines)) (member (codes "merges") (number (unsigned c.merges))
-    (member (codes "nodes") (number (unsigned c.nodes)) (member (codes "sent") (number (unsigned c.sent))
+    object (member (codes "applied") (number (unsigned c.applied))
+    (member (codes "drops") (number (unsigned c.drops))
+    (member (codes "lines") (number (unsigned c.lines))
+    (member (codes "merges") (number (unsigned c.merges))
+    (member (codes "nodes") (number (unsigned c.nodes))
+    (member (codes "sent") (number (unsigned c.sent))
     (member (codes "settled") (number (unsigned c.settled)) no_members)))))))
 
 -- one line

@@ -35,10 +35,13 @@ no_words = record { summary = false; generate = None }
 -- neither stands twice
 pub data Asks : List (List ℕ) → Words → Type 0 where
   nothing : Asks [] no_words
-  summary : {ws : List (List ℕ)} {w : Words} → Asks ws w → w.summary ≡ false → Asks (codes "--summary" ∷ ws) (record w { summary = true })
-  generate : {ws : List (List ℕ)} {w : Words} {text : List ℕ} {n : ℕ} → Asks ws w → w.generate ≡ None → IsNumber text n
+  summary : {ws : List (List ℕ)} {w : Words} → Asks ws w → w.summary ≡ false
+      → Asks (codes "--summary" ∷ ws) (record w { summary = true })
+  generate : {ws : List (List ℕ)} {w : Words} {text : List ℕ} {n : ℕ} → Asks ws w
+      → w.generate ≡ None → IsNumber text n
       → Asks (codes "--generate" ∷ text ∷ ws) (record w { generate = Some n })
-  generate_of : {ws : List (List ℕ)} {w : Words} {text : List ℕ} {n : ℕ} → Asks ws w → w.generate ≡ None → IsNumber text n
+  generate_of : {ws : List (List ℕ)} {w : Words} {text : List ℕ} {n : ℕ} → Asks ws w
+      → w.generate ≡ None → IsNumber text n
       → Asks ((codes "--generate=" ++ text) ∷ ws) (record w { generate = Some n })
 
 -- the words aren't those that the program takes
@@ -48,15 +51,22 @@ AreBad ws = (w : Words) → ¬ Asks ws w
 -- ---- how they are split
 
 abbrev pub summary_rule : Rule
-summary_rule = record (new_rule (codes "summary")) { long = Some (codes "summary"); action = Some SetTrue }
+summary_rule = record (new_rule (codes "summary")) {
+  long = Some (codes "summary");
+  action = Some SetTrue;
+}
 
 abbrev pub generate_rule : Rule
-generate_rule = record (new_rule (codes "generate")) { long = Some (codes "generate"); action = Some Set }
+generate_rule = record (new_rule (codes "generate")) {
+  long = Some (codes "generate");
+  action = Some Set;
+}
 
 -- a command line without the program's name and without help, of the two options
 abbrev pub command_line : App
 command_line =
-    with_rule (with_rule (on_top (λ s. record s { no_binary_name = true; disable_help_flag = true }) (new_app (codes "cluster_main"))) summary_rule) generate_rule
+    with_rule (with_rule (on_top (λ s. record s { no_binary_name = true; disable_help_flag = true })
+    (new_app (codes "cluster_main"))) summary_rule) generate_rule
 
 -- the word that ends options
 abbrev pub is_dashes : List ℕ → Bool

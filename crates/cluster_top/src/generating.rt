@@ -53,7 +53,8 @@ pub fn generated(alloc: Global, number: u64) -> Result<Bytes, NoMemory>
 
 /// Adds the lines of one step, as the number that was drawn says.
 fn add_step(alloc: Global, script: &mut String, step: u32, drawn: u64) -> Result<(), NoMemory>
-    ensures { OnOk result (string_bytes script.new ≡ string_bytes script.old ++ script_text.step_lines step drawn) }
+    ensures { OnOk result
+        (string_bytes script.new ≡ string_bytes script.old ++ script_text.step_lines step drawn) }
 {
     match drawn % 16 {
         0..=7 => add_put(script, step, drawn),
@@ -80,7 +81,8 @@ fn key_of(drawn: u64) -> u64
 }
 
 fn add_put(script: &mut String, step: u32, drawn: u64) -> Result<(), NoMemory>
-    ensures { OnOk result (string_bytes script.new ≡ string_bytes script.old ++ script_text.put_lines step drawn) }
+    ensures { OnOk result
+        (string_bytes script.new ≡ string_bytes script.old ++ script_text.put_lines step drawn) }
 {
     let node = node_of(drawn);
     let time = (drawn >> 40) % 1000;
@@ -92,21 +94,24 @@ fn add_put(script: &mut String, step: u32, drawn: u64) -> Result<(), NoMemory>
 }
 
 fn add_delete(script: &mut String, drawn: u64) -> Result<(), NoMemory>
-    ensures { OnOk result (string_bytes script.new ≡ string_bytes script.old ++ script_text.delete_lines drawn) }
+    ensures { OnOk result
+        (string_bytes script.new ≡ string_bytes script.old ++ script_text.delete_lines drawn) }
 {
     let key = key_of(drawn);
     write!(script, "cdel u/k{key}\nround\n")
 }
 
 fn add_get(script: &mut String, drawn: u64) -> Result<(), NoMemory>
-    ensures { OnOk result (string_bytes script.new ≡ string_bytes script.old ++ script_text.get_lines drawn) }
+    ensures { OnOk result
+        (string_bytes script.new ≡ string_bytes script.old ++ script_text.get_lines drawn) }
 {
     let key = key_of(drawn);
     write!(script, "cget u/k{key}\n")
 }
 
 fn add_restart(script: &mut String, drawn: u64) -> Result<(), NoMemory>
-    ensures { OnOk result (string_bytes script.new ≡ string_bytes script.old ++ script_text.restart_lines drawn) }
+    ensures { OnOk result
+        (string_bytes script.new ≡ string_bytes script.old ++ script_text.restart_lines drawn) }
 {
     let node = node_of(drawn);
     write!(script, "stop {node}\nround\nstart {node}\n")
@@ -115,7 +120,8 @@ fn add_restart(script: &mut String, drawn: u64) -> Result<(), NoMemory>
 /// Adds the lines of a split, of its end, and of a new table after each.
 #[tactic(auto, unfolding(crate::specs::Generating::split_rest))]
 fn add_split(alloc: Global, script: &mut String, drawn: u64) -> Result<(), NoMemory>
-    ensures { OnOk result (string_bytes script.new ≡ string_bytes script.old ++ script_text.split_lines drawn) }
+    ensures { OnOk result
+        (string_bytes script.new ≡ string_bytes script.old ++ script_text.split_lines drawn) }
 {
     let groups = parted(1 + (drawn >> 16) % 4);
     let rounds = "round\n".repeat(alloc, ROUNDS_APART)?;

@@ -43,7 +43,8 @@ pub fn play_script(alloc: Global, script: &Script, journal: &mut Journal) -> Res
 fn play_all(alloc: Global, world: &mut World, commands: &[Command]) -> Result<(), StepFault>
     requires { ArePlayable world.old.header commands.now }
     ensures played { OnOk result (PlaysAllOn world.old world.new commands.now) }
-    ensures too_long { IsErrOf result StepFault.RunTooLong → StopsAmong world.old world.new commands.now }
+    ensures too_long { IsErrOf result StepFault.RunTooLong
+        → StopsAmong world.old world.new commands.now }
     ensures err { OnErr result (StandsAmong world.old world.new commands.now) }
 {
     for command in commands {

@@ -34,10 +34,13 @@ impl From<AllocError> for ReadFault {
 /// Reads the source to its end, unless a byte more than a script has comes first.
 pub fn read_all<S: Source>(alloc: Global, source: &mut S) -> Result<Vec<u8>, ReadFault>
     ensures limit { IfOk result (λ bytes. length bytes.items ≤ script_limit) }
-    ensures whole { IfOk result (λ bytes. HadAll (S.left source.old) (S.left source.new) bytes.items) }
+    ensures whole { IfOk result
+        (λ bytes. HadAll (S.left source.old) (S.left source.new) bytes.items) }
 
-    ensures fault { IsErrOf result ReadFault.Source → Rose (S.faults source.old) (S.faults source.new) }
-    ensures too_long { IsErrOf result ReadFault.TooLong → IfSome (S.left source.old) (λ bytes. Overlong bytes (S.left source.new)) }
+    ensures fault { IsErrOf result ReadFault.Source
+        → Rose (S.faults source.old) (S.faults source.new) }
+    ensures too_long { IsErrOf result ReadFault.TooLong
+        → IfSome (S.left source.old) (λ bytes. Overlong bytes (S.left source.new)) }
     ensures never_falls { S.faults source.old ≤ S.faults source.new }
 {
     let mut bytes = Vec::new(alloc);

@@ -45,7 +45,9 @@ pub fn run<S: Source, K: Sink>(
     out: &mut K,
 ) -> Outcome
     // What each status says of the journal, the source and the sink.
-    ensures ended { (asked : Words) → Asks (map string_bytes words.now) asked → Ended asked result.status result.journal.lines (S.left script.old) (S.left script.new) (K.taken out.old) (K.taken out.new) }
+    ensures ended { (asked : Words) → Asks (map string_bytes words.now) asked
+        → Ended asked result.status result.journal.lines (S.left script.old) (S.left script.new)
+        (K.taken out.old) (K.taken out.new) }
 
     // What holds of the journal, however the run ended.
     ensures no_loss { NoLoss result.journal.lines }
@@ -59,16 +61,24 @@ pub fn run<S: Source, K: Sink>(
 
     // The cause of each status. Bad words are refused before anything is pulled or written, also for want of memory.
     ensures bad_words { result.status ≡ Status.BadWords → AreBad (map string_bytes words.now) }
-    ensures refused { AreBad (map string_bytes words.now) → IsRefusal result.status × (result.journal.lines ≡ []) }
-    ensures untouched { AreBad (map string_bytes words.now) → (script.new ≡ script.old) × (out.new ≡ out.old) }
-    ensures read_fault { result.status ≡ Status.ReadFault → Rose (S.faults script.old) (S.faults script.new) }
-    ensures write_fault { result.status ≡ Status.WriteFault → Rose (K.faults out.old) (K.faults out.new) }
+    ensures refused { AreBad (map string_bytes words.now)
+        → IsRefusal result.status × (result.journal.lines ≡ []) }
+    ensures untouched { AreBad (map string_bytes words.now)
+        → (script.new ≡ script.old) × (out.new ≡ out.old) }
+    ensures read_fault { result.status ≡ Status.ReadFault
+        → Rose (S.faults script.old) (S.faults script.new) }
+    ensures write_fault { result.status ≡ Status.WriteFault
+        → Rose (K.faults out.old) (K.faults out.new) }
 
     // Nothing is pulled where a number stands for the script.
-    ensures unread { (asked : Words) → Asks (map string_bytes words.now) asked → IsSome asked.generate → script.new ≡ script.old }
+    ensures unread { (asked : Words) → Asks (map string_bytes words.now) asked
+        → IsSome asked.generate → script.new ≡ script.old }
 
     // Without a fault of either end, the words and the bytes decide how the run ends, unless memory is refused.
-    ensures decided { (asked : Words) → Asks (map string_bytes words.now) asked → ¬ Rose (S.faults script.old) (S.faults script.new) → ¬ Rose (K.faults out.old) (K.faults out.new) → IsDecided asked (S.left script.old) result.status }
+    ensures decided { (asked : Words) → Asks (map string_bytes words.now) asked
+        → ¬ Rose (S.faults script.old) (S.faults script.new)
+        → ¬ Rose (K.faults out.old) (K.faults out.new)
+        → IsDecided asked (S.left script.old) result.status }
 {
     match read_words(alloc, words) {
         Err(WordsFault::Bad) => unplayed(alloc, Status::BadWords),
@@ -92,11 +102,14 @@ fn unplayed(alloc: Global, status: Status) -> Outcome
 
 /// Replays what the words ask for.
 fn replay<S: Source, K: Sink>(alloc: Global, words: Words, source: &mut S, out: &mut K) -> Outcome
-    ensures ended { Ended words result.status result.journal.lines (S.left source.old) (S.left source.new) (K.taken out.old) (K.taken out.new) }
+    ensures ended { Ended words result.status result.journal.lines (S.left source.old)
+        (S.left source.new) (K.taken out.old) (K.taken out.new) }
     ensures claims { HasClaims result.journal.lines }
     ensures calms { CalmsAreInTime result.journal.lines }
-    ensures read_fault { result.status ≡ Status.ReadFault → Rose (S.faults source.old) (S.faults source.new) }
-    ensures write_fault { result.status ≡ Status.WriteFault → Rose (K.faults out.old) (K.faults out.new) }
+    ensures read_fault { result.status ≡ Status.ReadFault
+        → Rose (S.faults source.old) (S.faults source.new) }
+    ensures write_fault { result.status ≡ Status.WriteFault
+        → Rose (K.faults out.old) (K.faults out.new) }
     ensures unread { IsSome words.generate → source.new ≡ source.old }
 {
     match words.generate {
@@ -113,11 +126,14 @@ fn replay_source<S: Source, K: Sink>(
     out: &mut K,
 ) -> Outcome
     requires { words.generate ≡ None }
-    ensures ended { Ended words result.status result.journal.lines (S.left source.old) (S.left source.new) (K.taken out.old) (K.taken out.new) }
+    ensures ended { Ended words result.status result.journal.lines (S.left source.old)
+        (S.left source.new) (K.taken out.old) (K.taken out.new) }
     ensures claims { HasClaims result.journal.lines }
     ensures calms { CalmsAreInTime result.journal.lines }
-    ensures read_fault { result.status ≡ Status.ReadFault → Rose (S.faults source.old) (S.faults source.new) }
-    ensures write_fault { result.status ≡ Status.WriteFault → Rose (K.faults out.old) (K.faults out.new) }
+    ensures read_fault { result.status ≡ Status.ReadFault
+        → Rose (S.faults source.old) (S.faults source.new) }
+    ensures write_fault { result.status ≡ Status.WriteFault
+        → Rose (K.faults out.old) (K.faults out.new) }
 {
     match read_all(alloc, source) {
         Err(ReadFault::NoMemory) => unplayed(alloc, Status::NoMemory),
@@ -130,11 +146,14 @@ fn replay_source<S: Source, K: Sink>(
 /// Replays the script that the number stands for.
 fn replay_generated<K: Sink>(alloc: Global, words: Words, number: u64, out: &mut K) -> Outcome
     requires { words.generate ≡ Some number }
-    ensures ended { (had : Option (List ℕ)) → Ended words result.status result.journal.lines had had (K.taken out.old) (K.taken out.new) }
+    ensures ended { (had : Option (List ℕ))
+        → Ended words result.status result.journal.lines had had (K.taken out.old)
+        (K.taken out.new) }
     ensures claims { HasClaims result.journal.lines }
     ensures calms { CalmsAreInTime result.journal.lines }
     ensures read_fault { result.status ≢ Status.ReadFault }
-    ensures write_fault { result.status ≡ Status.WriteFault → Rose (K.faults out.old) (K.faults out.new) }
+    ensures write_fault { result.status ≡ Status.WriteFault
+        → Rose (K.faults out.old) (K.faults out.new) }
 {
     match generated(alloc, number) {
         Err(_) => unplayed(alloc, Status::NoMemory),
@@ -145,11 +164,14 @@ fn replay_generated<K: Sink>(alloc: Global, words: Words, number: u64, out: &mut
 /// Replays the script that the bytes are.
 fn replay_bytes<K: Sink>(alloc: Global, words: Words, bytes: &[u8], out: &mut K) -> Outcome
     requires { length bytes.now < 2 ^ 60 }
-    ensures ended { (had left : Option (List ℕ)) → HadScript words.generate had left bytes.now → Ended words result.status result.journal.lines had left (K.taken out.old) (K.taken out.new) }
+    ensures ended { (had left : Option (List ℕ)) → HadScript words.generate had left bytes.now
+        → Ended words result.status result.journal.lines had left (K.taken out.old)
+        (K.taken out.new) }
     ensures claims { HasClaims result.journal.lines }
     ensures calms { CalmsAreInTime result.journal.lines }
     ensures read_fault { result.status ≢ Status.ReadFault }
-    ensures write_fault { result.status ≡ Status.WriteFault → Rose (K.faults out.old) (K.faults out.new) }
+    ensures write_fault { result.status ≡ Status.WriteFault
+        → Rose (K.faults out.old) (K.faults out.new) }
 {
     match parse(alloc, bytes) {
         Err(ScriptFault::NoMemory) => unplayed(alloc, Status::NoMemory),
@@ -161,11 +183,15 @@ fn replay_bytes<K: Sink>(alloc: Global, words: Words, bytes: &[u8], out: &mut K)
 /// Plays the script, and writes what the words ask for.
 fn replay_script<K: Sink>(alloc: Global, words: Words, script: &Script, out: &mut K) -> Outcome
     requires { IsProper script.now }
-    ensures ended { (had left : Option (List ℕ)) (bytes : List ℕ) → HadScript words.generate had left bytes → script_of bytes ≡ Ok script.now → Ended words result.status result.journal.lines had left (K.taken out.old) (K.taken out.new) }
+    ensures ended { (had left : Option (List ℕ)) (bytes : List ℕ)
+        → HadScript words.generate had left bytes → script_of bytes ≡ Ok script.now
+        → Ended words result.status result.journal.lines had left (K.taken out.old)
+        (K.taken out.new) }
     ensures claims { HasClaims result.journal.lines }
     ensures calms { CalmsAreInTime result.journal.lines }
     ensures read_fault { result.status ≢ Status.ReadFault }
-    ensures write_fault { result.status ≡ Status.WriteFault → Rose (K.faults out.old) (K.faults out.new) }
+    ensures write_fault { result.status ≡ Status.WriteFault
+        → Rose (K.faults out.old) (K.faults out.new) }
 {
     let mut journal = Journal::new(alloc);
     match play_script(alloc, script, &mut journal) {
@@ -182,12 +208,14 @@ fn replay_script<K: Sink>(alloc: Global, words: Words, script: &Script, out: &mu
 fn transcribe<K: Sink>(alloc: Global, words: Words, journal: Journal, out: &mut K) -> Outcome
     requires claims { HasClaims journal.lines }
     requires calms { CalmsAreInTime journal.lines }
-    ensures written { IsWritten result.status (K.taken out.old) (K.taken out.new) (transcripts.transcript words journal.lines) }
+    ensures written { IsWritten result.status (K.taken out.old) (K.taken out.new)
+        (transcripts.transcript words journal.lines) }
     ensures kept { result.status ≢ Status.NoMemory → result.journal.lines ≡ journal.lines }
     ensures empty { result.status ≡ Status.NoMemory → result.journal.lines ≡ [] }
     ensures claims { HasClaims result.journal.lines }
     ensures calms { CalmsAreInTime result.journal.lines }
-    ensures write_fault { result.status ≡ Status.WriteFault → Rose (K.faults out.old) (K.faults out.new) }
+    ensures write_fault { result.status ≡ Status.WriteFault
+        → Rose (K.faults out.old) (K.faults out.new) }
 {
     match write_transcript(alloc, words, &journal, out) {
         Ok(()) => Outcome {

@@ -18,8 +18,10 @@ pub fn write_transcript<K: Sink>(
     journal: &Journal,
     out: &mut K,
 ) -> Result<(), WriteFault>
-    ensures ok { OnOk result (Wrote (K.taken out.old) (K.taken out.new) (transcripts.transcript words journal.now.lines)) }
-    ensures front { WroteFront (K.taken out.old) (K.taken out.new) (transcripts.transcript words journal.now.lines) }
+    ensures ok { OnOk result (Wrote (K.taken out.old) (K.taken out.new)
+        (transcripts.transcript words journal.now.lines)) }
+    ensures front { WroteFront (K.taken out.old) (K.taken out.new)
+        (transcripts.transcript words journal.now.lines) }
 
     ensures fault { IsErrOf result WriteFault.Sink → Rose (K.faults out.old) (K.faults out.new) }
 {
@@ -34,8 +36,10 @@ pub fn write_transcript<K: Sink>(
 
 /// Writes the journal's text and then its summary.
 fn write_both<K: Sink>(alloc: Global, journal: &Journal, out: &mut K) -> Result<(), WriteFault>
-    ensures ok { OnOk result (Wrote (K.taken out.old) (K.taken out.new) (transcripts.written true None journal.now.lines)) }
-    ensures front { WroteFront (K.taken out.old) (K.taken out.new) (transcripts.written true None journal.now.lines) }
+    ensures ok { OnOk result (Wrote (K.taken out.old) (K.taken out.new)
+        (transcripts.written true None journal.now.lines)) }
+    ensures front { WroteFront (K.taken out.old) (K.taken out.new)
+        (transcripts.written true None journal.now.lines) }
 
     ensures fault { IsErrOf result WriteFault.Sink → Rose (K.faults out.old) (K.faults out.new) }
 {
@@ -44,8 +48,10 @@ fn write_both<K: Sink>(alloc: Global, journal: &Journal, out: &mut K) -> Result<
 }
 
 fn write_summary<K: Sink>(alloc: Global, journal: &Journal, out: &mut K) -> Result<(), WriteFault>
-    ensures ok { OnOk result (Wrote (K.taken out.old) (K.taken out.new) (transcripts.summary journal.now.lines)) }
-    ensures front { WroteFront (K.taken out.old) (K.taken out.new) (transcripts.summary journal.now.lines) }
+    ensures ok { OnOk result
+        (Wrote (K.taken out.old) (K.taken out.new) (transcripts.summary journal.now.lines)) }
+    ensures front { WroteFront (K.taken out.old) (K.taken out.new)
+        (transcripts.summary journal.now.lines) }
 
     ensures fault { IsErrOf result WriteFault.Sink → Rose (K.faults out.old) (K.faults out.new) }
 {

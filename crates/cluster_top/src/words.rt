@@ -98,7 +98,8 @@ fn command<'a>(alloc: Global) -> Result<Command<'a>, AllocError>
 /// The number after `--generate`, where it is given.
 fn number_given(matches: &ArgMatches<'_>) -> Result<Option<u64>, WordsFault>
     ensures ok { IfOk result (AreNumber (first_value (found_of matches.now) (codes "generate"))) }
-    ensures err { IfErr result (λ _. IsNoNumber (first_value (found_of matches.now) (codes "generate"))) }
+    ensures err { IfErr result
+        (λ _. IsNoNumber (first_value (found_of matches.now) (codes "generate"))) }
 {
     match matches.get_str("generate") {
         None => Ok(None),

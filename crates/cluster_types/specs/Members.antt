@@ -35,4 +35,5 @@ pub record AreDistinctMembers (members : List Member) : Type 0 where
 
 -- whether the two are the same node with the same role
 abbrev pub same_member : Member → Member → Bool
-same_member a b = (a.id == b.id) && ((a.role.rack == b.role.rack) && beq a.role.quiesced b.role.quiesced)
+same_member a b =
+    (a.id == b.id) && ((a.role.rack == b.role.rack) && beq a.role.quiesced b.role.quiesced)

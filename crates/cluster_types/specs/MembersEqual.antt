@@ -18,7 +18,9 @@ same_member_decides a b =
     Decides-like (same_member a b)
     (λ h i. record { id = h.0 i; role = record { rack = h.1.0 i; quiesced = h.1.1 i } })
     (λ h. (λ i. (h i).id, (λ i. (h i).role.rack, λ i. (h i).role.quiesced)))
-    (Decides-and _ _ (unsigned_Decides a.id b.id) (Decides-and _ _ (unsigned_Decides a.role.rack b.role.rack) (booleans_Decides a.role.quiesced b.role.quiesced)))
+    (Decides-and _ _ (unsigned_Decides a.id b.id) (Decides-and _ _
+    (unsigned_Decides a.role.rack b.role.rack)
+    (booleans_Decides a.role.quiesced b.role.quiesced)))
 
 -- `==` of members decides whether they are the same
 pub same_members_decides : (xs ys : List Member) → Decides (same_members xs ys) (xs ≡ ys)

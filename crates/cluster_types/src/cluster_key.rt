@@ -28,7 +28,8 @@ impl ClusterKey {
     /// The key of that round and principal. `None` where the round is 0 or at least 2^48, or the
     /// principal is 0.
     pub fn new(round: u64, principal: u16) -> Option<ClusterKey>
-        ensures { SomeIff result (IsKey (record { round = round; principal = principal })) (record { round = round; principal = principal }) }
+        ensures { SomeIff result (IsKey (record { round = round; principal = principal }))
+            (record { round = round; principal = principal }) }
     {
         if round == 0 || round >= ROUND_LIMIT || principal == 0 {
             return None;

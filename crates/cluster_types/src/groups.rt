@@ -32,7 +32,11 @@ impl Model for Groups {
 
     ghost inverse = { λ xs. record { places = padded xs []; len = length xs } };
 
-    ghost inverse_ok = { λ a h i. record { places = padded-take a.places a.len [] h.0 i; len = length-taken a.places a.len [] h.0 i } };
+    ghost inverse_ok = { λ a h i.
+        record {
+          places = padded-take a.places a.len [] h.0 i;
+          len = length-taken a.places a.len [] h.0 i;
+        } };
 }
 
 impl Groups {

@@ -30,11 +30,16 @@ impl Model for MemberList {
 
     ghost view = { λ m. take m.len m.places };
 
-    ghost invariant = { λ m. IsFilled m.places m.len (plain_member 1) × AreDistinctMembers (take m.len m.places) };
+    ghost invariant = { λ m.
+        IsFilled m.places m.len (plain_member 1) × AreDistinctMembers (take m.len m.places) };
 
     ghost inverse = { λ xs. record { places = padded xs (plain_member 1); len = length xs } };
 
-    ghost inverse_ok = { λ a h i. record { places = padded-take a.places a.len (plain_member 1) h.0 i; len = length-taken a.places a.len (plain_member 1) h.0 i } };
+    ghost inverse_ok = { λ a h i.
+        record {
+          places = padded-take a.places a.len (plain_member 1) h.0 i;
+          len = length-taken a.places a.len (plain_member 1) h.0 i;
+        } };
 }
 
 impl MemberList {
@@ -54,8 +59,11 @@ impl MemberList {
         ensures ok { IfOk result (λ m. m ≡ list.now) }
         ensures valid { IsOk result ↔ AreDistinctMembers list.now }
 
-        ensures too_many { (n : ℕ) → (result ≡ Err (TooMany n)) ↔ ((16 < length list.now) × (n ≡ length list.now)) }
-        ensures repeated { (place : ℕ) → (result ≡ Err (Repeated place)) ↔ ((length list.now ≤ 16) × IsFirstRepeat (ids_of list.now) place) }
+        ensures too_many { (n : ℕ)
+            → (result ≡ Err (TooMany n)) ↔ ((16 < length list.now) × (n ≡ length list.now)) }
+        ensures repeated { (place : ℕ)
+            → (result ≡ Err (Repeated place))
+            ↔ ((length list.now ≤ 16) × IsFirstRepeat (ids_of list.now) place) }
     {
         if list.len() > LIST_LIMIT {
             return Err(ListFault::TooMany(list.len()));

@@ -41,11 +41,16 @@ impl Model for Members {
 
     ghost view = { λ m. take m.len m.places };
 
-    ghost invariant = { λ m. IsFilled m.places m.len (plain_member 1) × AreMembers (take m.len m.places) };
+    ghost invariant = { λ m.
+        IsFilled m.places m.len (plain_member 1) × AreMembers (take m.len m.places) };
 
     ghost inverse = { λ xs. record { places = padded xs (plain_member 1); len = length xs } };
 
-    ghost inverse_ok = { λ a h i. record { places = padded-take a.places a.len (plain_member 1) h.0 i; len = length-taken a.places a.len (plain_member 1) h.0 i } };
+    ghost inverse_ok = { λ a h i.
+        record {
+          places = padded-take a.places a.len (plain_member 1) h.0 i;
+          len = length-taken a.places a.len (plain_member 1) h.0 i;
+        } };
 }
 
 impl Members {
@@ -55,8 +60,11 @@ impl Members {
         ensures valid { IsOk result ↔ AreMembers (map plain_member ids.now) }
 
         ensures empty { (result ≡ Err Empty) ↔ (length ids.now ≡ 0) }
-        ensures too_many { (n : ℕ) → (result ≡ Err (TooMany n)) ↔ ((16 < length ids.now) × (n ≡ length ids.now)) }
-        ensures out_of_order { (place : ℕ) → (result ≡ Err (OutOfOrder place)) ↔ ((length ids.now ≤ 16) × IsFirstRise ids.now place) }
+        ensures too_many { (n : ℕ)
+            → (result ≡ Err (TooMany n)) ↔ ((16 < length ids.now) × (n ≡ length ids.now)) }
+        ensures out_of_order { (place : ℕ)
+            → (result ≡ Err (OutOfOrder place))
+            ↔ ((length ids.now ≤ 16) × IsFirstRise ids.now place) }
     {
         if ids.len() > LIST_LIMIT {
             return Err(MembersFault::TooMany(ids.len()));
@@ -72,8 +80,11 @@ impl Members {
         ensures valid { IsOk result ↔ AreMembers list.now }
 
         ensures empty { (result ≡ Err Empty) ↔ (length list.now ≡ 0) }
-        ensures too_many { (n : ℕ) → (result ≡ Err (TooMany n)) ↔ ((16 < length list.now) × (n ≡ length list.now)) }
-        ensures out_of_order { (place : ℕ) → (result ≡ Err (OutOfOrder place)) ↔ ((length list.now ≤ 16) × IsFirstRise (ids_of list.now) place) }
+        ensures too_many { (n : ℕ)
+            → (result ≡ Err (TooMany n)) ↔ ((16 < length list.now) × (n ≡ length list.now)) }
+        ensures out_of_order { (place : ℕ)
+            → (result ≡ Err (OutOfOrder place))
+            ↔ ((length list.now ≤ 16) × IsFirstRise (ids_of list.now) place) }
     {
         if list.is_empty() {
             return Err(MembersFault::Empty);

@@ -44,7 +44,8 @@ impl Model for NodeList {
 
     ghost inverse = { λ xs. record { ids = padded xs 1; len = length xs } };
 
-    ghost inverse_ok = { λ a h i. record { ids = padded-take a.ids a.len 1 h.0 i; len = length-taken a.ids a.len 1 h.0 i } };
+    ghost inverse_ok = { λ a h i.
+        record { ids = padded-take a.ids a.len 1 h.0 i; len = length-taken a.ids a.len 1 h.0 i } };
 }
 
 impl NodeList {
@@ -64,8 +65,11 @@ impl NodeList {
         ensures ok { IfOk result (λ l. l ≡ ids.now) }
         ensures valid { IsOk result ↔ IsNodeList ids.now }
 
-        ensures too_many { (n : ℕ) → (result ≡ Err (TooMany n)) ↔ ((16 < length ids.now) × (n ≡ length ids.now)) }
-        ensures repeated { (place : ℕ) → (result ≡ Err (Repeated place)) ↔ ((length ids.now ≤ 16) × IsFirstRepeat ids.now place) }
+        ensures too_many { (n : ℕ)
+            → (result ≡ Err (TooMany n)) ↔ ((16 < length ids.now) × (n ≡ length ids.now)) }
+        ensures repeated { (place : ℕ)
+            → (result ≡ Err (Repeated place))
+            ↔ ((length ids.now ≤ 16) × IsFirstRepeat ids.now place) }
     {
         if ids.len() > LIST_LIMIT {
             return Err(ListFault::TooMany(ids.len()));

@@ -94,7 +94,8 @@ impl Row4096 {
     /// Whether the other row has a bit that this one lacks.
     pub fn lacks(&self, other: &Row4096) -> bool
         ensures none { result ≡ false → (p : ℕ) → bit other.now p ≡ true → bit self.now p ≡ true }
-        ensures some { result ≡ true → (p : ℕ) × (p < 4096) × (bit other.now p ≡ true) × (bit self.now p ≡ false) }
+        ensures some { result ≡ true
+            → (p : ℕ) × (p < 4096) × (bit other.now p ≡ true) × (bit self.now p ≡ false) }
     {
         lacks_some(self.bytes.as_slice(), other.bytes.as_slice())
     }
@@ -175,7 +176,8 @@ fn set_bit(bytes: &mut [u8], p: u16)
 fn or_into(bytes: &mut [u8], other: &[u8])
     requires size { length bytes.old ≡ 512 }
     requires other { length other.now ≡ 512 }
-    ensures each { (i : ℕ) → i < 512 → slice_index bytes.new i ≡ bit_or (slice_index bytes.old i) (slice_index other.now i) }
+    ensures each { (i : ℕ) → i < 512
+        → slice_index bytes.new i ≡ bit_or (slice_index bytes.old i) (slice_index other.now i) }
     ensures size { length bytes.new ≡ 512 }
     ensures small { (i : ℕ) → slice_index bytes.new i < 256 }
 {
@@ -188,8 +190,11 @@ fn or_into(bytes: &mut [u8], other: &[u8])
 fn lacks_some(bytes: &[u8], other: &[u8]) -> bool
     requires size { length bytes.now ≡ 512 }
     requires other { length other.now ≡ 512 }
-    ensures none { result ≡ false → (i : ℕ) → i < 512 → bit_or (slice_index bytes.now i) (slice_index other.now i) ≡ slice_index bytes.now i }
-    ensures some { result ≡ true → (i : ℕ) × (i < 512) × (bit_or (slice_index bytes.now i) (slice_index other.now i) ≢ slice_index bytes.now i) }
+    ensures none { result ≡ false → (i : ℕ) → i < 512
+        → bit_or (slice_index bytes.now i) (slice_index other.now i) ≡ slice_index bytes.now i }
+    ensures some { result ≡ true
+        → (i : ℕ) × (i < 512)
+        × (bit_or (slice_index bytes.now i) (slice_index other.now i) ≢ slice_index bytes.now i) }
 {
     for i in 0..bytes.len() {
         if bytes[i] | other[i] != bytes[i] {
@@ -221,7 +226,8 @@ fn next_place(bytes: &[u8], from: u16) -> u16
 fn xor_into(bytes: &mut [u8], other: &[u8])
     requires size { length bytes.old ≡ 512 }
     requires other { length other.now ≡ 512 }
-    ensures each { (i : ℕ) → i < 512 → slice_index bytes.new i ≡ bit_xor (slice_index bytes.old i) (slice_index other.now i) }
+    ensures each { (i : ℕ) → i < 512
+        → slice_index bytes.new i ≡ bit_xor (slice_index bytes.old i) (slice_index other.now i) }
     ensures size { length bytes.new ≡ 512 }
     ensures small { (i : ℕ) → slice_index bytes.new i < 256 }
 {
@@ -233,7 +239,8 @@ fn xor_into(bytes: &mut [u8], other: &[u8])
 /// Changes each bit.
 fn turn(bytes: &mut [u8])
     requires { length bytes.old ≡ 512 }
-    ensures each { (i : ℕ) → i < 512 → slice_index bytes.new i ≡ bit_not w8 (slice_index bytes.old i) }
+    ensures each { (i : ℕ) → i < 512
+        → slice_index bytes.new i ≡ bit_not w8 (slice_index bytes.old i) }
     ensures size { length bytes.new ≡ 512 }
     ensures small { (i : ℕ) → slice_index bytes.new i < 256 }
 {

@@ -29,7 +29,8 @@ entered_or_sent false key set p = sent_of p
 -- a tick: a new proposal without other members is entered, and a proposal that stands afterwards is sent
 abbrev pub tick_answer : ℕ → Agreement → List Member → Bool → Proposal
 tick_answer me a set candidate =
-    entered_or_sent (enters_alone me (still_proposing a set) set candidate) (next_key me a) set (ticking me a set candidate).proposal
+    entered_or_sent (enters_alone me (still_proposing a set) set candidate) (next_key me a) set
+    (ticking me a set candidate).proposal
 
 -- a refusal where the test holds
 abbrev pub vote_if : Bool → ClusterKey → ClusterKey → Vote
@@ -53,7 +54,9 @@ accept_if true true key members = accept.Enter key members
 
 -- an Accept of the key by that member
 abbrev pub accept_of : Agreement → ℕ → ClusterKey → AcceptStep
-accept_of a from key = accept_if (proposes a.proposal key) (is_accepted_with a.proposal from) key (proposed_members a.proposal)
+accept_of a from key =
+    accept_if (proposes a.proposal key) (is_accepted_with a.proposal from) key
+    (proposed_members a.proposal)
 
 -- a view that is entered with an Accept has the node among its members
 abbrev pub IsEnteredBy : ℕ → AcceptStep → Type 0

@@ -21,12 +21,16 @@ entered_from k = agreeing_with k (agreement_entered (agreement_with k None) k.pr
 
 -- these members are proposed to those others under the promised key
 abbrev pub agreeing_if_alone : Keys → List Member → List ℕ → Agreeing
-agreeing_if_alone k set to = agreeing_with k (proposing_to k.me (agreement_with k None) k.promised set to)
+agreeing_if_alone k set to =
+    agreeing_with k (proposing_to k.me (agreement_with k None) k.promised set to)
 
 -- what is said of that
 abbrev pub answer_if_alone : Keys → List Member → List ℕ → Proposal
-answer_if_alone k set to = entered_or_sent (is_nil to) k.promised set (Some (rules.proposal_of k.me k.promised set))
+answer_if_alone k set to =
+    entered_or_sent (is_nil to) k.promised set (Some (rules.proposal_of k.me k.promised set))
 
 -- the proposal's view is entered where all have accepted it
 abbrev pub agreeing_if_accepted : Proposing → Bool → Agreeing
-agreeing_if_accepted s accepted = agreeing_with s.keys (entering_if (agreement_with s.keys (Some (stage_proposal s))) s.keys.promised accepted)
+agreeing_if_accepted s accepted =
+    agreeing_with s.keys
+    (entering_if (agreement_with s.keys (Some (stage_proposal s))) s.keys.promised accepted)

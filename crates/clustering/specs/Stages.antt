@@ -22,7 +22,12 @@ keys_of (stage.Entered s) = s.keys
 
 -- what these keys and that proposal are to the rules
 abbrev pub agreement_with : Keys → Option rules.Proposal → Agreement
-agreement_with k proposal = record { promised = k.promised; last = k.last; proposal = proposal; seen = k.seen }
+agreement_with k proposal = record {
+  promised = k.promised;
+  last = k.last;
+  proposal = proposal;
+  seen = k.seen;
+}
 
 -- a proposal is of the key that was promised last
 abbrev pub stage_proposal : Proposing → rules.Proposal

@@ -98,7 +98,8 @@ impl Agree {
     /// proposes them, where a round is left for that.
     pub fn on_tick(self, set: Members, candidate: bool) -> (Agree, Proposal)
         requires { Contains (ids_of set) self.me }
-        ensures agree { result.0 ≡ with_agreement self (ticking self.me self.agreement set candidate) }
+        ensures agree { result.0
+            ≡ with_agreement self (ticking self.me self.agreement set candidate) }
         ensures answer { result.1 ≡ tick_answer self.me self.agreement set candidate }
     {
         let stage = self.stage;
@@ -154,7 +155,8 @@ impl Agree {
     /// A Commit came. Its view is entered exactly where its key is the promised one and above the
     /// last, and the node is a member.
     pub fn on_commit(self, key: ClusterKey, members: Members) -> (Agree, CommitStep)
-        ensures agree { result.0 ≡ with_agreement self (committing self.me self.agreement key members) }
+        ensures agree { result.0
+            ≡ with_agreement self (committing self.me self.agreement key members) }
         ensures answer { result.1 ≡ commit_of self.me self.agreement key members }
     {
         let keys = self.stage.keys();
@@ -169,8 +171,11 @@ impl Agree {
 fn tick(stage: &Stage, set: &Members, candidate: bool) -> (Agree, Proposal)
     requires stage { IsStage stage.now }
     requires member { Contains (ids_of set.now) (keys_of stage.now).me }
-    ensures agree { let a = agreement_at stage.now in result.0 ≡ agreeing_with (keys_of stage.now) (ticking (keys_of stage.now).me a set.now candidate) }
-    ensures answer { result.1 ≡ tick_answer (keys_of stage.now).me (agreement_at stage.now) set.now candidate }
+    ensures agree { let a = agreement_at stage.now in
+        result.0
+        ≡ agreeing_with (keys_of stage.now) (ticking (keys_of stage.now).me a set.now candidate) }
+    ensures answer { result.1
+        ≡ tick_answer (keys_of stage.now).me (agreement_at stage.now) set.now candidate }
 {
     match stage {
         Stage::Proposing(proposing) if proposing.members == *set => {
@@ -220,8 +225,10 @@ fn enter(keys: &Keys) -> Agree
 fn propose_if(candidate: bool, keys: &Keys, set: &Members) -> (Agree, Proposal)
     requires keys { AreKeys keys.now.promised keys.now.last }
     requires member { Contains (ids_of set.now) keys.now.me }
-    ensures agree { result.0 ≡ agreeing_with keys.now (ticking keys.now.me (agreement_with keys.now None) set.now candidate) }
-    ensures answer { result.1 ≡ tick_answer keys.now.me (agreement_with keys.now None) set.now candidate }
+    ensures agree { result.0 ≡ agreeing_with keys.now
+        (ticking keys.now.me (agreement_with keys.now None) set.now candidate) }
+    ensures answer { result.1
+        ≡ tick_answer keys.now.me (agreement_with keys.now None) set.now candidate }
 {
     match keys.next_key() {
         Some(key) if candidate => propose(&keys.promising(key), set),
@@ -258,7 +265,8 @@ fn propose(keys: &Keys, set: &Members) -> (Agree, Proposal)
 fn enter_or_wait(proposing: &Proposing) -> (Agree, AcceptStep)
     requires { IsProposing proposing.now }
     ensures agree { result.0 ≡ agreeing_if_accepted proposing.now (is_nil proposing.now.missing) }
-    ensures answer { let s = proposing.now in result.1 ≡ accept_if true (is_nil s.missing) s.keys.promised s.members }
+    ensures answer { let s = proposing.now in
+        result.1 ≡ accept_if true (is_nil s.missing) s.keys.promised s.members }
     ensures member { IsEnteredBy proposing.now.keys.me result.1 }
 {
     let key = proposing.keys.promised;

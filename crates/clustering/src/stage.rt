@@ -114,7 +114,8 @@ impl Keys {
     /// The key of a new proposal: its round is above all that were promised or seen. `None` where
     /// that was the last round.
     pub fn next_key(&self) -> Option<ClusterKey>
-        ensures round { let a = agreement_with self.now None in SomeIff result (IsTrue (has_round a)) (next_key self.now.me a) }
+        ensures round { let a = agreement_with self.now None in
+            SomeIff result (IsTrue (has_round a)) (next_key self.now.me a) }
         ensures key { IfSome result IsKeyField }
         ensures above { IfSome result (λ k. key_lt self.now.promised k ≡ true) }
     {
@@ -172,7 +173,8 @@ impl Stage {
     /// The stage once another node told that it promised this key.
     pub fn seeing(&self, key: ClusterKey) -> Stage
         requires { IsStage self.now }
-        ensures seen { seen_at result ≡ record (seen_at self.now) { agreement = seeing (agreement_at self.now) key } }
+        ensures seen { seen_at result
+            ≡ record (seen_at self.now) { agreement = seeing (agreement_at self.now) key } }
         ensures stage { IsStage result }
     {
         match self {

@@ -34,5 +34,7 @@ pub record IsNewerNext (by : Policy) : Type 0 where
       → IfSome best (λ b. b.generation < last_generation)
       → IsTrue (is_newer by (next best clock body) best)
   -- where neither number rises, the body alone decides
-  pub same_numbers : (best : Version) (clock : ℕ) (body : Body) → best.generation ≡ last_generation → clock ≤ best.lut
-      → next (Some best) clock body ≡ record { lut = best.lut; generation = best.generation; body = body }
+  pub same_numbers : (best : Version) (clock : ℕ) (body : Body) → best.generation ≡ last_generation
+      → clock ≤ best.lut
+      → next (Some best) clock body
+      ≡ record { lut = best.lut; generation = best.generation; body = body }

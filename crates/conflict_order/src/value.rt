@@ -63,9 +63,11 @@ impl ValueBytes {
     /// Copies bytes into a value.
     pub fn from_slice(alloc: Global, bytes: &[u8]) -> Result<ValueBytes, ValueFault>
         ensures ok { IfOk result (λ v. (v ≡ bytes.now) × (length bytes.now ≤ 128)) }
-        ensures too_long { 128 < length bytes.now → IsErrOf result (ValueFault.TooLong (length bytes.now)) }
+        ensures too_long { 128 < length bytes.now
+            → IsErrOf result (ValueFault.TooLong (length bytes.now)) }
         ensures within { length bytes.now ≤ 128 → IsOkUnless result ValueFault.NoMemory }
-        ensures too_long_only { (n : ℕ) → IsErrOf result (ValueFault.TooLong n) → (n ≡ length bytes.now) × (128 < length bytes.now) }
+        ensures too_long_only { (n : ℕ) → IsErrOf result (ValueFault.TooLong n)
+            → (n ≡ length bytes.now) × (128 < length bytes.now) }
     {
         if bytes.len() > VALUE_LIMIT {
             return Err(ValueFault::TooLong(bytes.len()));

@@ -34,7 +34,8 @@ after_steps f k words order rotations v = v
 
 -- the steps of a round over the words of a block
 abbrev pub after_round : List ℕ → Round → Words → Words
-after_round words round v = after_steps round.function round.constant words round.order round.rotations v
+after_round words round v =
+    after_steps round.function round.constant words round.order round.rotations v
 
 -- the rounds of a line, one after the other
 abbrev pub line_rounds : List ℕ → List Round → Words → Words

@@ -64,7 +64,8 @@ impl Ripemd160 {
     pub fn update(&mut self, piece: &[u8])
         requires { self.old.count + length piece.now < 2 ^ 61 }
         ensures count { self.new.count ≡ self.old.count + length piece.now }
-        ensures message { (message : List ℕ) → self.old ≡ fed message → self.new ≡ fed (message ++ piece.now) }
+        ensures message { (message : List ℕ) → self.old ≡ fed message
+            → self.new ≡ fed (message ++ piece.now) }
     {
         self.chain.absorb(piece);
         self.count += piece.len() as u64;

@@ -112,13 +112,16 @@ txn_with_write to t = record t { applied = true; awaiting = to }
 abbrev pub answer_step : Option Txn → ℕ → AnswerStep
 answer_step None from = answer.Spent
 answer_step (Some t) from =
-    if txn_awaits_answer t from then (if txn_awaits_only t from then answer.Resolved else answer.Waiting) else answer.Spent
+    if txn_awaits_answer t from
+    then (if txn_awaits_only t from then answer.Resolved else answer.Waiting)
+    else answer.Spent
 
 -- what is said of an acknowledgement for the transaction
 abbrev pub acked_step : Option Txn → ℕ → AckedStep
 acked_step None from = acked.Spent
 acked_step (Some t) from =
-    if txn_awaits_ack t from then (if txn_awaits_only t from then acked.Done else acked.Waiting) else acked.Spent
+    if txn_awaits_ack t from then (if txn_awaits_only t from then acked.Done else acked.Waiting)
+    else acked.Spent
 
 -- the number of each, and whether its write is applied
 abbrev pub txn_ends : List Txn → List (ℕ × Bool)

@@ -32,9 +32,16 @@ impl Model for Slots {
 
     ghost Value = { Slotted };
 
-    ghost view = { λ s. record { opened = s.opened; running = running_of s.slots.items; spare = deque_capacity s.slots - deque_len s.slots } };
+    ghost view = { λ s.
+        record {
+          opened = s.opened;
+          running = running_of s.slots.items;
+          spare = deque_capacity s.slots - deque_len s.slots;
+        } };
 
-    ghost invariant = { λ s. (deque_len s.slots ≤ s.opened) × AreNumbered (s.opened - deque_len s.slots) s.slots.items × IsTrue (starts_with_txn s.slots.items) };
+    ghost invariant = { λ s. (deque_len s.slots ≤ s.opened)
+        × AreNumbered (s.opened - deque_len s.slots) s.slots.items
+        × IsTrue (starts_with_txn s.slots.items) };
 }
 
 impl Slots {
@@ -193,7 +200,8 @@ impl Slots {
 /// The place of the slot of that number, of so many slots of the last numbers given.
 fn place_of(id: u32, opened: u32, slots: usize) -> Option<usize>
     requires { slots ≤ opened }
-    ensures { MatchOption result ((id ≤ opened - slots) ⊎ (opened < id)) (λ i. (i < slots) × (id ≡ opened - slots + 1 + i)) }
+    ensures { MatchOption result ((id ≤ opened - slots) ⊎ (opened < id))
+        (λ i. (i < slots) × (id ≡ opened - slots + 1 + i)) }
 {
     let id = id as usize;
     let opened = opened as usize;
@@ -226,7 +234,9 @@ fn digest_of(txn: Option<Txn>) -> Option<Digest>
 /// Drops the slots before the first transaction.
 fn drop_taken(slots: &mut VecDeque<Option<Txn>>)
     ensures running { running_of slots.new.items ≡ running_of slots.old.items }
-    ensures numbers { (opened : ℕ) → deque_len slots.old ≤ opened → AreNumbered (opened - deque_len slots.old) slots.old.items → AreNumbered (opened - deque_len slots.new) slots.new.items }
+    ensures numbers { (opened : ℕ) → deque_len slots.old ≤ opened
+        → AreNumbered (opened - deque_len slots.old) slots.old.items
+        → AreNumbered (opened - deque_len slots.new) slots.new.items }
     ensures first { IsTrue (starts_with_txn slots.new.items) }
     ensures len { deque_len slots.new ≤ deque_len slots.old }
     ensures capacity { deque_capacity slots.new ≡ deque_capacity slots.old }

@@ -76,9 +76,16 @@ impl Model for Txns {
 
     ghost Value = { Open };
 
-    ghost view = { λ t. record { opened = t.slots.opened; running = t.slots.running; by = t.by; spare = room_of t.slots.spare (spare t.by_digest) (length t.by_partition) } };
+    ghost view = { λ t.
+        record {
+          opened = t.slots.opened;
+          running = t.slots.running;
+          by = t.by;
+          spare = room_of t.slots.spare (spare t.by_digest) (length t.by_partition);
+        } };
 
-    ghost invariant = { λ t. IsIndex (txn_entries t.slots.running) (λ q. get bytes_eq t.by_digest q) × AreOpenCounts (txn_entries t.slots.running) t.by_partition };
+    ghost invariant = { λ t. IsIndex (txn_entries t.slots.running) (λ q. get bytes_eq t.by_digest q)
+        × AreOpenCounts (txn_entries t.slots.running) t.by_partition };
 }
 
 impl Txns {
@@ -141,9 +148,12 @@ impl Txns {
         requires { self.old.opened < 2 ^ 32 - 1 }
         ensures id { IfOk result (λ id. id ≡ self.old.opened + 1) }
         ensures opened { OnOk result (self.new.opened ≡ self.old.opened + 1) }
-        ensures running { OnOk result (self.new.running ≡ self.old.running ++ new_txn (self.old.opened + 1) d want best awaiting ∷ []) }
+        ensures running { OnOk result
+            (self.new.running
+            ≡ self.old.running ++ new_txn (self.old.opened + 1) d want best awaiting ∷ []) }
         ensures policy { self.new.by ≡ self.old.by }
-        ensures busy { (t : ℕ) → (result ≡ Err (BeginFault.Busy t)) ↔ (number_on self.old.running d ≡ Some t) }
+        ensures busy { (t : ℕ)
+            → (result ≡ Err (BeginFault.Busy t)) ↔ (number_on self.old.running d ≡ Some t) }
         ensures err { OnErr result (IsSameButRoom self.old self.new) }
         ensures spare { self.old.spare ≤ self.new.spare + 1 }
 
@@ -224,7 +234,8 @@ impl Txns {
     /// of the node to that transaction is awaited, and `Resolved` where it was the last.
     pub fn on_answer(&mut self, from: NodeId, t: u32, v: Option<Version>) -> AnswerStep
         ensures step { result ≡ answer_step (txn_at self.old.running t) from }
-        ensures after { HasOpen (change_txn self.old.running t (answered_if self.old.by from v)) self.old self.new }
+        ensures after { HasOpen (change_txn self.old.running t (answered_if self.old.by from v))
+            self.old self.new }
     {
         self.slots.answer(from, t, v, self.by)
     }
@@ -233,7 +244,8 @@ impl Txns {
     /// awaited, and `Done` where it was the last.
     pub fn acked(&mut self, from: NodeId, t: u32) -> AckedStep
         ensures step { result ≡ acked_step (txn_at self.old.running t) from }
-        ensures after { HasOpen (change_txn self.old.running t (acknowledged_if from)) self.old self.new }
+        ensures after { HasOpen (change_txn self.old.running t (acknowledged_if from)) self.old
+            self.new }
     {
         self.slots.acknowledge(from, t)
     }

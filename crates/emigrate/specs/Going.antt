@@ -66,4 +66,5 @@ pub record AreApart (targets : Targets) : Type 0 where
 -- the digests that are held of those of the first n partitions that pass the test, partition by partition
 abbrev pub digests_below : Content → (ℕ → Bool) → ℕ → List (List ℕ)
 digests_below content test zero = []
-digests_below content test (suc n) = digests_below content test n ++ (if test n then copies.digests_of content n else [])
+digests_below content test (suc n) =
+    digests_below content test n ++ (if test n then copies.digests_of content n else [])

@@ -26,4 +26,9 @@ pending_after (after.Finished done) = []
 
 -- the member's target in that stage, with so many batches that were sent
 abbrev pub target_seen : ℕ → ℕ → Stage → Target
-target_seen node batches s = record { node = node; pending = pending_in s; out = out_in s; batches = batches }
+target_seen node batches s = record {
+  node = node;
+  pending = pending_in s;
+  out = out_in s;
+  batches = batches;
+}

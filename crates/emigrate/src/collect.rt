@@ -28,8 +28,10 @@ pub(crate) fn outgoing_to<X: MapView>(
     to: NodeId,
     counts: &mut Counts,
 ) -> Result<Outgoing, NoMemory>
-    ensures target { IfOk result (λ o. o ≡ target_of (λ n d. X.sends_to x.now (partition_of d) me n) store.now.versions to) }
-    ensures counts { IfOk result (λ o. (p : ℕ) → p < partition_count → slice_index counts.new p ≡ slice_index counts.old p + count_by (is_of p) o.pending) }
+    ensures target { IfOk result
+        (λ o. o ≡ target_of (λ n d. X.sends_to x.now (partition_of d) me n) store.now.versions to) }
+    ensures counts { IfOk result (λ o. (p : ℕ) → p < partition_count
+        → slice_index counts.new p ≡ slice_index counts.old p + count_by (is_of p) o.pending) }
 {
     let pending = digests_for(alloc, store, x, me, to)?;
     counts.add_all(&pending)?;
@@ -45,7 +47,8 @@ fn digests_for<X: MapView>(
     me: NodeId,
     to: NodeId,
 ) -> Result<VecDeque<Digest>, NoMemory>
-    ensures digests { IfOk result (λ ds. ds.items ≡ filter (λ d. X.sends_to x.now (partition_of d) me to) (digests store.now.versions)) }
+    ensures digests { IfOk result (λ ds. ds.items
+        ≡ filter (λ d. X.sends_to x.now (partition_of d) me to) (digests store.now.versions)) }
     ensures rising { IfOk result (λ ds. AreRising ds.items) }
 {
     let mut digests = Vec::new(alloc);
@@ -68,7 +71,8 @@ fn add_copy(
     p: PartitionId,
     digests: &mut Vec<Digest>,
 ) -> Result<(), NoMemory>
-    ensures { OnOk result (digests.new.items ≡ digests.old.items ++ digests_of store.now.versions p) }
+    ensures { OnOk result
+        (digests.new.items ≡ digests.old.items ++ digests_of store.now.versions p) }
 {
     let mut last: Option<Digest> = None;
     loop {

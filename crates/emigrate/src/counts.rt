@@ -42,7 +42,9 @@ impl Counts {
 
     /// One more digest is pending. More than 2^32 - 1 of a partition are too many for memory.
     fn add(&mut self, digest: &Digest) -> Result<(), NoMemory>
-        ensures ok { OnOk result (self.new ≡ slice_set self.old (partition_of digest.now) (slice_index self.old (partition_of digest.now) + 1)) }
+        ensures ok { OnOk result
+            (self.new ≡ slice_set self.old (partition_of digest.now)
+            (slice_index self.old (partition_of digest.now) + 1)) }
         ensures err { OnErr result (self.new ≡ self.old) }
         ensures size { length self.old ≡ partition_count }
     {
@@ -53,7 +55,10 @@ impl Counts {
 
     /// These digests are pending besides.
     pub(crate) fn add_all(&mut self, digests: &VecDeque<Digest>) -> Result<(), NoMemory>
-        ensures { OnOk result ((p : ℕ) → p < partition_count → slice_index self.new p ≡ slice_index self.old p + count_by (is_of p) digests.now.items) }
+        ensures { OnOk result
+            ((p : ℕ) → p < partition_count
+            → slice_index self.new p
+            ≡ slice_index self.old p + count_by (is_of p) digests.now.items) }
     {
         for i in 0..digests.len() {
             self.add(&digests[i])?;
@@ -64,7 +69,8 @@ impl Counts {
     /// A digest that was pending isn't any more.
     fn remove(&mut self, digest: &Digest)
         requires { 0 < slice_index self.old (partition_of digest.now) }
-        ensures less { self.new ≡ slice_set self.old (partition_of digest.now) (slice_index self.old (partition_of digest.now) - 1) }
+        ensures less { self.new ≡ slice_set self.old (partition_of digest.now)
+            (slice_index self.old (partition_of digest.now) - 1) }
         ensures size { length self.old ≡ partition_count }
     {
         self.numbers[place_of(partition_of(digest))] -= 1;
@@ -72,8 +78,11 @@ impl Counts {
 
     /// The batch's digests, which were pending, aren't any more.
     pub(crate) fn remove_all(&mut self, batch: &Batch)
-        requires { (p : ℕ) → p < partition_count → count_by (is_of p) (batch_digests batch.now) ≤ slice_index self.old p }
-        ensures { (p : ℕ) → p < partition_count → slice_index self.new p + count_by (is_of p) (batch_digests batch.now) ≡ slice_index self.old p }
+        requires { (p : ℕ) → p < partition_count
+            → count_by (is_of p) (batch_digests batch.now) ≤ slice_index self.old p }
+        ensures { (p : ℕ) → p < partition_count
+            → slice_index self.new p + count_by (is_of p) (batch_digests batch.now)
+            ≡ slice_index self.old p }
     {
         for i in 0..batch.records.len() {
             if let Some((digest, _)) = batch.records.get(i) {

@@ -60,11 +60,14 @@ impl Emigration {
         me: NodeId,
     ) -> Result<Emigration, NoMemory>
         ensures key { IfOk result (λ e. e.key ≡ key) }
-        ensures targets { IfOk result (λ e. e.targets ≡ targets_of (λ to d. X.sends_to x.now (partition_of d) me to) store.now.versions (others_among me members.now)) }
+        ensures targets { IfOk result (λ e. e.targets ≡ targets_of
+            (λ to d. X.sends_to x.now (partition_of d) me to) store.now.versions
+            (others_among me members.now)) }
 
         // So a next batch can be taken.
         ensures held { IfOk result (λ e. AreHeld store.now.versions e.targets) }
-        ensures limit { IfOk result (λ e. (n : ℕ) → IfSome (target e.targets n) (λ t. t.batches < 2 ^ 32 - 1)) }
+        ensures limit { IfOk result
+            (λ e. (n : ℕ) → IfSome (target e.targets n) (λ t. t.batches < 2 ^ 32 - 1)) }
     {
         let mut targets = Vec::with_capacity(alloc, members.len())?;
         let mut pending = Counts::new(alloc)?;
@@ -93,10 +96,12 @@ impl Emigration {
         requires member { IsSome (target self.now.targets to) }
         requires held { AreHeld store.now.versions self.now.targets }
         requires limit { IfSome (target self.now.targets to) (λ t. t.batches < 2 ^ 32 - 1) }
-        ensures batch { IfOk result (λ b. b ≡ next_batch_to self.now.key store.now.versions self.now.targets to) }
+        ensures batch { IfOk result
+            (λ b. b ≡ next_batch_to self.now.key store.now.versions self.now.targets to) }
 
         // It is one that may then be sent.
-        ensures next { IfOk result (λ b. IfSome b (λ out. IfSome (target self.now.targets to) (λ t. IsNext self.now.key t out))) }
+        ensures next { IfOk result (λ b. IfSome b
+            (λ out. IfSome (target self.now.targets to) (λ t. IsNext self.now.key t out))) }
     {
         let Some(outgoing) = self.outgoing(to) else {
             return Ok(None);
@@ -119,8 +124,11 @@ impl Emigration {
     /// Takes the acknowledgement of a batch. `Spent` exactly where that number isn't out to that
     /// node.
     pub fn on_ack(&mut self, from: NodeId, number: u32) -> AckStep
-        ensures step { result ≡ (if has_number (out_to self.old.targets from) number then AckStep.Taken else AckStep.Spent) }
-        ensures after { self.new ≡ record self.old { targets = acking self.old.targets from number } }
+        ensures step { result
+            ≡ (if has_number (out_to self.old.targets from) number then AckStep.Taken
+            else AckStep.Spent) }
+        ensures after { self.new
+            ≡ record self.old { targets = acking self.old.targets from number } }
     {
         let Some(place) = self.place_of(from) else {
             return AckStep::Spent;
@@ -138,15 +146,18 @@ impl Emigration {
 
     /// How far it is with the member; `None` where the node is no other member.
     pub fn target(&self, to: NodeId) -> Option<&Target>
-        ensures pending { option_map (λ t. pending_in t.now) result ≡ option_map (λ t. t.pending) (target self.now.targets to) }
-        ensures out { option_map (λ t. out_in t.now) result ≡ option_map (λ t. t.out) (target self.now.targets to) }
+        ensures pending { option_map (λ t. pending_in t.now) result
+            ≡ option_map (λ t. t.pending) (target self.now.targets to) }
+        ensures out { option_map (λ t. out_in t.now) result
+            ≡ option_map (λ t. t.out) (target self.now.targets to) }
     {
         Some(self.outgoing(to)?.target())
     }
 
     /// The partitions of which nothing is pending.
     pub fn done(&self) -> Row4096
-        ensures { (p : ℕ) → p < partition_count → bit result p ≡ not (is_pending self.now.targets p) }
+        ensures { (p : ℕ) → p < partition_count
+            → bit result p ≡ not (is_pending self.now.targets p) }
     {
         self.pending.done()
     }
@@ -161,7 +172,8 @@ impl Emigration {
     /// The leave to drop the partition's copy: exactly where the bit is the partition's and
     /// nothing of it is pending.
     pub fn permit(&self, p: PartitionId, bit: SettledBit) -> Option<DropPermit>
-        ensures some { IsSome result ↔ IsTrue ((bit.partition == p) && not (is_pending self.now.targets p)) }
+        ensures some { IsSome result
+            ↔ IsTrue ((bit.partition == p) && not (is_pending self.now.targets p)) }
         ensures partition { IfSome result (λ permit. permit.partition ≡ p) }
     {
         if bit.partition() == p && self.is_done(p) {

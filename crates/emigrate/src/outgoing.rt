@@ -103,7 +103,8 @@ impl Outgoing {
     pub(crate) fn sent(&mut self, batch: Batch)
         requires out { (o : Batch) → self.old.out ≡ Some o → batch ≡ o }
         requires some { self.old.out ≡ None → self.old.pending ≢ [] }
-        requires digests { self.old.out ≡ None → batch_digests batch ≡ take batch_limit self.old.pending }
+        requires digests { self.old.out ≡ None
+            → batch_digests batch ≡ take batch_limit self.old.pending }
         ensures { self.new ≡ record self.old { out = Some batch; batches = batch.number } }
     {
         self.batches = batch.number;
@@ -112,10 +113,14 @@ impl Outgoing {
 
     /// Takes the acknowledgement of the batch of that number. Its digests are then counted no more.
     pub(crate) fn acked(&mut self, number: u32, counts: &mut Counts) -> AckStep
-        requires { (p : ℕ) → p < partition_count → count_by (is_of p) self.old.pending ≤ slice_index counts.old p }
-        ensures step { result ≡ (if has_number self.old.out number then AckStep.Taken else AckStep.Spent) }
+        requires { (p : ℕ) → p < partition_count
+            → count_by (is_of p) self.old.pending ≤ slice_index counts.old p }
+        ensures step { result
+            ≡ (if has_number self.old.out number then AckStep.Taken else AckStep.Spent) }
         ensures target { self.new ≡ acked_out self.old number self.old.out }
-        ensures counts { (p : ℕ) → p < partition_count → slice_index counts.new p + count_by (is_of p) self.old.pending ≡ slice_index counts.old p + count_by (is_of p) self.new.pending }
+        ensures counts { (p : ℕ) → p < partition_count
+            → slice_index counts.new p + count_by (is_of p) self.old.pending
+            ≡ slice_index counts.old p + count_by (is_of p) self.new.pending }
     {
         match take_stage(&mut self.target) {
             Target::Sent(sent) => {
@@ -142,7 +147,8 @@ fn take_stage(target: &mut Target) -> Target
 fn sent(target: Target, batch: Batch) -> Target
     requires out { (o : Batch) → out_in target ≡ Some o → batch ≡ o }
     requires some { out_in target ≡ None → pending_in target ≢ [] }
-    requires digests { out_in target ≡ None → batch_digests batch ≡ take batch_limit (pending_in target) }
+    requires digests { out_in target ≡ None
+        → batch_digests batch ≡ take batch_limit (pending_in target) }
     ensures pending { pending_in result ≡ pending_in target }
     ensures out { out_in result ≡ Some batch }
 {
@@ -156,10 +162,16 @@ fn sent(target: Target, batch: Batch) -> Target
 /// The target after the acknowledgement of the batch of that number, whose digests are then counted
 /// no more, and what became of it.
 fn acked(sent: Sent, number: u32, counts: &mut Counts) -> (Target, AckStep)
-    requires { (p : ℕ) → p < partition_count → count_by (is_of p) sent.pending ≤ slice_index counts.old p }
-    ensures target { (n b : ℕ) → target_seen n b result.0 ≡ acked_out (target_seen n b (stage.Sent sent)) number (Some sent.batch) }
-    ensures step { result.1 ≡ (if sent.batch.number == number then AckStep.Taken else AckStep.Spent) }
-    ensures counts { (p : ℕ) → p < partition_count → slice_index counts.new p + count_by (is_of p) sent.pending ≡ slice_index counts.old p + count_by (is_of p) (pending_in result.0) }
+    requires { (p : ℕ) → p < partition_count
+        → count_by (is_of p) sent.pending ≤ slice_index counts.old p }
+    ensures target { (n b : ℕ)
+        → target_seen n b result.0
+        ≡ acked_out (target_seen n b (stage.Sent sent)) number (Some sent.batch) }
+    ensures step { result.1
+        ≡ (if sent.batch.number == number then AckStep.Taken else AckStep.Spent) }
+    ensures counts { (p : ℕ) → p < partition_count
+        → slice_index counts.new p + count_by (is_of p) sent.pending
+        ≡ slice_index counts.old p + count_by (is_of p) (pending_in result.0) }
 {
     if sent.batch().number == number {
         counts.remove_all(sent.batch());

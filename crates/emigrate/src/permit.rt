@@ -24,7 +24,10 @@ impl DropPermit {
 /// Drops the copy of the permit's partition with its stamp, and answers the partition.
 pub fn drop_copy(store: &mut RecordStore, permit: DropPermit) -> PartitionId
     ensures partition { result ≡ permit.partition }
-    ensures store { store.new ≡ record store.old { versions = without_copy store.old.versions permit.partition; stamps = remove store.old.stamps permit.partition } }
+    ensures store { store.new ≡ record store.old {
+      versions = without_copy store.old.versions permit.partition;
+      stamps = remove store.old.stamps permit.partition;
+    } }
 {
     store.clear_copy(permit.partition);
     permit.partition

@@ -73,7 +73,8 @@ impl From<AfterAck> for Target {
     ghost use Rattle.std.specs.Prelude.{◌≡◌, None};
     ghost use Rattle.emigrate.specs.Stages.{out_in, pending_after, pending_in};
 
-    ghost from_gives = { λ after target. (pending_in target ≡ pending_after after) × (out_in target ≡ None) };
+    ghost from_gives = { λ after target.
+        (pending_in target ≡ pending_after after) × (out_in target ≡ None) };
 
     fn from(after: AfterAck) -> Target {
         match after {
@@ -126,8 +127,10 @@ impl Sent {
     /// The batch of that number was acknowledged: its digests are no longer pending. Hands itself
     /// back exactly where the number isn't its own.
     pub fn acked(self, number: u32) -> Result<AfterAck, Sent>
-        ensures ok { IfOk result (λ after. pending_after after ≡ filter (λ d. not (is_among self.batch.records d)) self.pending) }
-        ensures first { IfOk result (λ after. self.pending ≡ batch_digests self.batch ++ pending_after after) }
+        ensures ok { IfOk result (λ after.
+            pending_after after ≡ filter (λ d. not (is_among self.batch.records d)) self.pending) }
+        ensures first { IfOk result
+            (λ after. self.pending ≡ batch_digests self.batch ++ pending_after after) }
         ensures refused { IsErr result ↔ (self.batch.number ≢ number) }
         ensures err { IfErr result (λ sent. sent ≡ self) }
     {
@@ -168,7 +171,11 @@ pub(crate) fn new_batch(
     number: u32,
     pending: &VecDeque<Digest>,
 ) -> Result<Batch, NoMemory>
-    ensures { IfOk result (λ b. b ≡ record { key = key; number = number; records = records_of store.now.versions (take batch_limit pending.now.items) }) }
+    ensures { IfOk result (λ b. b ≡ record {
+      key = key;
+      number = number;
+      records = records_of store.now.versions (take batch_limit pending.now.items);
+    }) }
 {
     let mut records = Records::new(alloc);
     for i in 0..pending.len().min(BATCH_LIMIT) {
@@ -188,7 +195,8 @@ fn add_record(
     digest: &Digest,
     records: &mut Records,
 ) -> Result<(), NoMemory>
-    ensures { OnOk result (records.new ≡ records.old ++ records_of store.now.versions (digest.now ∷ [])) }
+    ensures { OnOk result
+        (records.new ≡ records.old ++ records_of store.now.versions (digest.now ∷ [])) }
 {
     match store.get(digest) {
         Some(version) => records.push((*digest, version.copy(alloc)?)),

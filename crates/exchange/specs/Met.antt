@@ -21,7 +21,12 @@ abbrev pub met : ℕ → ℕ → ClusterKey → List Member → List MemberRow �
 met me factor key members rows exchanged = record {
   me = me;
   factor = factor;
-  exchange = record { view = Some (record { key = key; members = members }); rows = rows; exchanged = exchanged };
+  exchange =
+      record {
+        view = Some (record { key = key; members = members });
+        rows = rows;
+        exchanged = exchanged;
+      };
 }
 
 -- the members of the view
@@ -46,12 +51,20 @@ asked_by x p by = classes.asked_by_rows (served_list x p) x.exchange.rows p by
 
 -- the exchange once that row of a member came
 abbrev pub with_row_of : Met → ℕ → Row → Met
-with_row_of x from row = record x { exchange = record x.exchange { rows = with_row x.exchange.rows from row } }
+with_row_of x from row = record x {
+  exchange = record x.exchange { rows = with_row x.exchange.rows from row };
+}
 
 -- the finished exchange, once that row came as the last one
 abbrev pub finished_with : Met → ℕ → Row → Met
-finished_with x from row = record (with_row_of x from row) { exchange = finished (with_row_of x from row).exchange }
+finished_with x from row = record (with_row_of x from row) {
+  exchange = finished (with_row_of x from row).exchange;
+}
 
 -- the exchange without the row of that member
 abbrev pub without_row_of : Met → ℕ → Met
-without_row_of x from = record x { exchange = record x.exchange { rows = filter (λ r. not (r.node == from)) x.exchange.rows; exchanged = false } }
+without_row_of x from = record x {
+  exchange =
+      record x.exchange
+      { rows = filter (λ r. not (r.node == from)) x.exchange.rows; exchanged = false };
+}

@@ -13,13 +13,21 @@ use Rattle.exchange.specs.declared.served.Served.{Served}
 
 -- what the copies of a partition with that list tell
 abbrev pub served_by : List ℕ → List (ℕ × CopyState) → Served
-served_by l copies = record { acting = acting_by l (state_of copies); all_empty = list_all (λ c. is_empty c.1) copies }
+served_by l copies = record {
+  acting = acting_by l (state_of copies);
+  all_empty = list_all (λ c. is_empty c.1) copies;
+}
 
 -- what the rows tell of a partition
 abbrev pub served_at : List Member → List MemberRow → ℕ → Served
-served_at members rows p = record { acting = acting_by_rows (list members p) rows p; all_empty = all_empty (list members p) rows p }
+served_at members rows p = record {
+  acting = acting_by_rows (list members p) rows p;
+  all_empty = all_empty (list members p) rows p;
+}
 
 -- of each partition stands there what the rows tell
-pub record AreServed (members : List Member) (rows : List MemberRow) (served : List Served) : Type 0 where
+pub record AreServed (members : List Member) (rows : List MemberRow) (served : List Served)
+    : Type 0 where
   pub size : length served ≡ partition_count
-  pub at : (p : ℕ) (d : Served) → p < partition_count → slice_index_or served p d ≡ served_at members rows p
+  pub at : (p : ℕ) (d : Served) → p < partition_count
+      → slice_index_or served p d ≡ served_at members rows p

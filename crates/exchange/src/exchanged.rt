@@ -39,9 +39,13 @@ impl Model for Exchanged {
 
     ghost coded = { Prim.hlevel facts_codes };
 
-    ghost view = { λ x. met x.view.me x.view.factor x.view.key x.view.lists x.view.rows.items true };
+    ghost view = { λ x.
+        met x.view.me x.view.factor x.view.key x.view.lists x.view.rows.items true };
 
-    ghost invariant = { λ x. AreRowsOf x.view.me x.view.lists x.view.rows.items (vec_capacity x.view.rows) × ((first_missing x.view.rows.items x.view.lists ≡ None) × AreServed x.view.lists x.view.rows.items x.served.items) };
+    ghost invariant = { λ x. AreRowsOf x.view.me x.view.lists x.view.rows.items
+        (vec_capacity x.view.rows)
+        × ((first_missing x.view.rows.items x.view.lists ≡ None)
+        × AreServed x.view.lists x.view.rows.items x.served.items) };
 }
 
 impl Exchanged {

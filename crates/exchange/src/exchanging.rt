@@ -37,9 +37,13 @@ impl Model for Exchanging {
 
     ghost coded = { Prim.hlevel facts_codes };
 
-    ghost view = { λ x. met x.view.me x.view.factor x.view.key x.view.lists x.view.rows.items false };
+    ghost view = { λ x.
+        met x.view.me x.view.factor x.view.key x.view.lists x.view.rows.items false };
 
-    ghost invariant = { λ x. AreRowsOf x.view.me x.view.lists x.view.rows.items (vec_capacity x.view.rows) × (IsSome (first_missing x.view.rows.items x.view.lists) × (length x.room.items ≡ partition_count)) };
+    ghost invariant = { λ x. AreRowsOf x.view.me x.view.lists x.view.rows.items
+        (vec_capacity x.view.rows)
+        × (IsSome (first_missing x.view.rows.items x.view.lists)
+        × (length x.room.items ≡ partition_count)) };
 }
 
 /// How far an exchange has come.
@@ -61,7 +65,8 @@ pub fn begin(
     row: StateRow,
 ) -> Result<ExchangeStep, NoMemory>
     requires { Contains (ids_of members) me }
-    ensures { IfOk result (λ s. s ≡ step_of (record { me = me; factor = factor; exchange = begun me key members row })) }
+    ensures { IfOk result (λ s.
+        s ≡ step_of (record { me = me; factor = factor; exchange = begun me key members row })) }
 {
     let lists = Lists::of(alloc, &members)?;
     begin_with(alloc, key, lists, me, factor, row)
@@ -77,7 +82,8 @@ pub fn begin_with(
     row: StateRow,
 ) -> Result<ExchangeStep, NoMemory>
     requires { Contains (ids_of lists) me }
-    ensures { IfOk result (λ s. s ≡ step_of (record { me = me; factor = factor; exchange = begun me key lists row })) }
+    ensures { IfOk result (λ s.
+        s ≡ step_of (record { me = me; factor = factor; exchange = begun me key lists row })) }
 {
     let room = room(alloc)?;
     let mut rows = Vec::with_capacity(alloc, lists.members().len())?;
@@ -119,7 +125,8 @@ impl Exchanging {
     pub fn finish(self, last: NodeId, row: StateRow, table: ServedTable) -> Exchanged
         requires member { Contains (ids_of (met_members self)) last }
         requires lacking { rules.lacks self.exchange.rows last ≡ true }
-        requires whole { first_missing (with_row self.exchange.rows last row) (met_members self) ≡ None }
+        requires whole { first_missing (with_row self.exchange.rows last row) (met_members self)
+            ≡ None }
         requires served { AreServed (met_members self)
             (with_row self.exchange.rows last row) table }
         ensures { result ≡ finished_with self last row }

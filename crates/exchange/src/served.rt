@@ -86,7 +86,8 @@ pub(crate) fn room(alloc: Global) -> Result<Vec<Served>, NoMemory>
 /// Fills the room with what the rows tell of each partition. Each row is read once.
 pub(crate) fn fill(room: &mut [Served], view: &ViewRows)
     requires size { length room.old ≡ partition_count }
-    requires rows { AreRowsOf view.now.me view.now.lists view.now.rows.items (vec_capacity view.now.rows) }
+    requires rows { AreRowsOf view.now.me view.now.lists view.now.rows.items
+        (vec_capacity view.now.rows) }
     ensures { AreServed view.now.lists view.now.rows.items room.new }
 {
     let rows = view.rows.as_slice();
@@ -100,7 +101,8 @@ fn fill_from(room: &mut [Served], lists: &Lists, rows: &[MemberRow], places: &mu
     requires size { length room.old ≡ partition_count }
     requires limit { length rows.now ≤ 16 }
     requires places { ArePlaces 0 rows.now places.old }
-    ensures { (p : ℕ) (d : Served) → p < partition_count → slice_index_or room.new p d ≡ served_by (list lists.now p) (copies_at rows.now p) }
+    ensures { (p : ℕ) (d : Served) → p < partition_count
+        → slice_index_or room.new p d ≡ served_by (list lists.now p) (copies_at rows.now p) }
 {
     let mut next = next_told(rows, places);
     for number in 0..PARTITIONS {

@@ -12,7 +12,11 @@ pub record Adjacent : Type 0 where
   pub hearing : Hearing
 
 abbrev pub adjacent : ℕ → Role → Table Heard → Option (List Member) → ℕ → Adjacent
-adjacent me role heard set quiet = record { me = me; role = role; hearing = record { heard = heard; set = set; quiet = quiet } }
+adjacent me role heard set quiet = record {
+  me = me;
+  role = role;
+  hearing = record { heard = heard; set = set; quiet = quiet };
+}
 
 -- of how many other nodes heartbeats are kept
 abbrev pub heard_limit : ℕ

@@ -64,4 +64,8 @@ pub record AreHeardBy (me : ℕ) (es : List Entry) : Type 0 where
 
 -- what a node tells itself: that it hears itself
 abbrev pub of_itself : ℕ → Role → Entry
-of_itself me role = record { node = me; age = 0; beat = record { view = keys.none; promised = keys.none; hears = me ∷ []; role = role } }
+of_itself me role = record {
+  node = me;
+  age = 0;
+  beat = record { view = keys.none; promised = keys.none; hears = me ∷ []; role = role };
+}

@@ -79,7 +79,8 @@ impl Adjacency {
     pub fn heard(&mut self, from: NodeId, beat: &Beat)
         requires other { from ≢ self.old.me }
         requires room { HasRoomFor from self.old.hearing }
-        ensures { self.new ≡ record self.old { hearing = beat_heard self.old.hearing from beat.now } }
+        ensures { self.new
+            ≡ record self.old { hearing = beat_heard self.old.hearing from beat.now } }
     {
         self.heard.put(&Entry {
             node: from,
@@ -90,7 +91,8 @@ impl Adjacency {
 
     /// A tick.
     pub fn tick(&mut self)
-        ensures { self.new ≡ record self.old { hearing = ticked self.old.me self.old.role self.old.hearing } }
+        ensures { self.new
+            ≡ record self.old { hearing = ticked self.old.me self.old.role self.old.hearing } }
     {
         self.heard.age();
         let set = self.neighbours();

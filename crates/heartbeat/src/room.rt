@@ -76,7 +76,8 @@ impl Room {
 /// The node itself and those that hear it, by their order.
 pub(crate) fn members_naming(me: NodeId, role: Role, entries: &[Entry]) -> Room
     requires { length entries.now ≤ 15 }
-    ensures { result ≡ map member_in (filter (entry_names me) (with_one entries.now (of_itself me role))) }
+    ensures { result
+        ≡ map member_in (filter (entry_names me) (with_one entries.now (of_itself me role))) }
 {
     let mut room = Room::new();
     room.add_above(me, entries);

@@ -23,9 +23,11 @@ pub struct Merged {
 /// or, for want of memory, none.
 pub fn on_batch(alloc: Global, store: &mut RecordStore, batch: &Batch) -> Result<Merged, NoMemory>
     requires { IsRising batch.now.records }
-    ensures newer { IfOk result (λ m. m.newer ≡ newer_records store.old.by store.old.versions batch.now.records) }
+    ensures newer { IfOk result
+        (λ m. m.newer ≡ newer_records store.old.by store.old.versions batch.now.records) }
     ensures number { IfOk result (λ m. m.number ≡ batch.now.number) }
-    ensures versions { OnOk result (store.new.versions ≡ joined_all store.old.by store.old.versions batch.now.records) }
+    ensures versions { OnOk result
+        (store.new.versions ≡ joined_all store.old.by store.old.versions batch.now.records) }
     ensures stamps { store.new.stamps ≡ store.old.stamps }
     ensures policy { store.new.by ≡ store.old.by }
     ensures err { OnErr result (HoldsTheSame store.old store.new) }
@@ -43,9 +45,11 @@ pub fn on_batch(alloc: Global, store: &mut RecordStore, batch: &Batch) -> Result
 /// each record of the answer, which together make of the store what the whole batch would.
 pub fn plan_batch(alloc: Global, store: &mut RecordStore, batch: &Batch) -> Result<Merged, NoMemory>
     requires { IsRising batch.now.records }
-    ensures newer { IfOk result (λ m. m.newer ≡ newer_records store.old.by store.old.versions batch.now.records) }
+    ensures newer { IfOk result
+        (λ m. m.newer ≡ newer_records store.old.by store.old.versions batch.now.records) }
     ensures number { IfOk result (λ m. m.number ≡ batch.now.number) }
-    ensures joined { IfOk result (λ m. joined_all store.old.by store.old.versions m.newer ≡ joined_all store.old.by store.old.versions batch.now.records) }
+    ensures joined { IfOk result (λ m. joined_all store.old.by store.old.versions m.newer
+        ≡ joined_all store.old.by store.old.versions batch.now.records) }
     ensures room { IfOk result (λ m. HasRoom (record_digests m.newer) store.new.spare) }
     ensures same { HoldsTheSame store.old store.new }
     ensures kept { KeepsRoom store.old.spare store.new.spare }
@@ -94,7 +98,11 @@ fn add_newer(
     version: &Version,
     newer: &mut Records,
 ) -> Result<(), NoMemory>
-    ensures { let r : Record = (digest.now, version.now) in OnOk result (newer.new ≡ newer.old ++ (if is_newer_than_held store.now.by store.now.versions r then r ∷ [] else [])) }
+    ensures { let r : Record = (digest.now, version.now) in
+        OnOk result
+        (newer.new
+        ≡ newer.old
+        ++ (if is_newer_than_held store.now.by store.now.versions r then r ∷ [] else [])) }
 {
     match store.would_join(digest, version) {
         Joined::Newer => newer.push((*digest, version.copy(alloc)?)),

@@ -110,7 +110,8 @@ IsProper (line.Handed n k p) = IsPlace n k × IsPartition p
 IsProper (line.Settled n k p) = IsPlace n k × IsPartition p
 IsProper (line.Learn n k p) = IsPlace n k × IsPartition p
 IsProper (line.Drop n k p) = IsPlace n k × IsPartition p
-IsProper (line.Map n k p members acting) = IsPlace n k × IsPartition p × AreListed members × IsId acting
+IsProper (line.Map n k p members acting) =
+    IsPlace n k × IsPartition p × AreListed members × IsId acting
 IsProper (line.Mapless n cause) = IsId n × IsMapless cause
 IsProper (line.Place p members) = IsPartition p × AreListed members
 IsProper (line.Hash d p) = IsDigest d × IsPartition p

@@ -36,7 +36,8 @@ at_end x [] = Some x
 at_end x (field ∷ fields) = None
 
 -- the first field's value, and the fields behind it
-unfoldable pub first_field : {A : Type 0} → (List ℕ → Option A) → List (List ℕ) → Option (A × List (List ℕ))
+unfoldable pub first_field : {A : Type 0} → (List ℕ → Option A) → List (List ℕ)
+    → Option (A × List (List ℕ))
 first_field read [] = None
 first_field read (field ∷ fields) = option_map (λ x. (x, fields)) (read field)
 
@@ -51,7 +52,8 @@ with_rest read make fields = option_map make (read fields)
 -- what each field says
 unfoldable pub all_of : {A : Type 0} → (List ℕ → Option A) → Reader (List A)
 all_of read [] = Some []
-all_of read (field ∷ fields) = option_and_then (λ x. option_map (λ xs. x ∷ xs) (all_of read fields)) (read field)
+all_of read (field ∷ fields) =
+    option_and_then (λ x. option_map (λ xs. x ∷ xs) (all_of read fields)) (read field)
 
 -- the items of a vector, if there is one
 abbrev pub option_items : {A : Type 0} → Option (Vec A) → Option (List A)
@@ -70,7 +72,9 @@ is_written n text = bytes_eq (decimal n) text
 
 -- a number from least to most in decimal digits, without a leading zero
 unfoldable pub number_in : ℕ → ℕ → List ℕ → Option ℕ
-number_in least most text = let n = digits_value 10 text in if nat_le least n && nat_le n most && is_written n text then Some n else None
+number_in least most text =
+    let n = digits_value 10 text in
+    if nat_le least n && nat_le n most && is_written n text then Some n else None
 
 abbrev pub script_version_of : List ℕ → Option ℕ
 script_version_of field = number_in 1 2 field
@@ -107,8 +111,9 @@ parsed_count field = number_in 0 4294967295 field
 -- the round and the principal, with a dot between them
 unfoldable pub parsed_key : List ℕ → Option ClusterKey
 parsed_key field =
-    with_field (number_in 1 281474976710655) (λ round. with_field (number_in 1 65535) (λ principal. at_end (record { round = round; principal = principal })))
-    (parts_of 46 field)
+    with_field (number_in 1 281474976710655)
+    (λ round. with_field (number_in 1 65535)
+    (λ principal. at_end (record { round = round; principal = principal }))) (parts_of 46 field)
 
 -- ---- words
 
@@ -153,11 +158,17 @@ nothing_of (b ∷ bytes) = None
 
 -- a generation and the body behind it: a tombstone's mark
 unfoldable pub tombstone_of : List ℕ → Option (ℕ × Body)
-tombstone_of text = with_field number_of (λ generation. with_field nothing_of (λ rest. at_end (generation, body.Tombstone))) (parts_of 45 text)
+tombstone_of text =
+    with_field number_of
+    (λ generation. with_field nothing_of (λ rest. at_end (generation, body.Tombstone)))
+    (parts_of 45 text)
 
 -- a generation and the body behind it: a value's mark and its bytes
 unfoldable pub written_value_of : List ℕ → Option (ℕ × Body)
-written_value_of text = with_field number_of (λ generation. with_field parsed_value (λ bytes. at_end (generation, body.Value bytes))) (parts_of 61 text)
+written_value_of text =
+    with_field number_of
+    (λ generation. with_field parsed_value (λ bytes. at_end (generation, body.Value bytes)))
+    (parts_of 61 text)
 
 unfoldable pub stamp_of : List ℕ → Option (ℕ × Body)
 stamp_of text = option_or (written_value_of text) (tombstone_of text)
@@ -165,11 +176,14 @@ stamp_of text = option_or (written_value_of text) (tombstone_of text)
 -- the time, and behind a dot the generation and the body
 unfoldable pub parsed_version : List ℕ → Option Version
 parsed_version field =
-    with_field long_of (λ time. with_field stamp_of (λ stamp. at_end (record { lut = time; generation = stamp.0; body = stamp.1 })))
+    with_field long_of
+    (λ time. with_field stamp_of
+    (λ stamp. at_end (record { lut = time; generation = stamp.0; body = stamp.1 })))
     (parts_of 46 field)
 
 unfoldable pub optional_of : List ℕ → Option (Option Version)
-optional_of field = if bytes_eq field (codes "none") then Some None else option_map Some (parsed_version field)
+optional_of field =
+    if bytes_eq field (codes "none") then Some None else option_map Some (parsed_version field)
 
 -- ---- members
 
@@ -177,7 +191,10 @@ optional_of field = if bytes_eq field (codes "none") then Some None else option_
 unfoldable pub role_in : Reader Role
 role_in [] = None
 role_in (rack ∷ []) = option_map (λ n. record { rack = n; quiesced = false }) (number_in 1 255 rack)
-role_in (rack ∷ mark ∷ fields) = with_field rack_of (λ n. with_field nothing_of (λ rest. at_end (record { rack = n; quiesced = true }))) (rack ∷ mark ∷ fields)
+role_in (rack ∷ mark ∷ fields) =
+    with_field rack_of
+    (λ n. with_field nothing_of (λ rest. at_end (record { rack = n; quiesced = true })))
+    (rack ∷ mark ∷ fields)
 
 unfoldable pub parsed_role : List ℕ → Option Role
 parsed_role text = role_in (parts_of 113 text)
@@ -186,14 +203,17 @@ parsed_role text = role_in (parts_of 113 text)
 unfoldable pub parsed_member_parts : Reader Member
 parsed_member_parts [] = None
 parsed_member_parts (id ∷ []) = option_map plain_member (parsed_node id)
-parsed_member_parts (id ∷ role ∷ fields) = with_field parsed_node (λ n. with_field parsed_role (λ r. at_end (record { id = n; role = r }))) (id ∷ role ∷ fields)
+parsed_member_parts (id ∷ role ∷ fields) =
+    with_field parsed_node (λ n. with_field parsed_role (λ r. at_end (record { id = n; role = r })))
+    (id ∷ role ∷ fields)
 
 unfoldable pub parsed_member : List ℕ → Option Member
 parsed_member text = parsed_member_parts (parts_of 47 text)
 
 -- members with commas between them, or the word for none
 unfoldable pub some_members_of : List ℕ → Option (List Member)
-some_members_of field = if bytes_eq field (codes "none") then Some [] else all_of parsed_member (parts_of 44 field)
+some_members_of field =
+    if bytes_eq field (codes "none") then Some [] else all_of parsed_member (parts_of 44 field)
 
 -- whether the relation holds of each item and each later one
 abbrev pub holds_of_pairs : {A : Type 0} → (A → A → Bool) → List A → Bool
@@ -203,7 +223,8 @@ holds_of_pairs related (x ∷ xs) = list_all (related x) xs && holds_of_pairs re
 -- at most 16, each id below those before it, and not none
 unfoldable pub are_members : List Member → Bool
 are_members members =
-    nat_lt 0 (length members) && nat_le (length members) 16 && holds_of_pairs (λ x y. nat_lt y x) (ids_of members)
+    nat_lt 0 (length members) && nat_le (length members) 16
+    && holds_of_pairs (λ x y. nat_lt y x) (ids_of members)
 
 -- at most 16, no id twice
 unfoldable pub are_distinct_ids : List ℕ → Bool
@@ -233,12 +254,15 @@ parsed_group fields = option_and_then (if_so are_distinct_ids) (all_of parsed_no
 -- each group by its ids
 unfoldable pub each_group_of : List (List (List ℕ)) → Option (List (List ℕ))
 each_group_of [] = Some []
-each_group_of (part ∷ parts) = option_and_then (λ ids. option_map (λ groups. ids ∷ groups) (each_group_of parts)) (parsed_group part)
+each_group_of (part ∷ parts) =
+    option_and_then (λ ids. option_map (λ groups. ids ∷ groups) (each_group_of parts))
+    (parsed_group part)
 
 -- 1 to 16 groups, none empty, with at most 16 ids in all and none twice
 unfoldable pub are_groups : List (List ℕ) → Bool
 are_groups groups =
-    nat_lt 0 (length groups) && nat_le (length groups) 16 && list_all (λ ids. nat_lt 0 (length ids)) groups && are_distinct_ids (concat groups)
+    nat_lt 0 (length groups) && nat_le (length groups) 16
+    && list_all (λ ids. nat_lt 0 (length ids)) groups && are_distinct_ids (concat groups)
 
 -- groups with bars between them
 unfoldable pub parsed_groups : Reader (List (List ℕ))

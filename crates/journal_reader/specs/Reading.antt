@@ -29,9 +29,12 @@ cause_of [] = None
 cause_of (name ∷ fields) =
     if bytes_eq name (codes "down") then at_end refusal.Down fields
     else if bytes_eq name (codes "noview") then at_end refusal.NoView fields
-    else if bytes_eq name (codes "exchanging") then with_field parsed_node (λ n. at_end (refusal.Exchanging n)) fields
-    else if bytes_eq name (codes "notmaster") then with_field parsed_node (λ n. at_end (refusal.NotMaster n)) fields
-    else if bytes_eq name (codes "busy") then with_field number_of (λ t. at_end (refusal.Busy t)) fields
+    else if bytes_eq name (codes "exchanging")
+    then with_field parsed_node (λ n. at_end (refusal.Exchanging n)) fields
+    else if bytes_eq name (codes "notmaster")
+    then with_field parsed_node (λ n. at_end (refusal.NotMaster n)) fields
+    else if bytes_eq name (codes "busy")
+    then with_field number_of (λ t. at_end (refusal.Busy t)) fields
     else None
 
 -- the causes for which a node has no map
@@ -80,10 +83,13 @@ unfoldable pub scan_refusal_of : Reader ScanRefusal
 scan_refusal_of [] = None
 scan_refusal_of (name ∷ fields) =
     if bytes_eq name (codes "noview") then at_end scan_refusal.NoView fields
-    else if bytes_eq name (codes "exchanging") then with_field parsed_node (λ n. at_end (scan_refusal.Exchanging n)) fields
-    else if bytes_eq name (codes "notmaster") then with_field parsed_node (λ n. at_end (scan_refusal.NotMaster n)) fields
+    else if bytes_eq name (codes "exchanging")
+    then with_field parsed_node (λ n. at_end (scan_refusal.Exchanging n)) fields
+    else if bytes_eq name (codes "notmaster")
+    then with_field parsed_node (λ n. at_end (scan_refusal.NotMaster n)) fields
     else if bytes_eq name (codes "notsettled") then at_end scan_refusal.NotSettled fields
-    else if bytes_eq name (codes "open") then with_field number_of (λ t. at_end (scan_refusal.Open t)) fields
+    else if bytes_eq name (codes "open")
+    then with_field number_of (λ t. at_end (scan_refusal.Open t)) fields
     else None
 
 -- ---- lines
@@ -104,60 +110,122 @@ of_word word.Down = with_field parsed_node (λ n. at_end (line.Down n))
 of_word word.Up = with_field parsed_node (λ n. at_end (line.Up n))
 of_word word.Quiesce = with_field parsed_node (λ n. at_end (line.Quiesce n))
 of_word word.Unquiesce = with_field parsed_node (λ n. at_end (line.Unquiesce n))
-of_word word.Deliver = with_field long_of (λ i. with_field endpoint_of (λ a. with_field endpoint_of (λ b. at_end (line.Deliver i a b))))
-of_word word.Repeat = with_field long_of (λ i. with_field endpoint_of (λ a. with_field endpoint_of (λ b. at_end (line.Repeat i a b))))
-of_word word.Cut = with_field long_of (λ i. with_field endpoint_of (λ a. with_field endpoint_of (λ b. with_field long_of (λ len. at_end (line.Cut i a b len)))))
+of_word word.Deliver =
+    with_field long_of
+    (λ i. with_field endpoint_of (λ a. with_field endpoint_of (λ b. at_end (line.Deliver i a b))))
+of_word word.Repeat =
+    with_field long_of
+    (λ i. with_field endpoint_of (λ a. with_field endpoint_of (λ b. at_end (line.Repeat i a b))))
+of_word word.Cut =
+    with_field long_of (λ i. with_field endpoint_of
+    (λ a. with_field endpoint_of (λ b. with_field long_of (λ len. at_end (line.Cut i a b len)))))
 of_word word.Lost = with_field long_of (λ i. at_end (line.Lost i))
 of_word word.Blocked = with_field long_of (λ i. at_end (line.Blocked i))
 of_word word.NoMessage = with_field long_of (λ i. at_end (line.NoMessage i))
-of_word word.Sent = with_field long_of (λ i. with_field endpoint_of (λ a. with_field endpoint_of (λ b. with_field parsed_bytes (λ bytes. at_end (line.Sent i a b bytes)))))
+of_word word.Sent =
+    with_field long_of (λ i. with_field endpoint_of (λ a. with_field endpoint_of
+    (λ b. with_field parsed_bytes (λ bytes. at_end (line.Sent i a b bytes)))))
 of_word word.Full = with_field long_of (λ i. at_end (line.Full i))
 of_word word.Short = with_field endpoint_of (λ b. at_end (line.Short b))
 of_word word.Stale = with_field endpoint_of (λ b. at_end (line.Stale b))
 of_word word.Spent = with_field endpoint_of (λ b. at_end (line.Spent b))
 of_word word.Promise = with_field parsed_node
     (λ n. with_field parsed_key (λ k. at_end (line.Promise n k)))
-of_word word.Enter = with_field parsed_node (λ n. with_field parsed_key (λ k. with_field parsed_members (λ ms. at_end (line.Enter n k ms))))
-of_word word.Exchanged = with_field parsed_node (λ n. with_field parsed_key (λ k. at_end (line.Exchanged n k)))
-of_word word.Handed = with_field parsed_node (λ n. with_field parsed_key (λ k. with_field parsed_partition (λ p. at_end (line.Handed n k p))))
-of_word word.Settled = with_field parsed_node (λ n. with_field parsed_key (λ k. with_field parsed_partition (λ p. at_end (line.Settled n k p))))
-of_word word.Learn = with_field parsed_node (λ n. with_field parsed_key (λ k. with_field parsed_partition (λ p. at_end (line.Learn n k p))))
-of_word word.Drop = with_field parsed_node (λ n. with_field parsed_key (λ k. with_field parsed_partition (λ p. at_end (line.Drop n k p))))
-of_word word.Opened = with_field parsed_node (λ n. with_field parsed_key (λ k. with_field number_of (λ t. with_field parsed_digest (λ d. with_field parsed_action (λ w. at_end (line.Opened n k t d w))))))
-of_word word.Refused = with_field parsed_node (λ n. with_field parsed_digest (λ d. with_rest cause_of (λ c. line.Refused n d c)))
-of_word word.Value = with_field parsed_node (λ n. with_field parsed_key (λ k. with_field number_of (λ t. with_field parsed_digest (λ d. with_field optional_of (λ v. at_end (line.Value n k t d v))))))
-of_word word.Apply = with_field parsed_node (λ n. with_field parsed_key (λ k. with_field number_of (λ t. with_field parsed_digest (λ d. with_field parsed_version (λ v. at_end (line.Apply n k t d v))))))
-of_word word.Done = with_field parsed_node (λ n. with_field parsed_key (λ k. with_field number_of (λ t. at_end (line.Done n k t))))
-of_word word.Aborted = with_field parsed_node (λ n. with_field parsed_key (λ k. with_field number_of (λ t. at_end (line.Aborted n k t))))
-of_word word.Doubt = with_field parsed_node (λ n. with_field parsed_key (λ k. with_field number_of (λ t. at_end (line.Doubt n k t))))
-of_word word.Merge = with_field parsed_node (λ n. with_field parsed_key (λ k. with_field parsed_digest (λ d. with_field parsed_version (λ v. at_end (line.Merge n k d v)))))
-of_word word.Map = with_field parsed_node (λ n. with_field parsed_key (λ k. with_field parsed_partition (λ p. with_field list_of (λ ms. with_field parsed_node (λ a. at_end (line.Map n k p ms a))))))
+of_word word.Enter =
+    with_field parsed_node (λ n.
+    with_field parsed_key (λ k. with_field parsed_members (λ ms. at_end (line.Enter n k ms))))
+of_word word.Exchanged =
+    with_field parsed_node (λ n. with_field parsed_key (λ k. at_end (line.Exchanged n k)))
+of_word word.Handed =
+    with_field parsed_node (λ n.
+    with_field parsed_key (λ k. with_field parsed_partition (λ p. at_end (line.Handed n k p))))
+of_word word.Settled =
+    with_field parsed_node (λ n.
+    with_field parsed_key (λ k. with_field parsed_partition (λ p. at_end (line.Settled n k p))))
+of_word word.Learn =
+    with_field parsed_node (λ n.
+    with_field parsed_key (λ k. with_field parsed_partition (λ p. at_end (line.Learn n k p))))
+of_word word.Drop =
+    with_field parsed_node (λ n.
+    with_field parsed_key (λ k. with_field parsed_partition (λ p. at_end (line.Drop n k p))))
+of_word word.Opened =
+    with_field parsed_node (λ n. with_field parsed_key (λ k. with_field number_of (λ t.
+    with_field parsed_digest
+    (λ d. with_field parsed_action (λ w. at_end (line.Opened n k t d w))))))
+of_word word.Refused =
+    with_field parsed_node
+    (λ n. with_field parsed_digest (λ d. with_rest cause_of (λ c. line.Refused n d c)))
+of_word word.Value =
+    with_field parsed_node (λ n. with_field parsed_key (λ k. with_field number_of (λ t.
+    with_field parsed_digest (λ d. with_field optional_of (λ v. at_end (line.Value n k t d v))))))
+of_word word.Apply =
+    with_field parsed_node (λ n. with_field parsed_key (λ k. with_field number_of (λ t.
+    with_field parsed_digest
+    (λ d. with_field parsed_version (λ v. at_end (line.Apply n k t d v))))))
+of_word word.Done =
+    with_field parsed_node
+    (λ n. with_field parsed_key (λ k. with_field number_of (λ t. at_end (line.Done n k t))))
+of_word word.Aborted =
+    with_field parsed_node
+    (λ n. with_field parsed_key (λ k. with_field number_of (λ t. at_end (line.Aborted n k t))))
+of_word word.Doubt =
+    with_field parsed_node
+    (λ n. with_field parsed_key (λ k. with_field number_of (λ t. at_end (line.Doubt n k t))))
+of_word word.Merge =
+    with_field parsed_node (λ n. with_field parsed_key (λ k.
+    with_field parsed_digest (λ d. with_field parsed_version (λ v. at_end (line.Merge n k d v)))))
+of_word word.Map =
+    with_field parsed_node (λ n. with_field parsed_key (λ k. with_field parsed_partition
+    (λ p. with_field list_of (λ ms. with_field parsed_node (λ a. at_end (line.Map n k p ms a))))))
 of_word word.Mapless = with_field parsed_node (λ n. with_rest mapless_of (λ c. line.Mapless n c))
-of_word word.Place = with_field parsed_partition (λ p. with_field list_of (λ ms. at_end (line.Place p ms)))
+of_word word.Place =
+    with_field parsed_partition (λ p. with_field list_of (λ ms. at_end (line.Place p ms)))
 of_word word.Hash = with_field parsed_digest
     (λ d. with_field parsed_partition (λ p. at_end (line.Hash d p)))
-of_word word.Holds = with_field parsed_node (λ n. with_field parsed_digest (λ d. with_field optional_of (λ v. at_end (line.Holds n d v))))
+of_word word.Holds =
+    with_field parsed_node
+    (λ n. with_field parsed_digest (λ d. with_field optional_of (λ v. at_end (line.Holds n d v))))
 of_word word.Client = with_field parsed_node
     (λ n. with_field parsed_digest (λ d. at_end (line.Client n d)))
 of_word word.NoMap = with_field parsed_partition (λ p. at_end (line.NoMap p))
 of_word word.Table = with_field parsed_key (λ k. at_end (line.Table k))
 of_word word.Calm = with_field long_of (λ r. at_end (line.Calm r))
-of_word word.Proxy = with_field parsed_node (λ n. with_field parsed_key (λ k. with_field number_of (λ x. with_field parsed_digest (λ d. with_field parsed_action (λ w. with_field parsed_node (λ a. at_end (line.Proxy n k x d w a)))))))
-of_word word.Proxied = with_field parsed_node (λ n. with_field parsed_key (λ k. with_field number_of (λ x. with_rest (parsed_reply false) (λ r. line.Proxied n k x r))))
-of_word word.Unproxied = with_field parsed_node (λ n. with_field parsed_key (λ k. with_field number_of (λ x. at_end (line.Unproxied n k x))))
+of_word word.Proxy =
+    with_field parsed_node (λ n. with_field parsed_key (λ k. with_field number_of (λ x.
+    with_field parsed_digest (λ d. with_field parsed_action
+    (λ w. with_field parsed_node (λ a. at_end (line.Proxy n k x d w a)))))))
+of_word word.Proxied =
+    with_field parsed_node (λ n. with_field parsed_key
+    (λ k. with_field number_of (λ x. with_rest (parsed_reply false) (λ r. line.Proxied n k x r))))
+of_word word.Unproxied =
+    with_field parsed_node
+    (λ n. with_field parsed_key (λ k. with_field number_of (λ x. at_end (line.Unproxied n k x))))
 of_word word.CallFull = at_end line.CallFull
-of_word word.Call = with_field number_of (λ q. with_field parsed_node (λ n. with_field parsed_digest (λ d. with_field parsed_action (λ w. at_end (line.Call q n d w)))))
+of_word word.Call =
+    with_field number_of (λ q. with_field parsed_node (λ n.
+    with_field parsed_digest (λ d. with_field parsed_action (λ w. at_end (line.Call q n d w)))))
 of_word word.NoOpen = with_field long_of (λ q. at_end (line.NoOpen q))
 of_word word.Again = with_field number_of
     (λ q. with_field parsed_node (λ n. at_end (line.Again q n)))
-of_word word.Reply = with_field number_of (λ q. with_field parsed_node (λ n. with_rest (parsed_reply true) (λ r. line.Reply q n r)))
-of_word word.Scan = with_field number_of (λ s. with_field parsed_node (λ n. with_field parsed_partition (λ p. at_end (line.Scan s n p))))
+of_word word.Reply =
+    with_field number_of
+    (λ q. with_field parsed_node (λ n. with_rest (parsed_reply true) (λ r. line.Reply q n r)))
+of_word word.Scan =
+    with_field number_of (λ s.
+    with_field parsed_node (λ n. with_field parsed_partition (λ p. at_end (line.Scan s n p))))
 of_word word.NoScan = with_field long_of (λ s. at_end (line.NoScan s))
 of_word word.Rescan = with_field number_of (λ s. at_end (line.Rescan s))
-of_word word.Page = with_field number_of (λ s. with_field parsed_count (λ count. at_end (line.Page s count)))
-of_word word.Scanned = with_field number_of (λ s. with_field parsed_node (λ n. with_field parsed_key (λ k. with_field parsed_partition (λ p. with_field long_of (λ count. at_end (line.Scanned s n k p count))))))
-of_word word.Record = with_field number_of (λ s. with_field parsed_digest (λ d. with_field parsed_version (λ v. at_end (line.Record s d v))))
-of_word word.Unscanned = with_field number_of (λ s. with_rest scan_refusal_of (λ c. line.Unscanned s c))
+of_word word.Page =
+    with_field number_of (λ s. with_field parsed_count (λ count. at_end (line.Page s count)))
+of_word word.Scanned =
+    with_field number_of (λ s. with_field parsed_node (λ n. with_field parsed_key (λ k.
+    with_field parsed_partition
+    (λ p. with_field long_of (λ count. at_end (line.Scanned s n k p count))))))
+of_word word.Record =
+    with_field number_of (λ s.
+    with_field parsed_digest (λ d. with_field parsed_version (λ v. at_end (line.Record s d v))))
+of_word word.Unscanned =
+    with_field number_of (λ s. with_rest scan_refusal_of (λ c. line.Unscanned s c))
 
 -- a word, and the fields behind it
 unfoldable pub parsed_line : Reader Line

@@ -10,7 +10,8 @@ ReadsFields (Err NoLine) read = read ≡ None
 ReadsFields (Err NoMemory) read = ⊤
 
 -- the same of a call that leaves the fields behind what it reads
-abbrev pub Takes : {A : Type 0} → Result A Unread → Option (A × List (List ℕ)) → List (List ℕ) → Type 0
+abbrev pub Takes : {A : Type 0} → Result A Unread → Option (A × List (List ℕ)) → List (List ℕ)
+    → Type 0
 Takes (Ok x) read fields = read ≡ Some (x, fields)
 Takes (Err NoLine) read fields = read ≡ None
 Takes (Err NoMemory) read fields = ⊤

@@ -12,7 +12,8 @@ pub fn text_is_read_back()
 
 /// What is read as a line is the line's text, and the line's parts are in their ranges.
 pub fn what_is_read_is_written_so()
-    ensures { (bytes : List ℕ) (l : Line) → read_line bytes ≡ Some l → (line_text l ≡ bytes) × IsProper l }
+    ensures { (bytes : List ℕ) (l : Line) → read_line bytes ≡ Some l
+        → (line_text l ≡ bytes) × IsProper l }
 {}
 
 /// Lines of one text are one line.
@@ -22,5 +23,6 @@ pub fn text_is_injective()
 
 /// Journals of one text have the same lines.
 pub fn journal_text_is_injective()
-    ensures { (ls ms : List Line) → All IsProper ls → All IsProper ms → text ls ≡ text ms → ls ≡ ms }
+    ensures { (ls ms : List Line) → All IsProper ls → All IsProper ms → text ls ≡ text ms
+        → ls ≡ ms }
 {}

@@ -65,7 +65,8 @@ use word::{Word, word_of};
 /// are in their ranges has that text.
 pub fn read(alloc: Global, text: &[u8]) -> Result<Option<Line>, NoMemory>
     ensures found { IfOk result (λ l. IfSome l (λ m. (line_text m ≡ text.now) × IsProper m)) }
-    ensures only { (l : Line) → IsProper l → line_text l ≡ text.now → IfOk result (λ m. m ≡ Some l) }
+    ensures only { (l : Line) → IsProper l → line_text l ≡ text.now
+        → IfOk result (λ m. m ≡ Some l) }
     ensures exact { IfOk result (λ l. l ≡ read_line text.now) }
 {
     line_of_text(alloc, text)

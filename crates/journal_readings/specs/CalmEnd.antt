@@ -17,8 +17,8 @@ use Rattle.journal_readings.specs.Settled.{is_settled, has_open_write}
 pub record IsSpread (by : Policy) (factor : ℕ) (k : ClusterKey) (lines : List Line) : Type 0 where
   pub replicas : (n : ℕ) (d : List ℕ) → IsTrue (is_replica factor k (partition_of d) n lines)
       → content by n d lines ≡ fold_of by k d lines
-  pub others : (n : ℕ) (d : List ℕ) → Contains (ids_of (members k lines)) n → is_replica factor k (partition_of d) n lines ≡ false
-      → content by n d lines ≡ None
+  pub others : (n : ℕ) (d : List ℕ) → Contains (ids_of (members k lines)) n
+      → is_replica factor k (partition_of d) n lines ≡ false → content by n d lines ≡ None
 
 -- each replica of the view holds the newest version of each record that was ever applied
 pub record HasNewest (by : Policy) (factor : ℕ) (k : ClusterKey) (lines : List Line) : Type 0 where
@@ -38,7 +38,8 @@ pub record IsUndivided (lines : List Line) : Type 0 where
 
 -- the up nodes of the group are in one view of just these nodes with the roles that they now have; its
 -- partitions are settled, and its records are spread over it
-pub record RestsIn (by : Policy) (factor : ℕ) (group : List ℕ) (k : ClusterKey) (lines : List Line) : Type 0 where
+pub record RestsIn (by : Policy) (factor : ℕ) (group : List ℕ) (k : ClusterKey) (lines : List Line)
+    : Type 0 where
   pub viewed : (n : ℕ) → Contains group n → IsTrue (is_node_up n lines) → view n lines ≡ Some k
   pub among : members k lines ≡ up_members group lines
   pub settled : IsSettledThroughout k lines
@@ -47,9 +48,11 @@ pub record RestsIn (by : Policy) (factor : ℕ) (group : List ℕ) (k : ClusterK
 
 -- each group with an up node rests in a view
 abbrev pub IsAtRest : Policy → ℕ → List Line → Type 0
-IsAtRest by factor lines = (group : List ℕ) (n : ℕ) → Contains (groups_of lines) group → Contains group n → IsTrue (is_node_up n lines)
-    → (k : ClusterKey) × RestsIn by factor group k lines
+IsAtRest by factor lines =
+    (group : List ℕ) (n : ℕ) → Contains (groups_of lines) group → Contains group n
+    → IsTrue (is_node_up n lines) → (k : ClusterKey) × RestsIn by factor group k lines
 
 -- at every line that says so the world is at rest
 pub record CalmEnd (j : List Line) : Type 0 where
-  pub at_rest : (i rounds : ℕ) → slice_get j i ≡ Some (line.Calm rounds) → IsAtRest (policy_of j) (factor_of j) (take i j)
+  pub at_rest : (i rounds : ℕ) → slice_get j i ≡ Some (line.Calm rounds)
+      → IsAtRest (policy_of j) (factor_of j) (take i j)

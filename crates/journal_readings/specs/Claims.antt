@@ -29,7 +29,8 @@ ShowsMap j _ = Unit {0}
 pub record OneMap (j : List Line) : Type 0 where
   pub shown : (i : ℕ) (l : Line) → slice_get j i ≡ Some l → ShowsMap j l
   pub same : (i o n m p : ℕ) (k : ClusterKey) (ms others : List Member) (a b : ℕ)
-      → slice_get j i ≡ Some (line.Map n k p ms a) → slice_get j o ≡ Some (line.Map m k p others b) → (ms ≡ others) × (a ≡ b)
+      → slice_get j i ≡ Some (line.Map n k p ms a) → slice_get j o ≡ Some (line.Map m k p others b)
+      → (ms ≡ others) × (a ≡ b)
 
 -- ---- no loss
 
@@ -57,7 +58,8 @@ pub record SettledJoin (j : List Line) : Type 0 where
 -- a read answers the join of its view, and a write makes the next version of it
 abbrev pub JoinsView : List Line → List Line → Line → Type 0
 JoinsView j before (line.Value n k t d v) = v ≡ fold_of (policy_of j) k d before
-JoinsView j before (line.Apply n k t d v) = v ≡ next (fold_of (policy_of j) k d before) (clock_of n before) v.body
+JoinsView j before (line.Apply n k t d v) =
+    v ≡ next (fold_of (policy_of j) k d before) (clock_of n before) v.body
 JoinsView j before _ = Unit {0}
 
 -- every resolved read answers the join, and every write follows it

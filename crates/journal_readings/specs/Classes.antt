@@ -25,7 +25,8 @@ are_alike _ _ = false
 -- known to be whole or whose writes aren't known is alone in its own, and all that are alike are in one
 abbrev pub is_in_class_of : ℕ → ClusterKey → ℕ → ℕ → ℕ → List Line → Bool
 is_in_class_of factor k p n m lines =
-    ((m == n) && has_records (row factor k n p lines)) || are_alike (row factor k n p lines) (row factor k m p lines)
+    ((m == n) && has_records (row factor k n p lines))
+    || are_alike (row factor k n p lines) (row factor k m p lines)
 
 -- the class of a member, in the order of the partition's list
 unfoldable pub class_of : ℕ → ClusterKey → ℕ → ℕ → List Line → List ℕ
@@ -34,7 +35,8 @@ class_of factor k p n lines = filter (λ m. is_in_class_of factor k p n m lines)
 
 -- whether the two are members of one class
 abbrev pub are_in_one_class : ℕ → ClusterKey → ℕ → ℕ → ℕ → List Line → Bool
-are_in_one_class factor k p n m lines = has_node (class_of factor k p n lines) n && has_node (class_of factor k p n lines) m
+are_in_one_class factor k p n m lines =
+    has_node (class_of factor k p n lines) n && has_node (class_of factor k p n lines) m
 
 -- the first of the member's class in the partition's list
 abbrev pub first_of_class : ℕ → ClusterKey → ℕ → ℕ → List Line → Option ℕ

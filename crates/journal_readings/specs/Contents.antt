@@ -23,7 +23,8 @@ joined_if false by held v = held
 abbrev pub content_step : Policy → ℕ → List ℕ → Option Version → Line → Option Version
 content_step by n d held (line.Apply m k t e v) = joined_if ((m == n) && same_digest e d) by held v
 content_step by n d held (line.Merge m k e v) = joined_if ((m == n) && same_digest e d) by held v
-content_step by n d held (line.Drop m k p) = if (m == n) && (p == partition_of d) then None else held
+content_step by n d held (line.Drop m k p) =
+    if (m == n) && (p == partition_of d) then None else held
 content_step by n d held _ = held
 
 -- the join of the versions that the node's own writes and other nodes brought it, since it last dropped

@@ -33,13 +33,17 @@ own_numbers k n p lines = range_with_len 1 (count_by (is_apply_in k n p) lines)
 
 -- the number of a write of the partition in the view that is replicated
 abbrev pub repl_number : ClusterKey → ℕ → Message → Option ℕ
-repl_number k p (message.Repl l t nth d v) = if same_key l k && (partition_of d == p) then Some nth else None
+repl_number k p (message.Repl l t nth d v) =
+    if same_key l k && (partition_of d == p) then Some nth else None
 repl_number k p _ = None
 
 -- a write of the master reaches the node while the node is in the view
 abbrev pub heard_step : ClusterKey → ℕ → ℕ → ℕ → List Line → List ℕ → Line → List ℕ
 heard_step k n p master before numbers l =
-    if is_in_view k n before then with_new_number (option_and_then (repl_number k p) (arrival_between master n before l)) numbers else numbers
+    if is_in_view k n before
+    then with_new_number (option_and_then (repl_number k p) (arrival_between master n before l))
+    numbers
+    else numbers
 
 -- the numbers of the master's writes that reached the node so
 abbrev pub heard_numbers : ClusterKey → ℕ → ℕ → ℕ → List Line → List ℕ
@@ -47,7 +51,9 @@ heard_numbers k n p master lines = fold_along (heard_step k n p master) [] [] li
 
 -- the numbers of those of the list master's writes in the view that the node has had
 unfoldable pub numbers : ClusterKey → ℕ → ℕ → List Line → List ℕ
-numbers k n p lines = if n == master k p lines then own_numbers k n p lines else heard_numbers k n p (master k p lines) lines
+numbers k n p lines =
+    if n == master k p lines then own_numbers k n p lines
+    else heard_numbers k n p (master k p lines) lines
 
 -- ---- whether nothing else came
 
@@ -69,4 +75,7 @@ has_no_gap numbers = list_all (contains_number numbers) (range_with_len 1 (lengt
 -- how many of the list master's writes in the view the node has had, where they are the first ones without a
 -- gap and no other view's version came to the partition since the node entered the view
 unfoldable pub count : ClusterKey → ℕ → ℕ → List Line → ℕ
-count k n p lines = if has_no_gap (numbers k n p lines) && not (has_foreign k n p lines) then length (numbers k n p lines) else no_class
+count k n p lines =
+    if has_no_gap (numbers k n p lines) && not (has_foreign k n p lines)
+    then length (numbers k n p lines)
+    else no_class

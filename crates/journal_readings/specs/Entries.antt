@@ -12,14 +12,16 @@ use Rattle.journal_readings.specs.Views.{members}
 
 -- what the node held of the record as it entered the view; nothing where it hasn't entered it
 unfoldable pub entry : Policy → ClusterKey → ℕ → List ℕ → List Line → Option Version
-entry by k n d lines = option_and_then (λ before. content by n d before) (lines_before (is_enter k n) lines)
+entry by k n d lines =
+    option_and_then (λ before. content by n d before) (lines_before (is_enter k n) lines)
 
 -- the join of what the members held that have entered
 abbrev pub joined_entries : Policy → ClusterKey → List ℕ → List Line → Option Version
 joined_entries by k d lines = join_all by (map (λ m. entry by k m.id d lines) (members k lines))
 
 abbrev pub applied_in_step : Policy → ClusterKey → List ℕ → Option Version → Line → Option Version
-applied_in_step by k d held (line.Apply m l t e v) = joined_if (same_key l k && same_digest e d) by held v
+applied_in_step by k d held (line.Apply m l t e v) =
+    joined_if (same_key l k && same_digest e d) by held v
 applied_in_step by k d held _ = held
 
 -- the join of the versions that were applied under the view's key

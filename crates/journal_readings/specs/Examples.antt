@@ -20,7 +20,11 @@ abbrev pub key : ℕ → ℕ → ClusterKey
 key round principal = record { round = round; principal = principal }
 
 abbrev pub version : ℕ → ℕ → ℕ → Version
-version lut generation letter = record { lut = lut; generation = generation; body = body.Value (letter ∷ []) }
+version lut generation letter = record {
+  lut = lut;
+  generation = generation;
+  body = body.Value (letter ∷ []);
+}
 
 abbrev pub one : List Member
 one = plain_member 1 ∷ []
@@ -67,7 +71,8 @@ misread = written ++ line.Value 1 (key 1 1) 2 digest (Some (version 0 1 98)) ∷
 abbrev pub sides : List Line
 sides =
     line.Factor 1 ∷ line.Node 1 None ∷ line.Node 2 None ∷ line.Clock 1 9
-    ∷ alone 1 (key 3 1) one (version 9 1 97) ++ alone 2 (key 1 2) two (version 0 1 98) ++ together (key 4 2)
+    ∷ alone 1 (key 3 1) one (version 9 1 97) ++ alone 2 (key 1 2) two (version 0 1 98)
+    ++ together (key 4 2)
 
 abbrev pub batch : Batch
 batch = record { key = key 4 2; number = 1; records = (digest, version 9 1 97) ∷ [] }
@@ -78,14 +83,17 @@ batch_out = sides ++ line.Sent 1 1 2 (spelling (message.Batch batch)) ∷ []
 
 abbrev pub batch_merged : List Line
 batch_merged =
-    batch_out ++ line.Deliver 1 1 2 ∷ line.Merge 2 (key 4 2) digest (version 9 1 97) ∷ line.Sent 2 2 1 (spelling (message.BatchAck (key 4 2) 1)) ∷ []
+    batch_out ++ line.Deliver 1 1 2 ∷ line.Merge 2 (key 4 2) digest (version 9 1 97)
+    ∷ line.Sent 2 2 1 (spelling (message.BatchAck (key 4 2) 1)) ∷ []
 
 abbrev pub batch_acked : List Line
 batch_acked = batch_merged ++ line.Deliver 2 2 1 ∷ []
 
 -- the partition is settled: node 2 knows that its copy is whole, and node 1 drops its own
 abbrev pub settled : List Line
-settled = batch_acked ++ line.Handed 1 (key 4 2) 4095 ∷ line.Settled 2 (key 4 2) 4095 ∷ line.Learn 2 (key 4 2) 4095 ∷ line.Drop 1 (key 4 2) 4095 ∷ []
+settled =
+    batch_acked ++ line.Handed 1 (key 4 2) 4095 ∷ line.Settled 2 (key 4 2) 4095
+    ∷ line.Learn 2 (key 4 2) 4095 ∷ line.Drop 1 (key 4 2) 4095 ∷ []
 
 -- after it the world is calm
 abbrev pub calmed : List Line
@@ -94,9 +102,8 @@ calmed = settled ++ line.Calm 9 ∷ []
 -- the batch is acknowledged, and the partition settled, though what came wasn't merged
 abbrev pub unmerged : List Line
 unmerged =
-    batch_out
-    ++ line.Deliver 1 1 2 ∷ line.Sent 2 2 1 (spelling (message.BatchAck (key 4 2) 1)) ∷ line.Deliver 2 2 1
-    ∷ line.Handed 1 (key 4 2) 4095 ∷ line.Settled 2 (key 4 2) 4095 ∷ []
+    batch_out ++ line.Deliver 1 1 2 ∷ line.Sent 2 2 1 (spelling (message.BatchAck (key 4 2) 1))
+    ∷ line.Deliver 2 2 1 ∷ line.Handed 1 (key 4 2) 4095 ∷ line.Settled 2 (key 4 2) 4095 ∷ []
 
 -- node 1 drops its copy before it has handed it on
 abbrev pub lost : List Line
@@ -116,14 +123,15 @@ abbrev pub applied_once : List Line
 applied_once =
     line.Factor 2 ∷ line.Node 1 None ∷ line.Node 2 None
     ∷ together (key 1 2)
-    ++ line.Opened 2 (key 1 2) 1 digest action.Put ∷ line.Apply 2 (key 1 2) 1 digest (version 0 1 97)
+    ++ line.Opened 2 (key 1 2) 1 digest action.Put
+    ∷ line.Apply 2 (key 1 2) 1 digest (version 0 1 97)
     ∷ line.Sent 1 2 1 (spelling (message.Repl (key 1 2) 1 1 digest (version 0 1 97))) ∷ []
 
 abbrev pub replicated : List Line
 replicated =
-    applied_once
-    ++ line.Deliver 1 2 1 ∷ line.Merge 1 (key 1 2) digest (version 0 1 97)
-    ∷ line.Sent 2 1 2 (spelling (message.ReplAck (key 1 2) 1)) ∷ line.Deliver 2 1 2 ∷ line.Done 2 (key 1 2) 1 ∷ []
+    applied_once ++ line.Deliver 1 2 1 ∷ line.Merge 1 (key 1 2) digest (version 0 1 97)
+    ∷ line.Sent 2 1 2 (spelling (message.ReplAck (key 1 2) 1)) ∷ line.Deliver 2 1 2
+    ∷ line.Done 2 (key 1 2) 1 ∷ []
 
 abbrev pub met_again : List Line
 met_again = replicated ++ together (key 2 2)
@@ -138,7 +146,9 @@ met_unequal = applied_once ++ line.Lost 1 ∷ line.Doubt 2 (key 1 2) 1 ∷ toget
 
 -- the replica merged another version than the one that came
 abbrev pub garbled : List Line
-garbled = applied_once ++ line.Deliver 1 2 1 ∷ line.Merge 1 (key 1 2) digest (version 0 1 98) ∷ together (key 2 2)
+garbled =
+    applied_once ++ line.Deliver 1 2 1 ∷ line.Merge 1 (key 1 2) digest (version 0 1 98)
+    ∷ together (key 2 2)
 
 -- a key is promised and entered twice
 abbrev pub reused : List Line
@@ -156,9 +166,12 @@ two_lists = together (key 1 2) ++ line.Sent 1 2 1 (spelling (message.Commit (key
 abbrev pub agreed : List Line
 agreed =
     line.Node 1 None ∷ line.Node 2 None
-    ∷ line.Promise 2 (key 1 2) ∷ line.Sent 1 2 1 (spelling (message.Propose (key 1 2) both)) ∷ line.Deliver 1 2 1
-    ∷ line.Promise 1 (key 1 2) ∷ line.Sent 2 1 2 (spelling (message.Accept (key 1 2))) ∷ line.Deliver 2 1 2
-    ∷ line.Enter 2 (key 1 2) both ∷ line.Sent 3 2 1 (spelling (message.Commit (key 1 2) both)) ∷ line.Deliver 3 2 1
+    ∷ line.Promise 2 (key 1 2) ∷ line.Sent 1 2 1 (spelling (message.Propose (key 1 2) both))
+    ∷ line.Deliver 1 2 1
+    ∷ line.Promise 1 (key 1 2) ∷ line.Sent 2 1 2 (spelling (message.Accept (key 1 2)))
+    ∷ line.Deliver 2 1 2
+    ∷ line.Enter 2 (key 1 2) both ∷ line.Sent 3 2 1 (spelling (message.Commit (key 1 2) both))
+    ∷ line.Deliver 3 2 1
     ∷ line.Enter 1 (key 1 2) both ∷ []
 
 -- both nodes show their map of the partition
@@ -177,7 +190,8 @@ second = 255 ∷ 255 ∷ replicate 17 0 ++ 1 ∷ []
 abbrev pub first_lost : List Line
 first_lost =
     applied_once
-    ++ line.Opened 2 (key 1 2) 2 second action.Put ∷ line.Apply 2 (key 1 2) 2 second (version 0 1 98)
+    ++ line.Opened 2 (key 1 2) 2 second action.Put
+    ∷ line.Apply 2 (key 1 2) 2 second (version 0 1 98)
     ∷ line.Sent 2 2 1 (spelling (message.Repl (key 1 2) 2 2 second (version 0 1 98)))
     ∷ line.Deliver 2 2 1 ∷ line.Merge 1 (key 1 2) second (version 0 1 98) ∷ line.Lost 1
     ∷ line.Doubt 2 (key 1 2) 1 ∷ line.Doubt 2 (key 1 2) 2 ∷ together (key 2 2)
@@ -186,5 +200,5 @@ first_lost =
 
 abbrev pub marked : List Line
 marked =
-    line.Node 1 None ∷ line.Node 3 (Some 2) ∷ line.Node 2 (Some 2) ∷ line.Quiesce 3 ∷ line.Quiesce 1 ∷ line.Stop 1
-    ∷ line.Unquiesce 1 ∷ []
+    line.Node 1 None ∷ line.Node 3 (Some 2) ∷ line.Node 2 (Some 2) ∷ line.Quiesce 3 ∷ line.Quiesce 1
+    ∷ line.Stop 1 ∷ line.Unquiesce 1 ∷ []

@@ -22,7 +22,8 @@ has_node ids n = list_any (λ m. m == n) ids
 -- the lines before the first that passes the test; nothing where none passes
 abbrev pub lines_before : (Line → Bool) → List Line → Option (List Line)
 lines_before test [] = None
-lines_before test (l ∷ ls) = if test l then Some [] else option_map (λ before. l ∷ before) (lines_before test ls)
+lines_before test (l ∷ ls) =
+    if test l then Some [] else option_map (λ before. l ∷ before) (lines_before test ls)
 
 -- the lines after the first that passes the test; no lines where none passes
 abbrev pub lines_after : (Line → Bool) → List Line → List Line

@@ -19,13 +19,19 @@ has_key_above k (Some l) = key_lt k l
 -- whether the copy is whole by a key, and no copy of these members by a greater one
 abbrev pub is_newest_whole : ℕ → ClusterKey → ℕ → List Line → List ℕ → Option ClusterKey → Bool
 is_newest_whole factor k p lines ids None = false
-is_newest_whole factor k p lines ids (Some l) = not (list_any (λ m. has_key_above l (row_whole_key (row factor k m p lines))) ids)
+is_newest_whole factor k p lines ids (Some l) =
+    not (list_any (λ m. has_key_above l (row_whole_key (row factor k m p lines))) ids)
 
 -- of the members whose copies are whole the one with the greatest key, on a tie the first in the list; the
 -- list master where no copy is whole
 unfoldable pub acting : ℕ → ClusterKey → ℕ → List Line → ℕ
 acting factor k p lines =
-    unwrap_or (find (λ n. is_newest_whole factor k p lines (succession_list k p lines) (row_whole_key (row factor k n p lines))) (succession_list k p lines)) (first_of (succession_list k p lines))
+    unwrap_or (find
+    (λ n.
+    is_newest_whole factor k p lines (succession_list k p lines)
+    (row_whole_key (row factor k n p lines)))
+    (succession_list k p lines))
+    (first_of (succession_list k p lines))
 
 -- ---- the list as a map line shows it
 

@@ -20,7 +20,8 @@ pub record Arrival : Type 0 where
 -- ---- what was sent
 
 abbrev pub posting_of : ℕ → Line → Option Posting
-posting_of i (line.Sent j a b bytes) = if j == i then Some (record { from = a; to = b; bytes = bytes }) else None
+posting_of i (line.Sent j a b bytes) =
+    if j == i then Some (record { from = a; to = b; bytes = bytes }) else None
 posting_of i _ = None
 
 -- the message of that number, as it was sent
@@ -29,7 +30,8 @@ posted i lines = slice_get (filter_map (posting_of i) lines) 0
 
 -- the message that the line sends from one endpoint to the other; bytes that spell none are none
 abbrev pub sent_message : ℕ → ℕ → Line → Option Message
-sent_message a b (line.Sent i from to bytes) = if (from == a) && (to == b) then message_of bytes else None
+sent_message a b (line.Sent i from to bytes) =
+    if (from == a) && (to == b) then message_of bytes else None
 sent_message a b _ = None
 
 -- the messages that were sent from one endpoint to the other, in their order
@@ -39,7 +41,8 @@ sent_between a b lines = filter_map (sent_message a b) lines
 -- ---- what reaches an endpoint
 
 abbrev pub arrived : ℕ → Posting → Option Arrival
-arrived b posting = option_map (λ m. record { from = posting.from; to = b; message = m }) (message_of posting.bytes)
+arrived b posting =
+    option_map (λ m. record { from = posting.from; to = b; message = m }) (message_of posting.bytes)
 
 -- it arrives whole where at least its length is left of it
 abbrev pub arrived_cut : ℕ → ℕ → Posting → Option Arrival

@@ -39,11 +39,14 @@ has_batch k n r number lines = list_any (λ b. b.number == number) (sent_batches
 
 -- the batch's acknowledgement reaches its sender, which is in the view and has sent the batch
 abbrev pub acks : ClusterKey → ℕ → ℕ → ℕ → List Line → Line → Bool
-acks k n r number before l = is_ack k number (arrival_between r n before l) && (is_in_view k n before && has_batch k n r number before)
+acks k n r number before l =
+    is_ack k number (arrival_between r n before l)
+    && (is_in_view k n before && has_batch k n r number before)
 
 -- whether the batch of this number from n to r was acknowledged
 unfoldable pub is_acked : ClusterKey → ℕ → ℕ → ℕ → List Line → Bool
-is_acked k n r number lines = fold_along (λ before acked l. acked || acks k n r number before l) [] false lines
+is_acked k n r number lines =
+    fold_along (λ before acked l. acked || acks k n r number before l) [] false lines
 
 -- ---- what is out and what is pending
 
@@ -58,15 +61,20 @@ out k n r lines = option_and_then (unless_acked k n r lines)
 -- the acknowledgement of a batch with the record reaches the sender, which is in the view
 abbrev pub acks_record : ClusterKey → ℕ → ℕ → List ℕ → List Line → Line → Bool
 acks_record k n r d before l =
-    is_in_view k n before && list_any (λ b. has_record d b && is_ack k b.number (arrival_between r n before l)) (sent_batches k n r before)
+    is_in_view k n before
+    && list_any (λ b. has_record d b && is_ack k b.number (arrival_between r n before l))
+    (sent_batches k n r before)
 
 -- whether a batch with the record, from n to r, was acknowledged
 unfoldable pub is_handed_on : ClusterKey → ℕ → ℕ → List ℕ → List Line → Bool
-is_handed_on k n r d lines = fold_along (λ before handed l. handed || acks_record k n r d before l) [] false lines
+is_handed_on k n r d lines =
+    fold_along (λ before handed l. handed || acks_record k n r d before l) [] false lines
 
 -- whether the node held the record as it finished exchange in the view
 abbrev pub held_at_exchange : Policy → ClusterKey → ℕ → List ℕ → List Line → Bool
-held_at_exchange by k n d lines = is_some (option_and_then (λ before. content by n d before) (lines_before (is_exchanged k n) lines))
+held_at_exchange by k n d lines =
+    is_some
+    (option_and_then (λ before. content by n d before) (lines_before (is_exchanged k n) lines))
 
 -- whether n still has to hand the record on to r: r is another member and a replica, n sends to it, held the
 -- record as it finished exchange, and no batch with it was acknowledged

@@ -16,11 +16,13 @@ stamped n p lines (Some k) = Whole k (count k n p lines)
 
 -- the state of the node's copy of the partition
 unfoldable pub copy_state : ℕ → ℕ → ℕ → List Line → CopyState
-copy_state factor n p lines = if holds_any n p lines then stamped n p lines (stamp factor n p lines) else Empty
+copy_state factor n p lines =
+    if holds_any n p lines then stamped n p lines (stamp factor n p lines) else Empty
 
 -- the state in which the node's copy was as the node entered the view; nothing where it hasn't entered it
 unfoldable pub row : ℕ → ClusterKey → ℕ → ℕ → List Line → Option CopyState
-row factor k n p lines = option_map (λ before. copy_state factor n p before) (lines_before (is_enter k n) lines)
+row factor k n p lines =
+    option_map (λ before. copy_state factor n p before) (lines_before (is_enter k n) lines)
 
 abbrev pub is_empty_row : Option CopyState → Bool
 is_empty_row (Some Empty) = true

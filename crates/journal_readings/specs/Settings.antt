@@ -65,7 +65,8 @@ groups_of lines = unwrap_or (fold groups_step None lines) (nodes lines ∷ [])
 -- ---- roles
 
 abbrev pub role_step : ℕ → Role → Line → Role
-role_step n role (line.Node m rack) = if m == n then record role { rack = unwrap_or rack 0 } else role
+role_step n role (line.Node m rack) =
+    if m == n then record role { rack = unwrap_or rack 0 } else role
 role_step n role (line.Quiesce m) = if m == n then record role { quiesced = true } else role
 role_step n role (line.Unquiesce m) = if m == n then record role { quiesced = false } else role
 role_step n role _ = role
@@ -85,4 +86,6 @@ present_members lines = with_present_roles (nodes lines) lines
 
 -- the up nodes of a group with the roles that they have by now, in descending order
 abbrev pub up_members : List ℕ → List Line → List Member
-up_members group lines = in_order (λ m o. nat_lt o.id m.id) (with_present_roles (filter (λ n. is_node_up n lines) group) lines)
+up_members group lines =
+    in_order (λ m o. nat_lt o.id m.id)
+    (with_present_roles (filter (λ n. is_node_up n lines) group) lines)

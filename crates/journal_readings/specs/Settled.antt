@@ -10,7 +10,9 @@ use Rattle.journal_readings.specs.Views.{master}
 use Rattle.journal_readings.specs.Stamps.{is_empty_everywhere}
 
 abbrev pub is_settled_by : ClusterKey → ℕ → ℕ → List Line → Bool
-is_settled_by k p n lines = list_any (is_settled_line k n p) lines || (list_any (is_exchanged k n) lines && is_empty_everywhere k p lines)
+is_settled_by k p n lines =
+    list_any (is_settled_line k n p) lines
+    || (list_any (is_exchanged k n) lines && is_empty_everywhere k p lines)
 
 -- whether the partition is settled in the view: the list master says so, or it has finished exchange and no
 -- member had a record of the partition as it entered
@@ -19,7 +21,9 @@ is_settled k p lines = is_settled_by k p (master k p lines) lines
 
 -- the node's write of the partition in the view that not each other replica has
 abbrev pub is_open_write : ClusterKey → ℕ → ℕ → List Line → Line → Bool
-is_open_write k p n lines (line.Apply m l t d v) = (m == n) && (same_key l k && ((partition_of d == p) && not (list_any (is_done_line k n t) lines)))
+is_open_write k p n lines (line.Apply m l t d v) =
+    (m == n)
+    && (same_key l k && ((partition_of d == p) && not (list_any (is_done_line k n t) lines)))
 is_open_write k p n lines _ = false
 
 -- whether a write of the list master is open; a line that leaves it in doubt doesn't end it

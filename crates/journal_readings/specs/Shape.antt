@@ -118,7 +118,8 @@ EntersFalling _ = Unit {0}
 
 -- the node is one of the members with which it enters, and hasn't entered before
 abbrev pub enters_once : List Line → Line → Bool
-enters_once before (line.Enter n k ms) = has_node (ids_of ms) n && not (list_any (is_enter k n) before)
+enters_once before (line.Enter n k ms) =
+    has_node (ids_of ms) n && not (list_any (is_enter k n) before)
 enters_once before _ = true
 
 -- ---- lines of a view
@@ -159,11 +160,13 @@ pub record Shape (j : List Line) : Type 0 where
   pub named : (i : ℕ) (l : Line) → slice_get j i ≡ Some l → IsTrue (names_declared j l)
   -- all entries of one key have one list
   pub one_list : (i o n m : ℕ) (k : ClusterKey) (ms others : List Member)
-      → slice_get j i ≡ Some (line.Enter n k ms) → slice_get j o ≡ Some (line.Enter m k others) → ms ≡ others
+      → slice_get j i ≡ Some (line.Enter n k ms) → slice_get j o ≡ Some (line.Enter m k others)
+      → ms ≡ others
   -- it falls, the node that enters is in it, and no node enters one key twice
   pub falling : (i : ℕ) (l : Line) → slice_get j i ≡ Some l → EntersFalling l
   pub entered : (i : ℕ) (l : Line) → slice_get j i ≡ Some l → IsTrue (enters_once (take i j) l)
   -- a line of a node in its view names a view that the node has entered
   pub in_view : (i : ℕ) (l : Line) → slice_get j i ≡ Some l → IsTrue (names_entered (take i j) l)
   -- a node finishes exchange, and shows a map, where all members have entered
-  pub exchanged : (i : ℕ) (l : Line) → slice_get j i ≡ Some l → IsTrue (follows_entries (take i j) l)
+  pub exchanged : (i : ℕ) (l : Line) → slice_get j i ≡ Some l
+      → IsTrue (follows_entries (take i j) l)

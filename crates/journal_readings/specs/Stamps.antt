@@ -29,8 +29,10 @@ abbrev pub begins_whole : ℕ → ClusterKey → ℕ → ℕ → List Line → B
 begins_whole factor k n p lines = is_empty_everywhere k p lines && is_replica factor k p n lines
 
 abbrev pub stamp_step : ℕ → ℕ → ℕ → List Line → Option ClusterKey → Line → Option ClusterKey
-stamp_step factor n p before stamp (line.Learn m k q) = if (m == n) && (q == p) then Some k else stamp
-stamp_step factor n p before stamp (line.Exchanged m k) = if (m == n) && begins_whole factor k n p before then Some k else stamp
+stamp_step factor n p before stamp (line.Learn m k q) =
+    if (m == n) && (q == p) then Some k else stamp
+stamp_step factor n p before stamp (line.Exchanged m k) =
+    if (m == n) && begins_whole factor k n p before then Some k else stamp
 stamp_step factor n p before stamp (line.Drop m k q) = if (m == n) && (q == p) then None else stamp
 stamp_step factor n p before stamp _ = stamp
 

@@ -24,4 +24,6 @@ pub record Contents : Type 0 where
   pub spare : ℕ
 
 abbrev pub contents_code : Coded Line → Coded Contents
-contents_code line = code_by (List Line × ℕ) (coded× (coded_list line) coded_ℕ) (λ c. (c.lines, c.spare)) (λ p. record { lines = p.0; spare = p.1 }) (λ _. refl)
+contents_code line =
+    code_by (List Line × ℕ) (coded× (coded_list line) coded_ℕ) (λ c. (c.lines, c.spare))
+    (λ p. record { lines = p.0; spare = p.1 }) (λ _. refl)

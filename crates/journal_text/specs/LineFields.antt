@@ -72,7 +72,8 @@ fields (line.Cut i a b len) = codes "cut" ∷ decimal i ∷ decimal a ∷ decima
 fields (line.Lost i) = codes "lost" ∷ decimal i ∷ []
 fields (line.Blocked i) = codes "blocked" ∷ decimal i ∷ []
 fields (line.NoMessage i) = codes "nomessage" ∷ decimal i ∷ []
-fields (line.Sent i a b bytes) = codes "sent" ∷ decimal i ∷ decimal a ∷ decimal b ∷ encode_lower bytes ∷ []
+fields (line.Sent i a b bytes) =
+    codes "sent" ∷ decimal i ∷ decimal a ∷ decimal b ∷ encode_lower bytes ∷ []
 fields (line.Full i) = codes "full" ∷ decimal i ∷ []
 fields (line.Short b) = codes "short" ∷ decimal b ∷ []
 fields (line.Stale b) = codes "stale" ∷ decimal b ∷ []
@@ -84,15 +85,20 @@ fields (line.Handed n k p) = codes "handed" ∷ node_text n ∷ key_text k ∷ p
 fields (line.Settled n k p) = codes "settled" ∷ node_text n ∷ key_text k ∷ partition_text p ∷ []
 fields (line.Learn n k p) = codes "learn" ∷ node_text n ∷ key_text k ∷ partition_text p ∷ []
 fields (line.Drop n k p) = codes "drop" ∷ node_text n ∷ key_text k ∷ partition_text p ∷ []
-fields (line.Opened n k t d w) = codes "opened" ∷ node_text n ∷ key_text k ∷ decimal t ∷ digest_text d ∷ action_word w ∷ []
+fields (line.Opened n k t d w) =
+    codes "opened" ∷ node_text n ∷ key_text k ∷ decimal t ∷ digest_text d ∷ action_word w ∷ []
 fields (line.Refused n d c) = codes "refused" ∷ node_text n ∷ digest_text d ∷ cause_fields c
-fields (line.Value n k t d v) = codes "value" ∷ node_text n ∷ key_text k ∷ decimal t ∷ digest_text d ∷ optional_text v ∷ []
-fields (line.Apply n k t d v) = codes "apply" ∷ node_text n ∷ key_text k ∷ decimal t ∷ digest_text d ∷ version_text v ∷ []
+fields (line.Value n k t d v) =
+    codes "value" ∷ node_text n ∷ key_text k ∷ decimal t ∷ digest_text d ∷ optional_text v ∷ []
+fields (line.Apply n k t d v) =
+    codes "apply" ∷ node_text n ∷ key_text k ∷ decimal t ∷ digest_text d ∷ version_text v ∷ []
 fields (line.Done n k t) = codes "done" ∷ node_text n ∷ key_text k ∷ decimal t ∷ []
 fields (line.Aborted n k t) = codes "aborted" ∷ node_text n ∷ key_text k ∷ decimal t ∷ []
 fields (line.Doubt n k t) = codes "doubt" ∷ node_text n ∷ key_text k ∷ decimal t ∷ []
-fields (line.Merge n k d v) = codes "merge" ∷ node_text n ∷ key_text k ∷ digest_text d ∷ version_text v ∷ []
-fields (line.Map n k p ms a) = codes "map" ∷ node_text n ∷ key_text k ∷ partition_text p ∷ members_text ms ∷ node_text a ∷ []
+fields (line.Merge n k d v) =
+    codes "merge" ∷ node_text n ∷ key_text k ∷ digest_text d ∷ version_text v ∷ []
+fields (line.Map n k p ms a) =
+    codes "map" ∷ node_text n ∷ key_text k ∷ partition_text p ∷ members_text ms ∷ node_text a ∷ []
 fields (line.Mapless n c) = codes "mapless" ∷ node_text n ∷ cause_fields c
 fields (line.Place p ms) = codes "place" ∷ partition_text p ∷ members_text ms ∷ []
 fields (line.Hash d p) = codes "hash" ∷ digest_text d ∷ partition_text p ∷ []
@@ -101,11 +107,15 @@ fields (line.Client n d) = codes "client" ∷ node_text n ∷ digest_text d ∷ 
 fields (line.NoMap p) = codes "nomap" ∷ partition_text p ∷ []
 fields (line.Table k) = codes "table" ∷ key_text k ∷ []
 fields (line.Calm r) = codes "calm" ∷ decimal r ∷ []
-fields (line.Proxy n k x d w a) = codes "proxy" ∷ node_text n ∷ key_text k ∷ decimal x ∷ digest_text d ∷ action_word w ∷ node_text a ∷ []
-fields (line.Proxied n k x r) = codes "proxied" ∷ node_text n ∷ key_text k ∷ decimal x ∷ reply_fields r
+fields (line.Proxy n k x d w a) =
+    codes "proxy" ∷ node_text n ∷ key_text k ∷ decimal x ∷ digest_text d ∷ action_word w
+    ∷ node_text a ∷ []
+fields (line.Proxied n k x r) =
+    codes "proxied" ∷ node_text n ∷ key_text k ∷ decimal x ∷ reply_fields r
 fields (line.Unproxied n k x) = codes "unproxied" ∷ node_text n ∷ key_text k ∷ decimal x ∷ []
 fields line.CallFull = codes "callfull" ∷ []
-fields (line.Call q n d w) = codes "call" ∷ decimal q ∷ node_text n ∷ digest_text d ∷ action_word w ∷ []
+fields (line.Call q n d w) =
+    codes "call" ∷ decimal q ∷ node_text n ∷ digest_text d ∷ action_word w ∷ []
 fields (line.NoOpen q) = codes "noopen" ∷ decimal q ∷ []
 fields (line.Again q n) = codes "again" ∷ decimal q ∷ node_text n ∷ []
 fields (line.Reply q n r) = codes "reply" ∷ decimal q ∷ node_text n ∷ reply_fields r
@@ -113,6 +123,7 @@ fields (line.Scan s n p) = codes "scan" ∷ decimal s ∷ node_text n ∷ partit
 fields (line.NoScan s) = codes "noscan" ∷ decimal s ∷ []
 fields (line.Rescan s) = codes "rescan" ∷ decimal s ∷ []
 fields (line.Page s count) = codes "page" ∷ decimal s ∷ decimal count ∷ []
-fields (line.Scanned s n k p count) = codes "scanned" ∷ decimal s ∷ node_text n ∷ key_text k ∷ partition_text p ∷ decimal count ∷ []
+fields (line.Scanned s n k p count) =
+    codes "scanned" ∷ decimal s ∷ node_text n ∷ key_text k ∷ partition_text p ∷ decimal count ∷ []
 fields (line.Record s d v) = codes "record" ∷ decimal s ∷ digest_text d ∷ version_text v ∷ []
 fields (line.Unscanned s c) = codes "unscanned" ∷ decimal s ∷ scan_refusal_fields c

@@ -86,7 +86,8 @@ impl Model for Journal {
 
     ghost view = { λ j. record { lines = j.lines.items; spare = j.spare } };
 
-    ghost invariant = { λ j. IsWithin j.lines.items × (j.bytes ≡ length (text j.lines.items)) × (vec_len j.lines + j.spare ≤ vec_capacity j.lines) };
+    ghost invariant = { λ j. IsWithin j.lines.items × (j.bytes ≡ length (text j.lines.items))
+        × (vec_len j.lines + j.spare ≤ vec_capacity j.lines) };
 }
 
 impl Journal {

@@ -37,7 +37,8 @@ pub fn text_len(line: &Line) -> usize
 /// the space or the line feed behind it.
 fn message_len(word: usize, message: u64, from: u16, to: u16) -> usize
     requires { word ≤ 10 }
-    ensures { result ≡ word + length (decimal message) + length (decimal from) + length (decimal to) + 4 }
+    ensures { result
+        ≡ word + length (decimal message) + length (decimal from) + length (decimal to) + 4 }
 {
     let ends = lengths::decimal(u64::from(from)) + lengths::decimal(u64::from(to));
     word + lengths::decimal(message) + ends + 4

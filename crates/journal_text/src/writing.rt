@@ -51,7 +51,8 @@ impl fmt::Display for Field<'_> {
 /// Writes a space and the value behind it. A formatter's options are as they were set by the caller
 /// that writes the line: for each `write!` they would be put aside and taken back.
 fn write_spaced<W: fmt::Write, D: fmt::Display>(f: &mut fmt::Formatter<W>, value: &D) -> fmt::Result
-    ensures { DisplaysOnOk W.write_str_gives f.old result (option_append (Some (codes " ")) (D.output value.now)) f.new }
+    ensures { DisplaysOnOk W.write_str_gives f.old result
+        (option_append (Some (codes " ")) (D.output value.now)) f.new }
 {
     f.write_str(" ")?;
     value.fmt(f)

@@ -43,7 +43,8 @@ abbrev pub ComesFromOther : Facts → ℕ → Message → Type 0
 ComesFromOther f from (message.State k wants row) = in_view f k ≡ true → IsOther f from
 ComesFromOther f from (message.Batch b) = in_view f b.key ≡ true → IsOther f from
 ComesFromOther f from (message.BatchAck k number) = in_view f k ≡ true → IsOther f from
-ComesFromOther f from (message.Progress k wants done handed settled) = in_view f k ≡ true → IsOther f from
+ComesFromOther f from (message.Progress k wants done handed settled) =
+    in_view f k ≡ true → IsOther f from
 ComesFromOther f from (message.Repl k number nth d v) = in_view f k ≡ true → IsOther f from
 ComesFromOther f from (message.ReplAck k number) = in_view f k ≡ true → IsOther f from
 ComesFromOther f from (message.Ask k number d) = in_view f k ≡ true → IsOther f from

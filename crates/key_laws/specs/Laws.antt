@@ -26,7 +26,8 @@ traced_at h x i = traced_after_all (untouched (opened h)) (take i (run_marks h x
 -- enters is in it, and enters a key once; and a line of a node in its view names a view that the node has entered
 pub record EntriesAgree (j : List Line) : Type 0 where
   pub one_list : (i o n m : ℕ) (k : ClusterKey) (ms others : List Member)
-      → slice_get j i ≡ Some (line.Enter n k ms) → slice_get j o ≡ Some (line.Enter m k others) → ms ≡ others
+      → slice_get j i ≡ Some (line.Enter n k ms) → slice_get j o ≡ Some (line.Enter m k others)
+      → ms ≡ others
   pub falling : (i : ℕ) (l : Line) → slice_get j i ≡ Some l → EntersFalling l
   pub entered : (i : ℕ) (l : Line) → slice_get j i ≡ Some l → IsTrue (enters_once (take i j) l)
   pub in_view : (i : ℕ) (l : Line) → slice_get j i ≡ Some l → IsTrue (names_entered (take i j) l)

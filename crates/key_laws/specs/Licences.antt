@@ -99,7 +99,8 @@ pub record WasPosted (t : Traced) (m : Message) : Type 0 where
 -- a key of the node's own, or one that was proposed
 pub record MayPromise (t : Traced) (n : ℕ) (k : ClusterKey) : Type 0 where
   pub above : IsBelow (facts_of t n).agreement.promised k
-  pub source : (k.principal ≡ n) × IsKeyField k ⊎ ((ms : List Member) × WasPosted t (message.Propose k ms))
+  pub source : (k.principal ≡ n) × IsKeyField k
+      ⊎ ((ms : List Member) × WasPosted t (message.Propose k ms))
 
 -- the key that is promised, above the last one: of a view of the node's own, or of one that was committed
 pub record MayEnterKey (t : Traced) (n : ℕ) (k : ClusterKey) (ms : List Member) : Type 0 where

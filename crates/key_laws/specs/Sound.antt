@@ -130,13 +130,16 @@ Shown t (x ∷ xs) = IsPromisedKey t x.key × Shown t xs
 pub record Sound (t : Traced) : Type 0 where
   pub nodes : (n : ℕ) → NodeKeys t n (facts_of t n)
   pub lists : (k : ClusterKey) (ms : List Member) → t.lists k ≡ Some ms → Listed t k ms
-  pub sent : (i : ℕ) (p : Posting) (m : Message) → slice_get t.world.network.sent i ≡ Some p → message_of p.bytes ≡ Some m → Says t p.from m
+  pub sent : (i : ℕ) (p : Posting) (m : Message) → slice_get t.world.network.sent i ≡ Some p
+      → message_of p.bytes ≡ Some m → Says t p.from m
   pub tables : Shown t t.world.tables
 
 -- ---- what only grows
 
 pub record Grows (t u : Traced) : Type 0 where
-  pub promised : (n : ℕ) → KeyAtMost (facts_of t n).agreement.promised (facts_of u n).agreement.promised
+  pub promised : (n : ℕ)
+      → KeyAtMost (facts_of t n).agreement.promised (facts_of u n).agreement.promised
   pub lists : (k : ClusterKey) (ms : List Member) → t.lists k ≡ Some ms → u.lists k ≡ Some ms
-  pub sent : (i : ℕ) (p : Posting) → slice_get t.world.network.sent i ≡ Some p → slice_get u.world.network.sent i ≡ Some p
+  pub sent : (i : ℕ) (p : Posting) → slice_get t.world.network.sent i ≡ Some p
+      → slice_get u.world.network.sent i ≡ Some p
   pub entered : (n : ℕ) (k : ClusterKey) → IsTrue (t.entered n k) → IsTrue (u.entered n k)

@@ -41,7 +41,8 @@ promised_by lists k ms false = lists
 
 -- a node that promises a key of its own does so for its neighbours
 abbrev pub lists_after : Traced → Line → Lists
-lists_after t (line.Promise n k) = promised_by t.lists k (neighbours (facts_of t n)) (k.principal == n)
+lists_after t (line.Promise n k) =
+    promised_by t.lists k (neighbours (facts_of t n)) (k.principal == n)
 lists_after t _ = t.lists
 
 -- who has entered which view, with the line
@@ -49,8 +50,16 @@ abbrev pub entered_after : Traced → Line → ℕ → ClusterKey → Bool
 entered_after t l n k = is_enter k n l || t.entered n k
 
 abbrev pub traced_after : Traced → Mark → Traced
-traced_after t (Begins e) = record { world = marks.after t.world (Begins e); lists = t.lists; entered = t.entered }
-traced_after t (Writes l) = record { world = marks.after t.world (Writes l); lists = lists_after t l; entered = entered_after t l }
+traced_after t (Begins e) = record {
+  world = marks.after t.world (Begins e);
+  lists = t.lists;
+  entered = t.entered;
+}
+traced_after t (Writes l) = record {
+  world = marks.after t.world (Writes l);
+  lists = lists_after t l;
+  entered = entered_after t l;
+}
 
 -- marks one after another
 abbrev pub traced_after_all : Traced → List Mark → Traced

@@ -50,9 +50,17 @@ impl Model for Net {
 
     ghost Value = { NetworkState };
 
-    ghost view = { λ n. record { flying = numbered (n.sent - deque_len n.slots) n.slots.items; sent = n.sent; groups = n.groups; spare = deque_capacity n.slots - deque_len n.slots } };
+    ghost view = { λ n.
+        record {
+          flying = numbered (n.sent - deque_len n.slots) n.slots.items;
+          sent = n.sent;
+          groups = n.groups;
+          spare = deque_capacity n.slots - deque_len n.slots;
+        } };
 
-    ghost invariant = { λ n. (deque_len n.slots ≤ n.sent) × (n.count ≡ length (numbered (n.sent - deque_len n.slots) n.slots.items)) × (n.count ≤ flight_limit) × IsTrue (starts_full n.slots.items) };
+    ghost invariant = { λ n. (deque_len n.slots ≤ n.sent)
+        × (n.count ≡ length (numbered (n.sent - deque_len n.slots) n.slots.items))
+        × (n.count ≤ flight_limit) × IsTrue (starts_full n.slots.items) };
 }
 
 impl Net {
@@ -99,7 +107,9 @@ impl Net {
     pub fn send(&mut self, from: u16, to: u16, bytes: Bytes) -> Result<Posted, NoMemory>
         requires { self.old.sent < 2 ^ 64 - 1 }
         ensures posted { IfOk result (λ p. p ≡ next_posted self.old) }
-        ensures flying { OnOk result (self.new.flying ≡ with_next self.old (record { from = from; to = to; bytes = bytes })) }
+        ensures flying { OnOk result
+            (self.new.flying
+            ≡ with_next self.old (record { from = from; to = to; bytes = bytes })) }
         ensures sent { OnOk result (self.new.sent ≡ self.old.sent + 1) }
         ensures groups { self.new.groups ≡ self.old.groups }
         ensures err { OnErr result (IsSameNetwork self.old self.new) }

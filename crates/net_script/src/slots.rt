@@ -12,7 +12,8 @@ use std::collections::VecDeque;
 /// The place of the slot of that number, of so many slots of the last numbers sent.
 pub(crate) fn place_of(id: u64, sent: u64, slots: usize) -> Option<usize>
     requires { slots ≤ sent }
-    ensures { MatchOption result ((id ≤ sent - slots) ⊎ (sent < id)) (λ i. (i < slots) × (id ≡ sent - slots + 1 + i)) }
+    ensures { MatchOption result ((id ≤ sent - slots) ⊎ (sent < id))
+        (λ i. (i < slots) × (id ≡ sent - slots + 1 + i)) }
 {
     let before = sent - slots as u64;
     if id <= before || sent < id {
@@ -34,7 +35,9 @@ pub(crate) fn take_at(slots: &mut VecDeque<Option<Flying>>, place: usize) -> Opt
 
 /// Drops the slots before the first message.
 pub(crate) fn drop_taken(slots: &mut VecDeque<Option<Flying>>)
-    ensures same { (sent : ℕ) → deque_len slots.old ≤ sent → numbered (sent - deque_len slots.new) slots.new.items ≡ numbered (sent - deque_len slots.old) slots.old.items }
+    ensures same { (sent : ℕ) → deque_len slots.old ≤ sent
+        → numbered (sent - deque_len slots.new) slots.new.items
+        ≡ numbered (sent - deque_len slots.old) slots.old.items }
     ensures first { IsTrue (starts_full slots.new.items) }
     ensures len { deque_len slots.new ≤ deque_len slots.old }
     ensures capacity { deque_capacity slots.new ≡ deque_capacity slots.old }

@@ -15,7 +15,9 @@ use Rattle.node_steps.specs.Grounds.{facts_with}
 
 -- what a node knows
 abbrev pub node_facts : Inside → Facts
-node_facts n = facts_with n.me n.peers n.factor n.role n.up n.hearing.hearing n.agree.agreement (store_of n.store) (option_map (λ v. v.value) n.view)
+node_facts n =
+    facts_with n.me n.peers n.factor n.role n.up n.hearing.hearing n.agree.agreement
+    (store_of n.store) (option_map (λ v. v.value) n.view)
 
 -- what a node knows now, and after the step that it planned
 abbrev pub planning_of : Inside → Planning

@@ -59,8 +59,10 @@ impl Node {
     fn take_agreed(&mut self, agree: Agree, entered: Option<Box<View>>)
         requires unplanned { self.old.next ≡ None }
         requires fits { FitsAgreed self.old.now agree entered }
-        requires ranges { HasRanges (agreed self.old.now agree.agreement (option_map (λ v. v.value) entered)) }
-        ensures { self.new ≡ unplanned (agreed self.old.now agree.agreement (option_map (λ v. v.value) entered)) }
+        requires ranges { HasRanges
+            (agreed self.old.now agree.agreement (option_map (λ v. v.value) entered)) }
+        ensures { self.new
+            ≡ unplanned (agreed self.old.now agree.agreement (option_map (λ v. v.value) entered)) }
     {
         self.agree = agree;
         if let Some(view) = entered {

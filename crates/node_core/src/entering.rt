@@ -25,7 +25,8 @@ impl Node {
         out: &mut Effects,
     ) -> Result<Box<View>, NoMemory>
         requires member { is_member members.now self.old.now.me ≡ true }
-        ensures lines { OnOk result (out.new ≡ then_effects out.old (lines_only (entering self.old.now key members.now))) }
+        ensures lines { OnOk result
+            (out.new ≡ then_effects out.old (lines_only (entering self.old.now key members.now))) }
         ensures view { IfOk result (λ v. IsEntered self.old.now key members.now v.value) }
         ensures same { self.new ≡ self.old }
     {

@@ -46,8 +46,10 @@ impl Node {
         requires proper { IsProper m.now }
         requires sender { ComesFrom self.old.now from m.now }
         requires counts { HaveNumbers self.old.now }
-        ensures effects { IfOk result (λ e. e ≡ spelled (due_message self.old.now clock from m.now)) }
-        ensures planned { OnOk result (self.new ≡ planning self.old.now (after_message self.old.now clock from m.now)) }
+        ensures effects { IfOk result
+            (λ e. e ≡ spelled (due_message self.old.now clock from m.now)) }
+        ensures planned { OnOk result
+            (self.new ≡ planning self.old.now (after_message self.old.now clock from m.now)) }
         ensures err { OnErr result (self.new ≡ unplanned self.old.now) }
     {
         // What comes from a peer comes from a node.
@@ -72,8 +74,10 @@ impl Node {
         requires proper { IsProper m.now }
         requires sender { ComesFrom self.old.now from m.now }
         requires counts { HaveNumbers self.old.now }
-        ensures effects { IfOk result (λ e. e ≡ spelled (due_message self.old.now clock from m.now)) }
-        ensures planned { OnOk result (self.new ≡ planning self.old.now (after_message self.old.now clock from m.now)) }
+        ensures effects { IfOk result
+            (λ e. e ≡ spelled (due_message self.old.now clock from m.now)) }
+        ensures planned { OnOk result
+            (self.new ≡ planning self.old.now (after_message self.old.now clock from m.now)) }
         ensures err { OnErr result (self.new ≡ unplanned self.old.now) }
     {
         match m {
@@ -166,7 +170,8 @@ impl Node {
         requires ranges { HasRanges self.old.now → HasRanges (view.view_taken self.old.now step) }
         requires room { viewing.NeedsNoRoom step }
         ensures effects { IfOk result (λ e. e ≡ spelled (spent self.old.now)) }
-        ensures planned { OnOk result (self.new ≡ planning self.old.now (view.view_taken self.old.now step)) }
+        ensures planned { OnOk result
+            (self.new ≡ planning self.old.now (view.view_taken self.old.now step)) }
         ensures err { OnErr result (self.new ≡ self.old) }
     {
         let endpoint = self.me.number();
@@ -186,7 +191,8 @@ impl Node {
         requires ranges { HasRanges self.old.now → HasRanges (view.view_taken self.old.now step) }
         requires room { viewing.NeedsNoRoom step }
         ensures effects { IfOk result (λ e. e ≡ spelled (unless_spent self.old.now is_awaited)) }
-        ensures planned { OnOk result (self.new ≡ planning self.old.now (view.view_taken self.old.now step)) }
+        ensures planned { OnOk result
+            (self.new ≡ planning self.old.now (view.view_taken self.old.now step)) }
         ensures err { OnErr result (self.new ≡ self.old) }
     {
         let endpoint = self.me.number();

@@ -34,7 +34,8 @@ impl Node {
         requires counts { HaveNumbers self.old.now }
         ensures answer { IfOk result (λ r. r.0 ≡ request_answer self.old.now d) }
         ensures effects { IfOk result (λ r. r.1 ≡ spelled (due_request self.old.now clock d want)) }
-        ensures planned { OnOk result (self.new ≡ planning self.old.now (after_request self.old.now clock d want)) }
+        ensures planned { OnOk result
+            (self.new ≡ planning self.old.now (after_request self.old.now clock d want)) }
         ensures err { OnErr result (self.new ≡ unplanned self.old.now) }
     {
         self.give_up();
@@ -52,7 +53,8 @@ impl Node {
     ) -> Result<(Answered, Effects), NoMemory>
         requires unplanned { self.old.next ≡ None }
         ensures answer { IfOk result (λ r. r.0 ≡ answered.Refused cause.now) }
-        ensures effects { IfOk result (λ r. r.1 ≡ spelled (lines_only (line.Refused self.old.now.me digest cause.now ∷ []))) }
+        ensures effects { IfOk result
+            (λ r. r.1 ≡ spelled (lines_only (line.Refused self.old.now.me digest cause.now ∷ []))) }
         ensures planned { OnOk result (self.new ≡ planning self.old.now self.old.now) }
         ensures err { OnErr result (self.new ≡ self.old) }
     {
@@ -75,10 +77,15 @@ impl Node {
     ) -> Result<(Answered, Effects), NoMemory>
         requires unplanned { self.old.next ≡ None }
         requires counts { HaveNumbers self.old.now }
-        requires accepted { request_refusal self.old.now (list_at self.old.now (partition_of digest)) digest ≡ None }
-        ensures answer { IfOk result (λ r. r.0 ≡ answered.Opened (self.old.now.transactions.opened + 1)) }
-        ensures effects { IfOk result (λ r. r.1 ≡ spelled (due_request self.old.now clock digest want)) }
-        ensures planned { OnOk result (self.new ≡ planning self.old.now (after_request self.old.now clock digest want)) }
+        requires accepted { request_refusal self.old.now
+            (list_at self.old.now (partition_of digest)) digest
+            ≡ None }
+        ensures answer { IfOk result
+            (λ r. r.0 ≡ answered.Opened (self.old.now.transactions.opened + 1)) }
+        ensures effects { IfOk result
+            (λ r. r.1 ≡ spelled (due_request self.old.now clock digest want)) }
+        ensures planned { OnOk result
+            (self.new ≡ planning self.old.now (after_request self.old.now clock digest want)) }
         ensures err { OnErr result (self.new ≡ self.old) }
     {
         are_spelled(&digest, &want);
@@ -100,7 +107,8 @@ impl Node {
     /// Why the node refuses a request on the record: first what keeps it from having a map, then
     /// that it doesn't act on the partition, then that a transaction is open on the record.
     fn refusal_of(&self, digest: &Digest) -> Option<Refusal>
-        ensures { result ≡ request_refusal self.now.now (list_at self.now.now (partition_of digest.now)) digest.now }
+        ensures { result ≡ request_refusal self.now.now
+            (list_at self.now.now (partition_of digest.now)) digest.now }
     {
         match self.mapped() {
             Err(cause) => Some(cause),

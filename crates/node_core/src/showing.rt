@@ -86,7 +86,8 @@ impl Node {
         ensures view { IfOk result (λ v. IsViewOf self.now.now v.now) }
         ensures exchanged { IfOk result (λ v. v.now.exchange.exchanged ≡ true) }
         ensures refused { result_err result ≡ map_refusal self.now.now }
-        ensures unfinished { OnErr result ((self.now.now.up && self.now.now.exchange.exchanged) ≡ false) }
+        ensures unfinished { OnErr result
+            ((self.now.now.up && self.now.now.exchange.exchanged) ≡ false) }
     {
         if !self.up {
             return Err(Refusal::Down);
@@ -125,7 +126,8 @@ impl Node {
     /// The open transaction of that number.
     pub(crate) fn transaction(&self, t: u32) -> Option<&Txn>
         ensures some { is_some result ≡ is_some (rules.transaction self.now.now.transactions t) }
-        ensures kept { IfSome result (λ x. ForSome (rules.transaction self.now.now.transactions t) (IsAsKept x.now)) }
+        ensures kept { IfSome result
+            (λ x. ForSome (rules.transaction self.now.now.transactions t) (IsAsKept x.now)) }
     {
         self.own_view()?.transaction(t)
     }

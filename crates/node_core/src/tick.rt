@@ -67,7 +67,9 @@ impl Node {
         requires hearing { hearing.now.me ≡ self.now.now.me }
         requires view { FitsAgreed self.now.now agree entered }
         requires ranges { HasRanges (agreed self.now.now hearing.now agree entered) }
-        ensures lines { OnOk result (out.new ≡ then_effects out.old (parts_in_order (later_parts partition_count) (agreed self.now.now hearing.now agree entered))) }
+        ensures lines { OnOk result
+            (out.new ≡ then_effects out.old (parts_in_order (later_parts partition_count)
+            (agreed self.now.now hearing.now agree entered))) }
         ensures ticked { IfOk result (λ t. TicksFrom self.now.now hearing.now agree entered t) }
     {
         let _ = &self.me;

@@ -60,7 +60,10 @@ kept_if false proposal = None
 
 -- the node promised that key: a proposal of another key is given up
 abbrev pub promising : Agreement → ClusterKey → Agreement
-promising a key = record a { promised = key; proposal = kept_if (proposes a.proposal key) a.proposal }
+promising a key = record a {
+  promised = key;
+  proposal = kept_if (proposes a.proposal key) a.proposal;
+}
 
 -- the node entered the view of that key
 abbrev pub agreement_entered : Agreement → ClusterKey → Agreement
@@ -158,7 +161,9 @@ entering_if a key false = a
 
 -- an Accept of that key came from a member: with the last one of a proposal its view is entered
 abbrev pub counting : Agreement → ℕ → ClusterKey → Agreement
-counting a from key = entering_if (accepting a from key) key (proposes a.proposal key && is_accepted_with a.proposal from)
+counting a from key =
+    entering_if (accepting a from key) key
+    (proposes a.proposal key && is_accepted_with a.proposal from)
 
 -- whether a committed view is entered: its key is the promised one and above the last, and the node is a member
 abbrev pub may_enter : ℕ → Agreement → ClusterKey → List Member → Bool
@@ -192,4 +197,5 @@ proposing_if me a set false = a
 
 -- a tick at which the neighbours are these, and the node is a candidate or not
 abbrev pub ticking : ℕ → Agreement → List Member → Bool → Agreement
-ticking me a set candidate = proposing_if me (still_proposing a set) set (proposes_anew (still_proposing a set) candidate)
+ticking me a set candidate =
+    proposing_if me (still_proposing a set) set (proposes_anew (still_proposing a set) candidate)

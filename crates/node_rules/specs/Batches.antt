@@ -62,7 +62,8 @@ is_pending targets p = list_any (λ t. list_any (is_of p) t.pending) targets
 
 -- whether the digest is pending to that member
 abbrev pub is_pending_to : Targets → ℕ → List ℕ → Bool
-is_pending_to targets n digest = list_any (λ t. (t.node == n) && list_any (λ d. bytes_eq d digest) t.pending) targets
+is_pending_to targets n digest =
+    list_any (λ t. (t.node == n) && list_any (λ d. bytes_eq d digest) t.pending) targets
 
 -- at which of so many partitions, from one on, a node with these targets is done, where it has finished the exchange
 -- or hasn't
@@ -75,7 +76,11 @@ records_of content ds = filter_map (λ d. option_map (λ v. (d, v)) (finite.get 
 
 -- a new batch: the least digests that are pending, as many as a batch has or all
 abbrev pub new_batch : ClusterKey → Content → Target → Batch
-new_batch key content t = record { key = key; number = t.batches + 1; records = records_of content (take batch_limit t.pending) }
+new_batch key content t = record {
+  key = key;
+  number = t.batches + 1;
+  records = records_of content (take batch_limit t.pending);
+}
 
 -- the new batch where something is pending
 abbrev pub fresh_batch : ClusterKey → Content → Target → List (List ℕ) → Option Batch
@@ -101,7 +106,10 @@ is_among records d = list_any (λ r. bytes_eq r.0 d) records
 
 -- the batch was acknowledged: its digests are no longer pending, and none is out
 abbrev pub without_batch : Target → Batch → Target
-without_batch t b = record t { pending = filter (λ d. not (is_among b.records d)) t.pending; out = None }
+without_batch t b = record t {
+  pending = filter (λ d. not (is_among b.records d)) t.pending;
+  out = None;
+}
 
 -- an acknowledgement of that number, where that batch is out
 abbrev pub acked_out : Target → ℕ → Option Batch → Target

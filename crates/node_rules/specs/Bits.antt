@@ -25,7 +25,14 @@ clear_row = replicate partition_count false
 
 -- no bit is set and no Progress came
 abbrev pub no_bits : Bits
-no_bits = record { done = []; handed = clear_row; settled = clear_row; own_handed = clear_row; own_settled = clear_row; learnt = clear_row }
+no_bits = record {
+  done = [];
+  handed = clear_row;
+  settled = clear_row;
+  own_handed = clear_row;
+  own_settled = clear_row;
+  learnt = clear_row;
+}
 
 -- the row with each bit that either has
 abbrev pub or_rows : List Bool → List Bool → List Bool
@@ -45,7 +52,11 @@ knows_done b p m = bit (unwrap_or (at b.done m) []) p
 -- a Progress came: its done row takes the place of the sender's last one, and the other two are joined. What the node
 -- wrote itself stays
 abbrev pub progressing : Bits → ℕ → List Bool → List Bool → List Bool → Bits
-progressing b from done handed settled = record b { done = table_with b.done from done; handed = or_rows b.handed handed; settled = or_rows b.settled settled }
+progressing b from done handed settled = record b {
+  done = table_with b.done from done;
+  handed = or_rows b.handed handed;
+  settled = or_rows b.settled settled;
+}
 
 -- whether the node knows each of these members done at the partition
 abbrev pub knows_each_done : Bits → List ℕ → ℕ → Bool

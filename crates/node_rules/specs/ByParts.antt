@@ -29,11 +29,13 @@ exchanged_if f key b = if b then exchanged f key else f
 
 -- a view was entered, whose exchange is finished at once where it has one member
 abbrev pub view_entered : Facts → ClusterKey → List Member → Facts
-view_entered f key members = exchanged_if (entered f key members (own_row f)) key (is_single members)
+view_entered f key members =
+    exchanged_if (entered f key members (own_row f)) key (is_single members)
 
 -- a view that is proposed to nobody else was promised and entered
 abbrev pub entered_alone : Facts → ClusterKey → List Member → Facts
-entered_alone f key members = view_entered (record f { agreement = agreement.promising f.agreement key }) key members
+entered_alone f key members =
+    view_entered (record f { agreement = agreement.promising f.agreement key }) key members
 
 -- ---- transactions and records
 
@@ -47,12 +49,15 @@ merged_if f key digest v newer = if newer then merged f key digest v else f
 
 -- the transaction wrote this version, and is closed where no other replica is to acknowledge it
 abbrev pub with_applied_write : Facts → List ℕ → Transaction → Version → Facts
-with_applied_write f l t v = closed_if (write_applied f (view_key f) l t.number t.digest v) t.number (is_nil (other_replicas f l))
+with_applied_write f l t v =
+    closed_if (write_applied f (view_key f) l t.number t.digest v) t.number
+    (is_nil (other_replicas f l))
 
 -- the transaction was resolved by that want, at this time of the node's clock
 abbrev pub resolved_by : Facts → ℕ → List ℕ → Transaction → Want → Facts
 resolved_by f clock l t want.Get = closed f t.number
-resolved_by f clock l t (want.Put bytes) = with_applied_write f l t (next t.best clock (body.Value bytes))
+resolved_by f clock l t (want.Put bytes) =
+    with_applied_write f l t (next t.best clock (body.Value bytes))
 resolved_by f clock l t want.Del = with_applied_write f l t (next t.best clock body.Tombstone)
 
 -- the transaction was resolved: a read is closed, and a write is applied. The list is that of its partition
@@ -63,7 +68,9 @@ resolved f clock l t = resolved_by f clock l t t.want
 abbrev pub resolved_with : Facts → ℕ → ℕ → Option Version → Option Transaction → Facts
 resolved_with f clock from v None = f
 resolved_with f clock from v (Some t) =
-    if awaits_answer t from && is_last_awaited t from then resolved f clock (list_at f (partition_of t.digest)) (answered f.store.by from v t) else f
+    if awaits_answer t from && is_last_awaited t from
+    then resolved f clock (list_at f (partition_of t.digest)) (answered f.store.by from v t)
+    else f
 
 -- the transaction has opened: with nobody to ask it was resolved at once
 abbrev pub asked_or_resolved : Facts → ℕ → List ℕ → Transaction → List ℕ → Facts
@@ -74,14 +81,16 @@ asked_or_resolved f clock l t (n ∷ ns) = f
 abbrev pub requested : Facts → ℕ → List ℕ → List ℕ → Want → Option Refusal → Facts
 requested f clock l digest w (Some cause) = f
 requested f clock l digest w None =
-    asked_or_resolved (transaction_opened f l (f.transactions.opened + 1) digest w) clock l (opening_transaction f l (f.transactions.opened + 1) digest w)
+    asked_or_resolved (transaction_opened f l (f.transactions.opened + 1) digest w) clock l
+    (opening_transaction f l (f.transactions.opened + 1) digest w)
     (opening_transaction f l (f.transactions.opened + 1) digest w).awaiting
 
 -- ---- a tick
 
 -- the batches that a tick sends, each with its receiver, in member order
 abbrev pub batches_due : ClusterKey → Content → Targets → List (ℕ × Batch)
-batches_due key content targets = filter_map (λ t. option_map (λ b. (t.node, b)) (next_batch key content t)) targets
+batches_due key content targets =
+    filter_map (λ t. option_map (λ b. (t.node, b)) (next_batch key content t)) targets
 
 -- these batches were sent
 abbrev pub sending_all : Targets → List (ℕ × Batch) → Targets

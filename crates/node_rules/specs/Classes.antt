@@ -32,7 +32,8 @@ sends l rows p from to = sends_by l (row_state_at rows p) from to
 
 -- whether it does send them: the other is besides a replica and another node
 abbrev pub sends_to : List ℕ → ℕ → List MemberRow → ℕ → ℕ → ℕ → Bool
-sends_to l factor rows p from to = contains (replicas l factor) to && (not (from == to) && sends l rows p from to)
+sends_to l factor rows p from to =
+    contains (replicas l factor) to && (not (from == to) && sends l rows p from to)
 
 -- whom a node asks for their versions of a record of the partition: the firsts of all classes but its
 -- own, in list order

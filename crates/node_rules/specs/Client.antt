@@ -13,7 +13,8 @@ Tables = List MapTable
 -- whether the first table tells of the partition by a greater key than the second, or by the same key that
 -- it has moved where the second doesn't
 abbrev pub is_later_at : ℕ → MapTable → MapTable → Bool
-is_later_at p a b = key_lt b.key a.key || (same_key a.key b.key && (bit a.moved p && not (bit b.moved p)))
+is_later_at p a b =
+    key_lt b.key a.key || (same_key a.key b.key && (bit a.moved p && not (bit b.moved p)))
 
 -- whether no table is later than this one
 abbrev pub is_latest_at : Tables → ℕ → MapTable → Bool

@@ -72,7 +72,10 @@ storing s digest v = record s { content = joined s.by s.content digest v }
 
 -- the store without a partition's copy and its stamp
 abbrev pub dropping : Store → ℕ → Store
-dropping s p = record s { content = map.retain_keys s.content (λ d. not (is_of p d)); stamps = map.remove s.stamps p }
+dropping s p = record s {
+  content = map.retain_keys s.content (λ d. not (is_of p d));
+  stamps = map.remove s.stamps p;
+}
 
 -- the store with this stamp for a partition's copy
 abbrev pub stamping : Store → ℕ → Stamp → Store

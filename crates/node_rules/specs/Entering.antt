@@ -24,4 +24,5 @@ exchanging me key false = []
 
 -- all transactions are closed, and the view is entered
 abbrev pub entering : Facts → ClusterKey → List Member → List Line
-entering f key members = closing f ++ (line.Enter f.me key members ∷ exchanging f.me key (is_single members))
+entering f key members =
+    closing f ++ (line.Enter f.me key members ∷ exchanging f.me key (is_single members))

@@ -72,7 +72,17 @@ writing_hi applied = record lone {
   exchange = begun 1 (key 1 1) itself [];
   transactions = record {
     opened = 1;
-    running = record { number = 1; digest = zeros; want = want.Put hi; asked = 2 ∷ []; best = None; awaiting = 2 ∷ []; applied = applied } ∷ [];
+    running =
+        record {
+          number = 1;
+          digest = zeros;
+          want = want.Put hi;
+          asked = 2 ∷ [];
+          best = None;
+          awaiting = 2 ∷ [];
+          applied = applied;
+        }
+        ∷ [];
   };
 }
 
@@ -82,7 +92,9 @@ hi_written = record { version = first_hi; nth = 1 }
 
 -- a node that promised 2.1 and entered 1.1 last
 abbrev pub promised_two : Facts
-promised_two = record lone { agreement = record { promised = key 2 1; last = key 1 1; proposal = None; seen = 0 } }
+promised_two = record lone {
+  agreement = record { promised = key 2 1; last = key 1 1; proposal = None; seen = 0 };
+}
 
 -- plain members 2 and 1
 abbrev pub two : List Member
@@ -129,14 +141,28 @@ eight b = replicate 8 b
 -- pending, knows the other done or not, and handed the partitions over or didn't
 abbrev pub migrating : ℕ → ℕ → List MemberRow → Bool → Bool → Facts
 migrating me other rows done handed = record (fresh me plain_role (other ∷ []) 2 Time) {
-  exchange = record { view = Some (record { key = key 2 2; members = two }); rows = rows; exchanged = true };
-  bits = record { done = (other, eight done) ∷ []; handed = eight handed; settled = eight false; own_handed = eight handed; own_settled = eight false; learnt = eight false };
+  exchange =
+      record {
+        view = Some (record { key = key 2 2; members = two });
+        rows = rows;
+        exchanged = true;
+      };
+  bits =
+      record {
+        done = (other, eight done) ∷ [];
+        handed = eight handed;
+        settled = eight false;
+        own_handed = eight handed;
+        own_settled = eight false;
+        learnt = eight false;
+      };
 }
 
 -- such a node, which then hears of the other that all is handed over, or settled
 abbrev pub hearing_of_all : Bool → Bool → ℕ → ℕ → List MemberRow → Facts
 hearing_of_all handed settled me other rows =
-    after_message (migrating me other rows true false) 0 other (message.Progress (key 2 2) false (eight true) (eight handed) (eight settled))
+    after_message (migrating me other rows true false) 0 other
+    (message.Progress (key 2 2) false (eight true) (eight handed) (eight settled))
 
 -- rows of partition 7 of which one node's is whole and the other's a part
 abbrev pub whole_and_part : ℕ → ℕ → List MemberRow
@@ -159,7 +185,17 @@ abbrev pub waiting_for : Want → Facts
 waiting_for w = record (migrating 2 1 (whole_and_part 2 1) false false) {
   transactions = record {
     opened = 1;
-    running = record { number = 1; digest = seven; want = w; asked = 1 ∷ []; best = None; awaiting = 1 ∷ []; applied = None } ∷ [];
+    running =
+        record {
+          number = 1;
+          digest = seven;
+          want = w;
+          asked = 1 ∷ [];
+          best = None;
+          awaiting = 1 ∷ [];
+          applied = None;
+        }
+        ∷ [];
   };
 }
 

@@ -31,7 +31,11 @@ outside = record { view = None; rows = []; exchanged = false }
 
 -- a view whose exchange begins, with the node's own row
 abbrev pub begun : ℕ → ClusterKey → List Member → Row → Exchange
-begun me key members row = record { view = Some (record { key = key; members = members }); rows = record { node = me; row = row } ∷ []; exchanged = false }
+begun me key members row = record {
+  view = Some (record { key = key; members = members });
+  rows = record { node = me; row = row } ∷ [];
+  exchanged = false;
+}
 
 -- the key of the view, or none
 abbrev pub exchange_key : Option View → ClusterKey

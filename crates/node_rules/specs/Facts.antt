@@ -73,4 +73,5 @@ view_members f = option_map (λ v. (v.key, v.members)) f.exchange.view
 -- whether the node has finished the exchange of the view of that key, whose members are just these, with
 -- these roles
 abbrev pub has_exchanged_in : ClusterKey → List Member → Facts → Bool
-has_exchanged_in key set f = f.exchange.exchanged && (is_view f.exchange.view key && same_members (members_of_view f) set)
+has_exchanged_in key set f =
+    f.exchange.exchanged && (is_view f.exchange.view key && same_members (members_of_view f) set)

@@ -37,7 +37,9 @@ quiet_ticks = 2
 
 -- a heartbeat is its sender's entry from now on
 abbrev pub beat_heard : Hearing → ℕ → Beat → Hearing
-beat_heard h from beat = record h { heard = table_with h.heard from (record { age = 0; beat = beat }) }
+beat_heard h from beat = record h {
+  heard = table_with h.heard from (record { age = 0; beat = beat });
+}
 
 -- an entry one tick later
 abbrev pub older : ℕ × Heard → ℕ × Heard
@@ -62,7 +64,9 @@ member_of e = record { id = e.0; role = e.1 }
 -- the neighbours: the node itself, and each node that it hears and that hears it, with the role of
 -- its heartbeat; in descending order
 abbrev pub neighbours_of : ℕ → Role → Table Heard → List Member
-neighbours_of me role heard = reverse (map member_of (table_with (map (λ e. (e.0, e.1.beat.role)) (filter (names me) heard)) me role))
+neighbours_of me role heard =
+    reverse (map member_of
+    (table_with (map (λ e. (e.0, e.1.beat.role)) (filter (names me) heard)) me role))
 
 -- whether the neighbours are those of the tick before, if there was one
 abbrev pub is_unchanged : Option (List Member) → List Member → Bool
@@ -80,7 +84,8 @@ with_set h set = record h { set = Some set; quiet = quieter h.quiet (is_unchange
 
 -- a tick
 abbrev pub ticked : ℕ → Role → Hearing → Hearing
-ticked me role h = with_set (record h { heard = aged h.heard }) (neighbours_of me role (aged h.heard))
+ticked me role h =
+    with_set (record h { heard = aged h.heard }) (neighbours_of me role (aged h.heard))
 
 -- a view was entered
 abbrev pub without_quiet : Hearing → Hearing

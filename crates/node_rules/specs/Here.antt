@@ -60,7 +60,9 @@ hands h = h.acting && (not h.master && (not h.own_handed && (h.all_done && not h
 
 -- whether it settles the partition. One that hands it over is no list master, and settles nothing
 abbrev pub settles : Here → Bool
-settles h = h.master && (not h.empty && (not h.settled && (not h.busy && (h.handed || (h.acting && h.all_done)))))
+settles h =
+    h.master
+    && (not h.empty && (not h.settled && (not h.busy && (h.handed || (h.acting && h.all_done)))))
 
 -- whether it learns the partition, which was settled before or is now
 abbrev pub learns : Here → Bool
@@ -74,7 +76,8 @@ drops h = (h.settled || settles h) && (h.done && (not h.replica && h.holds))
 abbrev pub lines_here : ℕ → ClusterKey → ℕ → Here → List Line
 lines_here me key p h =
     line_if (line.Handed me key p) (hands h)
-    ++ (line_if (line.Settled me key p) (settles h) ++ (line_if (line.Learn me key p) (learns h) ++ line_if (line.Drop me key p) (drops h)))
+    ++ (line_if (line.Settled me key p) (settles h)
+    ++ (line_if (line.Learn me key p) (learns h) ++ line_if (line.Drop me key p) (drops h)))
 
 -- the lines of settling of the partition, as the facts stand
 abbrev pub part_lines : Facts → ℕ → List Line

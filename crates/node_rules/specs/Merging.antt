@@ -31,7 +31,8 @@ content_joined_if by content r false = content
 abbrev pub newer_records : Policy → Content → List Record → List Record
 newer_records by content [] = []
 newer_records by content (r ∷ rs) =
-    record_if r (is_newer_than_held by content r) ++ newer_records by (content_joined_if by content r (is_newer_than_held by content r)) rs
+    record_if r (is_newer_than_held by content r)
+    ++ newer_records by (content_joined_if by content r (is_newer_than_held by content r)) rs
 
 -- the content after these records came
 abbrev pub joined_all : Policy → Content → List Record → Content
@@ -39,7 +40,8 @@ joined_all by content rs = fold (λ held r. joined by held r.0 r.1) content rs
 
 -- the stamps after such a record came of another node, in a view of that key
 abbrev pub spoiled_at : ClusterKey → Stamps → Record → Stamps
-spoiled_at key stamps r = changed_stamps stamps (partition_of r.0) (spoiled key) (finite.get stamps (partition_of r.0))
+spoiled_at key stamps r =
+    changed_stamps stamps (partition_of r.0) (spoiled key) (finite.get stamps (partition_of r.0))
 
 -- the stamps after these records came
 abbrev pub spoiled_all : ClusterKey → Stamps → List Record → Stamps
@@ -47,4 +49,7 @@ spoiled_all key stamps rs = fold (spoiled_at key) stamps rs
 
 -- the store after these records came, all of which were newer
 abbrev pub store_merged_all : Store → ClusterKey → List Record → Store
-store_merged_all s key rs = record s { content = joined_all s.by s.content rs; stamps = spoiled_all key s.stamps rs }
+store_merged_all s key rs = record s {
+  content = joined_all s.by s.content rs;
+  stamps = spoiled_all key s.stamps rs;
+}

@@ -42,7 +42,10 @@ spent f = lines_only (line.Spent f.me ∷ [])
 -- the vote, where the test says whether the key is below the promised one
 abbrev pub vote_effects : Facts → ℕ → ClusterKey → Bool → Effects
 vote_effects f from key true = sends_only (to_one from (message.Refuse key f.agreement.promised))
-vote_effects f from key false = record { lines = line_if (line.Promise f.me key) (keys.key_lt f.agreement.promised key); sends = to_one from (message.Accept key) }
+vote_effects f from key false = record {
+  lines = line_if (line.Promise f.me key) (keys.key_lt f.agreement.promised key);
+  sends = to_one from (message.Accept key);
+}
 
 -- Propose: refused with the promised key where its key is below that; otherwise the key is promised
 -- where it is above, and accepted
@@ -51,7 +54,10 @@ due_propose f from key = vote_effects f from key (keys.key_lt key f.agreement.pr
 
 -- the view is entered where the test says that nobody is missing
 abbrev pub commit_effects : Facts → Proposal → Bool → Effects
-commit_effects f p true = record { lines = entering f p.key p.members; sends = to_each (others_among f.me p.members) (message.Commit p.key p.members) }
+commit_effects f p true = record {
+  lines = entering f p.key p.members;
+  sends = to_each (others_among f.me p.members) (message.Commit p.key p.members);
+}
 commit_effects f p false = nothing
 
 -- an Accept, where the test says whether its key is the proposal's
@@ -94,7 +100,8 @@ due_commit f key ms = entry_effects_if f key ms (may_enter_view f key ms)
 
 -- whether the exchange is over with these facts and wasn't before
 abbrev pub finishes : Facts → Facts → Bool
-finishes before now = is_none (first_missing now.exchange.rows (members_of_view now)) && not before.exchange.exchanged
+finishes before now =
+    is_none (first_missing now.exchange.rows (members_of_view now)) && not before.exchange.exchanged
 
 -- the node's own row, where it is wanted
 abbrev pub answer_state : Facts → ℕ → Bool → List (ℕ × Message)
@@ -103,7 +110,10 @@ answer_state f from false = []
 
 -- a State, where the test says whether it is of the view
 abbrev pub state_came : Facts → Facts → ℕ → Bool → Bool → Effects
-state_came f now from wants true = record { lines = line_if (line.Exchanged f.me (view_key f)) (finishes f now); sends = answer_state f from wants }
+state_came f now from wants true = record {
+  lines = line_if (line.Exchanged f.me (view_key f)) (finishes f now);
+  sends = answer_state f from wants;
+}
 state_came f now from wants false = stale f
 
 -- State: the exchange ends with the last row, and a row that is wanted is answered
@@ -118,7 +128,9 @@ merge_line me key r = line.Merge me key r.0 r.1
 
 -- a line where the version is newer than what is held
 abbrev pub merging : Facts → List ℕ → Version → List Line
-merging f digest v = line_if (line.Merge f.me (view_key f) digest v) (is_newer f.store.by v (finite.get f.store.content digest))
+merging f digest v =
+    line_if (line.Merge f.me (view_key f) digest v)
+    (is_newer f.store.by v (finite.get f.store.content digest))
 
 -- a line for each record, in order, that is newer than what is held as it comes to it
 abbrev pub merging_all : Facts → List (List ℕ × Version) → List Line
@@ -127,7 +139,10 @@ merging_all f (r ∷ rs) = merging f r.0 r.1 ++ merging_all (noted None f (mergi
 
 -- a Batch, where the test says whether it is of the view
 abbrev pub batch_came : Facts → ℕ → Batch → Bool → Effects
-batch_came f from b true = record { lines = merging_all f b.records; sends = to_one from (message.BatchAck b.key b.number) }
+batch_came f from b true = record {
+  lines = merging_all f b.records;
+  sends = to_one from (message.BatchAck b.key b.number);
+}
 batch_came f from b false = stale f
 
 -- Batch: each record is joined into the store, and the batch is acknowledged
@@ -157,7 +172,8 @@ answer_progress n now from false = nothing
 
 -- a Progress, where the test says whether it is of the view
 abbrev pub progress_effects_if : ℕ → Facts → Facts → ℕ → Bool → Bool → Effects
-progress_effects_if n f now from wants true = answer_progress n now from (wants && knows_all_settled now n 0)
+progress_effects_if n f now from wants true =
+    answer_progress n now from (wants && knows_all_settled now n 0)
 progress_effects_if n f now from wants false = stale f
 
 -- Progress: one that is wanted is answered by a node that, with this message, knows every partition settled
@@ -168,7 +184,10 @@ due_progress n f now from key wants = progress_effects_if n f now from wants (in
 
 -- a Repl, where the test says whether it is of the view
 abbrev pub repl_came : Facts → ℕ → ClusterKey → ℕ → List ℕ → Version → Bool → Effects
-repl_came f from key number digest v true = record { lines = merging f digest v; sends = to_one from (message.ReplAck key number) }
+repl_came f from key number digest v true = record {
+  lines = merging f digest v;
+  sends = to_one from (message.ReplAck key number);
+}
 repl_came f from key number digest v false = stale f
 
 -- Repl: the version is joined into the store, and the write is acknowledged
@@ -177,7 +196,8 @@ due_repl f from key number digest v = repl_came f from key number digest v (in_v
 
 -- a ReplAck of an open transaction, where the test says whether it is awaited
 abbrev pub done_by : Facts → Transaction → ℕ → Bool → Effects
-done_by f t from true = lines_only (line_if (line.Done f.me (view_key f) t.number) (is_last_awaited t from))
+done_by f t from true =
+    lines_only (line_if (line.Done f.me (view_key f) t.number) (is_last_awaited t from))
 done_by f t from false = spent f
 
 -- a ReplAck, where that transaction is open
@@ -196,7 +216,8 @@ due_repl_ack f from key number = repl_ack_came f from number (in_view f key)
 
 -- an Ask, where the test says whether it is of the view
 abbrev pub ask_came : Facts → ℕ → ClusterKey → ℕ → List ℕ → Bool → Effects
-ask_came f from key number digest true = sends_only (to_one from (message.Answer key number (finite.get f.store.content digest)))
+ask_came f from key number digest true =
+    sends_only (to_one from (message.Answer key number (finite.get f.store.content digest)))
 ask_came f from key number digest false = stale f
 
 -- Ask: answered with the version that is held, or none
@@ -210,7 +231,8 @@ resolving_if f clock t false = nothing
 
 -- an Answer of an open transaction, where the test says whether it is awaited
 abbrev pub answered_by : Facts → ℕ → Transaction → ℕ → Option Version → Bool → Effects
-answered_by f clock t from v true = resolving_if f clock (answered f.store.by from v t) (is_last_awaited t from)
+answered_by f clock t from v true =
+    resolving_if f clock (answered f.store.by from v t) (is_last_awaited t from)
 answered_by f clock t from v false = spent f
 
 -- an Answer, where that transaction is open
@@ -220,7 +242,8 @@ answer_of f clock from v (Some t) = answered_by f clock t from v (awaits_answer 
 
 -- an Answer, where the test says whether it is of the view
 abbrev pub answer_effects_if : Facts → ℕ → ℕ → ℕ → Option Version → Bool → Effects
-answer_effects_if f clock from number v true = answer_of f clock from v (transaction f.transactions number)
+answer_effects_if f clock from number v true =
+    answer_of f clock from v (transaction f.transactions number)
 answer_effects_if f clock from number v false = stale f
 
 -- Answer: spent where it isn't awaited; the last one that is awaited resolves the transaction
@@ -241,7 +264,11 @@ moved_from f (suc n) p = has_moved f p ∷ moved_from f n (p + 1)
 
 -- whom the client is to ask for each partition
 abbrev pub map_table : Facts → MapTable
-map_table f = record { key = view_key f; ids = named_from f partition_count 0; moved = moved_from f partition_count 0 }
+map_table f = record {
+  key = view_key f;
+  ids = named_from f partition_count 0;
+  moved = moved_from f partition_count 0;
+}
 
 -- the client, as an endpoint of messages
 abbrev pub client : ℕ
@@ -266,10 +293,13 @@ due_message_of n f clock from (message.Propose key ms) = due_propose f from key
 due_message_of n f clock from (message.Accept key) = due_accept f from key
 due_message_of n f clock from (message.Refuse key promised) = due_refuse f key
 due_message_of n f clock from (message.Commit key ms) = due_commit f key ms
-due_message_of n f clock from (message.State key wants row) = due_state f (reached f from (message.State key wants row)) from key wants
+due_message_of n f clock from (message.State key wants row) =
+    due_state f (reached f from (message.State key wants row)) from key wants
 due_message_of n f clock from (message.Batch b) = due_batch f from b
 due_message_of n f clock from (message.BatchAck key number) = due_batch_ack f from key number
-due_message_of n f clock from (message.Progress key wants done handed settled) = due_progress n f (reached f from (message.Progress key wants done handed settled)) from key wants
+due_message_of n f clock from (message.Progress key wants done handed settled) =
+    due_progress n f (reached f from (message.Progress key wants done handed settled)) from key
+    wants
 due_message_of n f clock from (message.Repl key t nth digest v) = due_repl f from key t digest v
 due_message_of n f clock from (message.ReplAck key t) = due_repl_ack f from key t
 due_message_of n f clock from (message.Ask key t digest) = due_ask f from key t digest

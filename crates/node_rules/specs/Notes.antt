@@ -39,7 +39,10 @@ neighbours f = neighbours_of f.me f.role f.hearing.heard
 
 -- what is heard is this now, and a proposal of other nodes than the neighbours is given up
 abbrev pub with_hearing : Facts → Hearing → Facts
-with_hearing f h = record f { hearing = h; agreement = agreement.still_proposing f.agreement (neighbours_of f.me f.role h.heard) }
+with_hearing f h = record f {
+  hearing = h;
+  agreement = agreement.still_proposing f.agreement (neighbours_of f.me f.role h.heard);
+}
 
 -- a tick: all that was heard is one tick older, and a proposal of other nodes than the neighbours is given up
 abbrev pub after_ages : Facts → Facts
@@ -104,11 +107,14 @@ stamped_at f key l p stamps = stamped_if f key l p stamps (is_all_empty f p && i
 -- the stamps with those of so many partitions from one on
 unfoldable pub stamped_from : Facts → ClusterKey → Stamps → ℕ → ℕ → Stamps
 stamped_from f key stamps zero p = stamps
-stamped_from f key stamps (suc n) p = stamped_from f key (stamped_at f key (list_at f p) p stamps) n (p + 1)
+stamped_from f key stamps (suc n) p =
+    stamped_from f key (stamped_at f key (list_at f p) p stamps) n (p + 1)
 
 -- whether the node hands the digest's record on to the member
 abbrev pub is_for : Facts → ℕ → List ℕ → Bool
-is_for f to digest = sends_to (list_at f (partition_of digest)) f.factor f.exchange.rows (partition_of digest) f.me to
+is_for f to digest =
+    sends_to (list_at f (partition_of digest)) f.factor f.exchange.rows (partition_of digest) f.me
+    to
 
 -- the member's target as the exchange ends: every digest that the node holds and hands on to it is pending
 abbrev pub target_for : Facts → ℕ → Target
@@ -138,11 +144,14 @@ request_want None action.Del = want.Del
 -- a transaction that opens now on a digest of the partition with that list
 abbrev pub opening_transaction : Facts → List ℕ → ℕ → List ℕ → Want → Transaction
 opening_transaction f l number digest w =
-    transactions.new_transaction number digest w (finite.get f.store.content digest) (asked f l (partition_of digest))
+    transactions.new_transaction number digest w (finite.get f.store.content digest)
+    (asked f l (partition_of digest))
 
 -- a transaction opens
 abbrev pub transaction_opened : Facts → List ℕ → ℕ → List ℕ → Want → Facts
-transaction_opened f l number digest w = record f { transactions = transactions.opening f.transactions (opening_transaction f l number digest w) }
+transaction_opened f l number digest w = record f {
+  transactions = transactions.opening f.transactions (opening_transaction f l number digest w);
+}
 
 -- a transaction is closed
 abbrev pub closed : Facts → ℕ → Facts
@@ -154,14 +163,17 @@ next_nth f p = applies_at f.writes p + 1
 
 -- the store after the node applied a write under that key; these are the writes afterwards
 abbrev pub applied_store : Facts → ClusterKey → List ℕ → List ℕ → Version → Writes → Store
-applied_store f key l digest v w = store_applied f.store key digest v (count_at w (is_master f l) (partition_of digest))
+applied_store f key l digest v w =
+    store_applied f.store key digest v (count_at w (is_master f l) (partition_of digest))
 
 -- the node applied the transaction's write: it counts, and each other replica is to acknowledge it
 abbrev pub write_applied : Facts → ClusterKey → List ℕ → ℕ → List ℕ → Version → Facts
 write_applied f key l number digest v = record f {
   store = applied_store f key l digest v (applying f.writes (partition_of digest));
   writes = applying f.writes (partition_of digest);
-  transactions = transactions.changing f.transactions number (transactions.with_write v (next_nth f (partition_of digest)) (other_replicas f l));
+  transactions =
+      transactions.changing f.transactions number
+      (transactions.with_write v (next_nth f (partition_of digest)) (other_replicas f l));
 }
 
 -- a newer version came from another node
@@ -180,7 +192,10 @@ settled f p = record f { bits = bits.settling f.bits p }
 
 -- the copy is whole under that key
 abbrev pub learnt : Facts → ClusterKey → List ℕ → ℕ → Facts
-learnt f key l p = record f { store = store_learnt f.store key p (count_in f l p); bits = bits.learning f.bits p }
+learnt f key l p = record f {
+  store = store_learnt f.store key p (count_in f l p);
+  bits = bits.learning f.bits p;
+}
 
 -- the partition's copy and its stamp are gone
 abbrev pub dropped : Facts → ℕ → Facts
@@ -198,7 +213,8 @@ note q f (line.Unquiesce n) = marked f false
 note q f (line.Promise n key) = record f { agreement = agreement.promising f.agreement key }
 note q f (line.Enter n key members) = entered f key members (own_row f)
 note q f (line.Exchanged n key) = exchanged f key
-note q f (line.Opened n key t digest a) = transaction_opened f (list_at f (partition_of digest)) t digest (request_want q a)
+note q f (line.Opened n key t digest a) =
+    transaction_opened f (list_at f (partition_of digest)) t digest (request_want q a)
 note q f (line.Value n key t digest v) = closed f t
 note q f (line.Apply n key t digest v) = write_applied f key
     (list_at f (partition_of digest)) t digest v
@@ -225,11 +241,16 @@ in_view f key = is_view f.exchange.view key
 
 -- a heartbeat came, with the key that its sender promised
 abbrev pub heard_beat : Facts → ℕ → Beat → Facts
-heard_beat f from beat = record f { hearing = beat_heard f.hearing from beat; agreement = agreement.seeing f.agreement beat.promised }
+heard_beat f from beat = record f {
+  hearing = beat_heard f.hearing from beat;
+  agreement = agreement.seeing f.agreement beat.promised;
+}
 
 -- a Refuse came, with the key that its sender promised
 abbrev pub refused_by : Facts → ClusterKey → ClusterKey → Facts
-refused_by f key promised = record f { agreement = agreement.seeing (agreement.refused f.agreement key) promised }
+refused_by f key promised = record f {
+  agreement = agreement.seeing (agreement.refused f.agreement key) promised;
+}
 
 -- the facts with a message where it is of the view, and without it otherwise
 abbrev pub if_view : Bool → Facts → Facts → Facts
@@ -238,15 +259,19 @@ if_view false came f = f
 
 -- a row came, where the test says whether it is of the view
 abbrev pub row_came : Facts → ℕ → Row → Bool → Facts
-row_came f from row of_view = if_view of_view (record f { exchange = record f.exchange { rows = with_row f.exchange.rows from row } }) f
+row_came f from row of_view =
+    if_view of_view
+    (record f { exchange = record f.exchange { rows = with_row f.exchange.rows from row } }) f
 
 -- a BatchAck came, where the test says whether it is of the view
 abbrev pub batch_acked : Facts → ℕ → ℕ → Bool → Facts
-batch_acked f from number of_view = if_view of_view (record f { batches = batches.acking f.batches from number }) f
+batch_acked f from number of_view =
+    if_view of_view (record f { batches = batches.acking f.batches from number }) f
 
 -- a Progress came, where the test says whether it is of the view
 abbrev pub progress_came : Facts → ℕ → List Bool → List Bool → List Bool → Bool → Facts
-progress_came f from done handed settled of_view = if_view of_view (record f { bits = progressing f.bits from done handed settled }) f
+progress_came f from done handed settled of_view =
+    if_view of_view (record f { bits = progressing f.bits from done handed settled }) f
 
 -- the list master's write of that number came, of a partition with that list
 abbrev pub write_counted : Facts → ClusterKey → List ℕ → ℕ → ℕ → Facts
@@ -261,25 +286,36 @@ write_counted_if f key l p nth b = if_view b (write_counted f key l p nth) f
 
 -- a write of the view came: it counts where the list master sent it
 abbrev pub write_came : Facts → ℕ → ClusterKey → ℕ → ℕ → Bool → Facts
-write_came f from key nth p of_view = if_view of_view (write_counted_if f key (list_at f p) p nth (from == list_master (list_at f p))) f
+write_came f from key nth p of_view =
+    if_view of_view (write_counted_if f key (list_at f p) p nth (from == list_master (list_at f p)))
+    f
 
 -- a ReplAck came, where the test says whether it is of the view
 abbrev pub write_acked : Facts → ℕ → ℕ → Bool → Facts
-write_acked f from number of_view = if_view of_view (record f { transactions = transactions.acknowledging f.transactions from number }) f
+write_acked f from number of_view =
+    if_view of_view
+    (record f { transactions = transactions.acknowledging f.transactions from number }) f
 
 -- an Answer came, where the test says whether it is of the view
 abbrev pub answer_came : Facts → ℕ → ℕ → Option Version → Bool → Facts
-answer_came f from number v of_view = if_view of_view (record f { transactions = transactions.answering f.store.by f.transactions from number v }) f
+answer_came f from number v of_view =
+    if_view of_view
+    (record f { transactions = transactions.answering f.store.by f.transactions from number v }) f
 
 -- what a message adds that reached the node
 abbrev pub reached : Facts → ℕ → Message → Facts
-reached f from (message.Heartbeat view promised hears role) = heard_beat f from (record { view = view; promised = promised; hears = hears; role = role })
-reached f from (message.Accept key) = record f { agreement = agreement.accepting f.agreement from key }
+reached f from (message.Heartbeat view promised hears role) =
+    heard_beat f from (record { view = view; promised = promised; hears = hears; role = role })
+reached f from (message.Accept key) = record f {
+  agreement = agreement.accepting f.agreement from key;
+}
 reached f from (message.Refuse key promised) = refused_by f key promised
 reached f from (message.State key wants row) = row_came f from row (in_view f key)
 reached f from (message.BatchAck key number) = batch_acked f from number (in_view f key)
-reached f from (message.Progress key wants done handed settled) = progress_came f from done handed settled (in_view f key)
-reached f from (message.Repl key t nth digest v) = write_came f from key nth (partition_of digest) (in_view f key)
+reached f from (message.Progress key wants done handed settled) =
+    progress_came f from done handed settled (in_view f key)
+reached f from (message.Repl key t nth digest v) =
+    write_came f from key nth (partition_of digest) (in_view f key)
 reached f from (message.ReplAck key t) = write_acked f from t (in_view f key)
 reached f from (message.Answer key t v) = answer_came f from t v (in_view f key)
 reached f from _ = f
@@ -288,7 +324,9 @@ reached f from _ = f
 
 -- what a message adds that the node sent
 abbrev pub sent : Facts → ℕ → Message → Facts
-sent f to (message.Propose key members) = record f { agreement = agreement.proposing f.agreement f.me key members }
+sent f to (message.Propose key members) = record f {
+  agreement = agreement.proposing f.agreement f.me key members;
+}
 sent f to (message.Batch b) = record f { batches = batches.sending f.batches to b }
 sent f to _ = f
 

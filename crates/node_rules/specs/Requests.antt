@@ -76,17 +76,21 @@ map_entry f p = entry_if f p (map_refusal f)
 -- nobody is asked, and the transaction is resolved at once; or each of those is asked in list order
 abbrev pub asking : Facts → ℕ → List ℕ → Transaction → List ℕ → Effects
 asking f clock l t [] = resolving f clock l t
-asking f clock l t (n ∷ ns) = sends_only (to_each (n ∷ ns) (message.Ask (view_key f) t.number t.digest))
+asking f clock l t (n ∷ ns) =
+    sends_only (to_each (n ∷ ns) (message.Ask (view_key f) t.number t.digest))
 
 -- the transaction opens
 abbrev pub opening_effects : Facts → ℕ → List ℕ → Transaction → Effects
 opening_effects f clock l t =
-    followed_by (lines_only (line.Opened f.me (view_key f) t.number t.digest (action_of t.want) ∷ [])) (asking f clock l t t.awaiting)
+    followed_by
+    (lines_only (line.Opened f.me (view_key f) t.number t.digest (action_of t.want) ∷ []))
+    (asking f clock l t t.awaiting)
 
 -- the request where nothing refuses it
 abbrev pub request_if : Facts → ℕ → List ℕ → List ℕ → Want → Option Refusal → Effects
 request_if f clock l digest w (Some cause) = lines_only (line.Refused f.me digest cause ∷ [])
-request_if f clock l digest w None = opening_effects f clock l (opening_transaction f l (f.transactions.opened + 1) digest w)
+request_if f clock l digest w None =
+    opening_effects f clock l (opening_transaction f l (f.transactions.opened + 1) digest w)
 
 -- a request on a digest whose partition has that list: the first refusal, or the view's next transaction
 abbrev pub request_at : Facts → ℕ → List ℕ → List ℕ → Want → Effects

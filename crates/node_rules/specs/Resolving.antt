@@ -30,8 +30,12 @@ repl f t w = message.Repl (view_key f) t.number w.nth t.digest w.version
 -- the transaction writes this version: it is applied, and goes to each other replica in list order
 abbrev pub writing : Facts → List ℕ → Transaction → Version → Effects
 writing f l t v = record {
-  lines = line.Apply f.me (view_key f) t.number t.digest v ∷ done_if f t.number (is_nil (other_replicas f l));
-  sends = to_each (other_replicas f l) (repl f t (record { version = v; nth = next_nth f (partition_of t.digest) }));
+  lines =
+      line.Apply f.me (view_key f) t.number t.digest v
+      ∷ done_if f t.number (is_nil (other_replicas f l));
+  sends =
+      to_each (other_replicas f l)
+      (repl f t (record { version = v; nth = next_nth f (partition_of t.digest) }));
 }
 
 -- a write of that body makes the next version of the best one
@@ -40,7 +44,8 @@ writing_body f clock l t b = writing f l t (next t.best clock b)
 
 -- the transaction is resolved by what it wants
 abbrev pub resolving_want : Facts → ℕ → List ℕ → Transaction → Want → Effects
-resolving_want f clock l t want.Get = lines_only (line.Value f.me (view_key f) t.number t.digest t.best ∷ [])
+resolving_want f clock l t want.Get =
+    lines_only (line.Value f.me (view_key f) t.number t.digest t.best ∷ [])
 resolving_want f clock l t (want.Put bytes) = writing_body f clock l t (body.Value bytes)
 resolving_want f clock l t want.Del = writing_body f clock l t body.Tombstone
 

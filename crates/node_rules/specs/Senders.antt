@@ -23,4 +23,5 @@ view_key_of _ = None
 -- it comes from a peer, or from the client where it asks for a table; and one of the node's view from another member of it
 pub record ComesFrom (f : Facts) (from : ℕ) (m : Message) : Type 0 where
   pub sender : Contains f.peers from ⊎ ((from ≡ client) × (m ≡ message.MapAsk))
-  pub member : (key : ClusterKey) → view_key_of m ≡ Some key → in_view f key ≡ true → Contains (others f) from
+  pub member : (key : ClusterKey) → view_key_of m ≡ Some key → in_view f key ≡ true
+      → Contains (others f) from

@@ -12,14 +12,17 @@ use Rattle.node_rules.specs.Transactions.{is_busy}
 -- master, hasn't handed it over, is done at it and knows every other member done, and has no
 -- transaction open on it
 abbrev pub may_hand : Facts → List ℕ → ℕ → Bool
-may_hand f l p = bits.bits_may_hand f.bits p (is_acting f l p) (is_master f l) (are_all_done f p) (is_busy f.transactions p)
+may_hand f l p =
+    bits.bits_may_hand f.bits p (is_acting f l p) (is_master f l) (are_all_done f p)
+    (is_busy f.transactions p)
 
 -- whether the node settles the partition: it is the list master, some copy wasn't empty, the bit
 -- isn't set, it has no transaction open on it, and either the partition was handed over to it, or it
 -- is itself the acting master by the rows, is done and knows every other member done
 abbrev pub may_settle : Facts → List ℕ → ℕ → Bool
 may_settle f l p =
-    bits.bits_may_settle f.bits p (is_acting f l p) (is_master f l) (is_all_empty f p) (are_all_done f p) (is_busy f.transactions p)
+    bits.bits_may_settle f.bits p (is_acting f l p) (is_master f l) (is_all_empty f p)
+    (are_all_done f p) (is_busy f.transactions p)
 
 -- the line where the test holds
 abbrev pub line_if : Line → Bool → List Line
@@ -48,12 +51,16 @@ lines_then first second f = first f ++ second (noted None f (first f))
 
 -- the four at one partition, each of the facts with the lines of those before it
 abbrev pub settling_at : List ℕ → ℕ → Facts → List Line
-settling_at l p = lines_then (λ f. hand f l p) (lines_then (λ f. settle f l p) (lines_then (λ f. learn f l p) (λ f. drop f l p)))
+settling_at l p =
+    lines_then (λ f. hand f l p)
+    (lines_then (λ f. settle f l p) (lines_then (λ f. learn f l p) (λ f. drop f l p)))
 
 -- so many partitions, from one on
 unfoldable pub settling_from : ℕ → ℕ → Facts → List Line
 settling_from zero p f = []
-settling_from (suc n) p f = settling_at (list_at f p) p f ++ settling_from n (p + 1) (noted None f (settling_at (list_at f p) p f))
+settling_from (suc n) p f =
+    settling_at (list_at f p) p f
+    ++ settling_from n (p + 1) (noted None f (settling_at (list_at f p) p f))
 
 -- the partitions from 0 on, where the test holds
 abbrev pub settling_if : ℕ → Facts → Bool → List Line

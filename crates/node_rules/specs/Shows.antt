@@ -24,7 +24,9 @@ map_line f p e = line.Map f.me (view_key f) p (with_roles (members_of_view f) e.
 
 -- the line of each partition from one to another, the last one too
 abbrev pub map_lines : Facts → ℕ → ℕ → List Line
-map_lines f from to = map (λ p. map_line f p (entry_of (list_at f p) f.exchange.rows p)) (range_with_len from (to + 1 - from))
+map_lines f from to =
+    map (λ p. map_line f p (entry_of (list_at f p) f.exchange.rows p))
+    (range_with_len from (to + 1 - from))
 
 -- these lines where nothing refuses the map, and otherwise one that says why
 abbrev pub map_if : Facts → ℕ → ℕ → Option Refusal → List Line

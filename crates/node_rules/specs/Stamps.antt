@@ -18,7 +18,8 @@ Numbers = List ℕ
 -- the set with a number more
 abbrev pub with_number : Numbers → ℕ → Numbers
 with_number [] n = n ∷ []
-with_number (m ∷ ms) n = if n == m then m ∷ ms else (if nat_lt n m then n ∷ m ∷ ms else (m ∷ with_number ms n))
+with_number (m ∷ ms) n =
+    if n == m then m ∷ ms else (if nat_lt n m then n ∷ m ∷ ms else (m ∷ with_number ms n))
 
 -- whether the numbers are exactly those from 1 to how many there are
 abbrev pub have_no_gap : Numbers → Bool
@@ -53,7 +54,9 @@ applying w p = record w { applies = table_with w.applies p (applies_at w p + 1) 
 
 -- the list master's write of that number reached the node
 abbrev pub hearing_write : Writes → ℕ → ℕ → Writes
-hearing_write w p nth = record w { numbers = table_with w.numbers p (with_number (numbers_at w p) nth) }
+hearing_write w p nth = record w {
+  numbers = table_with w.numbers p (with_number (numbers_at w p) nth);
+}
 
 -- how many of the list master's writes of the view the copy has had: its own for the list master
 -- itself, and for another node the numbers that reached it
@@ -90,7 +93,9 @@ store_merged s key digest v = with_stamp (storing s digest v) (partition_of dige
 
 -- the node applied a write to the copy, whose count is this now
 abbrev pub store_applied : Store → ClusterKey → List ℕ → Version → ℕ → Store
-store_applied s key digest v count = with_stamp (storing s digest v) (partition_of digest) (λ stamp. recounted key count (spoiled key stamp))
+store_applied s key digest v count =
+    with_stamp (storing s digest v) (partition_of digest)
+    (λ stamp. recounted key count (spoiled key stamp))
 
 -- the copy was learnt: it is whole under the key, with that count
 abbrev pub store_learnt : Store → ClusterKey → ℕ → ℕ → Store

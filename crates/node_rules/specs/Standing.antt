@@ -88,12 +88,15 @@ has_moved f p = knows_handed f p || knows_settled f p
 -- whether a node takes requests that has finished the exchange or hasn't: it is the acting master by the rows and
 -- hasn't handed the partition over, or it is the list master, where that is another, and has settled it
 abbrev pub acts_by : Bool → Bool → Bool → Bool → Bool → Bool
-acts_by exchanged acting handed master settled = exchanged && ((acting && not handed) || (master && (not acting && settled)))
+acts_by exchanged acting handed master settled =
+    exchanged && ((acting && not handed) || (master && (not acting && settled)))
 
 -- whether the node takes requests: the acting master by the rows until it hands the partition over,
 -- and the list master, where that is another, from its settling on. Both go by its own lines, not by what it hears
 abbrev pub acts : Facts → List ℕ → ℕ → Bool
-acts f l p = acts_by f.exchange.exchanged (is_acting f l p) (has_handed f p) (is_master f l) (has_settled f p)
+acts f l p =
+    acts_by f.exchange.exchanged (is_acting f l p) (has_handed f p) (is_master f l)
+    (has_settled f p)
 
 -- the node that is to be asked of a list with that acting master, where the partition has come to its list master
 -- or hasn't
@@ -121,18 +124,23 @@ is_to_learn f l p = has_settled_bit f p && (is_own_replica f l && not (bit f.bit
 -- whether the node is to drop the partition: it is settled, the node is done at it, is no replica,
 -- and holds a record of it
 abbrev pub is_to_drop : Facts → List ℕ → ℕ → Bool
-is_to_drop f l p = has_settled_bit f p && (is_done f p && (not (is_own_replica f l) && holds_of f.store.content p))
+is_to_drop f l p =
+    has_settled_bit f p && (is_done f p && (not (is_own_replica f l) && holds_of f.store.content p))
 
 -- whether nothing is to be learnt or dropped in so many partitions, from one on
 unfoldable pub has_nothing_to_learn_or_drop : Facts → ℕ → ℕ → Bool
 has_nothing_to_learn_or_drop f zero p = true
 has_nothing_to_learn_or_drop f (suc n) p =
-    not (is_to_learn f (list_at f p) p || is_to_drop f (list_at f p) p) && has_nothing_to_learn_or_drop f n (p + 1)
+    not (is_to_learn f (list_at f p) p || is_to_drop f (list_at f p) p)
+    && has_nothing_to_learn_or_drop f n (p + 1)
 
 -- whether the node, of so many partitions, is at rest: it has finished the exchange, knows each
 -- partition settled, has nothing to learn or drop, and has no open transaction
 abbrev pub is_at_rest_of : ℕ → Facts → Bool
-is_at_rest_of n f = f.exchange.exchanged && (knows_all_settled f n 0 && (has_nothing_to_learn_or_drop f n 0 && is_nil f.transactions.running))
+is_at_rest_of n f =
+    f.exchange.exchanged
+    && (knows_all_settled f n 0
+    && (has_nothing_to_learn_or_drop f n 0 && is_nil f.transactions.running))
 
 -- whether the node is at rest
 abbrev pub is_at_rest : Facts → Bool

@@ -38,7 +38,9 @@ parts_in_order (part ∷ parts) f = followed_by (part f)
 
 -- a heartbeat to every other declared node, in rising order
 abbrev pub beat : Part
-beat f = sends_only (to_each f.peers (message.Heartbeat (view_key f) f.agreement.promised (heard_ids f.hearing.heard) f.role))
+beat f =
+    sends_only (to_each f.peers
+    (message.Heartbeat (view_key f) f.agreement.promised (heard_ids f.hearing.heard) f.role))
 
 -- ---- propose
 
@@ -50,12 +52,14 @@ differs_from set (Some v) = not (same_members set v.members)
 -- whether the neighbours are to agree on a view: the node has none, they aren't its members, or
 -- another neighbour shows another view than the node's own
 abbrev pub wants_view : Facts → Bool
-wants_view f = differs_from (neighbours f) f.exchange.view || not (all_show f.me f.hearing.heard (view_key f))
+wants_view f =
+    differs_from (neighbours f) f.exchange.view || not (all_show f.me f.hearing.heard (view_key f))
 
 -- whether the node is a candidate: the greatest of its neighbours, who have been the same for long
 -- enough and are to agree on a view
 abbrev pub is_candidate : Facts → Bool
-is_candidate f = is_greatest f.me (neighbours f) && ((f.hearing.quiet == quiet_ticks) && wants_view f)
+is_candidate f =
+    is_greatest f.me (neighbours f) && ((f.hearing.quiet == quiet_ticks) && wants_view f)
 
 -- a proposal goes again to each member that hasn't accepted it
 abbrev pub propose_again : Proposal → Effects
@@ -70,11 +74,16 @@ proposal_sends (Some p) = (propose_again p).sends
 -- to each of them
 abbrev pub proposal_effects : Facts → ClusterKey → List Member → List ℕ → Effects
 proposal_effects f key set [] = lines_only (line.Promise f.me key ∷ entering f key set)
-proposal_effects f key set (n ∷ ns) = record { lines = line.Promise f.me key ∷ []; sends = to_each (n ∷ ns) (message.Propose key set) }
+proposal_effects f key set (n ∷ ns) = record {
+  lines = line.Promise f.me key ∷ [];
+  sends = to_each (n ∷ ns) (message.Propose key set);
+}
 
 -- a new proposal where the test holds
 abbrev pub propose_new : Facts → Bool → Effects
-propose_new f true = proposal_effects f (next_key f.me f.agreement) (neighbours f) (agreement.others_among f.me (neighbours f))
+propose_new f true =
+    proposal_effects f (next_key f.me f.agreement) (neighbours f)
+    (agreement.others_among f.me (neighbours f))
 propose_new f false = nothing
 
 -- that proposal again, and without one a new one where the node is a candidate
@@ -122,7 +131,9 @@ batch_to to (Some b) = Some (to, message.Batch b)
 -- for each other member, in member order, the batch that is out to it again, or a new one where
 -- something is pending
 abbrev pub batches : Part
-batches f = sends_only (filter_map (λ t. batch_to t.node (next_batch (view_key f) f.store.content t)) f.batches)
+batches f =
+    sends_only
+    (filter_map (λ t. batch_to t.node (next_batch (view_key f) f.store.content t)) f.batches)
 
 -- ---- settling
 
@@ -139,7 +150,8 @@ done_from f (suc n) p = is_done f p ∷ done_from f n (p + 1)
 
 -- the message that tells of so many partitions how far they have come
 abbrev pub progress_message : ℕ → Facts → Bool → Message
-progress_message n f wants = message.Progress (view_key f) wants (done_from f n 0) f.bits.handed f.bits.settled
+progress_message n f wants =
+    message.Progress (view_key f) wants (done_from f n 0) f.bits.handed f.bits.settled
 
 -- a Progress to each other member where the test holds
 abbrev pub progress_if : ℕ → Facts → Bool → Effects

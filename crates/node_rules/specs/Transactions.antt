@@ -37,8 +37,15 @@ pub record Transactions : Type 0 where
 
 -- a request that is accepted now, where the node holds that version and asks those
 abbrev pub new_transaction : ℕ → List ℕ → Want → Option Version → List ℕ → Transaction
-new_transaction number digest want held asked =
-    record { number = number; digest = digest; want = want; asked = asked; best = held; awaiting = asked; applied = None }
+new_transaction number digest want held asked = record {
+  number = number;
+  digest = digest;
+  want = want;
+  asked = asked;
+  best = held;
+  awaiting = asked;
+  applied = None;
+}
 
 -- none was opened
 abbrev pub no_transactions : Transactions
@@ -68,11 +75,16 @@ without_transaction ts number = record ts {
 
 -- a change of one
 abbrev pub changing : Transactions → ℕ → (Transaction → Transaction) → Transactions
-changing ts number change = record ts { running = map (λ t. changed_if change t (t.number == number)) ts.running }
+changing ts number change = record ts {
+  running = map (λ t. changed_if change t (t.number == number)) ts.running;
+}
 
 -- the write is applied, and these are to acknowledge it
 abbrev pub with_write : Version → ℕ → List ℕ → Transaction → Transaction
-with_write v nth awaiting t = record t { applied = Some (record { version = v; nth = nth }); awaiting = awaiting }
+with_write v nth awaiting t = record t {
+  applied = Some (record { version = v; nth = nth });
+  awaiting = awaiting;
+}
 
 -- whether an answer of that node is awaited
 abbrev pub awaits_answer : Transaction → ℕ → Bool
@@ -92,11 +104,13 @@ acknowledged from t = record t { awaiting = without t.awaiting from }
 
 -- an Answer came: it counts where it is awaited
 abbrev pub answering : Policy → Transactions → ℕ → ℕ → Option Version → Transactions
-answering by ts from number v = changing ts number (λ t. changed_if (answered by from v) t (awaits_answer t from))
+answering by ts from number v =
+    changing ts number (λ t. changed_if (answered by from v) t (awaits_answer t from))
 
 -- a ReplAck came: it counts where it is awaited
 abbrev pub acknowledging : Transactions → ℕ → ℕ → Transactions
-acknowledging ts from number = changing ts number (λ t. changed_if (acknowledged from) t (awaits_ack t from))
+acknowledging ts from number =
+    changing ts number (λ t. changed_if (acknowledged from) t (awaits_ack t from))
 
 -- whether the node is the only one that is awaited
 abbrev pub is_last_awaited : Transaction → ℕ → Bool

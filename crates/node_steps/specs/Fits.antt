@@ -39,8 +39,10 @@ pub record FitsTick (f : Facts) (t : Ticked) : Type 0 where
   pub entered : FitsEntered f t.entered
   pub ranges : HasRanges (ticked_facts f t)
   pub settlings : AreSettlings (ticked_facts f t) t.settlings.items
-  pub batches : t.batches.items ≡ batches_due (view_key (ticked_facts f t)) f.store.content (ticked_facts f t).batches
-  pub next : AreNext (ticked_facts f t).exchange.exchanged (view_key (ticked_facts f t)) (ticked_facts f t).batches t.batches.items
+  pub batches : t.batches.items
+      ≡ batches_due (view_key (ticked_facts f t)) f.store.content (ticked_facts f t).batches
+  pub next : AreNext (ticked_facts f t).exchange.exchanged (view_key (ticked_facts f t))
+      (ticked_facts f t).batches t.batches.items
 
 -- the agreement is the node's, and so is the view
 pub record FitsAgreed (f : Facts) (agree : Agreeing) (entered : Option (Box View)) : Type 0 where
@@ -67,7 +69,8 @@ FitsPlanned f (planned.View s) = FitsView f s
 FitsPlanned f _ = Unit {0}
 
 -- the view and the store that were before the step, and those after it
-pub record HasStepped (old : Option (Box View)) (before : held.StoreWithRoom) (s : ViewStep) (new : Option (Box View)) (after : held.StoreWithRoom) : Type 0 where
+pub record HasStepped (old : Option (Box View)) (before : held.StoreWithRoom) (s : ViewStep)
+    (new : Option (Box View)) (after : held.StoreWithRoom) : Type 0 where
   pub in_one : IsSome new
   pub becomes : (v w : Box View) → old ≡ Some v → new ≡ Some w
       → (f : Facts) → BecomesNodeOf f v.value before (plans.view_taken f s) w.value after

@@ -31,9 +31,11 @@ with_view_fields f view = record f {
 }
 
 -- a node of these parts, in that view or in none
-abbrev pub facts_with : ℕ → List ℕ → ℕ → Role → Bool → Hearing → Agreement → Store → Option Viewed → Facts
+abbrev pub facts_with : ℕ → List ℕ → ℕ → Role → Bool → Hearing → Agreement → Store → Option Viewed
+    → Facts
 facts_with me peers factor role up hearing agreement store view =
-    with_view_fields (record (fresh me role peers factor store.by) { peers = peers; up = up; hearing = hearing; agreement = agreement; store = store }) view
+    with_view_fields (record (fresh me role peers factor store.by)
+    { peers = peers; up = up; hearing = hearing; agreement = agreement; store = store }) view
 
 -- the view that is lent, if one is
 abbrev pub lent : Option (Bor View) → Option Viewed
@@ -43,7 +45,8 @@ lent (Some v) = Some v.now
 -- what the parts of a tick see, of a node that runs
 abbrev pub ground_facts : ground.Inside → Facts
 ground_facts g =
-    facts_with g.me g.peers.now g.factor g.role Bool.true g.hearing.now.hearing g.agree.now.agreement (store_of g.store.now) (lent g.view)
+    facts_with g.me g.peers.now g.factor g.role Bool.true g.hearing.now.hearing
+    g.agree.now.agreement (store_of g.store.now) (lent g.view)
 
 -- what the parts of a tick see agrees: of a node in that view, where it is in one
 pub record AgreesOnGround (g : ground.Inside) : Type 0 where
@@ -55,10 +58,13 @@ pub record AgreesOnGround (g : ground.Inside) : Type 0 where
 
 -- the node with that hearing and agreement, in that view or in none
 abbrev pub grounded : Facts → Adjacent → Agreeing → Option (Bor View) → Facts
-grounded f hearing agree view = with_view_fields (record f { hearing = hearing.hearing; agreement = agree.agreement }) (lent view)
+grounded f hearing agree view =
+    with_view_fields (record f { hearing = hearing.hearing; agreement = agree.agreement })
+    (lent view)
 
 -- that hearing, agreement and view are those of the node, which runs
-pub record IsGroundOf (f : Facts) (hearing : Adjacent) (agree : Agreeing) (view : Option (Bor View)) : Type 0 where
+pub record IsGroundOf (f : Facts) (hearing : Adjacent) (agree : Agreeing) (view : Option (Bor View))
+    : Type 0 where
   pub up : f.up ≡ true
   pub hearing_of : hearing.me ≡ f.me
   pub agree_of : agree.me ≡ f.me

@@ -34,7 +34,9 @@ either None o = o
 -- the view was entered, if there is one
 abbrev pub with_entered : Facts → Option Viewed → Facts
 with_entered f None = f
-with_entered f (Some v) = with_stamps (with_view (record f { hearing = without_quiet f.hearing }) (Some v)) v.exchange.exchanged
+with_entered f (Some v) =
+    with_stamps (with_view (record f { hearing = without_quiet f.hearing }) (Some v))
+    v.exchange.exchanged
 
 -- the agreement went on, and the view was entered, if there is one
 abbrev pub agreed : Facts → Agreement → Option Viewed → Facts
@@ -42,7 +44,8 @@ agreed f a entered = with_entered (record f { agreement = a }) entered
 
 -- a row came from a member whose row may be there; with the last one the exchange is finished
 abbrev pub after_row : Facts → ℕ → Row → Facts
-after_row f from row = exchanged_if (row_came f from row true) (view_key f) (finishes f (row_came f from row true))
+after_row f from row =
+    exchanged_if (row_came f from row true) (view_key f) (finishes f (row_came f from row true))
 
 -- these batches were sent
 abbrev pub with_sent : Facts → List (ℕ × Batch) → Facts
@@ -55,16 +58,17 @@ with_aged_hearing f = record f { hearing = hearing.ticked f.me f.role f.hearing 
 -- a tick
 abbrev pub tick_taken : Facts → Ticked → Facts
 tick_taken f t =
-    with_sent
-    (settled_by (agreed (with_aged_hearing f) t.agree.agreement (option_map (λ v. v.value) t.entered)) t.settlings.items)
-    t.batches.items
+    with_sent (settled_by
+    (agreed (with_aged_hearing f) t.agree.agreement (option_map (λ v. v.value) t.entered))
+    t.settlings.items) t.batches.items
 
 -- ---- acknowledgements of writes
 
 -- an acknowledgement came that was awaited: with the last one the transaction is closed
 abbrev pub after_ack : Facts → ℕ → ℕ → Bool → Facts
 after_ack f from number is_last =
-    if is_last then closed f number else record f { transactions = rules.acknowledging f.transactions from number }
+    if is_last then closed f number
+    else record f { transactions = rules.acknowledging f.transactions from number }
 
 -- ---- all steps
 
@@ -72,8 +76,12 @@ after_ack f from number is_last =
 abbrev pub taken : Facts → Planned → Facts
 taken f planned.Nothing = f
 taken f (planned.Tick t) = tick_taken f t.value
-taken f (planned.Agreed agree entered) = agreed f agree.agreement (option_map (λ v. v.value) entered)
-taken f (planned.Heard from beat) = record f { hearing = beat_heard f.hearing from beat; agreement = seeing f.agreement beat.promised }
+taken f (planned.Agreed agree entered) =
+    agreed f agree.agreement (option_map (λ v. v.value) entered)
+taken f (planned.Heard from beat) = record f {
+  hearing = beat_heard f.hearing from beat;
+  agreement = seeing f.agreement beat.promised;
+}
 taken f (planned.View s) = view.view_taken f s
 taken f planned.Stopped = stopped f
 

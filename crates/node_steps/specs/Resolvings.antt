@@ -35,7 +35,13 @@ pub record AwaitsLast (f : Facts) (from number : ℕ) : Type 0 where
 
 -- the transaction, at that time of the node's clock
 abbrev pub resolving_of : ℕ → Transaction → Resolving
-resolving_of clock t = record { transaction = t.number; digest = t.digest; want = t.want; best = t.best; clock = clock }
+resolving_of clock t = record {
+  transaction = t.number;
+  digest = t.digest;
+  want = t.want;
+  best = t.best;
+  clock = clock;
+}
 
 -- as a transaction of the rules, which awaits nobody
 abbrev pub transaction_of : Resolving → Transaction
@@ -51,7 +57,9 @@ due_asking f r asked = asking f r.clock (list_at f (partition_of r.digest)) (tra
 
 -- what is due of a write that makes that version
 abbrev pub due_write : Facts → ℕ → List ℕ → Version → Effects
-due_write f number digest v = rules.writing f (list_at f (partition_of digest)) (new_transaction number digest want.Del None []) v
+due_write f number digest v =
+    rules.writing f (list_at f (partition_of digest))
+    (new_transaction number digest want.Del None []) v
 
 -- the version that a Repl carries
 abbrev pub repl_version : Message → Option Version
@@ -64,13 +72,20 @@ others_at v p = without (replicas (list (members_of v.exchange.view) p) v.factor
 
 -- the write of that version
 abbrev pub writing_of : Viewed → ℕ → List ℕ → Version → Writing
-writing_of w clock digest v = record { clock = clock; version = v; kept = v; to = others_at w (partition_of digest) }
+writing_of w clock digest v = record {
+  clock = clock;
+  version = v;
+  kept = v;
+  to = others_at w (partition_of digest);
+}
 
 -- how that want is met
 abbrev pub outcome_of : Viewed → Resolving → Want → Outcome
 outcome_of f r want.Get = outcome.Read
-outcome_of f r (want.Put bytes) = outcome.Write (writing_of f r.clock r.digest (next r.best r.clock (body.Value bytes)))
-outcome_of f r want.Del = outcome.Write (writing_of f r.clock r.digest (next r.best r.clock body.Tombstone))
+outcome_of f r (want.Put bytes) =
+    outcome.Write (writing_of f r.clock r.digest (next r.best r.clock (body.Value bytes)))
+outcome_of f r want.Del =
+    outcome.Write (writing_of f r.clock r.digest (next r.best r.clock body.Tombstone))
 
 -- the same where it opens and asks those nodes: with nobody to ask it is resolved at once
 abbrev pub outcome_if_resolved : Viewed → Resolving → List ℕ → Option Outcome
@@ -81,7 +96,13 @@ outcome_if_resolved v r (n ∷ ns) = None
 
 -- what opens of a request, at that time of the node's clock
 abbrev pub opening_of : Facts → ℕ → List ℕ → Want → Resolving
-opening_of f clock digest w = record { transaction = f.transactions.opened + 1; digest = digest; want = w; best = finite.get f.store.content digest; clock = clock }
+opening_of f clock digest w = record {
+  transaction = f.transactions.opened + 1;
+  digest = digest;
+  want = w;
+  best = finite.get f.store.content digest;
+  clock = clock;
+}
 
 -- whom it asks
 abbrev pub asked_for : Facts → List ℕ → List ℕ
@@ -90,9 +111,12 @@ asked_for f digest = asked f (list_at f (partition_of digest)) (partition_of dig
 -- what is due of it
 abbrev pub due_opening : Facts → ℕ → List ℕ → Want → Effects
 due_opening f clock digest w =
-    opening_effects f clock (list_at f (partition_of digest)) (notes.opening_transaction f (list_at f (partition_of digest)) (f.transactions.opened + 1) digest w)
+    opening_effects f clock (list_at f (partition_of digest))
+    (notes.opening_transaction f (list_at f (partition_of digest)) (f.transactions.opened + 1)
+    digest w)
 
 -- the step by which it opens in that view
 abbrev pub opened_step : Facts → Viewed → ℕ → List ℕ → Want → ViewStep
 opened_step f v clock digest w =
-    step.Opened digest w (finite.get f.store.content digest) (asked_for f digest) (outcome_if_resolved v (opening_of f clock digest w) (asked_for f digest))
+    step.Opened digest w (finite.get f.store.content digest) (asked_for f digest)
+    (outcome_if_resolved v (opening_of f clock digest w) (asked_for f digest))

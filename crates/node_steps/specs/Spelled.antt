@@ -22,7 +22,10 @@ spelled e = record { lines = e.lines; sends = spelled_sends e.sends }
 
 -- what was told so far, and then these effects
 abbrev pub then_effects : Effects → rules.Effects → Effects
-then_effects told e = record { lines = told.lines ++ e.lines; sends = told.sends ++ spelled_sends e.sends }
+then_effects told e = record {
+  lines = told.lines ++ e.lines;
+  sends = told.sends ++ spelled_sends e.sends;
+}
 
 -- what was told so far, and then these messages
 abbrev pub with_sends : Effects → List (ℕ × List ℕ) → Effects
@@ -34,7 +37,8 @@ with_lines told lines = record told { lines = told.lines ++ lines }
 
 -- the lines of a write, which is done at once where the test holds
 abbrev pub write_lines : ℕ → ClusterKey → ℕ → List ℕ → Version → Bool → List Line
-write_lines me key number digest v true = line.Apply me key number digest v ∷ line.Done me key number ∷ []
+write_lines me key number digest v true =
+    line.Apply me key number digest v ∷ line.Done me key number ∷ []
 write_lines me key number digest v false = line.Apply me key number digest v ∷ []
 
 -- ---- votes

@@ -30,7 +30,8 @@ later_parts n = rows ∷ transactions ∷ batches ∷ settlings n ∷ progress n
 -- the facts of which these are due: a view may have been entered
 abbrev pub agreed : Facts → Adjacent → Agreeing → Option (Box View) → Facts
 agreed f hearing agree entered =
-    plans.agreed (record f { hearing = hearing.hearing }) agree.agreement (option_map (λ v. v.value) entered)
+    plans.agreed (record f { hearing = hearing.hearing }) agree.agreement
+    (option_map (λ v. v.value) entered)
 
 -- a tick of the neighbours leads to that agreement and says that of the proposal
 pub record IsProposed (f : Facts) (agree : Agreeing) (answer : Proposal) : Type 0 where
@@ -38,7 +39,8 @@ pub record IsProposed (f : Facts) (agree : Agreeing) (answer : Proposal) : Type 
   pub answered : answer ≡ tick_answer f.me f.agreement (neighbours f) (is_candidate f)
 
 -- that view is entered by a node of these facts
-pub record HasEntered (f : Facts) (key : ClusterKey) (members : List Member) (entered : Option (Box View)) : Type 0 where
+pub record HasEntered (f : Facts) (key : ClusterKey) (members : List Member)
+    (entered : Option (Box View)) : Type 0 where
   pub some : IsSome entered
   pub view : ForSome entered (λ v. IsEntered f key members v.value)
 
@@ -49,11 +51,16 @@ EntersBy f (proposal.Send key members to) entered = entered ≡ None
 EntersBy f proposal.Nothing entered = entered ≡ None
 
 -- what the later parts plan of a tick
-pub record TicksFrom (f : Facts) (hearing : Adjacent) (agree : Agreeing) (entered : Option (Box View)) (t : Ticked) : Type 0 where
+pub record TicksFrom (f : Facts) (hearing : Adjacent) (agree : Agreeing)
+    (entered : Option (Box View)) (t : Ticked) : Type 0 where
   pub agreed_on : t.agree ≡ agree
   pub view : t.entered ≡ entered
-  pub batches : t.batches.items ≡ batches_due (view_key (agreed f hearing agree entered)) f.store.content (agreed f hearing agree entered).batches
-  pub next : AreNext (agreed f hearing agree entered).exchange.exchanged (view_key (agreed f hearing agree entered)) (agreed f hearing agree entered).batches t.batches.items
+  pub batches : t.batches.items ≡ batches_due (view_key (agreed f hearing agree entered))
+      f.store.content (agreed f hearing agree entered).batches
+  pub next : AreNext (agreed f hearing agree entered).exchange.exchanged
+      (view_key (agreed f hearing agree entered)) (agreed f hearing agree entered).batches
+      t.batches.items
   pub due : AreSettlings (agreed f hearing agree entered) t.settlings.items
   pub settled : settled_by (agreed f hearing agree entered) t.settlings.items
-      ≡ noted None (agreed f hearing agree entered) (settling_due partition_count (agreed f hearing agree entered))
+      ≡ noted None (agreed f hearing agree entered)
+      (settling_due partition_count (agreed f hearing agree entered))

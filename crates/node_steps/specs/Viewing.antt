@@ -42,4 +42,6 @@ pub record HasNumbers (v : Viewed) : Type 0 where
 -- whether the exchange is over with that row and wasn't before
 abbrev pub finishes_with : Viewed → ℕ → Row → Bool
 finishes_with v from row =
-    is_none (exchange.first_missing (exchange.with_row v.exchange.rows from row) (exchange.members_of v.exchange.view)) && not v.exchange.exchanged
+    is_none (exchange.first_missing (exchange.with_row v.exchange.rows from row)
+    (exchange.members_of v.exchange.view))
+    && not v.exchange.exchanged

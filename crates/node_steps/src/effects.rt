@@ -53,7 +53,8 @@ impl Effects {
         m: &Message,
     ) -> Result<(), NoMemory>
         requires { IsProper m.now }
-        ensures { OnOk result (self.new ≡ with_sends self.old (map (λ n. (n, spelling m.now)) to.now)) }
+        ensures { OnOk result
+            (self.new ≡ with_sends self.old (map (λ n. (n, spelling m.now)) to.now)) }
     {
         let [others @ .., last] = to else {
             return Ok(());

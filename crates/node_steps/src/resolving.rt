@@ -67,8 +67,10 @@ pub fn plan_opened(
     requires want { IsWant want }
     requires held { IsOptionVersion (finite.get store.old.versions digest) }
     ensures number { IfOk result (λ r. r.0 ≡ view.old.transactions.opened + 1) }
-    ensures step { IfOk result (λ r. (f : Facts) → IsNodeInView f view.old store.old → r.1 ≡ opened_step f view.old clock digest want) }
-    ensures effects { IfOk result (λ r. (f : Facts) → IsNodeInView f view.old store.old → r.2 ≡ spelled (due_opening f clock digest want)) }
+    ensures step { IfOk result (λ r. (f : Facts) → IsNodeInView f view.old store.old
+        → r.1 ≡ opened_step f view.old clock digest want) }
+    ensures effects { IfOk result (λ r. (f : Facts) → IsNodeInView f view.old store.old
+        → r.2 ≡ spelled (due_opening f clock digest want)) }
     ensures room { IfOk result (λ r. HasRoomIn view.new store.new.spare r.1) }
     ensures kept { HoldsTheSame store.old store.new }
     ensures same { IsSame view.old view.new }
@@ -113,9 +115,12 @@ fn plan_asking(
     requires counts { HasNumbers view.old }
     requires key { IsKeyField (viewed_key view.old) }
     requires fields { IsResolvingField opening.now }
-    ensures effects { OnOk result ((f : Facts) → IsNodeInView f view.old store.old → out.new ≡ then_effects out.old (due_asking f opening.now asked.now)) }
+    ensures effects { OnOk result
+        ((f : Facts) → IsNodeInView f view.old store.old
+        → out.new ≡ then_effects out.old (due_asking f opening.now asked.now)) }
     ensures outcome { IfOk result (λ o. o ≡ outcome_if_resolved view.old opening.now asked.now) }
-    ensures room { IfOk result (λ o. ForSome o (HasRoomForOutcome view.new.room store.new.spare opening.now.digest)) }
+    ensures room { IfOk result
+        (λ o. ForSome o (HasRoomForOutcome view.new.room store.new.spare opening.now.digest)) }
     ensures kept { HoldsTheSame store.old store.new }
     ensures other_room { OnOk result (view.new.room.transactions ≡ view.old.room.transactions) }
     ensures same { IsSame view.old view.new }
@@ -146,7 +151,9 @@ pub fn plan_outcome(
     requires counts { HasNumbers view.old }
     requires key { IsKeyField (viewed_key view.old) }
     requires fields { IsResolvingField resolving }
-    ensures effects { OnOk result ((f : Facts) → IsNodeInView f view.old store.old → out.new ≡ then_effects out.old (due_outcome f resolving)) }
+    ensures effects { OnOk result
+        ((f : Facts) → IsNodeInView f view.old store.old
+        → out.new ≡ then_effects out.old (due_outcome f resolving)) }
     ensures outcome { IfOk result (λ o. o ≡ outcome_of view.old resolving resolving.want) }
     ensures room { IfOk result (HasRoomForOutcome view.new.room store.new.spare resolving.digest) }
     ensures kept { HoldsTheSame store.old store.new }
@@ -195,7 +202,9 @@ fn plan_write(
     requires number { IsNumber transaction }
     requires digest { IsDigest digest.now }
     requires version { IsVersion version }
-    ensures effects { OnOk result ((f : Facts) → IsInView f view.old → out.new ≡ then_effects out.old (due_write f transaction digest.now version)) }
+    ensures effects { OnOk result
+        ((f : Facts) → IsInView f view.old
+        → out.new ≡ then_effects out.old (due_write f transaction digest.now version)) }
     ensures writing { IfOk result (λ w. w ≡ writing_of view.old clock digest.now version) }
     ensures room { OnOk result (0 < view.new.room.applies) }
     ensures other_room { OnOk result (view.new.room.transactions ≡ view.old.room.transactions) }
@@ -253,7 +262,9 @@ fn write_lines(
     is_done: bool,
     out: &mut Effects,
 ) -> Result<(), NoMemory>
-    ensures { OnOk result (out.new ≡ with_lines out.old (write_lines view.now.me (viewed_key view.now) transaction digest.now version.now is_done)) }
+    ensures { OnOk result
+        (out.new ≡ with_lines out.old (write_lines view.now.me (viewed_key view.now) transaction
+        digest.now version.now is_done)) }
 {
     let node = view.me();
     let key = view.key();

@@ -46,10 +46,13 @@ pub record AreSettlings (f : Facts) (ss : List Settling) : Type 0 where
   pub rise : AllPairs (λ a b. a.partition < b.partition) ss
 
 -- each of these batches may go to its target next, once the exchange is finished, and no target has two
-pub record AreNext (exchanged : Bool) (key : ClusterKey) (targets : Targets) (batches : List (ℕ × Batch)) : Type 0 where
+pub record AreNext (exchanged : Bool) (key : ClusterKey) (targets : Targets)
+    (batches : List (ℕ × Batch)) : Type 0 where
   pub finished : batches ≢ [] → exchanged ≡ true
   pub apart : AllPairs (λ a b. a.0 ≢ b.0) batches
-  pub next : All (λ b. IsSome (target targets b.0) × ForSome (target targets b.0) (λ t. IsNext key t b.1)) batches
+  pub next : All
+      (λ b. IsSome (target targets b.0) × ForSome (target targets b.0) (λ t. IsNext key t b.1))
+      batches
 
 -- ---- rows
 
@@ -80,7 +83,8 @@ pub record FitsMerged (f : Facts) (m : Merged) : Type 0 where
 
 -- the version is newer than what is held, and a write that counts has a number
 pub record FitsReplicated (f : Facts) (r : Replicated) : Type 0 where
-  pub newer : ForSome r.newer (λ v. is_newer f.store.by v (finite.get f.store.content r.digest) ≡ true)
+  pub newer : ForSome r.newer
+      (λ v. is_newer f.store.by v (finite.get f.store.content r.digest) ≡ true)
   pub number : ForSome r.counted (λ c. 0 < c.nth)
 
 -- ---- transactions
@@ -107,7 +111,8 @@ pub record ResolvesTransaction (f : Facts) (number : ℕ) (o : Outcome) : Type 0
   pub outcome_of : ForSome (transaction f.transactions number) (λ t. FitsOutcome f t o)
 
 -- none is open on the digest, there is a number for it, and where it is resolved at once it is so
-pub record FitsOpened (f : Facts) (digest : List ℕ) (t : Transaction) (o : Option Outcome) : Type 0 where
+pub record FitsOpened (f : Facts) (digest : List ℕ) (t : Transaction) (o : Option Outcome)
+    : Type 0 where
   pub free : transaction_on f.transactions digest ≡ None
   pub count : f.transactions.opened < greatest_count
   pub outcome_of : ForSome o (FitsOutcome f t)
@@ -124,7 +129,8 @@ FitsStep f (step.Replicated r) = FitsReplicated f r
 FitsStep f (step.Done number) = IsSome (transaction f.transactions number)
 FitsStep f (step.Resolved from number v o) = ResolvesTransaction
     (with_answer f from number v) number o
-FitsStep f (step.Opened digest w best asked o) = FitsOpened f digest (new_transaction (f.transactions.opened + 1) digest w best asked) o
+FitsStep f (step.Opened digest w best asked o) =
+    FitsOpened f digest (new_transaction (f.transactions.opened + 1) digest w best asked) o
 FitsStep f _ = Unit {0}
 
 -- a view with that store is ready for the step: it was planned from what the node knows, and there is room

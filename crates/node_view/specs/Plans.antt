@@ -37,20 +37,25 @@ changed_where false change f = f
 -- copies that are empty everywhere are stamped, once the exchange is finished
 abbrev pub with_stamps : Facts → Bool → Facts
 with_stamps f false = f
-with_stamps f true = record f { store = record f.store { stamps = stamped_from f (view_key f) f.store.stamps partition_count 0 } }
+with_stamps f true = record f {
+  store = record f.store { stamps = stamped_from f (view_key f) f.store.stamps partition_count 0 };
+}
 
 -- a row came
 abbrev pub facts_with_row : Facts → ℕ → Row → Facts
-facts_with_row f from row = record f { exchange = record f.exchange { rows = with_row f.exchange.rows from row } }
+facts_with_row f from row = record f {
+  exchange = record f.exchange { rows = with_row f.exchange.rows from row };
+}
 
 -- ---- settling
 
 -- what a tick does about one partition
 abbrev pub settled_at : Facts → Settling → Facts
 settled_at f s =
-    changed_where s.drops (λ g. dropped g s.partition)
-    (changed_where s.learns (λ g. learnt g (view_key f) (list_at f s.partition) s.partition)
-    (changed_where s.settles (λ g. settled g s.partition) (changed_where s.hands (λ g. handed g s.partition) f)))
+    changed_where s.drops (λ g. dropped g s.partition) (changed_where s.learns
+    (λ g. learnt g (view_key f) (list_at f s.partition) s.partition)
+    (changed_where s.settles (λ g. settled g s.partition)
+    (changed_where s.hands (λ g. handed g s.partition) f)))
 
 -- what a tick does about partitions, in their order
 abbrev pub settled_by : Facts → List Settling → Facts
@@ -61,7 +66,10 @@ settled_by f ss = fold settled_at f ss
 -- the transaction wrote that version, and is closed where nobody is to acknowledge it
 abbrev pub wrote : Facts → ℕ → List ℕ → Writing → Facts
 wrote f number digest w =
-    if is_nil w.to then closed (write_applied f (view_key f) (list_at f (partition_of digest)) number digest w.version) number
+    if is_nil w.to
+    then closed
+    (write_applied f (view_key f) (list_at f (partition_of digest)) number digest w.version)
+    number
     else write_applied f (view_key f) (list_at f (partition_of digest)) number digest w.version
 
 -- the transaction on that digest was resolved
@@ -81,12 +89,17 @@ transaction_digest (Some t) = t.digest
 
 -- an answer came
 abbrev pub with_answer : Facts → ℕ → ℕ → Option Version → Facts
-with_answer f from number v = record f { transactions = rules.answering f.store.by f.transactions from number v }
+with_answer f from number v = record f {
+  transactions = rules.answering f.store.by f.transactions from number v;
+}
 
 -- a transaction opened
 abbrev pub with_opened : Facts → List ℕ → Want → Option Version → List ℕ → Facts
-with_opened f digest w best asked =
-    record f { transactions = rules.opening f.transactions (rules.new_transaction (f.transactions.opened + 1) digest w best asked) }
+with_opened f digest w best asked = record f {
+  transactions =
+      rules.opening f.transactions
+      (rules.new_transaction (f.transactions.opened + 1) digest w best asked);
+}
 
 -- ---- writes of other nodes
 
@@ -112,12 +125,17 @@ view_taken f (step.Row from row) = facts_with_row f from row
 view_taken f (step.LastRow l) = exchanged (facts_with_row f l.from l.row) (view_key f)
 view_taken f (step.Merged m) = record f { store = store_merged_all f.store (view_key f) m.newer }
 view_taken f (step.BatchAcked from number) = record f { batches = acking f.batches from number }
-view_taken f (step.Progressed p) = record f { bits = progressing f.bits p.from p.done p.handed p.settled }
+view_taken f (step.Progressed p) = record f {
+  bits = progressing f.bits p.from p.done p.handed p.settled;
+}
 view_taken f (step.Replicated r) = replicated f r
-view_taken f (step.WriteAcked from number) = record f { transactions = rules.acknowledging f.transactions from number }
+view_taken f (step.WriteAcked from number) = record f {
+  transactions = rules.acknowledging f.transactions from number;
+}
 view_taken f (step.Done number) = closed f number
 view_taken f (step.Answered from number v) = with_answer f from number v
 view_taken f (step.Resolved from number v o) =
-    with_outcome (with_answer f from number v) number (transaction_digest (rules.transaction f.transactions number)) o
+    with_outcome (with_answer f from number v) number
+    (transaction_digest (rules.transaction f.transactions number)) o
 view_taken f (step.Opened digest w best asked o) =
     with_outcome_if (with_opened f digest w best asked) (f.transactions.opened + 1) digest o

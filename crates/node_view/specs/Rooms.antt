@@ -29,8 +29,10 @@ HasRoomForOutcome room spare digest (outcome.Write w) = HasRoomToWrite room spar
 -- there is room for the planned step in that view, where the store has that room
 abbrev pub HasRoomIn : Viewed → List ℕ → ViewStep → Type 0
 HasRoomIn v spare (step.Replicated r) =
-    ForSome r.newer (λ _. 0 < room_at spare (partition_of r.digest)) × ForSome r.counted (HasRoomToCount v.room (partition_of r.digest))
-HasRoomIn v spare (step.Resolved from number answer o) = HasRoomForOutcome v.room spare (digest_in v number) o
+    ForSome r.newer (λ _. 0 < room_at spare (partition_of r.digest))
+    × ForSome r.counted (HasRoomToCount v.room (partition_of r.digest))
+HasRoomIn v spare (step.Resolved from number answer o) =
+    HasRoomForOutcome v.room spare (digest_in v number) o
 HasRoomIn v spare (step.Opened digest w best asked o) =
     (0 < v.room.transactions) × ForSome o (HasRoomForOutcome v.room spare digest)
 HasRoomIn v spare (step.Merged m) = held.HasRoom (map (λ r. r.0) m.newer) spare

@@ -36,18 +36,26 @@ has_done_its_share h = not (keeps h) && ((h.learnt || not h.replica) && (h.repli
 
 -- whether the node has something to learn or to drop of a partition that was settled before
 abbrev pub is_to_learn_or_drop : rules.Here → Bool
-is_to_learn_or_drop h = h.settled && ((h.replica && not h.learnt) || (h.done && (not h.replica && h.holds)))
+is_to_learn_or_drop h =
+    h.settled && ((h.replica && not h.learnt) || (h.done && (not h.replica && h.holds)))
 
 -- what a tick does about a partition to which the node stands so
 abbrev pub settling_of : ℕ → rules.Here → Settling
-settling_of p h = record { partition = p; hands = hands h; settles = settles h; learns = learns h; drops = drops h }
+settling_of p h = record {
+  partition = p;
+  hands = hands h;
+  settles = settles h;
+  learns = learns h;
+  drops = drops h;
+}
 
 -- the lines of that
 abbrev pub lines_of_settling : ℕ → ClusterKey → Settling → List Line
 lines_of_settling me key s =
     line_if (line.Handed me key s.partition) s.hands
     ++ (line_if (line.Settled me key s.partition) s.settles
-    ++ (line_if (line.Learn me key s.partition) s.learns ++ line_if (line.Drop me key s.partition) s.drops))
+    ++ (line_if (line.Learn me key s.partition) s.learns
+    ++ line_if (line.Drop me key s.partition) s.drops))
 
 -- the lines of what a tick does about partitions
 abbrev pub settling_lines : ℕ → ClusterKey → List Settling → List Line

@@ -56,7 +56,14 @@ transaction_with t n = record {
 
 -- an open transaction as dup_resolve keeps it
 abbrev pub kept_of : rules.Transaction → Txn
-kept_of t = record { id = t.number; want = t.want; digest = t.digest; awaiting = t.awaiting; best = t.best; applied = is_some t.applied }
+kept_of t = record {
+  id = t.number;
+  want = t.want;
+  digest = t.digest;
+  awaiting = t.awaiting;
+  best = t.best;
+  applied = is_some t.applied;
+}
 
 -- the open transactions, each with its note
 abbrev pub running_with : List Txn → Table TxnNote → List rules.Transaction

@@ -174,7 +174,8 @@ pub data IsQuiet (f : Facts) (p : ℕ) : Type 0 where
 
 -- once the exchange is finished, the partitions that aren't live are quiet
 pub record AreLive (f : Facts) (live : List Bool) : Type 0 where
-  pub quiet : (p : ℕ) → p < partition_count → f.exchange.exchanged ≡ true → bit live p ≡ false → IsQuiet f p
+  pub quiet : (p : ℕ) → p < partition_count → f.exchange.exchanged ≡ true → bit live p ≡ false
+      → IsQuiet f p
 
 -- the partition is looked at where it isn't quiet, and the others are as before
 pub record IsSeenTo (p : ℕ) (f : Facts) (old new : List Bool) : Type 0 where
@@ -209,7 +210,9 @@ with_unsettled v count = record v { watch = record v.watch { unsettled = count }
 
 -- the facts with these settled bits besides
 abbrev pub with_settled_bits : Facts → List Bool → Facts
-with_settled_bits f settled = record f { bits = record f.bits { settled = or_rows f.bits.settled settled } }
+with_settled_bits f settled = record f {
+  bits = record f.bits { settled = or_rows f.bits.settled settled };
+}
 
 -- the view with these bits
 abbrev pub with_bits : Viewed → Bits → Viewed
@@ -233,7 +236,10 @@ with_settled_row f settled = record f { bits = record f.bits { settled = settled
 
 -- the view where one partition more is settled by the node
 abbrev pub one_more_settled : Viewed → ℕ → Viewed
-one_more_settled v p = record v { bits = settling v.bits p; watch = record v.watch { unsettled = v.watch.unsettled - 1 } }
+one_more_settled v p = record v {
+  bits = settling v.bits p;
+  watch = record v.watch { unsettled = v.watch.unsettled - 1 };
+}
 
 -- the count of the copy
 abbrev pub count_seen : Viewed → ℕ → ℕ
@@ -241,11 +247,15 @@ count_seen v p = notes.count_in (facts_seen v) (list_at (facts_seen v) p) p
 
 -- whether the copy is stamped once the exchange is finished: no member's copy had a record, and the node is a replica
 abbrev pub is_stamped : Viewed → ℕ → Bool
-is_stamped v p = (v.exchange.exchanged && is_all_empty (facts_seen v) p) && is_own_replica (facts_seen v) (list_at (facts_seen v) p)
+is_stamped v p =
+    (v.exchange.exchanged && is_all_empty (facts_seen v) p)
+    && is_own_replica (facts_seen v) (list_at (facts_seen v) p)
 
 -- the store where the copy is stamped, if it is to be
 abbrev pub with_copy_stamped : held.StoreWithRoom → Viewed → ℕ → held.StoreWithRoom
-with_copy_stamped s v p = record s { stamps = stamped_with (viewed_key v) (count_seen v p) p s.stamps (is_stamped v p) }
+with_copy_stamped s v p = record s {
+  stamps = stamped_with (viewed_key v) (count_seen v p) p s.stamps (is_stamped v p);
+}
 
 -- the store where the copy is whole under that key, with that count
 abbrev pub learnt_copy : held.StoreWithRoom → ClusterKey → ℕ → ℕ → held.StoreWithRoom
@@ -253,7 +263,10 @@ learnt_copy s key p count = record s { stamps = finite.insert s.stamps p (key, c
 
 -- the store without the partition's copy and its stamp
 abbrev pub without_copy_of : held.StoreWithRoom → ℕ → held.StoreWithRoom
-without_copy_of s p = record s { versions = held.without_copy s.versions p; stamps = finite.remove s.stamps p }
+without_copy_of s p = record s {
+  versions = held.without_copy s.versions p;
+  stamps = finite.remove s.stamps p;
+}
 
 -- the exchange is that of the node with that factor
 pub record IsMet (x : Met) (n count : ℕ) : Type 0 where
@@ -264,7 +277,8 @@ pub record IsMet (x : Met) (n count : ℕ) : Type 0 where
 pub record IsWaitingOf (x : Met) (me factor : ℕ) : Type 0 where
   pub met : IsMet x me factor
   pub unfinished : x.exchange.exchanged ≡ false
-  pub missing : IsSome (exchange.first_missing x.exchange.rows (exchange.members_of x.exchange.view))
+  pub missing : IsSome
+      (exchange.first_missing x.exchange.rows (exchange.members_of x.exchange.view))
 
 -- each other member has its target, in member order
 abbrev pub AreTargeted : Targets → ℕ → List Member → Type 0
@@ -274,7 +288,8 @@ AreTargeted targets me members = map (λ t. t.node) targets ≡ others_among me 
 pub record IsMovingOf (m : Moving) (me factor : ℕ) (key : ClusterKey) : Type 0 where
   pub met : IsMet m.map me factor
   pub finished : m.map.exchange.exchanged ≡ true
-  pub whole : exchange.first_missing m.map.exchange.rows (exchange.members_of m.map.exchange.view) ≡ None
+  pub whole : exchange.first_missing m.map.exchange.rows (exchange.members_of m.map.exchange.view)
+      ≡ None
   pub key_of : m.emigration.key ≡ key
   pub targeted : AreTargeted m.emigration.targets me (exchange.members_of m.map.exchange.view)
 
@@ -292,10 +307,12 @@ pub record IsMoving (v : Viewed) (m : Moving) : Type 0 where
   pub live : m.live ≡ v.watch.live
 
 -- what is handed on once the exchange is finished as the view is entered, and no partition is live yet
-pub record IsHandedOnBy (x : Met) (records : Content) (members : List Member) (key : ClusterKey) (me : ℕ) (m : Moving) : Type 0 where
+pub record IsHandedOnBy (x : Met) (records : Content) (members : List Member) (key : ClusterKey)
+    (me : ℕ) (m : Moving) : Type 0 where
   pub map : m.map ≡ x
   pub key_of : m.emigration.key ≡ key
-  pub targets : m.emigration.targets ≡ batches.targets_of (λ to d. met_sends_to x (partition_of d) me to) records (others_among me members)
+  pub targets : m.emigration.targets ≡ batches.targets_of
+      (λ to d. met_sends_to x (partition_of d) me to) records (others_among me members)
   pub live : m.live ≡ clear_row
 
 -- the stage is that of a view whose exchange is finished so
@@ -325,7 +342,8 @@ pub record FieldsAgree (v : Inside) : Type 0 where
   pub told : v.progress.me ≡ v.me
   pub heard : v.progress.others ≡ v.others
   -- the node's own done row is what is handed on
-  pub done : v.progress.own ≡ done_row (exchange_at v.stage).exchanged (targets_at v.stage) partition_count 0
+  pub done : v.progress.own
+      ≡ done_row (exchange_at v.stage).exchanged (targets_at v.stage) partition_count 0
   pub noted : AreNoted v.txns v.notes
 
 -- the node is another member of the view
@@ -359,16 +377,19 @@ abbrev pub view_at_entry : Facts → ClusterKey → List Member → Viewed
 view_at_entry f key members = viewed_at_entry f.me f.factor f.store.by key members (notes.own_row f)
 
 -- the view is entered by a node of these facts, and what is kept of the partitions is what the facts say that it then has
-pub record IsEntered (f : Facts) (key : ClusterKey) (members : List Member) (v : Viewed) : Type 0 where
+pub record IsEntered (f : Facts) (key : ClusterKey) (members : List Member) (v : Viewed)
+    : Type 0 where
   pub alike : IsLike (view_at_entry f key members) v
   pub watch : KeepsWatch (with_view f (Some v)) v.watch
 
 -- ---- the last row
 
 -- these are the targets once that row is there: what the store holds and hands on is pending
-pub record IsHandedOn (v : Viewed) (s : held.StoreWithRoom) (from : ℕ) (row : Row) (targets : Targets) : Type 0 where
+pub record IsHandedOn (v : Viewed) (s : held.StoreWithRoom) (from : ℕ) (row : Row)
+    (targets : Targets) : Type 0 where
   pub pending : (f : Facts) → f.me ≡ v.me → f.factor ≡ v.factor → f.store.content ≡ s.versions
-      → f.exchange ≡ record v.exchange { rows = exchange.with_row v.exchange.rows from row } → targets ≡ notes.own_targets f
+      → f.exchange ≡ record v.exchange { rows = exchange.with_row v.exchange.rows from row }
+      → targets ≡ notes.own_targets f
 
 -- ---- steps
 
@@ -380,4 +401,5 @@ BecomesNodeOf f old before after new now = IsNodeInView f old before → IsNodeI
 
 -- the digest of the open transaction
 abbrev pub digest_in : Viewed → ℕ → List ℕ
-digest_in v number = unwrap_or (option_map (λ t. t.digest) (rules.transaction v.transactions number)) []
+digest_in v number =
+    unwrap_or (option_map (λ t. t.digest) (rules.transaction v.transactions number)) []

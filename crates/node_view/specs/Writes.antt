@@ -53,4 +53,5 @@ HasRoomToApply w = 0 < w.applies
 -- is empty and has room itself
 pub data HasRoomToHear (further : Table ℕ) (numbers p : ℕ) (first : Numbered) : Type 0 where
   known : (n : ℕ) → at further p ≡ Some n → 0 < n → HasRoomToHear further numbers p first
-  new : at further p ≡ None → 0 < numbers → first.numbers ≡ [] → 0 < first.spare → HasRoomToHear further numbers p first
+  new : at further p ≡ None → 0 < numbers → first.numbers ≡ [] → 0 < first.spare
+      → HasRoomToHear further numbers p first

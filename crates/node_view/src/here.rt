@@ -116,8 +116,11 @@ impl Settling {
     /// What a tick does about the partition, or `None` where that is nothing.
     pub(crate) fn of(p: PartitionId, here: &Here) -> Option<Settling>
         ensures some { (s : Settling) → result ≡ Some s → s ≡ settling_of p (here_of here.now) }
-        ensures none { (me : ℕ) → (key : ClusterKey) → result ≡ None → lines_here me key p (here_of here.now) ≡ [] }
-        ensures lines { (me : ℕ) → (key : ClusterKey) → lines_of_settling me key (settling_of p (here_of here.now)) ≡ lines_here me key p (here_of here.now) }
+        ensures none { (me : ℕ) → (key : ClusterKey) → result ≡ None
+            → lines_here me key p (here_of here.now) ≡ [] }
+        ensures lines { (me : ℕ) → (key : ClusterKey)
+            → lines_of_settling me key (settling_of p (here_of here.now))
+            ≡ lines_here me key p (here_of here.now) }
     {
         let settling = Settling {
             partition: p,

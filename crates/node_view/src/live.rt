@@ -25,7 +25,8 @@ impl Model for Live {
 
     ghost view = { λ l. l.marks.value };
 
-    ghost invariant = { λ l. (length l.marks.value ≡ partition_count) × (l.count ≡ count_by (λ b. b) l.marks.value) };
+    ghost invariant = { λ l.
+        (length l.marks.value ≡ partition_count) × (l.count ≡ count_by (λ b. b) l.marks.value) };
 }
 
 impl Live {

@@ -46,7 +46,12 @@ impl Model for TxnNotes {
 
     ghost Value = { Noted };
 
-    ghost view = { λ n. record { opened = n.opened; kept = notes_after (n.opened - deque_len n.slots) n.slots.items; spare = deque_capacity n.slots - deque_len n.slots } };
+    ghost view = { λ n.
+        record {
+          opened = n.opened;
+          kept = notes_after (n.opened - deque_len n.slots) n.slots.items;
+          spare = deque_capacity n.slots - deque_len n.slots;
+        } };
 
     ghost invariant = { λ n. deque_len n.slots ≤ n.opened };
 }
@@ -78,7 +83,8 @@ impl TxnNotes {
         requires room { 0 < self.old.spare }
         requires count { self.old.opened < greatest_count }
         ensures fresh { note_of self.old.kept (self.old.opened + 1) ≡ None }
-        ensures notes { self.new.kept ≡ self.old.kept ++ (self.old.opened + 1, record { asked = asked; write = None }) ∷ [] }
+        ensures notes { self.new.kept
+            ≡ self.old.kept ++ (self.old.opened + 1, record { asked = asked; write = None }) ∷ [] }
         ensures opened { self.new.opened ≡ self.old.opened + 1 }
         ensures spare { self.old.spare ≡ self.new.spare + 1 }
     {
@@ -126,7 +132,8 @@ impl TxnNotes {
 /// The place of the slot of that number, of so many slots of the last numbers given.
 fn place_of(t: u32, opened: u32, slots: usize) -> Option<usize>
     requires { slots ≤ opened }
-    ensures { MatchOption result ((t ≤ opened - slots) ⊎ (opened < t)) (λ i. (i < slots) × (t ≡ opened - slots + 1 + i)) }
+    ensures { MatchOption result ((t ≤ opened - slots) ⊎ (opened < t))
+        (λ i. (i < slots) × (t ≡ opened - slots + 1 + i)) }
 {
     let number = t as usize;
     let opened = opened as usize;
@@ -158,7 +165,9 @@ fn empty(slots: &mut VecDeque<Option<TxnNote>>, place: usize)
 
 /// Drops the slots before the first open transaction.
 fn drop_closed(slots: &mut VecDeque<Option<TxnNote>>)
-    ensures notes { (opened : ℕ) → deque_len slots.old ≤ opened → notes_after (opened - deque_len slots.new) slots.new.items ≡ notes_after (opened - deque_len slots.old) slots.old.items }
+    ensures notes { (opened : ℕ) → deque_len slots.old ≤ opened
+        → notes_after (opened - deque_len slots.new) slots.new.items
+        ≡ notes_after (opened - deque_len slots.old) slots.old.items }
     ensures len { deque_len slots.new ≤ deque_len slots.old }
     ensures capacity { deque_capacity slots.new ≡ deque_capacity slots.old }
 {

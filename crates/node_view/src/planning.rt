@@ -34,7 +34,9 @@ impl View {
     /// the partition, or a transaction is open on the record.
     pub fn acting_refusal(&self, digest: &Digest) -> Option<Refusal>
         requires { self.now.exchange.exchanged ≡ true }
-        ensures { (f : Facts) → IsInView f self.now → result ≡ acting_refusal f (list_at f (partition_of digest.now)) digest.now (acts f (list_at f (partition_of digest.now)) (partition_of digest.now)) }
+        ensures { (f : Facts) → IsInView f self.now
+            → result ≡ acting_refusal f (list_at f (partition_of digest.now)) digest.now
+            (acts f (list_at f (partition_of digest.now)) (partition_of digest.now)) }
     {
         let p = partition_of(digest);
         if !self.acts(p) {
@@ -52,7 +54,8 @@ impl View {
         requires exchanged { self.old.exchange.exchanged ≡ true }
         requires count { self.old.transactions.opened < greatest_count }
         ensures number { IfOk result (λ r. r.0 ≡ self.old.transactions.opened + 1) }
-        ensures asked { IfOk result (λ r. (f : Facts) → IsInView f self.old → r.1 ≡ asked f (list_at f (partition_of digest.now)) (partition_of digest.now)) }
+        ensures asked { IfOk result (λ r. (f : Facts) → IsInView f self.old
+            → r.1 ≡ asked f (list_at f (partition_of digest.now)) (partition_of digest.now)) }
         ensures room { OnOk result (0 < self.new.room.transactions) }
         ensures same { IsSame self.old self.new }
     {
@@ -78,7 +81,8 @@ impl View {
         p: PartitionId,
         nth: u32,
     ) -> Result<Option<Counted>, NoMemory>
-        ensures counted { IfOk result (λ c. option_map (λ n. n.nth) c ≡ some_if (from == list_master (list (members_of self.old.exchange.view) p)) nth) }
+        ensures counted { IfOk result (λ c. option_map (λ n. n.nth) c
+            ≡ some_if (from == list_master (list (members_of self.old.exchange.view) p)) nth) }
         ensures room { IfOk result (λ c. ForSome c (λ n. HasRoomToCount self.new.room p n)) }
         ensures same { IsSame self.old self.new }
     {
@@ -99,7 +103,8 @@ impl View {
     ) -> Result<Vec<(NodeId, Batch)>, NoMemory>
         requires held { AreHeld store.now.versions self.now.batches }
         requires counts { All (λ t. t.batches < greatest_count) self.now.batches }
-        ensures due { IfOk result (λ bs. bs.items ≡ batches_due (viewed_key self.now) store.now.versions self.now.batches) }
+        ensures due { IfOk result (λ bs.
+            bs.items ≡ batches_due (viewed_key self.now) store.now.versions self.now.batches) }
 
         // They may then be sent.
         ensures next { IfOk result (λ bs. IsReadyToSend self.now bs.items) }
@@ -119,9 +124,14 @@ impl View {
     /// What is due of the live partitions, in rising order. It goes by the facts before it, since
     /// no line of a partition bears on another one.
     pub fn settlings(&self, alloc: Global, store: &RecordStore) -> Result<Vec<Settling>, NoMemory>
-        ensures due { IfOk result (λ ss. (f : Facts) → IsViewOf f self.now → f.store.content ≡ store.now.versions → AreSettlings f ss.items) }
-        ensures lines { IfOk result (λ ss. (f : Facts) → HasRows f → IsViewOf f self.now → f.store.content ≡ store.now.versions → settling_lines f.me (view_key f) ss.items ≡ settling_due partition_count f) }
-        ensures settled { IfOk result (λ ss. (f : Facts) → HasRows f → IsViewOf f self.now → f.store.content ≡ store.now.versions → settled_by f ss.items ≡ noted None f (settling_due partition_count f)) }
+        ensures due { IfOk result (λ ss. (f : Facts) → IsViewOf f self.now
+            → f.store.content ≡ store.now.versions → AreSettlings f ss.items) }
+        ensures lines { IfOk result (λ ss. (f : Facts) → HasRows f → IsViewOf f self.now
+            → f.store.content ≡ store.now.versions
+            → settling_lines f.me (view_key f) ss.items ≡ settling_due partition_count f) }
+        ensures settled { IfOk result (λ ss. (f : Facts) → HasRows f → IsViewOf f self.now
+            → f.store.content ≡ store.now.versions
+            → settled_by f ss.items ≡ noted None f (settling_due partition_count f)) }
     {
         let mut due = Vec::new(alloc);
         let Some(moving) = self.moving() else {
@@ -142,8 +152,10 @@ impl View {
     fn settling_at(&self, moving: &Moving, store: &RecordStore, p: PartitionId) -> Option<Settling>
         requires { IsMoving self.now moving.now }
         ensures partition { ForSome result (λ s. s.partition ≡ p) }
-        ensures settling { (f : Facts) → IsViewOf f self.now → f.store.content ≡ store.now.versions → ForSome result (λ s. s ≡ settling_of p (here f (list_at f p) p)) }
-        ensures lines { (f : Facts) → IsViewOf f self.now → f.store.content ≡ store.now.versions → settling_lines f.me (view_key f) (option_to_list result) ≡ part_lines f p }
+        ensures settling { (f : Facts) → IsViewOf f self.now → f.store.content ≡ store.now.versions
+            → ForSome result (λ s. s ≡ settling_of p (here f (list_at f p) p)) }
+        ensures lines { (f : Facts) → IsViewOf f self.now → f.store.content ≡ store.now.versions
+            → settling_lines f.me (view_key f) (option_to_list result) ≡ part_lines f p }
     {
         Settling::of(p, &self.here(moving, store, p))
     }
@@ -155,7 +167,8 @@ fn push_batch(
     to: NodeId,
     batch: Option<Batch>,
 ) -> Result<(), NoMemory>
-    ensures { OnOk result (due.new.items ≡ due.old.items ++ option_to_list (option_map (λ b. (to, b)) batch)) }
+    ensures { OnOk result
+        (due.new.items ≡ due.old.items ++ option_to_list (option_map (λ b. (to, b)) batch)) }
 {
     if let Some(batch) = batch {
         due.push((to, batch))?;

@@ -18,7 +18,8 @@ impl View {
     /// How the node stands to the partition.
     pub(crate) fn here(&self, moving: &Moving, store: &RecordStore, p: PartitionId) -> Here
         requires { IsMoving self.now moving.now }
-        ensures { (f : Facts) → IsInView f self.now → f.store.content ≡ store.now.versions → here_of result ≡ rules.here f (list_at f p) p }
+        ensures { (f : Facts) → IsInView f self.now → f.store.content ≡ store.now.versions
+            → here_of result ≡ rules.here f (list_at f p) p }
     {
         // The partition is one of those that the done row has.
         let _ = p.number();
@@ -41,7 +42,8 @@ impl View {
     /// The partition becomes live or not, as it now stands.
     pub(crate) fn refresh(&mut self, p: PartitionId, store: &RecordStore)
         ensures same { self.new ≡ with_live self.old self.new.watch.live }
-        ensures live { (f : Facts) → IsInView f self.old → f.store.content ≡ store.now.versions → IsSeenTo p f self.old.watch.live self.new.watch.live }
+        ensures live { (f : Facts) → IsInView f self.old → f.store.content ≡ store.now.versions
+            → IsSeenTo p f self.old.watch.live self.new.watch.live }
     {
         let is_live = self.is_live(p, store);
         self.set_live(p, is_live);
@@ -50,7 +52,8 @@ impl View {
     /// Whether a line may come of the partition as it now stands; not before the exchange is
     /// finished.
     fn is_live(&self, p: PartitionId, store: &RecordStore) -> bool
-        ensures { (f : Facts) → IsInView f self.now → f.store.content ≡ store.now.versions → f.exchange.exchanged ≡ true → result ≡ false → IsQuiet f p }
+        ensures { (f : Facts) → IsInView f self.now → f.store.content ≡ store.now.versions
+            → f.exchange.exchanged ≡ true → result ≡ false → IsQuiet f p }
     {
         match self.moving() {
             Some(moving) => self.is_live_in(moving, store, p),
@@ -62,7 +65,8 @@ impl View {
     /// at all that is known of them.
     fn is_live_in(&self, moving: &Moving, store: &RecordStore, p: PartitionId) -> bool
         requires { IsMoving self.now moving.now }
-        ensures { (f : Facts) → IsInView f self.now → f.store.content ≡ store.now.versions → result ≡ false → IsQuiet f p }
+        ensures { (f : Facts) → IsInView f self.now → f.store.content ≡ store.now.versions
+            → result ≡ false → IsQuiet f p }
     {
         if self.is_asleep(moving, p) {
             return false;
@@ -73,7 +77,8 @@ impl View {
     /// Whether the partition isn't settled and the node has nothing there to hand over or to settle.
     fn is_asleep(&self, moving: &Moving, p: PartitionId) -> bool
         requires { IsMoving self.now moving.now }
-        ensures { result ≡ true → (f : Facts) → IsInView f self.now → IsAsleep (rules.here f (list_at f p) p) }
+        ensures { result ≡ true → (f : Facts) → IsInView f self.now
+            → IsAsleep (rules.here f (list_at f p) p) }
     {
         if self.has_settled_bit(p) {
             return false;
@@ -91,7 +96,8 @@ impl View {
     /// Ticks look at the partitions of which a line may come; at none before the exchange is finished.
     pub(crate) fn wake_all(&mut self, store: &RecordStore)
         ensures same { self.new ≡ with_live self.old self.new.watch.live }
-        ensures live { (f : Facts) → IsInView f self.old → f.store.content ≡ store.now.versions → AreLive f self.new.watch.live }
+        ensures live { (f : Facts) → IsInView f self.old → f.store.content ≡ store.now.versions
+            → AreLive f self.new.watch.live }
     {
         if !self.has_exchanged() {
             return;
@@ -104,7 +110,8 @@ impl View {
     /// The partitions that aren't known settled are counted.
     pub(crate) fn count_unsettled(&mut self)
         ensures same { self.new ≡ with_unsettled self.old self.new.watch.unsettled }
-        ensures count { (f : Facts) → IsInView f self.old → self.new.watch.unsettled ≡ unsettled_count f }
+        ensures count { (f : Facts) → IsInView f self.old
+            → self.new.watch.unsettled ≡ unsettled_count f }
     {
         self.unsettled = self.number_unsettled();
     }

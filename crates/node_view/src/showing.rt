@@ -38,7 +38,8 @@ impl View {
 
     /// The message that carries the node's own row.
     pub fn state(&self, alloc: Global, wants: bool) -> Result<Message, NoMemory>
-        ensures { IfOk result (λ m. m ≡ message.State (viewed_key self.now) wants (own_row_in (facts_seen self.now))) }
+        ensures { IfOk result (λ m.
+            m ≡ message.State (viewed_key self.now) wants (own_row_in (facts_seen self.now))) }
     {
         Ok(Message::State {
             key: self.key,
@@ -50,7 +51,8 @@ impl View {
     /// Who serves the partition, once the exchange is finished.
     pub fn map_entry(&self, p: PartitionId) -> MapEntry
         requires { self.now.exchange.exchanged ≡ true }
-        ensures { result ≡ entry_of (list (members_of self.now.exchange.view) p) self.now.exchange.rows p }
+        ensures { result
+            ≡ entry_of (list (members_of self.now.exchange.view) p) self.now.exchange.rows p }
     {
         match self.moving() {
             Some(moving) => moving.map.map(p),
@@ -122,7 +124,8 @@ impl View {
     /// The partitions of which nothing is pending to any member; none before the exchange is
     /// finished.
     pub fn done_row(&self) -> &Row4096
-        ensures { result.now ≡ done_row self.now.exchange.exchanged self.now.batches partition_count 0 }
+        ensures { result.now
+            ≡ done_row self.now.exchange.exchanged self.now.batches partition_count 0 }
     {
         self.progress.done_row()
     }
@@ -143,7 +146,8 @@ impl View {
 
     /// Whether the node knows every partition settled once it has these bits.
     pub fn knows_all_settled_with(&self, settled: &Row4096) -> bool
-        ensures { (f : Facts) → IsViewOf f self.now → result ≡ knows_all_settled (with_settled_bits f settled.now) partition_count 0 }
+        ensures { (f : Facts) → IsViewOf f self.now
+            → result ≡ knows_all_settled (with_settled_bits f settled.now) partition_count 0 }
     {
         if self.knows_all_settled() {
             return true;
@@ -155,8 +159,11 @@ impl View {
 
     /// Whether each of these partitions is known empty.
     fn are_all_empty(&self, partitions: &Row4096) -> bool
-        ensures all { result ≡ true → (p : ℕ) → bit partitions.now p ≡ true → is_known_empty self.now p ≡ true }
-        ensures one { result ≡ false → (p : ℕ) × (p < partition_count) × (bit partitions.now p ≡ true) × (is_known_empty self.now p ≡ false) }
+        ensures all { result ≡ true → (p : ℕ) → bit partitions.now p ≡ true
+            → is_known_empty self.now p ≡ true }
+        ensures one { result ≡ false
+            → (p : ℕ) × (p < partition_count) × (bit partitions.now p ≡ true)
+            × (is_known_empty self.now p ≡ false) }
     {
         let mut from = 0;
         while let Some(p) = partitions.next_set(from) {
@@ -172,7 +179,8 @@ impl View {
     /// that.
     pub fn is_to_learn_or_drop(&self, store: &RecordStore) -> bool
         requires { self.now.exchange.exchanged ≡ true }
-        ensures { (f : Facts) → IsViewOf f self.now → f.store.content ≡ store.now.versions → result ≡ not (has_nothing_to_learn_or_drop f partition_count 0) }
+        ensures { (f : Facts) → IsViewOf f self.now → f.store.content ≡ store.now.versions
+            → result ≡ not (has_nothing_to_learn_or_drop f partition_count 0) }
     {
         let Some(moving) = self.moving() else {
             return false;
@@ -200,7 +208,8 @@ impl View {
 
     /// The open transaction of that number, but for whom it asked and what it wrote.
     pub fn transaction(&self, t: u32) -> Option<&Txn>
-        ensures { option_copied result ≡ option_map kept_of (rules.transaction self.now.transactions t) }
+        ensures { option_copied result
+            ≡ option_map kept_of (rules.transaction self.now.transactions t) }
     {
         self.txns.get(t)
     }
@@ -208,7 +217,8 @@ impl View {
     /// The write that the open transaction of that number applied and others are to acknowledge.
     pub fn written(&self, t: u32) -> Option<&Write>
         requires { IsSome (rules.transaction self.now.transactions t) }
-        ensures { option_map write_of (option_copied result) ≡ option_and_then (λ x. x.applied) (rules.transaction self.now.transactions t) }
+        ensures { option_map write_of (option_copied result)
+            ≡ option_and_then (λ x. x.applied) (rules.transaction self.now.transactions t) }
     {
         self.notes.get(t)?.write.as_ref()
     }

@@ -44,7 +44,8 @@ impl View {
     /// Takes the step, which was planned from what the node knows, and for which there is room.
     pub fn take_step(&mut self, store: &mut RecordStore, step: ViewStep)
         requires { IsReady self.old store.old step }
-        ensures { (f : Facts) → BecomesNodeOf f self.old store.old (view_taken f step) self.new store.new }
+        ensures { (f : Facts)
+            → BecomesNodeOf f self.old store.old (view_taken f step) self.new store.new }
     {
         match step {
             ViewStep::Row { from, row } => self.add_row(from, row),
@@ -80,8 +81,13 @@ impl View {
     fn add_row(&mut self, from: NodeId, row: StateRow)
         requires member { IsOtherMember self.old from }
         requires lacking { lacks self.old.exchange.rows from ≡ true }
-        requires waiting { is_none (first_missing (with_row self.old.exchange.rows from row) (members_of self.old.exchange.view)) ≡ false }
-        ensures view { self.new ≡ record self.old { exchange = record self.old.exchange { rows = with_row self.old.exchange.rows from row } } }
+        requires waiting { is_none (first_missing (with_row self.old.exchange.rows from row)
+            (members_of self.old.exchange.view))
+            ≡ false }
+        ensures view { self.new ≡ record self.old {
+          exchange = record self.old.exchange
+              { rows = with_row self.old.exchange.rows from row };
+        } }
         ensures waiting { self.old.exchange.exchanged ≡ false }
     {
         if self.moving().is_some() {
@@ -93,7 +99,9 @@ impl View {
 
     fn end_exchange(&mut self, store: &mut RecordStore, last: LastRow)
         requires { IsReady self.old store.old (step.LastRow last) }
-        ensures { (f : Facts) → BecomesNodeOf f self.old store.old (view_taken f (step.LastRow last)) self.new store.new }
+        ensures { (f : Facts)
+            → BecomesNodeOf f self.old store.old (view_taken f (step.LastRow last)) self.new
+            store.new }
     {
         self.take_last_row(last, store);
         self.stamp_empty_copies(store);
@@ -101,7 +109,9 @@ impl View {
 
     fn merge(&mut self, store: &mut RecordStore, merged: Merged)
         requires { IsReady self.old store.old (step.Merged merged) }
-        ensures { (f : Facts) → BecomesNodeOf f self.old store.old (view_taken f (step.Merged merged)) self.new store.new }
+        ensures { (f : Facts)
+            → BecomesNodeOf f self.old store.old (view_taken f (step.Merged merged)) self.new
+            store.new }
     {
         let mut newer = merged.newer;
         while let Some((digest, version)) = newer.take_first() {
@@ -112,7 +122,9 @@ impl View {
     /// A newer version comes, for which there is room.
     fn merge_one(&mut self, store: &mut RecordStore, digest: Digest, version: Version)
         requires { 0 < room_at store.old.spare (partition_of digest) }
-        ensures node { (f : Facts) → BecomesNodeOf f self.old store.old (merged f (view_key f) digest version) self.new store.new }
+        ensures node { (f : Facts)
+            → BecomesNodeOf f self.old store.old (merged f (view_key f) digest version) self.new
+            store.new }
         ensures same { self.new ≡ with_live self.old self.new.watch.live }
         ensures room { UsesRoom (partition_of digest) store.old.spare store.new.spare }
     {
@@ -124,7 +136,9 @@ impl View {
 
     fn take_progress(&mut self, store: &RecordStore, progressed: &Progressed)
         requires { IsReady self.old store.now (step.Progressed progressed.now) }
-        ensures { (f : Facts) → BecomesNodeOf f self.old store.now (view_taken f (step.Progressed progressed.now)) self.new store.now }
+        ensures { (f : Facts)
+            → BecomesNodeOf f self.old store.now (view_taken f (step.Progressed progressed.now))
+            self.new store.now }
     {
         let before = *self.settled_row();
         self.hear_progress(progressed);
@@ -133,7 +147,10 @@ impl View {
 
     fn hear_progress(&mut self, progressed: &Progressed)
         requires { IsOtherMember self.old progressed.now.from }
-        ensures { self.new ≡ record self.old { bits = progressing self.old.bits progressed.now.from progressed.now.done progressed.now.handed progressed.now.settled } }
+        ensures { self.new ≡ record self.old {
+          bits = progressing self.old.bits progressed.now.from progressed.now.done
+              progressed.now.handed progressed.now.settled;
+        } }
     {
         self.progress.heard(
             progressed.from,
@@ -146,11 +163,15 @@ impl View {
     /// The partitions whose settled bits are new count as settled, and ticks look at those of which
     /// a line may come. Before, the settled bits were these.
     fn see_settled(&mut self, store: &RecordStore, before: &Row4096)
-        requires kept { (p : ℕ) → p < partition_count → bit before.now p ≡ true → bit self.old.bits.settled p ≡ true }
-        requires counted { self.old.watch.unsettled ≡ unsettled_count (with_settled_row (facts_seen self.old) before.now) }
+        requires kept { (p : ℕ) → p < partition_count → bit before.now p ≡ true
+            → bit self.old.bits.settled p ≡ true }
+        requires counted { self.old.watch.unsettled
+            ≡ unsettled_count (with_settled_row (facts_seen self.old) before.now) }
         ensures same { self.new ≡ with_watch self.old self.new.watch }
         ensures count { self.new.watch.unsettled ≡ unsettled_count (facts_seen self.old) }
-        ensures live { (f : Facts) → IsInView f self.old → f.store.content ≡ store.now.versions → AreLive (with_settled_row f before.now) self.old.watch.live → AreLive f self.new.watch.live }
+        ensures live { (f : Facts) → IsInView f self.old → f.store.content ≡ store.now.versions
+            → AreLive (with_settled_row f before.now) self.old.watch.live
+            → AreLive f self.new.watch.live }
     {
         let fresh = self.settled_row().difference(before);
         let mut from = 0;
@@ -164,7 +185,8 @@ impl View {
     fn see_settled_at(&mut self, store: &RecordStore, p: PartitionId)
         requires { is_known_empty self.old p ≡ false → 0 < self.old.watch.unsettled }
         ensures same { self.new ≡ with_live (without_unsettled self.old p) self.new.watch.live }
-        ensures live { (f : Facts) → IsInView f self.old → f.store.content ≡ store.now.versions → IsSeenTo p f self.old.watch.live self.new.watch.live }
+        ensures live { (f : Facts) → IsInView f self.old → f.store.content ≡ store.now.versions
+            → IsSeenTo p f self.old.watch.live self.new.watch.live }
     {
         self.count_settled(p);
         self.refresh(p, store);
@@ -172,7 +194,9 @@ impl View {
 
     fn replicate(&mut self, store: &mut RecordStore, write: Replicated)
         requires { IsReady self.old store.old (step.Replicated write) }
-        ensures { (f : Facts) → BecomesNodeOf f self.old store.old (view_taken f (step.Replicated write)) self.new store.new }
+        ensures { (f : Facts)
+            → BecomesNodeOf f self.old store.old (view_taken f (step.Replicated write)) self.new
+            store.new }
     {
         self.count(store, partition_of(&write.digest), write.counted);
         self.merge_newer(store, write.digest, write.newer);
@@ -181,7 +205,8 @@ impl View {
     /// A newer version comes, if there is one.
     fn merge_newer(&mut self, store: &mut RecordStore, digest: Digest, newer: Option<Version>)
         requires { ForSome newer (λ _. 0 < room_at store.old.spare (partition_of digest)) }
-        ensures { (f : Facts) → BecomesNodeOf f self.old store.old (with_newer f digest newer) self.new store.new }
+        ensures { (f : Facts)
+            → BecomesNodeOf f self.old store.old (with_newer f digest newer) self.new store.new }
     {
         match newer {
             Some(version) => self.merge_one(store, digest, version),
@@ -193,7 +218,8 @@ impl View {
     fn count(&mut self, store: &mut RecordStore, p: PartitionId, counted: Option<Counted>)
         requires number { ForSome counted (λ c. 0 < c.nth) }
         requires room { ForSome counted (HasRoomToCount self.old.room p) }
-        ensures node { (f : Facts) → BecomesNodeOf f self.old store.old (with_count f p counted) self.new store.new }
+        ensures node { (f : Facts)
+            → BecomesNodeOf f self.old store.old (with_count f p counted) self.new store.new }
         ensures room { store.new.spare ≡ store.old.spare }
     {
         match counted {
@@ -206,7 +232,9 @@ impl View {
     fn count_write(&mut self, store: &mut RecordStore, p: PartitionId, counted: Counted)
         requires number { 0 < counted.nth }
         requires room { HasRoomToCount self.old.room p counted }
-        ensures node { (f : Facts) → BecomesNodeOf f self.old store.old (write_counted f (view_key f) (list_at f p) p counted.nth) self.new store.new }
+        ensures node { (f : Facts)
+            → BecomesNodeOf f self.old store.old
+            (write_counted f (view_key f) (list_at f p) p counted.nth) self.new store.new }
         ensures room { store.new.spare ≡ store.old.spare }
     {
         self.writes.hear(p, counted.nth, counted.first);
@@ -223,7 +251,9 @@ impl View {
         outcome: Option<Outcome>,
     )
         requires { IsReady self.old store.old (step.Opened digest want best asked outcome) }
-        ensures { (f : Facts) → BecomesNodeOf f self.old store.old (view_taken f (step.Opened digest want best asked outcome)) self.new store.new }
+        ensures { (f : Facts)
+            → BecomesNodeOf f self.old store.old
+            (view_taken f (step.Opened digest want best asked outcome)) self.new store.new }
     {
         let transaction = self.begin(digest, want, best, asked);
         match outcome {
@@ -239,8 +269,14 @@ impl View {
         requires count { self.old.transactions.opened < greatest_count }
         requires room { 0 < self.old.room.transactions }
         ensures number { result ≡ self.old.transactions.opened + 1 }
-        ensures view { self.new ≡ record self.old { transactions = rules.opening self.old.transactions (rules.new_transaction (self.old.transactions.opened + 1) digest want best asked); room = record self.old.room { transactions = self.new.room.transactions } } }
-        ensures found { rules.transaction self.new.transactions result ≡ Some (rules.new_transaction (self.old.transactions.opened + 1) digest want best asked) }
+        ensures view { self.new ≡ record self.old {
+          transactions = rules.opening self.old.transactions
+              (rules.new_transaction (self.old.transactions.opened + 1) digest want best asked);
+          room = record self.old.room { transactions = self.new.room.transactions };
+        } }
+        ensures found { rules.transaction self.new.transactions result
+            ≡ Some
+            (rules.new_transaction (self.old.transactions.opened + 1) digest want best asked) }
     {
         self.notes.open(asked);
         match self.txns.begin(digest, want, best, asked) {
@@ -252,14 +288,18 @@ impl View {
 
     /// An acknowledgement comes.
     fn acknowledge(&mut self, from: NodeId, transaction: u32)
-        ensures { self.new ≡ record self.old { transactions = rules.acknowledging self.old.transactions from transaction } }
+        ensures { self.new ≡ record self.old
+            { transactions = rules.acknowledging self.old.transactions from transaction } }
     {
         self.txns.acked(from, transaction);
     }
 
     /// An answer comes.
     fn answer(&mut self, from: NodeId, transaction: u32, version: Option<Version>)
-        ensures { self.new ≡ record self.old { transactions = rules.answering self.old.by self.old.transactions from transaction version } }
+        ensures { self.new ≡ record self.old {
+          transactions = rules.answering self.old.by self.old.transactions from transaction
+              version;
+        } }
     {
         self.txns.on_answer(from, transaction, version);
     }
@@ -274,7 +314,9 @@ impl View {
         outcome: Outcome,
     )
         requires { IsReady self.old store.old (step.Resolved from transaction version outcome) }
-        ensures { (f : Facts) → BecomesNodeOf f self.old store.old (view_taken f (step.Resolved from transaction version outcome)) self.new store.new }
+        ensures { (f : Facts)
+            → BecomesNodeOf f self.old store.old
+            (view_taken f (step.Resolved from transaction version outcome)) self.new store.new }
     {
         self.answer(from, transaction, version);
         self.resolve(store, transaction, outcome);
@@ -283,7 +325,10 @@ impl View {
     /// A transaction is resolved.
     fn resolve(&mut self, store: &mut RecordStore, transaction: u32, outcome: Outcome)
         requires { IsReadyToResolve self.old store.old transaction outcome }
-        ensures { (f : Facts) → BecomesNodeOf f self.old store.old (with_outcome f transaction (digest_in self.old transaction) outcome) self.new store.new }
+        ensures { (f : Facts)
+            → BecomesNodeOf f self.old store.old
+            (with_outcome f transaction (digest_in self.old transaction) outcome) self.new
+            store.new }
     {
         match outcome {
             Outcome::Read => self.close(transaction),
@@ -294,7 +339,9 @@ impl View {
     /// A write is applied. With nobody to acknowledge it the transaction is closed.
     fn write(&mut self, store: &mut RecordStore, transaction: u32, writing: Writing)
         requires { IsReadyToResolve self.old store.old transaction (outcome.Write writing) }
-        ensures { (f : Facts) → BecomesNodeOf f self.old store.old (wrote f transaction (digest_in self.old transaction) writing) self.new store.new }
+        ensures { (f : Facts)
+            → BecomesNodeOf f self.old store.old
+            (wrote f transaction (digest_in self.old transaction) writing) self.new store.new }
     {
         let to = writing.to;
         self.apply(store, transaction, writing);
@@ -306,7 +353,10 @@ impl View {
     /// A write is applied, and its transaction is open still.
     fn apply(&mut self, store: &mut RecordStore, transaction: u32, writing: Writing)
         requires { IsReadyToResolve self.old store.old transaction (outcome.Write writing) }
-        ensures node { (f : Facts) → BecomesNodeOf f self.old store.old (write_applied f (view_key f) (list_at f (partition_of (digest_in self.old transaction))) transaction (digest_in self.old transaction) writing.version) self.new store.new }
+        ensures node { (f : Facts)
+            → BecomesNodeOf f self.old store.old (write_applied f (view_key f)
+            (list_at f (partition_of (digest_in self.old transaction))) transaction
+            (digest_in self.old transaction) writing.version) self.new store.new }
         ensures open { IsSome (rules.transaction self.new.transactions transaction) }
     {
         let key = self.key;
@@ -329,8 +379,14 @@ impl View {
     )
         requires ready { IsReadyToResolve self.old store.old transaction (outcome.Write writing) }
         requires partition { p ≡ partition_of (digest_in self.old transaction) }
-        ensures view { self.new ≡ record self.old { writes = applying self.old.writes p; transactions = rules.changing self.old.transactions transaction (rules.with_write writing.kept (applies_at self.old.writes p + 1) writing.to); room = self.new.room } }
-        ensures versions { store.new.versions ≡ joined store.old.by store.old.versions (digest_in self.old transaction) writing.version }
+        ensures view { self.new ≡ record self.old {
+          writes = applying self.old.writes p;
+          transactions = rules.changing self.old.transactions transaction
+              (rules.with_write writing.kept (applies_at self.old.writes p + 1) writing.to);
+          room = self.new.room;
+        } }
+        ensures versions { store.new.versions ≡ joined store.old.by store.old.versions
+            (digest_in self.old transaction) writing.version }
         ensures stamps { store.new.stamps ≡ store.old.stamps }
         ensures policy { store.new.by ≡ store.old.by }
     {
@@ -354,7 +410,10 @@ impl View {
     /// The open transaction is closed.
     fn close(&mut self, transaction: u32)
         requires { IsSome (rules.transaction self.old.transactions transaction) }
-        ensures { self.new ≡ record self.old { transactions = without_transaction self.old.transactions transaction; room = self.new.room } }
+        ensures { self.new ≡ record self.old {
+          transactions = without_transaction self.old.transactions transaction;
+          room = self.new.room;
+        } }
     {
         self.txns.finish(transaction);
         self.notes.close(transaction);
@@ -363,7 +422,8 @@ impl View {
     /// These batches are out.
     pub fn send_batches(&mut self, batches: Vec<(NodeId, Batch)>)
         requires { IsReadyToSend self.old batches.items }
-        ensures { self.new ≡ record self.old { batches = sending_all self.old.batches batches.items } }
+        ensures { self.new
+            ≡ record self.old { batches = sending_all self.old.batches batches.items } }
     {
         for (to, batch) in batches {
             self.send_batch(to, batch);
@@ -373,7 +433,8 @@ impl View {
     /// What a tick does about partitions, in their order.
     pub fn settle_all(&mut self, store: &mut RecordStore, settlings: &[Settling])
         requires { IsReadyToSettle self.old store.old settlings.now }
-        ensures { (f : Facts) → BecomesNodeOf f self.old store.old (settled_by f settlings.now) self.new store.new }
+        ensures { (f : Facts)
+            → BecomesNodeOf f self.old store.old (settled_by f settlings.now) self.new store.new }
     {
         for settling in settlings {
             self.settle_at(store, *settling);
@@ -382,7 +443,8 @@ impl View {
 
     fn settle_at(&mut self, store: &mut RecordStore, settling: Settling)
         requires { IsReadyToSettle self.old store.old (settling ∷ []) }
-        ensures { (f : Facts) → BecomesNodeOf f self.old store.old (settled_at f settling) self.new store.new }
+        ensures { (f : Facts)
+            → BecomesNodeOf f self.old store.old (settled_at f settling) self.new store.new }
     {
         let p = settling.partition;
         // It is one of those that are counted.
@@ -396,8 +458,10 @@ impl View {
 
     /// The partition is handed over, where that is due.
     fn hand(&mut self, p: PartitionId, is_due: bool)
-        requires { is_due ≡ true → hands (here (facts_seen self.old) (list_at (facts_seen self.old) p) p) ≡ true }
-        ensures { self.new ≡ with_bits self.old (if is_due then handing self.old.bits p else self.old.bits) }
+        requires { is_due ≡ true
+            → hands (here (facts_seen self.old) (list_at (facts_seen self.old) p) p) ≡ true }
+        ensures { self.new
+            ≡ with_bits self.old (if is_due then handing self.old.bits p else self.old.bits) }
     {
         if !is_due {
             return;
@@ -414,7 +478,8 @@ impl View {
     /// The partition is settled, where that is due.
     fn settle(&mut self, p: PartitionId, is_due: bool)
         requires exchanged { is_due ≡ true → self.old.exchange.exchanged ≡ true }
-        requires due { is_due ≡ true → settles (here (facts_seen self.old) (list_at (facts_seen self.old) p) p) ≡ true }
+        requires due { is_due ≡ true
+            → settles (here (facts_seen self.old) (list_at (facts_seen self.old) p) p) ≡ true }
         requires counted { is_due ≡ true → 0 < self.old.watch.unsettled }
         ensures view { self.new ≡ (if is_due then one_more_settled self.old p else self.old) }
         ensures set { is_due ≡ true → has_settled_bit (facts_seen self.new) p ≡ true }
@@ -436,8 +501,11 @@ impl View {
 
     /// The copy is whole under the view's key, where that is due.
     fn learn(&mut self, store: &mut RecordStore, p: PartitionId, is_due: bool)
-        ensures view { self.new ≡ with_bits self.old (if is_due then learning self.old.bits p else self.old.bits) }
-        ensures store { store.new ≡ (if is_due then learnt_copy store.old (viewed_key self.old) p (count_seen self.old p) else store.old) }
+        ensures view { self.new
+            ≡ with_bits self.old (if is_due then learning self.old.bits p else self.old.bits) }
+        ensures store { store.new
+            ≡ (if is_due then learnt_copy store.old (viewed_key self.old) p (count_seen self.old p)
+            else store.old) }
     {
         if is_due {
             store.stamp(p, self.key, self.count_at(p));
@@ -463,7 +531,9 @@ impl View {
     /// Once the exchange is finished, the copy of each partition that is empty everywhere is
     /// stamped where the node is a replica.
     pub fn stamp_empty_copies(&self, store: &mut RecordStore)
-        ensures { (f : Facts) → BecomesNodeOf f self.now store.old (with_stamps f f.exchange.exchanged) self.now store.new }
+        ensures { (f : Facts)
+            → BecomesNodeOf f self.now store.old (with_stamps f f.exchange.exchanged) self.now
+            store.new }
     {
         if !self.has_exchanged() {
             return;
@@ -486,7 +556,8 @@ impl View {
 /// A record came into the copy in the view of that key: under another key's stamp it equals no other
 /// copy.
 fn spoil(store: &mut RecordStore, p: PartitionId, of: ClusterKey)
-    ensures stamps { store.new.stamps ≡ changed_stamps store.old.stamps p (spoiled of) (finite.get store.old.stamps p) }
+    ensures stamps { store.new.stamps
+        ≡ changed_stamps store.old.stamps p (spoiled of) (finite.get store.old.stamps p) }
     ensures versions { store.new.versions ≡ store.old.versions }
     ensures policy { store.new.by ≡ store.old.by }
     ensures room { store.new.spare ≡ store.old.spare }
@@ -501,7 +572,8 @@ fn spoil(store: &mut RecordStore, p: PartitionId, of: ClusterKey)
 
 /// A stamp of that view's key has this count.
 fn recount(store: &mut RecordStore, p: PartitionId, of: ClusterKey, writes: u32)
-    ensures stamps { store.new.stamps ≡ changed_stamps store.old.stamps p (recounted of writes) (finite.get store.old.stamps p) }
+    ensures stamps { store.new.stamps
+        ≡ changed_stamps store.old.stamps p (recounted of writes) (finite.get store.old.stamps p) }
     ensures versions { store.new.versions ≡ store.old.versions }
     ensures policy { store.new.by ≡ store.old.by }
     ensures room { store.new.spare ≡ store.old.spare }
@@ -517,7 +589,8 @@ fn recount(store: &mut RecordStore, p: PartitionId, of: ClusterKey, writes: u32)
 /// The node applied a write to the copy in the view of that key: a stamp of that key has this count,
 /// and under another key's stamp the copy equals no other one.
 fn count_own_write(store: &mut RecordStore, p: PartitionId, of: ClusterKey, writes: u32)
-    ensures stamps { store.new.stamps ≡ changed_stamps store.old.stamps p (λ stamp. recounted of writes (spoiled of stamp)) (finite.get store.old.stamps p) }
+    ensures stamps { store.new.stamps ≡ changed_stamps store.old.stamps p
+        (λ stamp. recounted of writes (spoiled of stamp)) (finite.get store.old.stamps p) }
     ensures versions { store.new.versions ≡ store.old.versions }
     ensures policy { store.new.by ≡ store.old.by }
     ensures room { store.new.spare ≡ store.old.spare }

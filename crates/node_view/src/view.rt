@@ -106,7 +106,8 @@ impl View {
     ) -> Result<View, NoMemory>
         requires member { is_member lists entrant.me ≡ true }
         requires policy { store.now.by ≡ entrant.by }
-        ensures { (f : Facts) → f.me ≡ entrant.me → f.factor ≡ entrant.factor → IsWithStore f store.now → IfOk result (IsEntered f key lists) }
+        ensures { (f : Facts) → f.me ≡ entrant.me → f.factor ≡ entrant.factor
+            → IsWithStore f store.now → IfOk result (IsEntered f key lists) }
     {
         let members = *lists.members();
         let me = entrant.me;
@@ -174,10 +175,12 @@ impl View {
         ensures some { is_some result ≡ not self.now.exchange.exchanged }
         ensures met { IfSome result (λ x. IsMet x.now self.now.me self.now.factor) }
         ensures exchange { IfSome result (λ x. x.now.exchange ≡ self.now.exchange) }
-        ensures missing { IfSome result (λ x. IsSome (first_missing x.now.exchange.rows (members_of x.now.exchange.view))) }
+        ensures missing { IfSome result
+            (λ x. IsSome (first_missing x.now.exchange.rows (members_of x.now.exchange.view))) }
 
         // Otherwise no member's row is missing.
-        ensures whole { IfNone result (first_missing self.now.exchange.rows (members_of self.now.exchange.view) ≡ None) }
+        ensures whole { IfNone result
+            (first_missing self.now.exchange.rows (members_of self.now.exchange.view) ≡ None) }
     {
         match &self.stage {
             Stage::Exchanging(waiting) => Some(waiting),
@@ -216,7 +219,8 @@ impl View {
     pub(crate) fn send_batch(&mut self, to: NodeId, batch: Batch)
         requires exchanged { self.old.exchange.exchanged ≡ true }
         requires member { IsSome (target self.old.batches to) }
-        requires next { IfSome (target self.old.batches to) (λ t. IsNext (viewed_key self.old) t batch) }
+        requires next { IfSome (target self.old.batches to)
+            (λ t. IsNext (viewed_key self.old) t batch) }
         ensures { self.new ≡ record self.old { batches = sending self.old.batches to batch } }
     {
         if let Stage::Exchanged(moving) = &mut self.stage {
@@ -255,7 +259,10 @@ impl View {
     /// Whether all rows are there but that member's.
     pub fn is_last_missing(&self, from: NodeId) -> bool
         requires { IsOtherMember self.now from }
-        ensures { result ≡ (lacks self.now.exchange.rows from && is_none (first_missing (with_row self.now.exchange.rows from []) (members_of self.now.exchange.view))) }
+        ensures { result
+            ≡ (lacks self.now.exchange.rows from
+            && is_none (first_missing (with_row self.now.exchange.rows from [])
+            (members_of self.now.exchange.view))) }
     {
         match self.exchanging() {
             None => false,
@@ -278,11 +285,16 @@ impl View {
     ) -> Result<LastRow, NoMemory>
         requires member { IsOtherMember self.old from }
         requires lacking { lacks self.old.exchange.rows from ≡ true }
-        requires last { is_none (first_missing (with_row self.old.exchange.rows from row) (members_of self.old.exchange.view)) ≡ true }
+        requires last { is_none (first_missing (with_row self.old.exchange.rows from row)
+            (members_of self.old.exchange.view))
+            ≡ true }
         ensures key { IfOk result (λ l. l.emigration.key ≡ viewed_key self.old) }
         ensures row { IfOk result (λ l. (l.from ≡ from) × (l.row ≡ row)) }
-        ensures served { IfOk result (λ l. AreServed (members_of self.old.exchange.view) (with_row self.old.exchange.rows from row) l.served) }
-        ensures targets { IfOk result (λ l. IsHandedOn self.old store.now from row l.emigration.targets) }
+        ensures served { IfOk result (λ l.
+            AreServed (members_of self.old.exchange.view) (with_row self.old.exchange.rows from row)
+            l.served) }
+        ensures targets { IfOk result
+            (λ l. IsHandedOn self.old store.now from row l.emigration.targets) }
         ensures same { self.new ≡ self.old }
     {
         let live = Live::new(alloc)?;
@@ -308,8 +320,13 @@ impl View {
     /// A row came that isn't the last one.
     pub(crate) fn take_row(&mut self, from: NodeId, row: StateRow)
         requires member { IsOtherMember self.old from }
-        requires waiting { is_none (first_missing (with_row self.old.exchange.rows from row) (members_of self.old.exchange.view)) ≡ false }
-        ensures { self.new ≡ record self.old { exchange = record self.old.exchange { rows = with_row self.old.exchange.rows from row } } }
+        requires waiting { is_none (first_missing (with_row self.old.exchange.rows from row)
+            (members_of self.old.exchange.view))
+            ≡ false }
+        ensures { self.new ≡ record self.old {
+          exchange = record self.old.exchange
+              { rows = with_row self.old.exchange.rows from row };
+        } }
     {
         let Stage::Exchanging(waiting) = mem::replace(&mut self.stage, Stage::Taken) else {
             unreachable!()
@@ -324,12 +341,22 @@ impl View {
     pub(crate) fn take_last_row(&mut self, last: LastRow, store: &RecordStore)
         requires member { IsOtherMember self.old last.from }
         requires lacking { lacks self.old.exchange.rows last.from ≡ true }
-        requires last { is_none (first_missing (with_row self.old.exchange.rows last.from last.row) (members_of self.old.exchange.view)) ≡ true }
-        requires served { AreServed (members_of self.old.exchange.view) (with_row self.old.exchange.rows last.from last.row) last.served }
+        requires last { is_none (first_missing (with_row self.old.exchange.rows last.from last.row)
+            (members_of self.old.exchange.view))
+            ≡ true }
+        requires served { AreServed (members_of self.old.exchange.view)
+            (with_row self.old.exchange.rows last.from last.row) last.served }
         requires key { last.emigration.key ≡ viewed_key self.old }
-        requires targets { IsHandedOn self.old store.now last.from last.row last.emigration.targets }
-        ensures alike { IsLike (record self.old { exchange = finished (record self.old.exchange { rows = with_row self.old.exchange.rows last.from last.row }); batches = last.emigration.targets }) self.new }
-        ensures watch { (f : Facts) → IsInView f self.new → f.store.content ≡ store.now.versions → KeepsWatch f self.new.watch }
+        requires targets { IsHandedOn self.old store.now last.from last.row
+            last.emigration.targets }
+        ensures alike { IsLike (record self.old {
+          exchange = finished
+              (record self.old.exchange
+              { rows = with_row self.old.exchange.rows last.from last.row });
+          batches = last.emigration.targets;
+        }) self.new }
+        ensures watch { (f : Facts) → IsInView f self.new → f.store.content ≡ store.now.versions
+            → KeepsWatch f self.new.watch }
     {
         self.finish(last);
         self.count_unsettled();
@@ -340,11 +367,21 @@ impl View {
     fn finish(&mut self, last: LastRow)
         requires member { IsOtherMember self.old last.from }
         requires lacking { lacks self.old.exchange.rows last.from ≡ true }
-        requires last { is_none (first_missing (with_row self.old.exchange.rows last.from last.row) (members_of self.old.exchange.view)) ≡ true }
-        requires served { AreServed (members_of self.old.exchange.view) (with_row self.old.exchange.rows last.from last.row) last.served }
+        requires last { is_none (first_missing (with_row self.old.exchange.rows last.from last.row)
+            (members_of self.old.exchange.view))
+            ≡ true }
+        requires served { AreServed (members_of self.old.exchange.view)
+            (with_row self.old.exchange.rows last.from last.row) last.served }
         requires key { last.emigration.key ≡ viewed_key self.old }
-        requires targeted { AreTargeted last.emigration.targets self.old.me (members_of self.old.exchange.view) }
-        ensures { self.new ≡ record self.old { exchange = finished (record self.old.exchange { rows = with_row self.old.exchange.rows last.from last.row }); batches = last.emigration.targets; watch = record self.old.watch { live = last.live } } }
+        requires targeted { AreTargeted last.emigration.targets self.old.me
+            (members_of self.old.exchange.view) }
+        ensures { self.new ≡ record self.old {
+          exchange = finished
+              (record self.old.exchange
+              { rows = with_row self.old.exchange.rows last.from last.row });
+          batches = last.emigration.targets;
+          watch = record self.old.watch { live = last.live };
+        } }
     {
         let Stage::Exchanging(waiting) = mem::replace(&mut self.stage, Stage::Taken) else {
             unreachable!()
@@ -383,7 +420,8 @@ impl View {
 
     /// Whether the node knows each partition settled.
     pub fn knows_all_settled(&self) -> bool
-        ensures { (f : Facts) → IsViewOf f self.now → result ≡ knows_all_settled f partition_count 0 }
+        ensures { (f : Facts) → IsViewOf f self.now
+            → result ≡ knows_all_settled f partition_count 0 }
     {
         self.unsettled == 0
     }

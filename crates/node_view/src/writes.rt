@@ -28,7 +28,13 @@ impl Model for Writes {
 
     ghost Value = { Written };
 
-    ghost view = { λ w. record { writes = record { applies = w.applies.items; numbers = heard_in w.numbers.items }; applies = vec_capacity w.applies - vec_len w.applies; numbers = vec_capacity w.numbers - vec_len w.numbers; further = rooms_in w.numbers.items } };
+    ghost view = { λ w.
+        record {
+          writes = record { applies = w.applies.items; numbers = heard_in w.numbers.items };
+          applies = vec_capacity w.applies - vec_len w.applies;
+          numbers = vec_capacity w.numbers - vec_len w.numbers;
+          further = rooms_in w.numbers.items;
+        } };
 
     ghost invariant = { λ w. IsAscendingTable w.applies.items × IsAscendingTable w.numbers.items };
 }
@@ -111,7 +117,8 @@ fn apply_at(applies: &mut Vec<(PartitionId, u32)>, p: PartitionId)
     requires room { vec_len applies.old < vec_capacity applies.old }
     requires count { unwrap_or (at applies.old.items p) 0 < greatest_count }
     ensures ascending { IsAscendingTable applies.new.items }
-    ensures applies { applies.new.items ≡ table_with applies.old.items p (unwrap_or (at applies.old.items p) 0 + 1) }
+    ensures applies { applies.new.items
+        ≡ table_with applies.old.items p (unwrap_or (at applies.old.items p) 0 + 1) }
 {
     match place_of(applies, p) {
         Ok(place) => applies[place].1 += 1,
@@ -128,7 +135,8 @@ fn reserve_at(
     requires { IsAscendingTable numbers.old.items }
     ensures ascending { IsAscendingTable numbers.new.items }
     ensures same { heard_in numbers.new.items ≡ heard_in numbers.old.items }
-    ensures room { IfOk result (HasRoomToHear (rooms_in numbers.new.items) (vec_capacity numbers.new - vec_len numbers.new) p) }
+    ensures room { IfOk result (HasRoomToHear (rooms_in numbers.new.items)
+        (vec_capacity numbers.new - vec_len numbers.new) p) }
 {
     match place_of(numbers, p) {
         Ok(place) => {
@@ -155,10 +163,12 @@ fn seen_with_room(alloc: Global) -> Result<Seen, NoMemory>
 /// One more number of the partition.
 fn hear_at(numbers: &mut Vec<(PartitionId, Seen)>, p: PartitionId, nth: u32, mut first: Seen)
     requires ascending { IsAscendingTable numbers.old.items }
-    requires room { HasRoomToHear (rooms_in numbers.old.items) (vec_capacity numbers.old - vec_len numbers.old) p first }
+    requires room { HasRoomToHear (rooms_in numbers.old.items)
+        (vec_capacity numbers.old - vec_len numbers.old) p first }
     requires number { 0 < nth }
     ensures ascending { IsAscendingTable numbers.new.items }
-    ensures numbers { heard_in numbers.new.items ≡ table_with (heard_in numbers.old.items) p (with_number (unwrap_or (at (heard_in numbers.old.items) p) []) nth) }
+    ensures numbers { heard_in numbers.new.items ≡ table_with (heard_in numbers.old.items) p
+        (with_number (unwrap_or (at (heard_in numbers.old.items) p) []) nth) }
 {
     match place_of(numbers, p) {
         Ok(place) => {

@@ -32,7 +32,9 @@ list_master (n ∷ l) = n
 
 -- whether the member's copy is whole, and none in the list is whole under a greater key
 abbrev pub is_wholest_by : List ℕ → (ℕ → CopyState) → ℕ → Bool
-is_wholest_by l state n = is_whole (state n) && list_all (λ m. not (keys.key_lt (whole_key (state n)) (whole_key (state m)))) l
+is_wholest_by l state n =
+    is_whole (state n)
+    && list_all (λ m. not (keys.key_lt (whole_key (state n)) (whole_key (state m)))) l
 
 -- the acting master: the first of the list whose copy is whole under the greatest key, and the list
 -- master where no copy is whole. Counts of writes play no part

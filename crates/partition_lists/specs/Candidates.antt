@@ -14,12 +14,14 @@ candidates_of members p = map (λ m. record { member = m; place = place m.id p }
 unfoldable pub is_ahead : Candidate → Candidate → Bool
 is_ahead first c =
     not first.member.role.quiesced
-    && ((first.member.role.rack == c.member.role.rack) && is_lt (ordering_then (nat_cmp first.place c.place) (nat_cmp first.member.id c.member.id)))
+    && ((first.member.role.rack == c.member.role.rack)
+    && is_lt (ordering_then (nat_cmp first.place c.place) (nat_cmp first.member.id c.member.id)))
 
 -- `is_repeat` of a member, where all places are at hand
 abbrev pub repeats : List Candidate → Candidate → Bool
 repeats candidates c =
-    not c.member.role.quiesced && (not (c.member.role.rack == 0) && list_any (λ first. is_ahead first c) candidates)
+    not c.member.role.quiesced
+    && (not (c.member.role.rack == 0) && list_any (λ first. is_ahead first c) candidates)
 
 abbrev pub rank_in : List Candidate → Candidate → Rank
 rank_in candidates c = record {

@@ -14,14 +14,16 @@ no_class = 4294967295
 abbrev pub is_whole_with : ClusterKey → ℕ → CopyState → Bool
 is_whole_with key writes Empty = false
 is_whole_with key writes Part = false
-is_whole_with key writes (Whole k w) = ((key.round == k.round) && (key.principal == k.principal)) && (writes == w)
+is_whole_with key writes (Whole k w) =
+    ((key.round == k.round) && (key.principal == k.principal)) && (writes == w)
 
 -- whether the second node is in the class of the first, which has this state. An empty copy is in no
 -- class; one that is Part or has no count is alone in its class; the class of another is all with its state
 abbrev pub is_in_class_by : (ℕ → CopyState) → ℕ → ℕ → CopyState → Bool
 is_in_class_by state a b Empty = false
 is_in_class_by state a b Part = a == b
-is_in_class_by state a b (Whole key writes) = if writes == no_class then a == b else is_whole_with key writes (state b)
+is_in_class_by state a b (Whole key writes) =
+    if writes == no_class then a == b else is_whole_with key writes (state b)
 
 -- whether the second node is in the class of the first
 abbrev pub same_class_by : (ℕ → CopyState) → ℕ → ℕ → Bool
@@ -43,7 +45,8 @@ is_first_by l state n = is_that (class_first_by l state n) n
 -- whether a node would send its records of the partition to another: its copy isn't empty, it is the
 -- first of its class, and the other isn't in that class
 abbrev pub sends_by : List ℕ → (ℕ → CopyState) → ℕ → ℕ → Bool
-sends_by l state from to = not (is_empty (state from)) && (is_first_by l state from && not (same_class_by state from to))
+sends_by l state from to =
+    not (is_empty (state from)) && (is_first_by l state from && not (same_class_by state from to))
 
 -- whom a node asks for their versions of a record of the partition: the firsts of all classes but its
 -- own, in list order

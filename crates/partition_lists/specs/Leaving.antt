@@ -11,7 +11,8 @@ members_without members gone = filter (λ m. not (m.id == gone)) members
 
 -- the member is quiesced, has no rack, or isn't the first of its rack
 abbrev pub HoldsNoRack : List Member → ℕ → Member → Type 0
-HoldsNoRack members p m = IsTrue m.role.quiesced ⊎ ((m.role.rack ≡ 0) ⊎ IsTrue (is_repeat members p m))
+HoldsNoRack members p m =
+    IsTrue m.role.quiesced ⊎ ((m.role.rack ≡ 0) ⊎ IsTrue (is_repeat members p m))
 
 -- the member isn't this one and isn't quiesced, but has the same rack
 pub record SharesRack (m other : Member) : Type 0 where

@@ -8,7 +8,8 @@ use Rattle.partition_lists.specs.Ranks.{rank_of, is_smaller}
 -- an item among items in order: after those below it
 abbrev pub put_in_order : {K : Type 0} → (K → K → Bool) → K → List K → List K
 put_in_order is_below x [] = x ∷ []
-put_in_order is_below x (first ∷ others) = if is_below first x then first ∷ put_in_order is_below x others else (x ∷ first ∷ others)
+put_in_order is_below x (first ∷ others) =
+    if is_below first x then first ∷ put_in_order is_below x others else (x ∷ first ∷ others)
 
 -- the items in rising order
 abbrev pub in_order : {K : Type 0} → (K → K → Bool) → List K → List K
@@ -25,7 +26,8 @@ list members p = map (λ r. r.id) (in_order is_smaller (ranks_of members p))
 
 -- the number of members with a smaller rank
 unfoldable pub position_of : List Member → ℕ → Member → ℕ
-position_of members p m = count_by (λ other. is_smaller (rank_of members p other) (rank_of members p m)) members
+position_of members p m =
+    count_by (λ other. is_smaller (rank_of members p other) (rank_of members p m)) members
 
 -- the list of all members in which each stands at its position
 pub record IsListOf (members : List Member) (p : ℕ) (ids : List ℕ) : Type 0 where

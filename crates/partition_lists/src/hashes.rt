@@ -57,7 +57,8 @@ pub(crate) fn partition_bytes(p: PartitionId) -> [u8; 8]
 
 /// The place where the node's part of the input led to this state.
 pub(crate) fn place_from(state: u32, partition: &[u8]) -> u32
-    ensures { (n : ℕ) → (p : ℕ) → state ≡ jenkins_state 0 (node_bytes n) → partition.now ≡ partition_bytes p → result ≡ place n p }
+    ensures { (n : ℕ) → (p : ℕ) → state ≡ jenkins_state 0 (node_bytes n)
+        → partition.now ≡ partition_bytes p → result ≡ place n p }
 {
     jenkins_end(jenkins_state(state, partition))
 }

@@ -124,7 +124,8 @@ fn place_members(members: &[Member], states: &[u32], p: PartitionId, candidates:
 fn ids_by_rank(candidates: &[Candidate]) -> NodeList
     requires limit { length candidates.now ≤ 16 }
     requires distinct { AreDistinct (map (λ c. c.member.id) candidates.now) }
-    ensures { result ≡ map (λ r. r.id) (in_order is_smaller (map (rank_in candidates.now) candidates.now)) }
+    ensures { result
+        ≡ map (λ r. r.id) (in_order is_smaller (map (rank_in candidates.now) candidates.now)) }
 {
     let mut room = [Rank::PLACEHOLDER; LIMIT];
     let ranks = &mut room[..candidates.len()];

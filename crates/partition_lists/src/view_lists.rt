@@ -32,7 +32,8 @@ impl Model for Lists {
 
     ghost view = { λ l. l.members };
 
-    ghost invariant = { λ l. AreMembers l.members × (l.ids.items ≡ lists_from l.members partition_count 0) };
+    ghost invariant = { λ l.
+        AreMembers l.members × (l.ids.items ≡ lists_from l.members partition_count 0) };
 }
 
 impl Lists {

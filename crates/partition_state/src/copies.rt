@@ -147,7 +147,8 @@ fn is_wholest(copies: &[Copy], nodes: &[NodeId], n: NodeId) -> bool
 }
 
 fn is_none_above(copies: &[Copy], nodes: &[NodeId], key: ClusterKey) -> bool
-    ensures { result ≡ list_all (λ m. not (key_lt key (whole_key (state_of copies.now m)))) nodes.now }
+    ensures { result
+        ≡ list_all (λ m. not (key_lt key (whole_key (state_of copies.now m)))) nodes.now }
 {
     nodes.iter().all(|m| is_not_above(copies, *m, key))
 }
@@ -198,7 +199,9 @@ pub(crate) fn is_first(copies: &[Copy], nodes: &[NodeId], n: NodeId) -> bool
 
 /// Whether `by` asks the node: it is the first of its class, which isn't that of `by`.
 fn is_asked(copies: &[Copy], nodes: &[NodeId], by: NodeId, n: NodeId) -> bool
-    ensures { result ≡ (is_first_by nodes.now (state_of copies.now) n && not (same_class_by (state_of copies.now) by n)) }
+    ensures { result
+        ≡ (is_first_by nodes.now (state_of copies.now) n
+        && not (same_class_by (state_of copies.now) by n)) }
 {
     is_first(copies, nodes, n) && !same_class(copies, by, n)
 }

@@ -65,7 +65,8 @@ fn version(alloc: Global) -> Result<Version, ValueFault> {
 /// The node 2 hands on to the node 1 what the store holds.
 fn begun(alloc: Global, rt: &impl Abort, store: &RecordStore) -> Result<Emigration, NoMemory>
     ensures held { IfOk result (λ e. AreHeld store.now.versions e.targets) }
-    ensures limit { IfOk result (λ e. (n : ℕ) → IfSome (target e.targets n) (λ t. t.batches < 2 ^ 32 - 1)) }
+    ensures limit { IfOk result
+        (λ e. (n : ℕ) → IfSome (target e.targets n) (λ t. t.batches < 2 ^ 32 - 1)) }
 {
     let view = OneSends {
         from: node(rt, 2),

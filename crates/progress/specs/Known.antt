@@ -18,7 +18,12 @@ pub record Known : Type 0 where
 
 -- nothing is known among these members
 abbrev pub nothing_known : List Member → ℕ → Known
-nothing_known members me = record { me = me; others = agreement.others_among me members; own = clear_row; bits = no_bits }
+nothing_known members me = record {
+  me = me;
+  others = agreement.others_among me members;
+  own = clear_row;
+  bits = no_bits;
+}
 
 -- whether the node is done at the partition, and knows every other member done
 abbrev pub all_done : Known → ℕ → Bool
@@ -26,8 +31,11 @@ all_done k p = bit k.own p && knows_each_done k.bits k.others p
 
 -- whether the node hands the partition over that is served so, where a transaction is open on it or isn't
 abbrev pub hands_entry : Known → ℕ → MapEntry → Bool → Bool
-hands_entry k p e busy = rules.bits_may_hand k.bits p (e.acting == k.me) (list_master e.list == k.me) (all_done k p) busy
+hands_entry k p e busy =
+    rules.bits_may_hand k.bits p (e.acting == k.me) (list_master e.list == k.me) (all_done k p) busy
 
 -- whether it settles the partition
 abbrev pub settles_entry : Known → ℕ → MapEntry → Bool → Bool
-settles_entry k p e busy = rules.bits_may_settle k.bits p (e.acting == k.me) (list_master e.list == k.me) e.all_empty (all_done k p) busy
+settles_entry k p e busy =
+    rules.bits_may_settle k.bits p (e.acting == k.me) (list_master e.list == k.me) e.all_empty
+    (all_done k p) busy

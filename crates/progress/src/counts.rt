@@ -27,8 +27,11 @@ pub(crate) fn no_counts(alloc: Global) -> Result<Vec<u8>, NoMemory>
 pub(crate) fn recount(known: &mut [u8], before: &Row4096, after: &Row4096)
     requires size { length known.old ≡ partition_count }
     requires room { (p : ℕ) → p < partition_count → slice_index known.old p < 255 }
-    requires counted { (p : ℕ) → p < partition_count → one_if (bit before.now p) ≤ slice_index known.old p }
-    ensures counts { (p : ℕ) → p < partition_count → slice_index known.new p + one_if (bit before.now p) ≡ slice_index known.old p + one_if (bit after.now p) }
+    requires counted { (p : ℕ) → p < partition_count
+        → one_if (bit before.now p) ≤ slice_index known.old p }
+    ensures counts { (p : ℕ) → p < partition_count
+        → slice_index known.new p + one_if (bit before.now p)
+        ≡ slice_index known.old p + one_if (bit after.now p) }
     ensures size { length known.new ≡ partition_count }
 {
     let was = before.as_bytes();
@@ -47,7 +50,8 @@ fn recount_byte(counts: &mut [u8], before: u8, after: u8)
     requires size { length counts.old ≡ 8 }
     requires room { (b : ℕ) → b < 8 → slice_index counts.old b < 255 }
     requires counted { (b : ℕ) → b < 8 → bit_at before b ≤ slice_index counts.old b }
-    ensures counts { (b : ℕ) → b < 8 → slice_index counts.new b + bit_at before b ≡ slice_index counts.old b + bit_at after b }
+    ensures counts { (b : ℕ) → b < 8
+        → slice_index counts.new b + bit_at before b ≡ slice_index counts.old b + bit_at after b }
     ensures size { length counts.new ≡ 8 }
 {
     // Without a branch, so that one step of the machine takes many.

@@ -39,9 +39,23 @@ impl Model for Progress {
 
     ghost coded = { Prim.hlevel facts_codes };
 
-    ghost view = { λ k. record { me = k.me; others = k.others; own = k.own; bits = record { done = told_table k.heard.items; handed = k.handed; settled = k.settled; own_handed = k.own_handed; own_settled = k.own_settled; learnt = clear_row } } };
+    ghost view = { λ k.
+        record {
+          me = k.me;
+          others = k.others;
+          own = k.own;
+          bits = record {
+            done = told_table k.heard.items;
+            handed = k.handed;
+            settled = k.settled;
+            own_handed = k.own_handed;
+            own_settled = k.own_settled;
+            learnt = clear_row;
+          };
+        } };
 
-    ghost invariant = { λ k. (told_nodes k.heard.items ≡ k.others) × AreTold k.heard.items k.known.items };
+    ghost invariant = { λ k.
+        (told_nodes k.heard.items ≡ k.others) × AreTold k.heard.items k.known.items };
 }
 
 /// The partition's settling was written. Only `Progress::knows_settled` makes one.
@@ -89,7 +103,8 @@ impl Progress {
     /// the bits of the other two are joined with those that are known.
     pub fn heard(&mut self, from: NodeId, done: &Row4096, handed: &Row4096, settled: &Row4096)
         requires { Contains self.old.others from }
-        ensures { self.new ≡ record self.old { bits = progressing self.old.bits from done.now handed.now settled.now } }
+        ensures { self.new ≡ record self.old
+            { bits = progressing self.old.bits from done.now handed.now settled.now } }
     {
         hear(&mut self.heard, &mut self.known, from, done);
         self.handed.or(handed);

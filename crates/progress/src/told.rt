@@ -82,7 +82,8 @@ fn hear_at(heard: &mut [Told], known: &mut [u8], place: usize, done: &Row4096)
     requires place { place < length heard.old }
     ensures nodes { told_nodes heard.new ≡ told_nodes heard.old }
     ensures told { AreTold heard.new known.new }
-    ensures table { told_table heard.new ≡ table_with (told_table heard.old) (slice_index (told_nodes heard.old) place) done.now }
+    ensures table { told_table heard.new
+        ≡ table_with (told_table heard.old) (slice_index (told_nodes heard.old) place) done.now }
 {
     recount(known, heard[place].done.as_row(), done);
     heard[place].hear(done);

@@ -32,7 +32,8 @@ versions_of copies = finite.from_entries (all_entries copies)
 -- the digests rise, and each is the partition's
 pub record IsCopy (p : ℕ) (es : Entries) : Type 0 where
   pub rising : IsTrue (is_sorted (slice_cmp nat_cmp) es)
-  pub home : (d : List ℕ) (v : Version) → find (slice_cmp nat_cmp) d es ≡ Some v → partition_of d ≡ p
+  pub home : (d : List ℕ) (v : Version) → find (slice_cmp nat_cmp) d es ≡ Some v
+      → partition_of d ≡ p
 
 -- a list for each partition
 pub record AreCopies (copies : List Entries) : Type 0 where

@@ -11,7 +11,8 @@ shown_stamp None = None
 shown_stamp (Some s) = Some (s.key, s.writes)
 
 -- the entry of that partition before others
-abbrev pub with_stamp_entry : ℕ → Option (ClusterKey × ℕ) → List (ℕ × (ClusterKey × ℕ)) → List (ℕ × (ClusterKey × ℕ))
+abbrev pub with_stamp_entry : ℕ → Option (ClusterKey × ℕ) → List (ℕ × (ClusterKey × ℕ))
+    → List (ℕ × (ClusterKey × ℕ))
 with_stamp_entry p None es = es
 with_stamp_entry p (Some stamp) es = (p, stamp) ∷ es
 

@@ -41,9 +41,16 @@ impl Model for RecordStore {
 
     ghost coded = { Prim.hlevel (codes, records_code, stamps_code, policy.the_row.coded) };
 
-    ghost view = { λ s. record { versions = versions_of (copies_of s.copies.items); stamps = stamps_of s.stamps.items; by = s.by; spare = rooms_of s.copies.items } };
+    ghost view = { λ s.
+        record {
+          versions = versions_of (copies_of s.copies.items);
+          stamps = stamps_of s.stamps.items;
+          by = s.by;
+          spare = rooms_of s.copies.items;
+        } };
 
-    ghost invariant = { λ s. AreCopies (copies_of s.copies.items) × (length s.stamps.items ≡ partition_count) };
+    ghost invariant = { λ s.
+        AreCopies (copies_of s.copies.items) × (length s.stamps.items ≡ partition_count) };
 }
 
 impl RecordStore {
@@ -89,7 +96,8 @@ impl RecordStore {
 
     /// The states of all copies.
     pub fn row(&self, alloc: Global) -> Result<StateRow, NoMemory>
-        ensures { IfOk result (λ row. (p : ℕ) → p < partition_count → state_of row p ≡ copy_state_at self.now p) }
+        ensures { IfOk result
+            (λ row. (p : ℕ) → p < partition_count → state_of row p ≡ copy_state_at self.now p) }
     {
         let mut row = StateRow::new(alloc);
         for number in 0..PARTITIONS {
@@ -135,8 +143,10 @@ impl RecordStore {
     /// Keeps the greater of the version and the one that is held. A new digest uses up room for
     /// one, if there is any.
     pub fn join_in(&mut self, d: Digest, v: Version) -> Result<Joined, NoMemory>
-        ensures joined { OnOk result (self.new.versions ≡ joined self.old.by self.old.versions d v) }
-        ensures answer { IfOk result (λ became. became ≡ answer self.old.by v (finite.get self.old.versions d)) }
+        ensures joined { OnOk result
+            (self.new.versions ≡ joined self.old.by self.old.versions d v) }
+        ensures answer { IfOk result
+            (λ became. became ≡ answer self.old.by v (finite.get self.old.versions d)) }
         ensures stamps { self.new.stamps ≡ self.old.stamps }
         ensures policy { self.new.by ≡ self.old.by }
         ensures room { UsesRoom (partition_of d) self.old.spare self.new.spare }
@@ -157,14 +167,18 @@ impl RecordStore {
 
     /// Sets the stamp of the partition's copy.
     pub fn stamp(&mut self, p: PartitionId, key: ClusterKey, writes: u32)
-        ensures { self.new ≡ record self.old { stamps = finite.insert self.old.stamps p (key, writes) } }
+        ensures { self.new
+            ≡ record self.old { stamps = finite.insert self.old.stamps p (key, writes) } }
     {
         self.stamps[place_of(p)] = Some(Stamp { key, writes });
     }
 
     /// Removes the partition's records and its stamp.
     pub fn clear_copy(&mut self, p: PartitionId)
-        ensures { self.new ≡ record self.old { versions = without_copy self.old.versions p; stamps = finite.remove self.old.stamps p } }
+        ensures { self.new ≡ record self.old {
+          versions = without_copy self.old.versions p;
+          stamps = finite.remove self.old.stamps p;
+        } }
     {
         let place = place_of(p);
         self.copies[place].take_all();
@@ -180,7 +194,8 @@ impl RecordStore {
         after: Option<&Digest>,
         max: usize,
     ) -> Result<DigestList, NoMemory>
-        ensures { IfOk result (λ ds. ds ≡ take max (digests_above (option_copied after.entry) (digests_of self.now.versions p))) }
+        ensures { IfOk result (λ ds. ds ≡ take max
+            (digests_above (option_copied after.entry) (digests_of self.now.versions p))) }
     {
         let records = &self.copies[place_of(p)];
         match after {
@@ -234,7 +249,11 @@ fn first_digests(
 
 /// A copy without records for each partition.
 fn empty_copies(alloc: Global) -> Result<Vec<SortedChain<Version>>, NoMemory>
-    ensures { IfOk result (λ copies. record { count : length copies.items ≡ partition_count; empty : All (λ c. c.items ≡ []) copies.items }) }
+    ensures { IfOk result (λ copies.
+        record {
+          count : length copies.items ≡ partition_count;
+          empty : All (λ c. c.items ≡ []) copies.items;
+        }) }
 {
     let mut copies = Vec::with_capacity(alloc, PARTITIONS as usize)?;
     for _ in 0..PARTITIONS {
@@ -245,7 +264,11 @@ fn empty_copies(alloc: Global) -> Result<Vec<SortedChain<Version>>, NoMemory>
 
 /// No stamp for each partition.
 fn no_stamps(alloc: Global) -> Result<Vec<Option<Stamp>>, NoMemory>
-    ensures { IfOk result (λ stamps. record { count : length stamps.items ≡ partition_count; none : All (λ s. s ≡ None) stamps.items }) }
+    ensures { IfOk result (λ stamps.
+        record {
+          count : length stamps.items ≡ partition_count;
+          none : All (λ s. s ≡ None) stamps.items;
+        }) }
 {
     let mut stamps = Vec::with_capacity(alloc, PARTITIONS as usize)?;
     for _ in 0..PARTITIONS {
@@ -258,7 +281,8 @@ fn no_stamps(alloc: Global) -> Result<Vec<Option<Stamp>>, NoMemory>
 fn add_state(row: &mut StateRow, p: PartitionId, state: CopyState) -> Result<(), NoMemory>
     requires { All (λ e. e.0 < p) row.old }
     ensures below { All (λ e. e.0 < p + 1) row.new }
-    ensures states { OnOk result ((q : ℕ) → state_of row.new q ≡ (if p == q then state else state_of row.old q)) }
+    ensures states { OnOk result
+        ((q : ℕ) → state_of row.new q ≡ (if p == q then state else state_of row.old q)) }
 {
     match state {
         CopyState::Empty => Ok(()),

@@ -40,8 +40,11 @@ pub record IsRowOf (c : Chronicle) (a : ℕ) (k : ClusterKey) (row : Row) : Type
 
 -- each row that is kept in a view, and each that was sent, is its sender's
 pub record Rowed (c : Chronicle) : Type 0 where
-  pub kept : (n : ℕ) (v : View) → (facts_of c.traced n).exchange.view ≡ Some v → Each (λ (r : MemberRow). IsRowOf c r.node v.key r.row) (facts_of c.traced n).exchange.rows
-  pub sent : (i : ℕ) (p : Posting) (k : ClusterKey) (wants : Bool) (row : Row) → slice_get c.traced.world.network.sent i ≡ Some p → message_of p.bytes ≡ Some (message.State k wants row) → IsRowOf c p.from k row
+  pub kept : (n : ℕ) (v : View) → (facts_of c.traced n).exchange.view ≡ Some v
+      → Each (λ (r : MemberRow). IsRowOf c r.node v.key r.row) (facts_of c.traced n).exchange.rows
+  pub sent : (i : ℕ) (p : Posting) (k : ClusterKey) (wants : Bool) (row : Row)
+      → slice_get c.traced.world.network.sent i ≡ Some p
+      → message_of p.bytes ≡ Some (message.State k wants row) → IsRowOf c p.from k row
 
 -- what stands behind an entry, and behind a message that carries a row
 pub record MayEnterFirst (c : Chronicle) (n : ℕ) (k : ClusterKey) (ms : List Member) : Type 0 where
@@ -51,16 +54,20 @@ pub record MayEnterFirst (c : Chronicle) (n : ℕ) (k : ClusterKey) (ms : List M
 
 abbrev pub RowOk : Chronicle → Mark → Type 0
 RowOk c (Writes (line.Enter n k ms)) = MayEnterFirst c n k ms
-RowOk c (Writes (line.Sent i a b bytes)) = (k : ClusterKey) (wants : Bool) (row : Row) → message_of bytes ≡ Some (message.State k wants row) → IsRowOf c a k row
+RowOk c (Writes (line.Sent i a b bytes)) =
+    (k : ClusterKey) (wants : Bool) (row : Row)
+    → message_of bytes ≡ Some (message.State k wants row) → IsRowOf c a k row
 RowOk c _ = Unit {0}
 
 -- the ground is the chronicle's
 pub record Grounds (G : Ground) (c : Chronicle) : Type 0 where
   pub members : (k : ClusterKey) (ms : List Member) → c.traced.lists k ≡ Some ms → G.members k ≡ ms
-  pub row : (n : ℕ) (k : ClusterKey) → c.traced.entered n k ≡ true → (p : ℕ) → G.row k n p ≡ state_of (c.rows n k) p
+  pub row : (n : ℕ) (k : ClusterKey) → c.traced.entered n k ≡ true → (p : ℕ)
+      → G.row k n p ≡ state_of (c.rows n k) p
 
 -- what can't become false
 pub record Longer (c d : Chronicle) : Type 0 where
   pub entered : (n : ℕ) (k : ClusterKey) → c.traced.entered n k ≡ true → d.traced.entered n k ≡ true
-  pub lists : (k : ClusterKey) (ms : List Member) → c.traced.lists k ≡ Some ms → d.traced.lists k ≡ Some ms
+  pub lists : (k : ClusterKey) (ms : List Member) → c.traced.lists k ≡ Some ms
+      → d.traced.lists k ≡ Some ms
   pub rows : (n : ℕ) (k : ClusterKey) → c.traced.entered n k ≡ true → d.rows n k ≡ c.rows n k

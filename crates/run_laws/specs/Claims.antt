@@ -16,7 +16,8 @@ use Rattle.run_laws.specs.Taken.{Taken, ground_of, line_bound}
 
 -- each line of taken steps has its licence and fits, by the ground that the steps' history makes
 abbrev pub AreLicensed : Type 0
-AreLicensed = (h : Header) (ss : List Step) → Taken h ss → IsJournal h (ground_of h ss) (all_lines ss)
+AreLicensed =
+    (h : Header) (ss : List Step) → Taken h ss → IsJournal h (ground_of h ss) (all_lines ss)
 
 -- the claim holds of the journal of steps that are taken: so of a world after every call
 abbrev pub OfTakenSteps : (List Line → Type 0) → Type 0
@@ -28,11 +29,15 @@ OfRuns P = (s : Script) (lines : List Line) → Run s lines → IsProper s → l
 
 -- of that of its run that was begun
 abbrev pub OfBegunRuns : (List Line → Type 0) → Type 0
-OfBegunRuns P = (s : Script) (lines next : List Line) → BegunRun s lines next → IsProper s → length lines < line_bound → P lines
+OfBegunRuns P =
+    (s : Script) (lines next : List Line) → BegunRun s lines next → IsProper s
+    → length lines < line_bound → P lines
 
 -- and of that of a front of its run's steps: so also where memory was refused
 abbrev pub OfFrontRuns : (List Line → Type 0) → Type 0
-OfFrontRuns P = (s : Script) (lines : List Line) → FrontRun s lines → IsProper s → length lines < line_bound → P lines
+OfFrontRuns P =
+    (s : Script) (lines : List Line) → FrontRun s lines → IsProper s → length lines < line_bound
+    → P lines
 
 -- the claim holds of every journal that a program of these rules writes
 pub record OfEveryJournal (P : List Line → Type 0) : Type 0 where
@@ -48,4 +53,5 @@ pub record OfEveryJournal (P : List Line → Type 0) : Type 0 where
 pub record StandsInOrder (j : List Line) : Type 0 where
   pub header : (i : ℕ) (l : Line) → slice_get j i ≡ Some l → IsTrue (follows_header (take i j) l)
   pub declared_once : AreDistinct (nodes j)
-  pub exchanged : (i : ℕ) (l : Line) → slice_get j i ≡ Some l → IsTrue (follows_entries (take i j) l)
+  pub exchanged : (i : ℕ) (l : Line) → slice_get j i ≡ Some l
+      → IsTrue (follows_entries (take i j) l)

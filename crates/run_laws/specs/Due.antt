@@ -43,4 +43,5 @@ pub record SettledOnly (f g : Facts) : Type 0 where
   pub writes : g.writes ≡ f.writes
   pub batches : g.batches ≡ f.batches
   pub by : g.store.by ≡ f.store.by
-  pub content : (d : List ℕ) → is_pending f.batches (partition_of d) ≡ true → finite.get g.store.content d ≡ finite.get f.store.content d
+  pub content : (d : List ℕ) → is_pending f.batches (partition_of d) ≡ true
+      → finite.get g.store.content d ≡ finite.get f.store.content d

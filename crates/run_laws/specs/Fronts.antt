@@ -44,7 +44,9 @@ facts_at z n = (world_of z).facts n
 -- ---- what a mark adds
 
 abbrev pub owed_if : Facts → ℕ → ClusterKey → List ℕ → Version → Bool → Option Owed → Option Owed
-owed_if f n k d v true o = owes (record { node = n; key = k; digest = d; version = v }) (is_newer f.store.by v (finite.get f.store.content d))
+owed_if f n k d v true o =
+    owes (record { node = n; key = k; digest = d; version = v })
+    (is_newer f.store.by v (finite.get f.store.content d))
 owed_if f n k d v false o = o
 
 -- what a message makes due at its receiver
@@ -57,9 +59,12 @@ owed_at w None o = o
 owed_at w (Some x) o = owed_by (w.facts x.to) x.to x.message o
 
 abbrev pub owed_after : World → Line → Option Owed → Option Owed
-owed_after w (line.Deliver i a b) o = owed_at w (option_and_then (arrived b) (posting_at w.network i)) o
-owed_after w (line.Repeat i a b) o = owed_at w (option_and_then (arrived b) (posting_at w.network i)) o
-owed_after w (line.Cut i a b size) o = owed_at w (option_and_then (arrived_cut b size) (posting_at w.network i)) o
+owed_after w (line.Deliver i a b) o =
+    owed_at w (option_and_then (arrived b) (posting_at w.network i)) o
+owed_after w (line.Repeat i a b) o =
+    owed_at w (option_and_then (arrived b) (posting_at w.network i)) o
+owed_after w (line.Cut i a b size) o =
+    owed_at w (option_and_then (arrived_cut b size) (posting_at w.network i)) o
 owed_after w (line.Merge n k d v) o = None
 owed_after w _ o = o
 
@@ -71,8 +76,18 @@ closing_after (line.Stop n) c = changed_at c n false
 closing_after _ c = c
 
 abbrev pub front_after : Front → Mark → Front
-front_after z (Begins e) = record { chronicle = chronicle.chronicle_after z.chronicle (Begins e); owed = z.owed; closing = z.closing; lines = z.lines }
-front_after z (Writes l) = record { chronicle = chronicle.chronicle_after z.chronicle (Writes l); owed = owed_after (world_of z) l z.owed; closing = closing_after l z.closing; lines = z.lines + 1 }
+front_after z (Begins e) = record {
+  chronicle = chronicle.chronicle_after z.chronicle (Begins e);
+  owed = z.owed;
+  closing = z.closing;
+  lines = z.lines;
+}
+front_after z (Writes l) = record {
+  chronicle = chronicle.chronicle_after z.chronicle (Writes l);
+  owed = owed_after (world_of z) l z.owed;
+  closing = closing_after l z.closing;
+  lines = z.lines + 1;
+}
 
 -- marks one after another
 abbrev pub front_after_all : Front → List Mark → Front
@@ -83,23 +98,33 @@ front_after_all z (m ∷ ms) = front_after_all (front_after z m) ms
 
 -- a message as the picture has it
 abbrev pub packet_of : Posting → Packet
-packet_of p = record { from = p.from; to = p.to; size = length p.bytes; message = message_of p.bytes }
+packet_of p = record {
+  from = p.from;
+  to = p.to;
+  size = length p.bytes;
+  message = message_of p.bytes;
+}
 
 -- one node: what it keeps from view to view, and its stay in the view that it is in
-pub record NodeTie (f : Facts) (x : Seen) (stay_of : ClusterKey → Stay) (time : ℕ) (leaves : Bool) : Type 0 where
+pub record NodeTie (f : Facts) (x : Seen) (stay_of : ClusterKey → Stay) (time : ℕ) (leaves : Bool)
+    : Type 0 where
   pub seen : Seens f x
   pub clock : x.clock ≡ time
   pub stay : (v : View) → f.exchange.view ≡ Some v → Stays f (stay_of v.key)
   pub closing : (v : View) → f.exchange.view ≡ Some v → (stay_of v.key).closing ≡ leaves
 
-pub record Ties (facts : ℕ → Facts) (clocks : ℕ → ℕ) (closing : ℕ → Bool) (net : Network) (due : Option Owed) (node : ℕ → Seen) (stay : ℕ → ClusterKey → Stay) (packet : ℕ → Option Packet) (owed : Option Owed) : Type 0 where
+pub record Ties (facts : ℕ → Facts) (clocks : ℕ → ℕ) (closing : ℕ → Bool) (net : Network)
+    (due : Option Owed) (node : ℕ → Seen) (stay : ℕ → ClusterKey → Stay)
+    (packet : ℕ → Option Packet) (owed : Option Owed) : Type 0 where
   pub nodes : (n : ℕ) → NodeTie (facts n) (node n) (stay n) (clocks n) (closing n)
   pub packets : (i : ℕ) → packet i ≡ option_map packet_of (posting_at net i)
   pub owing : owed ≡ due
 
 -- the picture is tied to the front
 abbrev pub Tied : Front → Picture → Type 0
-Tied z w = Ties (world_of z).facts (world_of z).clocks z.closing (world_of z).network z.owed w.node w.stay w.packet w.owed
+Tied z w =
+    Ties (world_of z).facts (world_of z).clocks z.closing (world_of z).network z.owed w.node w.stay
+    w.packet w.owed
 
 -- ---- what holds of the facts at every line
 
@@ -111,7 +136,8 @@ pub record SaneNode (G : Ground) (n : ℕ) (f : Facts) : Type 0 where
   pub view : (v : View) → f.exchange.view ≡ Some v → Views G v.key f
   pub member : (v : View) → f.exchange.view ≡ Some v → is_view_member G v.key n ≡ true
   -- once the exchange is over, rows are those of the ground; before it is, nothing is handed on
-  pub rows : (v : View) → f.exchange.view ≡ Some v → f.exchange.exchanged ≡ true → RowsAgree G v.key f.exchange.rows
+  pub rows : (v : View) → f.exchange.view ≡ Some v → f.exchange.exchanged ≡ true
+      → RowsAgree G v.key f.exchange.rows
   pub quiet : f.exchange.exchanged ≡ false → f.batches ≡ []
   pub places : Places f
   -- no transaction has a number above the last one

@@ -57,7 +57,8 @@ pub record OpenDue (z : Front) (n : ℕ) (k : ClusterKey) (t : ℕ) (d : List �
   pub wanted : (a : Action) → IsWant (request_want (world_of z).want a)
 
 -- the body keeps its range where the want does
-pub record ApplyDue (z : Front) (n : ℕ) (k : ClusterKey) (t : ℕ) (d : List ℕ) (v : Version) : Type 0 where
+pub record ApplyDue (z : Front) (n : ℕ) (k : ClusterKey) (t : ℕ) (d : List ℕ) (v : Version)
+    : Type 0 where
   pub applies : ApplyOk z n k t d v
   pub body : IsWant applies.item.want → IsBody v.body
 
@@ -91,10 +92,14 @@ FactDue z (line.Apply n k t d v) = ApplyDue z n k t d v
 FactDue z (line.Done n k t) = FinishOk z n k t
 FactDue z (line.Aborted n k t) = GiveUpOk z n k
 FactDue z (line.Doubt n k t) = GiveUpOk z n k
-FactDue z (line.Handed n k p) = SettlingOk z n k p (may_hand (facts_at z n) (list_at (facts_at z n) p) p)
-FactDue z (line.Settled n k p) = SettlingOk z n k p (may_settle (facts_at z n) (list_at (facts_at z n) p) p)
-FactDue z (line.Learn n k p) = SettlingOk z n k p (is_to_learn (facts_at z n) (list_at (facts_at z n) p) p)
-FactDue z (line.Drop n k p) = SettlingOk z n k p (is_to_drop (facts_at z n) (list_at (facts_at z n) p) p)
+FactDue z (line.Handed n k p) =
+    SettlingOk z n k p (may_hand (facts_at z n) (list_at (facts_at z n) p) p)
+FactDue z (line.Settled n k p) =
+    SettlingOk z n k p (may_settle (facts_at z n) (list_at (facts_at z n) p) p)
+FactDue z (line.Learn n k p) =
+    SettlingOk z n k p (is_to_learn (facts_at z n) (list_at (facts_at z n) p) p)
+FactDue z (line.Drop n k p) =
+    SettlingOk z n k p (is_to_drop (facts_at z n) (list_at (facts_at z n) p) p)
 FactDue z (line.Sent i a b bytes) = SentDue z i a b bytes
 FactDue z (line.Deliver i a b) = ArrivesOk z i b
 FactDue z (line.Repeat i a b) = ArrivesOk z i b
@@ -137,14 +142,19 @@ DueMarks z (Writes l ∷ ms) = LineMay z l × DueMarks (front_after z (Writes l)
 
 -- whom a transaction awaits after its write, where the partition has that list
 abbrev pub Acks : ℕ → List ℕ → ℕ → Transaction → Type 0
-Acks me l factor y = (w : Write) → y.applied ≡ Some w → (r : ℕ) → contains y.awaiting r ≡ true → (contains (replicas l factor) r ≡ true) × (r ≡ me → ⊥)
+Acks me l factor y =
+    (w : Write) → y.applied ≡ Some w → (r : ℕ) → contains y.awaiting r ≡ true
+    → (contains (replicas l factor) r ≡ true) × (r ≡ me → ⊥)
 
 -- the parts of a node's facts: its number, how its versions compare and how many replicas there are, its exchange, its rows of bits, its
 -- transactions and what it hands on
-pub record NodeLaw (by : Policy) (factor : ℕ) (me : ℕ) (own_by : Policy) (own_factor : ℕ) (e : Exchange) (handed settled own_handed own_settled : List Bool) (ts : Transactions) (targets : Targets) : Type 0 where
+pub record NodeLaw (by : Policy) (factor : ℕ) (me : ℕ) (own_by : Policy) (own_factor : ℕ)
+    (e : Exchange) (handed settled own_handed own_settled : List Bool) (ts : Transactions)
+    (targets : Targets) : Type 0 where
   pub same_by : own_by ≡ by
   pub same_factor : own_factor ≡ factor
-  pub full : (v : View) → e.view ≡ Some v → e.exchanged ≡ true → first_missing e.rows v.members ≡ None
+  pub full : (v : View) → e.view ≡ Some v → e.exchanged ≡ true
+      → first_missing e.rows v.members ≡ None
   pub inside : e.view ≡ None → e.exchanged ≡ false
   -- the node's own row is there
   pub own : (v : View) → e.view ≡ Some v → lacks e.rows me ≡ false
@@ -156,24 +166,32 @@ pub record NodeLaw (by : Policy) (factor : ℕ) (me : ℕ) (own_by : Policy) (ow
   pub counted : (t : ℕ) → ts.opened < t → transaction ts t ≡ None
   -- what runs is found by its number, and after its write it awaits other replicas alone
   pub runs : (y : Transaction) → Among ts.running y → transaction ts y.number ≡ Some y
-  pub acks : (y : Transaction) → Among ts.running y → Acks me (list (members_of e.view) (partition_of y.digest)) own_factor y
+  pub acks : (y : Transaction) → Among ts.running y
+      → Acks me (list (members_of e.view) (partition_of y.digest)) own_factor y
   -- what is handed on is found by its receiver, and a batch that is out is of the view
   pub aims : (t : Target) → Among targets t → target targets t.node ≡ Some t
-  pub outs : (t : Target) → Among targets t → (b : Batch) → t.out ≡ Some b → key_in e.view ≡ Some b.key
+  pub outs : (t : Target) → Among targets t → (b : Batch) → t.out ≡ Some b
+      → key_in e.view ≡ Some b.key
 
 abbrev pub LawOf : Policy → ℕ → Facts → Type 0
-LawOf by factor f = NodeLaw by factor f.me f.store.by f.factor f.exchange f.bits.handed f.bits.settled f.bits.own_handed f.bits.own_settled f.transactions f.batches
+LawOf by factor f =
+    NodeLaw by factor f.me f.store.by f.factor f.exchange f.bits.handed f.bits.settled
+    f.bits.own_handed f.bits.own_settled f.transactions f.batches
 
 -- who is heard, who stands in a list and who sends a heartbeat is declared
 pub record DeclaredLaw (z : Front) : Type 0 where
-  pub lists : (k : ClusterKey) (ms : List Member) (m : ℕ) → z.chronicle.traced.lists k ≡ Some ms → is_member ms m ≡ true → IsDeclared z m
+  pub lists : (k : ClusterKey) (ms : List Member) (m : ℕ) → z.chronicle.traced.lists k ≡ Some ms
+      → is_member ms m ≡ true → IsDeclared z m
   pub heard : (n : ℕ) → Each (λ (e : ℕ × Heard). IsDeclared z e.0) (facts_at z n).hearing.heard
-  pub beats : (i : ℕ) (p : Posting) (view promised : ClusterKey) (hears : List ℕ) (role : Role) → slice_get (world_of z).network.sent i ≡ Some p → message_of p.bytes ≡ Some (message.Heartbeat view promised hears role) → IsDeclared z p.from
+  pub beats : (i : ℕ) (p : Posting) (view promised : ClusterKey) (hears : List ℕ) (role : Role)
+      → slice_get (world_of z).network.sent i ≡ Some p
+      → message_of p.bytes ≡ Some (message.Heartbeat view promised hears role) → IsDeclared z p.from
 
 pub record LawfulFront (by : Policy) (factor : ℕ) (z : Front) : Type 0 where
   pub sound : Sound z.chronicle.traced
   pub rowed : Rowed z.chronicle
   pub nodes : (n : ℕ) → LawOf by factor (facts_at z n)
   -- the key that a node entered last is the greatest of those that it entered
-  pub visited : (n : ℕ) (k : ClusterKey) → z.chronicle.traced.entered n k ≡ true → KeyAtMost k (facts_at z n).agreement.last
+  pub visited : (n : ℕ) (k : ClusterKey) → z.chronicle.traced.entered n k ≡ true
+      → KeyAtMost k (facts_at z n).agreement.last
   pub declared : DeclaredLaw z

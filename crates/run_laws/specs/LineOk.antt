@@ -62,7 +62,8 @@ IsDeclared z n = IsTrue (contains (world_of z).nodes n)
 
 -- ---- views
 
-pub record EnterOk (G : Ground) (z : Front) (n : ℕ) (k : ClusterKey) (ms : List Member) : Type 0 where
+pub record EnterOk (G : Ground) (z : Front) (n : ℕ) (k : ClusterKey) (ms : List Member)
+    : Type 0 where
   pub above : key_lt (facts_at z n).agreement.last k ≡ true
   pub members : ms ≡ G.members k
   pub member : is_view_member G k n ≡ true
@@ -81,19 +82,22 @@ pub record OpenOk (z : Front) (n : ℕ) (k : ClusterKey) (t : ℕ) (d : List ℕ
   pub acts : acts (facts_at z n) (list_at (facts_at z n) (partition_of d)) (partition_of d) ≡ true
   pub free : transaction_on (facts_at z n).transactions d ≡ None
 
-pub record Resolves (z : Front) (n : ℕ) (k : ClusterKey) (t : ℕ) (d : List ℕ) (y : Transaction) : Type 0 where
+pub record Resolves (z : Front) (n : ℕ) (k : ClusterKey) (t : ℕ) (d : List ℕ) (y : Transaction)
+    : Type 0 where
   pub stands : StandsInView z n k
   pub running : transaction (facts_at z n).transactions t ≡ Some y
   pub digest : y.digest ≡ d
   pub unapplied : y.applied ≡ None
   pub answered : y.awaiting ≡ []
 
-pub record AnswerOk (z : Front) (n : ℕ) (k : ClusterKey) (t : ℕ) (d : List ℕ) (v : Option Version) : Type 0 where
+pub record AnswerOk (z : Front) (n : ℕ) (k : ClusterKey) (t : ℕ) (d : List ℕ) (v : Option Version)
+    : Type 0 where
   pub item : Transaction
   pub resolves : Resolves z n k t d item
   pub best : v ≡ item.best
 
-pub record ApplyOk (z : Front) (n : ℕ) (k : ClusterKey) (t : ℕ) (d : List ℕ) (v : Version) : Type 0 where
+pub record ApplyOk (z : Front) (n : ℕ) (k : ClusterKey) (t : ℕ) (d : List ℕ) (v : Version)
+    : Type 0 where
   pub item : Transaction
   pub resolves : Resolves z n k t d item
   pub next : v ≡ next item.best ((world_of z).clocks n) v.body
@@ -113,20 +117,25 @@ pub record GiveUpOk (z : Front) (n : ℕ) (k : ClusterKey) : Type 0 where
 
 -- ---- copies
 
-pub record Counted (z : Front) (n : ℕ) (k : ClusterKey) (d : List ℕ) (v : Version) (from : ℕ) : Type 0 where
+pub record Counted (z : Front) (n : ℕ) (k : ClusterKey) (d : List ℕ) (v : Version) (from : ℕ)
+    : Type 0 where
   pub number : ℕ
   pub nth : ℕ
   pub came : Came z from n (message.Repl k number nth d v)
-  pub counted : from ≡ list_master (list_at (facts_at z n) (partition_of d)) → contains (numbers_at (facts_at z n).writes (partition_of d)) nth ≡ true
+  pub counted : from ≡ list_master (list_at (facts_at z n) (partition_of d))
+      → contains (numbers_at (facts_at z n).writes (partition_of d)) nth ≡ true
 
 abbrev pub Brings : Front → ℕ → ClusterKey → List ℕ → Version → ℕ → Type 0
-Brings z n k d v from = ((b : Batch) × Came z from n (message.Batch b) × (b.key ≡ k) × IsAmong b.records d v) ⊎ Counted z n k d v from
+Brings z n k d v from =
+    ((b : Batch) × Came z from n (message.Batch b) × (b.key ≡ k) × IsAmong b.records d v)
+    ⊎ Counted z n k d v from
 
 pub record MergeOk (z : Front) (n : ℕ) (k : ClusterKey) (d : List ℕ) (v : Version) : Type 0 where
   pub stands : StandsInView z n k
   pub from : ℕ
   pub brings : Brings z n k d v from
-  pub owed : (o : Owed) → z.owed ≡ Some o → o ≡ record { node = n; key = k; digest = d; version = v }
+  pub owed : (o : Owed) → z.owed ≡ Some o
+      → o ≡ record { node = n; key = k; digest = d; version = v }
   pub declared : IsDeclared z n
 
 -- a line of settling passes its test
@@ -136,7 +145,8 @@ pub record SettlingOk (z : Front) (n : ℕ) (k : ClusterKey) (p : ℕ) (test : B
 
 -- ---- messages
 
-pub record StateOk (G : Ground) (z : Front) (n : ℕ) (k : ClusterKey) (states : List (ℕ × CopyState)) : Type 0 where
+pub record StateOk (G : Ground) (z : Front) (n : ℕ) (k : ClusterKey) (states : List (ℕ × CopyState))
+    : Type 0 where
   pub stands : StandsInView z n k
   pub row : (p : ℕ) → state_of states p ≡ G.row k n p
 
@@ -144,7 +154,8 @@ pub record StateOk (G : Ground) (z : Front) (n : ℕ) (k : ClusterKey) (states :
 pub record NewBatch (f : Facts) (t : Target) (b : Batch) : Type 0 where
   pub none : t.out ≡ None
   pub number : b.number ≡ t.batches + 1
-  pub held : (d : List ℕ) (v : Version) → IsAmong b.records d v → finite.get f.store.content d ≡ Some v
+  pub held : (d : List ℕ) (v : Version) → IsAmong b.records d v
+      → finite.get f.store.content d ≡ Some v
   pub pending : (d : List ℕ) (v : Version) → IsAmong b.records d v → has_pending (Some t) d ≡ true
 
 pub record BatchOk (z : Front) (n r : ℕ) (b : Batch) : Type 0 where
@@ -159,21 +170,26 @@ pub record BatchAckOk (z : Front) (n r : ℕ) (k : ClusterKey) (number : ℕ) : 
   pub batch : Batch
   pub named : (batch.key ≡ k) × (batch.number ≡ number)
   pub came : Came z r n (message.Batch batch)
-  pub held : (d : List ℕ) (v : Version) → IsAmong batch.records d v → AtMost (facts_at z n).store.by (Some v) (finite.get (facts_at z n).store.content d)
+  pub held : (d : List ℕ) (v : Version) → IsAmong batch.records d v
+      → AtMost (facts_at z n).store.by (Some v) (finite.get (facts_at z n).store.content d)
 
-pub record ProgressOk (z : Front) (n : ℕ) (k : ClusterKey) (done_bits handed_bits settled_bits : List Bool) : Type 0 where
+pub record ProgressOk (z : Front) (n : ℕ) (k : ClusterKey)
+    (done_bits handed_bits settled_bits : List Bool) : Type 0 where
   pub stands : StandsInView z n k
   pub done : (p : ℕ) → bit done_bits p ≡ true → is_done (facts_at z n) p ≡ true
   pub handed : (p : ℕ) → bit handed_bits p ≡ true → bit (facts_at z n).bits.handed p ≡ true
   pub settled : (p : ℕ) → bit settled_bits p ≡ true → bit (facts_at z n).bits.settled p ≡ true
 
-pub record ReplOk (z : Front) (n r : ℕ) (k : ClusterKey) (t nth : ℕ) (d : List ℕ) (v : Version) : Type 0 where
+pub record ReplOk (z : Front) (n r : ℕ) (k : ClusterKey) (t nth : ℕ) (d : List ℕ) (v : Version)
+    : Type 0 where
   pub stands : StandsInView z n k
   pub item : Transaction
   pub running : transaction (facts_at z n).transactions t ≡ Some item
   pub digest : item.digest ≡ d
   pub applied : item.applied ≡ Some (record { version = v; nth = nth })
-  pub replica : contains (replicas (list_at (facts_at z n) (partition_of d)) (facts_at z n).factor) r ≡ true
+  pub replica : contains (replicas (list_at (facts_at z n) (partition_of d)) (facts_at z n).factor)
+      r
+      ≡ true
   pub other : r ≡ n → ⊥
 
 pub record ReplAckOk (z : Front) (n r : ℕ) (k : ClusterKey) (t : ℕ) : Type 0 where
@@ -182,8 +198,10 @@ pub record ReplAckOk (z : Front) (n r : ℕ) (k : ClusterKey) (t : ℕ) : Type 0
   pub digest : List ℕ
   pub version : Version
   pub came : Came z r n (message.Repl k t nth digest version)
-  pub counted : r ≡ list_master (list_at (facts_at z n) (partition_of digest)) → contains (numbers_at (facts_at z n).writes (partition_of digest)) nth ≡ true
-  pub held : AtMost (facts_at z n).store.by (Some version) (finite.get (facts_at z n).store.content digest)
+  pub counted : r ≡ list_master (list_at (facts_at z n) (partition_of digest))
+      → contains (numbers_at (facts_at z n).writes (partition_of digest)) nth ≡ true
+  pub held : AtMost (facts_at z n).store.by (Some version)
+      (finite.get (facts_at z n).store.content digest)
 
 pub record AskOk (z : Front) (n : ℕ) (k : ClusterKey) (t : ℕ) (d : List ℕ) : Type 0 where
   pub stands : StandsInView z n k
@@ -191,7 +209,8 @@ pub record AskOk (z : Front) (n : ℕ) (k : ClusterKey) (t : ℕ) (d : List ℕ)
   pub running : transaction (facts_at z n).transactions t ≡ Some item
   pub digest : item.digest ≡ d
 
-pub record ReplyOk (z : Front) (n r : ℕ) (k : ClusterKey) (t : ℕ) (v : Option Version) : Type 0 where
+pub record ReplyOk (z : Front) (n r : ℕ) (k : ClusterKey) (t : ℕ) (v : Option Version)
+    : Type 0 where
   pub stands : StandsInView z n k
   pub digest : List ℕ
   pub came : Came z r n (message.Ask k t digest)
@@ -222,7 +241,8 @@ abbrev pub ArrivesOk : Front → ℕ → ℕ → Type 0
 ArrivesOk z i b = (p : Posting) → posting_at (world_of z).network i ≡ Some p → p.to ≡ b
 
 -- a map is shown by a node in its view, whose exchange is over
-pub record MapOk (z : Front) (n : ℕ) (k : ClusterKey) (p : ℕ) (ms : List Member) (a : ℕ) : Type 0 where
+pub record MapOk (z : Front) (n : ℕ) (k : ClusterKey) (p : ℕ) (ms : List Member) (a : ℕ)
+    : Type 0 where
   pub stands : StandsInView z n k
   pub exchanged : (facts_at z n).exchange.exchanged ≡ true
   pub shown : ms ≡ with_roles (members_of_view (facts_at z n)) (list_at (facts_at z n) p)
@@ -250,10 +270,14 @@ FactOk G z (line.Apply n k t d v) = ApplyOk z n k t d v
 FactOk G z (line.Done n k t) = FinishOk z n k t
 FactOk G z (line.Aborted n k t) = GiveUpOk z n k
 FactOk G z (line.Doubt n k t) = GiveUpOk z n k
-FactOk G z (line.Handed n k p) = SettlingOk z n k p (may_hand (facts_at z n) (list_at (facts_at z n) p) p)
-FactOk G z (line.Settled n k p) = SettlingOk z n k p (may_settle (facts_at z n) (list_at (facts_at z n) p) p)
-FactOk G z (line.Learn n k p) = SettlingOk z n k p (is_to_learn (facts_at z n) (list_at (facts_at z n) p) p)
-FactOk G z (line.Drop n k p) = SettlingOk z n k p (is_to_drop (facts_at z n) (list_at (facts_at z n) p) p)
+FactOk G z (line.Handed n k p) =
+    SettlingOk z n k p (may_hand (facts_at z n) (list_at (facts_at z n) p) p)
+FactOk G z (line.Settled n k p) =
+    SettlingOk z n k p (may_settle (facts_at z n) (list_at (facts_at z n) p) p)
+FactOk G z (line.Learn n k p) =
+    SettlingOk z n k p (is_to_learn (facts_at z n) (list_at (facts_at z n) p) p)
+FactOk G z (line.Drop n k p) =
+    SettlingOk z n k p (is_to_drop (facts_at z n) (list_at (facts_at z n) p) p)
 FactOk G z (line.Sent i a b bytes) = SentOk G z i a b bytes
 FactOk G z (line.Deliver i a b) = ArrivesOk z i b
 FactOk G z (line.Repeat i a b) = ArrivesOk z i b

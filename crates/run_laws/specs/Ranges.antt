@@ -93,7 +93,8 @@ FitsTargets lines content ts = (t : Target) → Among ts t → FitsTarget lines 
 -- ---- a node, and all of them
 
 -- the parts of a node's facts
-pub record FitsRanges (lines : ℕ) (rows : List MemberRow) (store : Store) (w : Writes) (ts : Transactions) (targets : Targets) : Type 0 where
+pub record FitsRanges (lines : ℕ) (rows : List MemberRow) (store : Store) (w : Writes)
+    (ts : Transactions) (targets : Targets) : Type 0 where
   pub each_row : Each (λ (r : MemberRow). IsStateRowField r.row) rows
   pub content : FitsContent store.content
   pub stamps : FitsStamps store.stamps

@@ -58,11 +58,13 @@ is_ranged _ = false
 
 -- each of these messages of the view is read as it was spelled: so it is where numbers, digests, versions and rows keep their ranges
 abbrev pub AreReadInRange : List (ℕ × Message) → Type 0
-AreReadInRange ss = Each (λ (s : ℕ × Message). is_ranged s.1 ≡ true → message_of (spelling s.1) ≡ Some s.1) ss
+AreReadInRange ss =
+    Each (λ (s : ℕ × Message). is_ranged s.1 ≡ true → message_of (spelling s.1) ≡ Some s.1) ss
 
 abbrev pub SendsRead : World → Event → Type 0
 SendsRead w e = AreReadInRange (sends_of w e)
 
 -- who is in a view is declared
 abbrev pub ViewsDeclared : World → Type 0
-ViewsDeclared w = (n : ℕ) (v : View) → (w.facts n).exchange.view ≡ Some v → IsTrue (contains w.nodes n)
+ViewsDeclared w =
+    (n : ℕ) (v : View) → (w.facts n).exchange.view ≡ Some v → IsTrue (contains w.nodes n)

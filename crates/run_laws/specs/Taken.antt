@@ -46,7 +46,12 @@ pub record Taken (h : Header) (ss : List Step) : Type 0 where
 
 -- before the first step
 abbrev pub first : Header → Front
-first h = record { chronicle = record { traced = untouched (opened h); rows = λ n k. [] }; owed = None; closing = λ n. false; lines = 0 }
+first h = record {
+  chronicle = record { traced = untouched (opened h); rows = λ n k. [] };
+  owed = None;
+  closing = λ n. false;
+  lines = 0;
+}
 
 -- the ground of steps: what their history says at its end
 abbrev pub ground_of : Header → List Step → Ground

@@ -47,17 +47,22 @@ pub record KnowsNodes (h : Header) (w : World) : Type 0 where
 
 -- each message that was sent and is read as one comes so to its receiver
 abbrev pub MessagesCome : Header → World → Type 0
-MessagesCome h w = (i : ℕ) (p : Posting) (m : Message) → posting_at w.network i ≡ Some p → message_of p.bytes ≡ Some m → ComesFrom (w.facts p.to) p.from m
+MessagesCome h w =
+    (i : ℕ) (p : Posting) (m : Message) → posting_at w.network i ≡ Some p
+    → message_of p.bytes ≡ Some m → ComesFrom (w.facts p.to) p.from m
 
 -- each was sent to a declared node, or to the client
 abbrev pub HaveReceivers : Header → World → Type 0
-HaveReceivers h w = (i : ℕ) (p : Posting) → posting_at w.network i ≡ Some p → (p.to ≡ client) ⊎ Contains (declared_nodes h) p.to
+HaveReceivers h w =
+    (i : ℕ) (p : Posting) → posting_at w.network i ≡ Some p
+    → (p.to ≡ client) ⊎ Contains (declared_nodes h) p.to
 
 -- ---- the client
 
 -- the node that the client asks for a partition is declared
 abbrev pub AsksDeclared : Header → World → Type 0
-AsksDeclared h w = (p n : ℕ) → p < partition_count → node_for w.tables p ≡ Some n → Contains (declared_nodes h) n
+AsksDeclared h w =
+    (p n : ℕ) → p < partition_count → node_for w.tables p ≡ Some n → Contains (declared_nodes h) n
 
 -- ---- numbers
 
@@ -69,16 +74,24 @@ pub record CountsBelow (limit : ℕ) (f : Facts) : Type 0 where
 
 -- where there are fewer lines than that, no node has counted so far
 abbrev pub CountsFew : Type 0
-CountsFew = (h : Header) (ss : List Step) → Taken h ss → (limit : ℕ) → length (all_lines ss) < limit → (n : ℕ) → CountsBelow limit ((world_after h ss).facts n)
+CountsFew =
+    (h : Header) (ss : List Step)
+    → Taken h ss → (limit : ℕ) → length (all_lines ss) < limit → (n : ℕ)
+    → CountsBelow limit ((world_after h ss).facts n)
 
 -- ---- what is sent
 
 -- what is due of a node is read as it was sent: of a tick, of a request that keeps its ranges, and of a message that was sent
 pub record SendsAreRead (w : World) : Type 0 where
   pub tick : (n : ℕ) → is_up w n ≡ true → AreRead (due_tick (w.facts n)).sends
-  pub request : (n : ℕ) (d : List ℕ) (q : Want) → IsDigest d → IsWant q → AreRead (due_request (w.facts n) (w.clocks n) d q).sends
-  pub message : (i : ℕ) (p : Posting) (m : Message) → posting_at w.network i ≡ Some p → message_of p.bytes ≡ Some m → is_up w p.to ≡ true → AreRead (due_message (w.facts p.to) (w.clocks p.to) p.from m).sends
+  pub request : (n : ℕ) (d : List ℕ) (q : Want) → IsDigest d → IsWant q
+      → AreRead (due_request (w.facts n) (w.clocks n) d q).sends
+  pub message : (i : ℕ) (p : Posting) (m : Message) → posting_at w.network i ≡ Some p
+      → message_of p.bytes ≡ Some m → is_up w p.to ≡ true
+      → AreRead (due_message (w.facts p.to) (w.clocks p.to) p.from m).sends
 
 -- where a number is left for one line more
 abbrev pub SendsRead : Type 0
-SendsRead = (h : Header) (ss : List Step) → Taken h ss → length (all_lines ss) + 1 < line_bound → SendsAreRead (world_after h ss)
+SendsRead =
+    (h : Header) (ss : List Step) → Taken h ss → length (all_lines ss) + 1 < line_bound
+    → SendsAreRead (world_after h ss)

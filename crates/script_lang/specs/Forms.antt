@@ -27,7 +27,8 @@ script before fields =
 
 -- `factor F`
 abbrev pub factor : List (List ℕ) → Result HeaderLine Cause
-factor fields = and_then (count.one fields) (λ field. map_ok (λ n. header.Factor n) (value.factor field))
+factor fields =
+    and_then (count.one fields) (λ field. map_ok (λ n. header.Factor n) (value.factor field))
 
 abbrev pub optional_rack : Option (List ℕ) → Result (Option ℕ) Cause
 optional_rack None = Ok None
@@ -35,7 +36,9 @@ optional_rack (Some field) = map_ok Some (value.rack field)
 
 -- `node N`
 abbrev pub plain_node : Before → List (List ℕ) → Result HeaderLine Cause
-plain_node before fields = and_then (count.one fields) (λ field. map_ok (λ id. header.Node id None) (value.new_node before field))
+plain_node before fields =
+    and_then (count.one fields)
+    (λ field. map_ok (λ id. header.Node id None) (value.new_node before field))
 
 -- `node N` or `node N R`
 abbrev pub racked_node : Before → List (List ℕ) → Result HeaderLine Cause
@@ -45,11 +48,13 @@ racked_node before fields =
 
 -- the second form is version 2's
 abbrev pub node : Before → List (List ℕ) → Result HeaderLine Cause
-node before fields = if before.version == 2 then racked_node before fields else plain_node before fields
+node before fields =
+    if before.version == 2 then racked_node before fields else plain_node before fields
 
 -- `policy NAME`
 abbrev pub policy : List (List ℕ) → Result HeaderLine Cause
-policy fields = and_then (count.one fields) (λ field. map_ok (λ by. header.Policy by) (value.policy field))
+policy fields =
+    and_then (count.one fields) (λ field. map_ok (λ by. header.Policy by) (value.policy field))
 
 abbrev pub header_line : Before → HeaderWord → List (List ℕ) → Result HeaderLine Cause
 header_line before header_word.Script fields = script before fields
@@ -73,7 +78,8 @@ node_and_key before fields =
 abbrev pub node_key_and_value : Before → List (List ℕ) → Result (ℕ × List ℕ × List ℕ) Cause
 node_key_and_value before fields =
     and_then (count.three fields) (λ parts. and_then (value.declared_node before parts.0) (λ id.
-    and_then (value.digest parts.1) (λ digest. map_ok (λ bytes. (id, digest, bytes)) (value.value parts.2))))
+    and_then (value.digest parts.1)
+    (λ digest. map_ok (λ bytes. (id, digest, bytes)) (value.value parts.2))))
 
 -- `KEY`
 abbrev pub key : List (List ℕ) → Result (List ℕ) Cause
@@ -111,7 +117,8 @@ cut fields =
 abbrev pub map : Before → List (List ℕ) → Result Command Cause
 map before fields =
     and_then (count.three fields) (λ parts. and_then (value.declared_node before parts.0) (λ id.
-    and_then (value.partition parts.1) (λ from. map_ok (λ to. command.Map id from to) (value.partition_from from parts.2))))
+    and_then (value.partition parts.1)
+    (λ from. map_ok (λ to. command.Map id from to) (value.partition_from from parts.2))))
 
 -- ---- groups
 
@@ -132,7 +139,8 @@ are_distinct (id ∷ ids) = not (value.is_one_of id ids) && are_distinct ids
 -- are declared, and no id stands twice
 abbrev pub are_whole : List ℕ → List (List ℕ) → Bool
 are_whole nodes groups =
-    length (concat groups) == length nodes && are_distinct (concat groups) && list_all (λ ids. nat_lt 0 (length ids)) groups
+    length (concat groups) == length nodes && are_distinct (concat groups)
+    && list_all (λ ids. nat_lt 0 (length ids)) groups
 
 -- the ids of each group, all of them declared
 abbrev pub group_ids : Before → List (List ℕ) → Result (List (List ℕ)) Cause
@@ -142,7 +150,8 @@ group_ids before fields = each (each (value.declared_node before)) (slice_split 
 abbrev pub groups : Before → List (List ℕ) → Result Command Cause
 groups before [] = Err MissingField
 groups before (field ∷ fields) =
-    and_then (group_ids before (field ∷ fields)) (λ lists. ok_if (are_whole before.nodes lists) (command.Groups lists) BadGroups)
+    and_then (group_ids before (field ∷ fields))
+    (λ lists. ok_if (are_whole before.nodes lists) (command.Groups lists) BadGroups)
 
 -- ---- the command of each word
 
@@ -152,22 +161,31 @@ command_line before word.Stop fields = map_ok (λ id. command.Stop id) (at_node 
 command_line before word.Start fields = map_ok (λ id. command.Start id) (at_node before fields)
 command_line before word.Ask fields = map_ok (λ id. command.Ask id) (at_node before fields)
 command_line before word.Quiesce fields = map_ok (λ id. command.Quiesce id) (at_node before fields)
-command_line before word.Unquiesce fields = map_ok (λ id. command.Unquiesce id) (at_node before fields)
-command_line before word.ProxyAgain fields = map_ok (λ id. command.ProxyAgain id) (at_node before fields)
+command_line before word.Unquiesce fields =
+    map_ok (λ id. command.Unquiesce id) (at_node before fields)
+command_line before word.ProxyAgain fields =
+    map_ok (λ id. command.ProxyAgain id) (at_node before fields)
 command_line before word.Get fields = map_ok (λ p. command.Get p.0 p.1) (node_and_key before fields)
 command_line before word.Del fields = map_ok (λ p. command.Del p.0 p.1) (node_and_key before fields)
-command_line before word.Show fields = map_ok (λ p. command.Show p.0 p.1) (node_and_key before fields)
-command_line before word.ProxyGet fields = map_ok (λ p. command.ProxyGet p.0 p.1) (node_and_key before fields)
-command_line before word.ProxyDel fields = map_ok (λ p. command.ProxyDel p.0 p.1) (node_and_key before fields)
-command_line before word.Put fields = map_ok (λ p. command.Put p.0 p.1 p.2) (node_key_and_value before fields)
-command_line before word.ProxyPut fields = map_ok (λ p. command.ProxyPut p.0 p.1 p.2) (node_key_and_value before fields)
+command_line before word.Show fields =
+    map_ok (λ p. command.Show p.0 p.1) (node_and_key before fields)
+command_line before word.ProxyGet fields =
+    map_ok (λ p. command.ProxyGet p.0 p.1) (node_and_key before fields)
+command_line before word.ProxyDel fields =
+    map_ok (λ p. command.ProxyDel p.0 p.1) (node_and_key before fields)
+command_line before word.Put fields =
+    map_ok (λ p. command.Put p.0 p.1 p.2) (node_key_and_value before fields)
+command_line before word.ProxyPut fields =
+    map_ok (λ p. command.ProxyPut p.0 p.1 p.2) (node_key_and_value before fields)
 command_line before word.ClientGet fields = map_ok (λ digest. command.ClientGet digest) (key fields)
 command_line before word.ClientDel fields = map_ok (λ digest. command.ClientDel digest) (key fields)
 command_line before word.CallGet fields = map_ok (λ digest. command.CallGet digest) (key fields)
 command_line before word.CallDel fields = map_ok (λ digest. command.CallDel digest) (key fields)
 command_line before word.Hash fields = map_ok (λ digest. command.Hash digest) (key fields)
-command_line before word.ClientPut fields = map_ok (λ p. command.ClientPut p.0 p.1) (key_and_value fields)
-command_line before word.CallPut fields = map_ok (λ p. command.CallPut p.0 p.1) (key_and_value fields)
+command_line before word.ClientPut fields =
+    map_ok (λ p. command.ClientPut p.0 p.1) (key_and_value fields)
+command_line before word.CallPut fields =
+    map_ok (λ p. command.CallPut p.0 p.1) (key_and_value fields)
 command_line before word.Deliver fields = map_ok (λ n. command.Deliver n) (number fields)
 command_line before word.Repeat fields = map_ok (λ n. command.Repeat n) (number fields)
 command_line before word.Lose fields = map_ok (λ n. command.Lose n) (number fields)

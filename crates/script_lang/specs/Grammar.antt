@@ -24,8 +24,10 @@ pub record Fault : Type 0 where
 
 -- what a line of that word says
 abbrev pub line_of_word : Before → Word → List (List ℕ) → Result Line Cause
-line_of_word before (word.Header w) fields = map_ok (λ said. line.Header said) (header_line before w fields)
-line_of_word before (word.Command w) fields = map_ok (λ said. line.Command said) (command_line before w fields)
+line_of_word before (word.Header w) fields =
+    map_ok (λ said. line.Header said) (header_line before w fields)
+line_of_word before (word.Command w) fields =
+    map_ok (λ said. line.Command said) (command_line before w fields)
 
 -- the word where a line of it may stand: it is served, and a header line stands before the commands
 abbrev pub word_standing : Before → Option Word → Result Word Cause
@@ -41,7 +43,8 @@ known_word before first = word_standing before (word_of before.version first)
 
 abbrev pub line_of_fields : Before → List (List ℕ) → Result Line Cause
 line_of_fields before [] = Ok line.Nothing
-line_of_fields before (first ∷ fields) = and_then (known_word before first) (λ w. line_of_word before w fields)
+line_of_fields before (first ∷ fields) =
+    and_then (known_word before first) (λ w. line_of_word before w fields)
 
 -- what a line says after the lines before it: nothing where it is passed over, whatever its bytes
 abbrev pub line_of : Before → List ℕ → Result Line Cause
@@ -60,7 +63,8 @@ with_line script (line.Command said) = record script { commands = script.command
 
 -- the script with one line more
 abbrev pub script_after : Script → List ℕ → Result Script Cause
-script_after script text = map_ok (with_line script) (line_of (before_next script.header script.commands) text)
+script_after script text =
+    map_ok (with_line script) (line_of (before_next script.header script.commands) text)
 
 -- the script of the lines from this one on, behind what stands before; the first bad line counts
 abbrev pub script_from : ℕ → Script → List (List ℕ) → Result Script Fault

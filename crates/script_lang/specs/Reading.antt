@@ -32,8 +32,11 @@ fault_at line (line_fault.Bad cause) = At line cause
 fault_at line line_fault.NoMemory = NoMemory
 
 -- ids that could be read are put into groups
-abbrev pub GroupsIds : List ℕ → Result (List (List ℕ)) LineFault → Result (List (List ℕ)) Cause → Type 0
-GroupsIds nodes result read = (lists : List (List ℕ)) → read ≡ Ok lists → ReadsOutcome result (ok_if (are_whole nodes lists) lists BadGroups)
+abbrev pub GroupsIds : List ℕ → Result (List (List ℕ)) LineFault → Result (List (List ℕ)) Cause
+    → Type 0
+GroupsIds nodes result read =
+    (lists : List (List ℕ)) → read ≡ Ok lists
+    → ReadsOutcome result (ok_if (are_whole nodes lists) lists BadGroups)
 
 -- the fault is that of a script whose line of that number is so read, unless memory ran out
 abbrev pub RefusesAt : {Y : Type 0} → ℕ → Result Y Cause → ScriptFault → Type 0

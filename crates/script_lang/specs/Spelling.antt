@@ -127,7 +127,9 @@ abbrev pub line : List (List ℕ) → List ℕ
 line fields = join_with_byte 32 fields ++ 10 ∷ []
 
 abbrev pub script_text : Script → List ℕ
-script_text script = flat_map line (map header_fields script.header) ++ flat_map line (map command_fields script.commands)
+script_text script =
+    flat_map line (map header_fields script.header)
+    ++ flat_map line (map command_fields script.commands)
 
 -- ---- values that can be written so
 

@@ -20,14 +20,17 @@ is_digit b = nat_le 48 b && nat_le b 57
 
 -- 1 to 20 decimal digits with a value below 2^64
 abbrev pub is_number : List ℕ → Bool
-is_number text = nat_lt 0 (length text) && nat_le (length text) 20 && list_all is_digit text && nat_lt (digits_value 10 text) (2 ^ 64)
+is_number text =
+    nat_lt 0 (length text) && nat_le (length text) 20 && list_all is_digit text
+    && nat_lt (digits_value 10 text) (2 ^ 64)
 
 abbrev pub number : List ℕ → Result ℕ Cause
 number text = ok_if (is_number text) (digits_value 10 text) BadNumber
 
 -- a number from the first limit to the second
 abbrev pub number_within : ℕ → ℕ → List ℕ → Result ℕ Cause
-number_within low high text = and_then (number text) (λ n. ok_if (nat_le low n && nat_le n high) n BadNumber)
+number_within low high text =
+    and_then (number text) (λ n. ok_if (nat_le low n && nat_le n high) n BadNumber)
 
 -- a version of the language: 1 or 2
 abbrev pub version : List ℕ → Result ℕ Cause
@@ -60,12 +63,14 @@ is_one_of id ids = list_any (λ n. n == id) ids
 
 -- a node that is declared
 abbrev pub declared_node : Before → List ℕ → Result ℕ Cause
-declared_node before text = and_then (node text) (λ id. ok_if (is_one_of id before.nodes) id UnknownNode)
+declared_node before text =
+    and_then (node text) (λ id. ok_if (is_one_of id before.nodes) id UnknownNode)
 
 -- a node that isn't declared yet, where fewer than sixteen are
 abbrev pub new_node : Before → List ℕ → Result ℕ Cause
 new_node before text =
-    and_then (node text) (λ id. if is_one_of id before.nodes then Err RepeatedNode else ok_if (nat_lt (length before.nodes) 16) id TooManyNodes)
+    and_then (node text) (λ id. if is_one_of id before.nodes then Err RepeatedNode
+    else ok_if (nat_lt (length before.nodes) 16) id TooManyNodes)
 
 -- ---- keys, values and policies
 
@@ -80,7 +85,8 @@ is_slash b = b == 47
 -- the set's name is empty
 abbrev pub named_digest : List ℕ → List ℕ
 named_digest text =
-    if list_any is_slash text then digest_of (before_first is_slash text) (after_first is_slash text)
+    if list_any is_slash text
+    then digest_of (before_first is_slash text) (after_first is_slash text)
     else digest_of [] text
 
 -- a key as its digest: behind `#` the digest itself, and otherwise a key by name

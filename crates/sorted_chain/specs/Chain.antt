@@ -19,7 +19,9 @@ pub record Chain (V : Type 0) : Type 0 where
   pub spare : ℕ
 
 abbrev pub chain_code : {V : Type 0} → Coded V → Coded (Chain V)
-chain_code {V} v = code_by (List (List ℕ × V) × ℕ) (coded× (coded_list (coded× (coded_list coded_ℕ) v)) coded_ℕ) (λ c. (c.items, c.spare)) (λ p. record { items = p.0; spare = p.1 }) (λ _. refl)
+chain_code {V} v =
+    code_by (List (List ℕ × V) × ℕ) (coded× (coded_list (coded× (coded_list coded_ℕ) v)) coded_ℕ)
+    (λ c. (c.items, c.spare)) (λ p. record { items = p.0; spare = p.1 }) (λ _. refl)
 
 -- the keys rise strictly
 abbrev pub IsAscending : {V : Type 0} → List (List ℕ × V) → Type 0

@@ -14,7 +14,9 @@ before_of ps (suc i) = slice_get ps i
 
 -- the head leads to the first node, and each node to the one after it
 abbrev pub IsLinked : {V : Type 0} → Option Place → List Place → List (Node V) → Type 0
-IsLinked {V} head ps ns = (head ≡ slice_get ps 0) × ((i : ℕ) (n : Node V) → slice_get ns i ≡ Some n → n.next ≡ slice_get ps (suc i))
+IsLinked {V} head ps ns =
+    (head ≡ slice_get ps 0)
+    × ((i : ℕ) (n : Node V) → slice_get ns i ≡ Some n → n.next ≡ slice_get ps (suc i))
 
 -- what a node holds
 abbrev pub pay : {V : Type 0} → Node V → List ℕ × Option V
@@ -42,15 +44,18 @@ IsFull ns = ns ≡ map full (entries ns)
 
 -- the keys before this place are below the key
 abbrev pub HasPassed : {V : Type 0} → List ℕ → List (List ℕ × V) → ℕ → Type 0
-HasPassed {V} k es n = (j : ℕ) (d : List ℕ × V) → j < n → j < length es → key_cmp (slice_index_or es j d).0 k ≡ Less
+HasPassed {V} k es n =
+    (j : ℕ) (d : List ℕ × V) → j < n → j < length es → key_cmp (slice_index_or es j d).0 k ≡ Less
 
 -- the node of the key is the i-th and lies there
-pub record IsNodeOf {V : Type 0} (k : List ℕ) (ps : List Place) (ns : List (Node V)) (i : ℕ) (at : Place) : Type 0 where
+pub record IsNodeOf {V : Type 0} (k : List ℕ) (ps : List Place) (ns : List (Node V)) (i : ℕ)
+    (at : Place) : Type 0 where
   pub here : IsHere k (entries (pays ns)) i
   pub at_is : slice_get ps i ≡ Some at
 
 -- the key has no node, and its node would be the i-th and lie between the two places
-pub record IsGapOf {V : Type 0} (k : List ℕ) (ps : List Place) (ns : List (Node V)) (i : ℕ) (before at : Option Place) : Type 0 where
+pub record IsGapOf {V : Type 0} (k : List ℕ) (ps : List Place) (ns : List (Node V)) (i : ℕ)
+    (before at : Option Place) : Type 0 where
   pub gap : IsGap k (entries (pays ns)) i
   pub before_is : before ≡ before_of ps i
   pub at_is : at ≡ slice_get ps i
@@ -60,7 +65,8 @@ abbrev pub LiesIn : List Place → Option Here → Type 0
 LiesIn ps here = IfSome here (λ h. slice_get ps h.index ≡ Some h.at)
 
 -- the gap at the i-th node lies between the two places, and the keys before it are below the key
-pub record IsPast {V : Type 0} (k : List ℕ) (ps : List Place) (ns : List (Node V)) (i : ℕ) (before at : Option Place) : Type 0 where
+pub record IsPast {V : Type 0} (k : List ℕ) (ps : List Place) (ns : List (Node V)) (i : ℕ)
+    (before at : Option Place) : Type 0 where
   pub within : i ≤ length ns
   pub passed : HasPassed k (entries (pays ns)) i
   pub before_is : before ≡ before_of ps i

@@ -12,5 +12,7 @@ pub record IsHere {V : Type 0} (k : List ℕ) (es : List (List ℕ × V)) (i : �
 -- the keys before this place are below the key, and those from it on are above
 pub record IsGap {V : Type 0} (k : List ℕ) (es : List (List ℕ × V)) (i : ℕ) : Type 0 where
   pub within : i ≤ length es
-  pub below : (j : ℕ) (d : List ℕ × V) → j < i → j < length es → key_cmp (slice_index_or es j d).0 k ≡ Less
-  pub above : (j : ℕ) (d : List ℕ × V) → i ≤ j → j < length es → key_cmp (slice_index_or es j d).0 k ≡ Greater
+  pub below : (j : ℕ) (d : List ℕ × V) → j < i → j < length es
+      → key_cmp (slice_index_or es j d).0 k ≡ Less
+  pub above : (j : ℕ) (d : List ℕ × V) → i ≤ j → j < length es
+      → key_cmp (slice_index_or es j d).0 k ≡ Greater

@@ -122,7 +122,8 @@ impl<T, A: Allocator> Boxes<T, A> {
 
     pub(crate) fn get_mut(&mut self, i: usize, at: Place) -> &mut T
         requires { slice_get self.old.places i ≡ Some at }
-        ensures* writes_back { sem 𝓛 (boxes_follow_item T.row A.row A.Allocator self.entry i result) }
+        ensures* writes_back { sem 𝓛
+            (boxes_follow_item T.row A.row A.Allocator self.entry i result) }
         ensures value { slice_get self.old.items i ≡ Some result.now }
     {
         unsafe { &mut *(at.ptr as *mut T) }

@@ -35,9 +35,13 @@ impl<V> Model for SortedChain<V> {
 
     ghost coded = { chain_code V.code };
 
-    ghost view = { λ c. record { items = entries (pays c.records.boxes.items); spare = c.spares.len } };
+    ghost view = { λ c.
+        record { items = entries (pays c.records.boxes.items); spare = c.spares.len } };
 
-    ghost invariant = { λ c. IsFull (pays c.records.boxes.items) × IsAscending (entries (pays c.records.boxes.items)) × (c.records.boxes.alloc ≡ c.alloc) × (c.spares.boxes.alloc ≡ c.alloc) × (c.records.len + c.spares.len < 2 ^ 62) × LiesIn c.records.boxes.places c.last };
+    ghost invariant = { λ c. IsFull (pays c.records.boxes.items)
+        × IsAscending (entries (pays c.records.boxes.items)) × (c.records.boxes.alloc ≡ c.alloc)
+        × (c.spares.boxes.alloc ≡ c.alloc) × (c.records.len + c.spares.len < 2 ^ 62)
+        × LiesIn c.records.boxes.places c.last };
 }
 
 impl<V> fmt::Debug for SortedChain<V> {
@@ -109,7 +113,8 @@ impl<V> SortedChain<V> {
 
     /// The first entry, or the first above a key.
     pub fn after(&self, k: Option<&[u8; 20]>) -> Option<(&[u8; 20], &V)>
-        ensures { option_map shown result ≡ slice_get (above (option_copied k.entry) self.now.items) 0 }
+        ensures { option_map shown result
+            ≡ slice_get (above (option_copied k.entry) self.now.items) 0 }
     {
         self.iter_after(k).next()
     }
@@ -153,7 +158,9 @@ impl<V: Drop> SortedChain<V> {
     pub fn put(&mut self, k: [u8; 20], v: V) -> Result<Option<V>, PutFault<V>>
         ensures items { OnOk result (self.new.items ≡ put_entry key_cmp k v self.old.items) }
         ensures replaced { IfOk result (λ o. o ≡ find key_cmp k self.old.items) }
-        ensures spare { OnOk result (self.new.spare ≡ (if has_key k self.old.items then self.old.spare else self.old.spare - 1)) }
+        ensures spare { OnOk result
+            (self.new.spare
+            ≡ (if has_key k self.old.items then self.old.spare else self.old.spare - 1)) }
         ensures unchanged { OnErr result (self.new ≡ self.old) }
         ensures handed_back { IfErr result (λ fault. fault.0 ≡ v) }
         ensures present { IsTrue (has_key k self.old.items) → IsOk result }
@@ -198,7 +205,8 @@ impl<V: Drop> Drop for SortedChain<V> {
 
 /// A node without a value, for a chain that has `len`.
 fn fresh<V: Drop>(alloc: Global, len: usize) -> Option<Box<Node<V>>>
-    ensures { IfSome result (λ b. (box_allocator b ≡ alloc) × (b.value.value ≡ None) × (len + 1 < 2 ^ 62)) }
+    ensures { IfSome result
+        (λ b. (box_allocator b ≡ alloc) × (b.value.value ≡ None) × (len + 1 < 2 ^ 62)) }
 {
     if LIMIT - 1 <= len {
         return None;
@@ -215,7 +223,8 @@ fn fresh<V: Drop>(alloc: Global, len: usize) -> Option<Box<Node<V>>>
 fn take_node<V: Drop>(spares: &mut LinkedList<V>, alloc: Global, len: usize) -> Option<Box<Node<V>>>
     requires alloc { alloc ≡ spares.old.boxes.alloc }
     requires few { len + spares.old.len < 2 ^ 62 }
-    ensures some { IfSome result (λ b. (box_allocator b ≡ alloc) × (len + spares.new.len + 1 < 2 ^ 62)) }
+    ensures some { IfSome result
+        (λ b. (box_allocator b ≡ alloc) × (len + spares.new.len + 1 < 2 ^ 62)) }
     ensures spare { spares.new.len ≡ spares.old.len - 1 }
     ensures none { IfNone result (spares.old.len ≡ 0) }
     ensures alloc { spares.new.boxes.alloc ≡ spares.old.boxes.alloc }

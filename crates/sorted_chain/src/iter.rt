@@ -22,7 +22,8 @@ impl<'a, V> Model for Iter<'a, V> {
 
     ghost view = { λ it. drop it.index (entries (pays it.records.now.boxes.items)) };
 
-    ghost invariant = { λ it. IsFull (pays it.records.now.boxes.items) × (it.at ≡ slice_get it.records.now.boxes.places it.index) };
+    ghost invariant = { λ it. IsFull (pays it.records.now.boxes.items)
+        × (it.at ≡ slice_get it.records.now.boxes.places it.index) };
 }
 
 impl<'a, V> Iterator for Iter<'a, V> {

@@ -85,7 +85,11 @@ impl<V> LinkedList<V> {
         requires full { IsFull (pays self.now.boxes.items) }
         requires ascending { IsAscending (entries (pays self.now.boxes.items)) }
         requires last { LiesIn self.now.boxes.places last }
-        ensures { MatchResult result (λ here. IsNodeOf k.now self.now.boxes.places self.now.boxes.items here.index here.at) (λ gap. IsGapOf k.now self.now.boxes.places self.now.boxes.items gap.index gap.before gap.at) }
+        ensures { MatchResult result
+            (λ here. IsNodeOf k.now self.now.boxes.places self.now.boxes.items here.index here.at)
+            (λ gap.
+            IsGapOf k.now self.now.boxes.places self.now.boxes.items gap.index gap.before
+            gap.at) }
     {
         let Some(here) = last else {
             return self.seek_from(k, self.front());
@@ -109,8 +113,13 @@ impl<V> LinkedList<V> {
     fn seek_from(&self, k: &[u8; 20], from: Gap) -> Result<Here, Gap>
         requires full { IsFull (pays self.now.boxes.items) }
         requires ascending { IsAscending (entries (pays self.now.boxes.items)) }
-        requires from { IsPast k.now self.now.boxes.places self.now.boxes.items from.index from.before from.at }
-        ensures { MatchResult result (λ here. IsNodeOf k.now self.now.boxes.places self.now.boxes.items here.index here.at) (λ gap. IsGapOf k.now self.now.boxes.places self.now.boxes.items gap.index gap.before gap.at) }
+        requires from { IsPast k.now self.now.boxes.places self.now.boxes.items from.index
+            from.before from.at }
+        ensures { MatchResult result
+            (λ here. IsNodeOf k.now self.now.boxes.places self.now.boxes.items here.index here.at)
+            (λ gap.
+            IsGapOf k.now self.now.boxes.places self.now.boxes.items gap.index gap.before
+            gap.at) }
     {
         let Gap {
             mut index,
@@ -154,7 +163,8 @@ impl<V> LinkedList<V> {
         requires full { IsFull (pays self.now.boxes.items) }
         requires ascending { IsAscending (entries (pays self.now.boxes.items)) }
         requires last { LiesIn self.now.boxes.places last }
-        ensures rest { drop result.0 (entries (pays self.now.boxes.items)) ≡ above (option_copied k.entry) (entries (pays self.now.boxes.items)) }
+        ensures rest { drop result.0 (entries (pays self.now.boxes.items))
+            ≡ above (option_copied k.entry) (entries (pays self.now.boxes.items)) }
         ensures at { result.1 ≡ slice_get self.now.boxes.places result.0 }
     {
         let Some(k) = k else {
@@ -169,7 +179,9 @@ impl<V> LinkedList<V> {
     /// Puts a value in place of the `i`-th.
     pub(crate) fn replace(&mut self, i: usize, at: Place, value: V) -> Option<V>
         requires { slice_get self.old.boxes.places i ≡ Some at }
-        ensures items { IfSome (slice_get (pays self.old.boxes.items) i) (λ e. (result ≡ e.1) × (pays self.new.boxes.items ≡ slice_set (pays self.old.boxes.items) i (e.0, Some value))) }
+        ensures items { IfSome (slice_get (pays self.old.boxes.items) i) (λ e. (result ≡ e.1)
+            × (pays self.new.boxes.items
+            ≡ slice_set (pays self.old.boxes.items) i (e.0, Some value))) }
         ensures places { self.new.boxes.places ≡ self.old.boxes.places }
         ensures len { self.new.len ≡ self.old.len }
         ensures alloc { self.new.boxes.alloc ≡ self.old.boxes.alloc }
@@ -189,7 +201,8 @@ impl<V: Drop> LinkedList<V> {
         requires within { gap.index ≤ length self.old.boxes.items }
         requires room { self.old.len + 1 < 2 ^ 63 }
         requires alloc { box_allocator node ≡ self.old.boxes.alloc }
-        ensures items { pays self.new.boxes.items ≡ insert (pays self.old.boxes.items) gap.index (pay node.value) }
+        ensures items { pays self.new.boxes.items
+            ≡ insert (pays self.old.boxes.items) gap.index (pay node.value) }
         ensures here { slice_get self.new.boxes.places result.index ≡ Some result.at }
         ensures len { self.new.len ≡ self.old.len + 1 }
         ensures alloc { self.new.boxes.alloc ≡ self.old.boxes.alloc }
@@ -225,7 +238,10 @@ impl<V: Drop> LinkedList<V> {
     /// Takes the first node out.
     pub(crate) fn pop(&mut self, alloc: Global) -> Option<Box<Node<V>>>
         requires { alloc ≡ self.old.boxes.alloc }
-        ensures items { MatchOption result ((pays self.old.boxes.items ≡ []) × (pays self.new.boxes.items ≡ [])) (λ b. (pays self.old.boxes.items ≡ pay b.value ∷ pays self.new.boxes.items) × (box_allocator b ≡ alloc)) }
+        ensures items { MatchOption result
+            ((pays self.old.boxes.items ≡ []) × (pays self.new.boxes.items ≡ []))
+            (λ b. (pays self.old.boxes.items ≡ pay b.value ∷ pays self.new.boxes.items)
+            × (box_allocator b ≡ alloc)) }
         ensures len { self.new.len ≡ self.old.len - 1 }
         ensures alloc { self.new.boxes.alloc ≡ self.old.boxes.alloc }
     {

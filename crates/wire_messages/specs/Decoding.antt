@@ -20,7 +20,8 @@ whole size (Ok x) = alone x.0 x.1
 whole size (Err (Bad left)) = Err (fault.BadField (size - left))
 whole size (Err Short) = Err fault.Short
 
-abbrev pub of_kind : ℕ → List ℕ → Option (List ℕ → Result (Message × List ℕ) FieldFault) → Result Message DecodeFault
+abbrev pub of_kind : ℕ → List ℕ → Option (List ℕ → Result (Message × List ℕ) FieldFault)
+    → Result Message DecodeFault
 of_kind kind fields None = Err (fault.BadKind kind)
 of_kind kind fields (Some read) = whole (suc (length fields)) (read fields)
 

@@ -5,7 +5,8 @@ use Rattle.wire_messages.specs.declared.fault.FieldFault.TheVariants.{Bad, Short
 
 -- what stands first, and what is read of the bytes after it
 infixl 10 ◌>>=◌
-abbrev pub ◌>>=◌ : {A B : Type 0} → Result A FieldFault → (A → Result B FieldFault) → Result B FieldFault
+abbrev pub ◌>>=◌ : {A B : Type 0} → Result A FieldFault → (A → Result B FieldFault)
+    → Result B FieldFault
 (Ok x) >>= f = f x
 (Err e) >>= f = Err e
 
@@ -19,13 +20,15 @@ whole_field left (Some x) rest = Ok (x, rest)
 whole_field left None rest = Err (Bad left)
 
 -- a field of so many bytes: its value and the bytes after it
-unfoldable pub field : {A : Type 0} → ℕ → (List ℕ → Option A) → List ℕ → Result (A × List ℕ) FieldFault
+unfoldable pub field : {A : Type 0} → ℕ → (List ℕ → Option A) → List ℕ
+    → Result (A × List ℕ) FieldFault
 field width value_of bytes =
     if nat_lt (length bytes) width then Err Short
     else whole_field (length bytes) (value_of (take width bytes)) (drop width bytes)
 
 -- so many items: each is read by what stood before it and by the number of those after it
-unfoldable pub items_at : {A C : Type 0} → (C → ℕ → List ℕ → Result (A × List ℕ) FieldFault) → (C → A → C) → ℕ → C → List ℕ → Result (List A × List ℕ) FieldFault
+unfoldable pub items_at : {A C : Type 0} → (C → ℕ → List ℕ → Result (A × List ℕ) FieldFault)
+    → (C → A → C) → ℕ → C → List ℕ → Result (List A × List ℕ) FieldFault
 items_at item add zero before bytes = Ok ([], bytes)
 items_at item add (suc after) before bytes = do
   x ← item before after bytes

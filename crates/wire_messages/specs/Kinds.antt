@@ -191,7 +191,8 @@ kinds =
     heartbeat_at ∷ propose_at ∷ accept_at ∷ refuse_at ∷ commit_at
     ∷ state_message_at ∷ batch_at ∷ batch_ack_at ∷ progress_at ∷ repl_at
     ∷ repl_ack_at ∷ ask_at ∷ answer_at ∷ map_ask_at ∷ map_table_at
-    ∷ heartbeat_with_role_at ∷ propose_with_roles_at ∷ commit_with_roles_at ∷ proxy_at ∷ proxy_reply_at
+    ∷ heartbeat_with_role_at ∷ propose_with_roles_at ∷ commit_with_roles_at ∷ proxy_at
+    ∷ proxy_reply_at
     ∷ call_at ∷ reply_message_at ∷ scan_ask_at ∷ scan_page_at ∷ scan_no_at ∷ []
 
 -- how a kind is read, and none where there is no such kind

@@ -84,7 +84,8 @@ is_plain role = (role.rack == 0) && not role.quiesced
 abbrev pub role_of : Bool → List ℕ → Option Role
 role_of plain_allowed bytes =
     let role : Role = record { rack = slice_index bytes 0; quiesced = slice_index bytes 1 == 1 } in
-    if nat_lt (slice_index bytes 1) 2 && (plain_allowed || not (is_plain role)) then Some role else None
+    if nat_lt (slice_index bytes 1) 2 && (plain_allowed || not (is_plain role)) then Some role
+    else None
 
 unfoldable pub role_at : Bool → List ℕ → Result (Role × List ℕ) FieldFault
 role_at plain_allowed bytes = field 2 (role_of plain_allowed) bytes

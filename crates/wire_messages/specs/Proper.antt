@@ -33,7 +33,8 @@ pub record IsScanPage (page : ScanPage) : Type 0 where
 
 -- the facts of each message stand in the order of its fields
 abbrev pub IsProper : Message → Type 0
-IsProper (message.Heartbeat view promised hears role) = IsKeyOrNone view × IsKeyOrNone promised × AreHeard hears × (role.rack < 2 ^ 8)
+IsProper (message.Heartbeat view promised hears role) =
+    IsKeyOrNone view × IsKeyOrNone promised × AreHeard hears × (role.rack < 2 ^ 8)
 IsProper (message.Propose key members) = IsKeyField key × AreMembersField members
 IsProper (message.Accept key) = IsKeyField key
 IsProper (message.Refuse refused promised) = IsKeyField refused × IsKeyField promised
@@ -41,18 +42,25 @@ IsProper (message.Commit key members) = IsKeyField key × AreMembersField member
 IsProper (message.State key wants row) = IsKeyField key × IsStateRowField row
 IsProper (message.Batch b) = IsBatch b
 IsProper (message.BatchAck key number) = IsKeyField key × IsNumber number
-IsProper (message.Progress key wants done handed settled) = IsKeyField key × IsRow done × IsRow handed × IsRow settled
+IsProper (message.Progress key wants done handed settled) =
+    IsKeyField key × IsRow done × IsRow handed × IsRow settled
 IsProper (message.Repl key transaction nth digest version) =
     IsKeyField key × IsNumber transaction × IsNumber nth × IsDigest digest × IsVersion version
 IsProper (message.ReplAck key transaction) = IsKeyField key × IsNumber transaction
-IsProper (message.Ask key transaction digest) = IsKeyField key × IsNumber transaction × IsDigest digest
-IsProper (message.Answer key transaction version) = IsKeyField key × IsNumber transaction × IsOptionVersion version
+IsProper (message.Ask key transaction digest) =
+    IsKeyField key × IsNumber transaction × IsDigest digest
+IsProper (message.Answer key transaction version) =
+    IsKeyField key × IsNumber transaction × IsOptionVersion version
 IsProper message.MapAsk = Unit {0}
 IsProper (message.MapTable t) = IsMapTable t
-IsProper (message.Proxy key number digest want) = IsKeyField key × IsNumber number × IsDigest digest × IsWant want
-IsProper (message.ProxyReply key number reply) = IsKeyField key × IsNumber number × IsReplyBody false reply
+IsProper (message.Proxy key number digest want) =
+    IsKeyField key × IsNumber number × IsDigest digest × IsWant want
+IsProper (message.ProxyReply key number reply) =
+    IsKeyField key × IsNumber number × IsReplyBody false reply
 IsProper (message.Call number digest want) = IsNumber number × IsDigest digest × IsWant want
-IsProper (message.Reply key number reply) = IsKeyOrNone key × IsNumber number × IsReplyBody (is_none key) reply
-IsProper (message.ScanAsk scan partition after) = IsNumber scan × (partition < partition_count) × IsOptionDigest after
+IsProper (message.Reply key number reply) =
+    IsKeyOrNone key × IsNumber number × IsReplyBody (is_none key) reply
+IsProper (message.ScanAsk scan partition after) =
+    IsNumber scan × (partition < partition_count) × IsOptionDigest after
 IsProper (message.ScanPage page) = IsScanPage page
 IsProper (message.ScanNo scan refusal) = IsNumber scan × IsRefusal refusal

@@ -21,8 +21,10 @@ bit_number b = if b then 1 else 0
 -- byte i has the bits of the partitions 8 * i to 8 * i + 7, that of the least partition lowest
 abbrev pub row_byte : List Bool → ℕ → ℕ
 row_byte row i =
-    bit_number (bit row (8 * i)) + 2 * bit_number (bit row (8 * i + 1)) + 4 * bit_number (bit row (8 * i + 2)) + 8 * bit_number (bit row (8 * i + 3))
-    + 16 * bit_number (bit row (8 * i + 4)) + 32 * bit_number (bit row (8 * i + 5)) + 64 * bit_number (bit row (8 * i + 6)) + 128 * bit_number (bit row (8 * i + 7))
+    bit_number (bit row (8 * i)) + 2 * bit_number (bit row (8 * i + 1))
+    + 4 * bit_number (bit row (8 * i + 2)) + 8 * bit_number (bit row (8 * i + 3))
+    + 16 * bit_number (bit row (8 * i + 4)) + 32 * bit_number (bit row (8 * i + 5))
+    + 64 * bit_number (bit row (8 * i + 6)) + 128 * bit_number (bit row (8 * i + 7))
 
 unfoldable pub row_field : List Bool → List ℕ
 row_field row = map (row_byte row) (range_with_len 0 512)
@@ -52,7 +54,8 @@ state_field (Whole key writes) = 2 ∷ (key_field key ++ number_field w32 writes
 abbrev pub whole_if : ℕ → List ℕ → Result (CopyState × List ℕ) FieldFault
 whole_if tag bytes =
     if tag == 1 then Ok (Part, bytes)
-    else (key_at bytes >>= λ key. number_at w32 every key.1 >>= λ writes. Ok (Whole key.0 writes.0, writes.1))
+    else (key_at bytes
+    >>= λ key. number_at w32 every key.1 >>= λ writes. Ok (Whole key.0 writes.0, writes.1))
 
 unfoldable pub state_at : List ℕ → Result (CopyState × List ℕ) FieldFault
 state_at bytes = do

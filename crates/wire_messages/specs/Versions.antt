@@ -130,7 +130,8 @@ unfoldable pub record_field : List ℕ × Version → List ℕ
 record_field r = r.0 ++ version_field r.1
 
 -- a record whose digest is above the one before it
-unfoldable pub record_at : Option (List ℕ) → ℕ → List ℕ → Result ((List ℕ × Version) × List ℕ) FieldFault
+unfoldable pub record_at : Option (List ℕ) → ℕ → List ℕ
+    → Result ((List ℕ × Version) × List ℕ) FieldFault
 record_at before after bytes = do
   digest ← digest_above_at before bytes
   version ← version_at digest.1

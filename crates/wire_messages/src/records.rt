@@ -104,7 +104,9 @@ impl<'a> IntoIterator for &'a Records {
 
     type IntoIter = vec_deque::Iter<'a, (Digest, Version)>;
 
-    ghost into_iter_gives = { λ l it. (deque_iter_rest it ≡ l.now) × EveryRun (deque_iter_steps {X = List ℕ × Version}) (λ p. ItemsMapTo p (λ y. y.now) (deque_iter_rest p.from)) };
+    ghost into_iter_gives = { λ l it. (deque_iter_rest it ≡ l.now)
+        × EveryRun (deque_iter_steps {X = List ℕ × Version})
+        (λ p. ItemsMapTo p (λ y. y.now) (deque_iter_rest p.from)) };
 
     fn into_iter(self) -> vec_deque::Iter<'a, (Digest, Version)> {
         self.items.iter()

@@ -9,4 +9,5 @@ use Rattle.node_rules.specs.Standing.{is_at_rest}
 
 -- whether the node runs and is at rest, in the view of that key, of which these are the members
 abbrev pub rests_in : ClusterKey → List Member → Facts → Bool
-rests_in key set f = (f.up && is_at_rest f) && (is_view f.exchange.view key && same_members (members_of_view f) set)
+rests_in key set f =
+    (f.up && is_at_rest f) && (is_view f.exchange.view key && same_members (members_of_view f) set)

@@ -16,11 +16,15 @@ abbrev pub posted_lines : ℕ → ℕ → ℕ → Sends → List Line
 posted_lines from sent flying [] = []
 posted_lines from sent flying (m ∷ ms) =
     line.Sent (sent + 1) from m.0 m.1
-    ∷ (full_unless (sent + 1) (has_place flying) ++ posted_lines from (sent + 1) (one_more_if flying (has_place flying)) ms)
+    ∷ (full_unless (sent + 1) (has_place flying)
+    ++ posted_lines from (sent + 1) (one_more_if flying (has_place flying)) ms)
 
 -- the network after one was sent
 abbrev pub posted_in : nets.NetworkState → ℕ → ℕ × List ℕ → nets.NetworkState
-posted_in net from m = record net { flying = nets.with_next net (record { from = from; to = m.0; bytes = m.1 }); sent = net.sent + 1 }
+posted_in net from m = record net {
+  flying = nets.with_next net (record { from = from; to = m.0; bytes = m.1 });
+  sent = net.sent + 1;
+}
 
 -- and after all of them
 abbrev pub all_posted_in : nets.NetworkState → ℕ → Sends → nets.NetworkState

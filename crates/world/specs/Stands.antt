@@ -28,7 +28,8 @@ pub record IsNetwork (net : nets.NetworkState) (n : Network) : Type 0 where
   pub groups : AreDivided net.groups n.groups
 
 -- ids in rising order with the node and the clock of each, the network and the client's map are those of the world
-pub record Stands (w : World) (ids : List ℕ) (nodes : List Planning) (clocks : List ℕ) (net : nets.NetworkState) (client : List (Option Entry)) : Type 0 where
+pub record Stands (w : World) (ids : List ℕ) (nodes : List Planning) (clocks : List ℕ)
+    (net : nets.NetworkState) (client : List (Option Entry)) : Type 0 where
   pub declared : ids ≡ in_order nat_lt w.nodes
   pub facts : map (λ node. node.now) nodes ≡ map w.facts ids
   pub times : clocks ≡ map w.clocks ids

@@ -83,7 +83,8 @@ mark_line n false = line.Unquiesce n
 -- ---- a step
 
 -- the step of the event is taken, or the run is as it was; RunTooLong says that its lines don't fit
-pub record TakesStep (old new : RunSoFar) (e : Event) (result : Result (Unit {0}) StepFault) : Type 0 where
+pub record TakesStep (old new : RunSoFar) (e : Event) (result : Result (Unit {0}) StepFault)
+    : Type 0 where
   pub ok : OnOk result (new ≡ stepped old e)
   pub within : OnOk result (IsWithin (run_lines old ++ next_lines old e))
   pub too_long : IsErrOf result RunTooLong → ¬ IsWithin (run_lines old ++ next_lines old e)

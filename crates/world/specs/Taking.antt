@@ -7,7 +7,9 @@ use Rattle.world.specs.Sent.{landing_from, posted_lines}
 
 -- its own lines, and then those of its messages
 abbrev pub end_step_lines : EndStep → nets.NetworkState → List Line
-end_step_lines s net = s.effects.lines ++ posted_lines s.from net.sent (length (landing_from net s.landing).flying) s.effects.sends
+end_step_lines s net =
+    s.effects.lines
+    ++ posted_lines s.from net.sent (length (landing_from net s.landing).flying) s.effects.sends
 
 -- the step with all of these lines
 abbrev pub with_all_lines : EndStep → nets.NetworkState → EndStep

@@ -66,8 +66,10 @@ impl World {
 
     /// The message of that number, if it is in flight.
     fn flying(&self, message: u64) -> Option<&Flying>
-        ensures value { option_map flying_posting (option_copied result) ≡ flying_at (standing self.now).network message }
-        ensures receiver { IfSome result (λ m. (m.now.to ≡ client) ⊎ Contains (declared_nodes self.now.header) m.now.to) }
+        ensures value { option_map flying_posting (option_copied result)
+            ≡ flying_at (standing self.now).network message }
+        ensures receiver { IfSome result
+            (λ m. (m.now.to ≡ client) ⊎ Contains (declared_nodes self.now.header) m.now.to) }
     {
         self.net.get(message)
     }
@@ -125,7 +127,9 @@ impl World {
     /// Whether no message gets from one end to the other: they are nodes of different groups, or the
     /// receiver is a stopped node.
     fn is_blocked(&self, from: u16, to: u16) -> bool
-        ensures { result ≡ (are_apart (standing self.now).network from to || (not (to == client) && not (is_up (standing self.now) to))) }
+        ensures { result
+            ≡ (are_apart (standing self.now).network from to
+            || (not (to == client) && not (is_up (standing self.now) to))) }
     {
         self.net.apart(from, to) || (to != CLIENT && !self.is_up(to))
     }

@@ -23,7 +23,8 @@ impl World {
     }
 
     fn are_groups_at_rest(&self) -> bool
-        ensures { result ≡ list_all (calm.is_group_at_rest partition_count (standing self.now)) (standing self.now).network.groups }
+        ensures { result ≡ list_all (calm.is_group_at_rest partition_count (standing self.now))
+            (standing self.now).network.groups }
     {
         match self.groups() {
             // No node is declared.
@@ -64,7 +65,8 @@ impl World {
     /// Whether each of the nodes runs and is at rest, in the view of that key, of which these are
     /// the members.
     fn rest_in(&self, ids: &NodeList, key: ClusterKey, members: &[Member]) -> bool
-        ensures { result ≡ list_all (λ n. rests_in key members.now ((standing self.now).facts n)) ids.now }
+        ensures { result
+            ≡ list_all (λ n. rests_in key members.now ((standing self.now).facts n)) ids.now }
     {
         ids.as_slice()
             .iter()

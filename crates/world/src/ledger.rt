@@ -42,7 +42,8 @@ impl Ledger {
         ensures same { IsSameLedger self.old self.new }
         ensures within { OnOk result (IsWithin (self.old.journal.lines ++ lines.now)) }
         ensures room { OnOk result (length lines.now ≤ self.new.journal.spare) }
-        ensures too_long { IsErrOf result StepFault.RunTooLong → ¬ IsWithin (self.old.journal.lines ++ lines.now) }
+        ensures too_long { IsErrOf result StepFault.RunTooLong
+            → ¬ IsWithin (self.old.journal.lines ++ lines.now) }
     {
         if !self.journal.fits(lines) {
             return Err(StepFault::RunTooLong);
@@ -75,7 +76,8 @@ impl Ledger {
     pub fn tell_all(&mut self, lines: LineList, event: Snapshot<Event>) -> Result<(), StepFault>
         ensures ok { OnOk result (Wrote self.old self.new lines event.value) }
         ensures within { OnOk result (IsWithin (self.old.journal.lines ++ lines)) }
-        ensures too_long { IsErrOf result StepFault.RunTooLong → ¬ IsWithin (self.old.journal.lines ++ lines) }
+        ensures too_long { IsErrOf result StepFault.RunTooLong
+            → ¬ IsWithin (self.old.journal.lines ++ lines) }
         ensures err { OnErr result (IsSameLedger self.old self.new) }
     {
         self.make_room(&lines)?;
@@ -87,7 +89,8 @@ impl Ledger {
     pub fn tell(&mut self, line: Line, event: Snapshot<Event>) -> Result<(), StepFault>
         ensures ok { OnOk result (Wrote self.old self.new (line ∷ []) event.value) }
         ensures within { OnOk result (IsWithin (self.old.journal.lines ++ line ∷ [])) }
-        ensures too_long { IsErrOf result StepFault.RunTooLong → ¬ IsWithin (self.old.journal.lines ++ line ∷ []) }
+        ensures too_long { IsErrOf result StepFault.RunTooLong
+            → ¬ IsWithin (self.old.journal.lines ++ line ∷ []) }
         ensures err { OnErr result (IsSameLedger self.old self.new) }
     {
         self.push(line)?;
@@ -107,7 +110,8 @@ impl Ledger {
     fn push(&mut self, line: Line) -> Result<(), StepFault>
         ensures ok { OnOk result (self.new.journal.lines ≡ self.old.journal.lines ++ line ∷ []) }
         ensures within { OnOk result (IsWithin (self.old.journal.lines ++ line ∷ [])) }
-        ensures too_long { IsErrOf result StepFault.RunTooLong → ¬ IsWithin (self.old.journal.lines ++ line ∷ []) }
+        ensures too_long { IsErrOf result StepFault.RunTooLong
+            → ¬ IsWithin (self.old.journal.lines ++ line ∷ []) }
         ensures err { OnErr result (self.new.journal.lines ≡ self.old.journal.lines) }
         ensures events { self.new.events ≡ self.old.events }
     {

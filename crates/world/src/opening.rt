@@ -122,7 +122,8 @@ pub(crate) fn declared_nodes(
     requires nodes { IsNodeList all.now }
     requires all { all.now ≡ declared.declared_nodes header.now }
     requires ids { ids.now ≡ in_order nat_lt all.now }
-    ensures { IfOk result (λ nodes. nodes.items ≡ map (λ n. unplanned (worlds.declared header.now n)) ids.now) }
+    ensures { IfOk result
+        (λ nodes. nodes.items ≡ map (λ n. unplanned (worlds.declared header.now n)) ids.now) }
 {
     let factor = declared_factor(header);
     let by = declared_policy(header);

@@ -52,7 +52,8 @@ pub(crate) fn add_sent_lines(
     before: Postmark,
 ) -> Result<(), NoMemory>
     requires { before.sent + length sends.now < 2 ^ 64 }
-    ensures { OnOk result (lines.new ≡ lines.old ++ posted_lines from before.sent before.in_flight sends.now) }
+    ensures { OnOk result
+        (lines.new ≡ lines.old ++ posted_lines from before.sent before.in_flight sends.now) }
 {
     let mut message = before.sent;
     let mut in_flight = before.in_flight;
@@ -79,7 +80,8 @@ fn add_sent_line(
     message: u64,
     in_flight: usize,
 ) -> Result<usize, NoMemory>
-    ensures lines { OnOk result (lines.new ≡ lines.old ++ line ∷ full_unless message (has_place in_flight)) }
+    ensures lines { OnOk result
+        (lines.new ≡ lines.old ++ line ∷ full_unless message (has_place in_flight)) }
     ensures in_flight { IfOk result (λ count. count ≡ one_more_if in_flight (has_place in_flight)) }
 {
     lines.push(line)?;

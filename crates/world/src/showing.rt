@@ -73,7 +73,8 @@ fn map_line(
 ) -> Result<Line, NoMemory>
     requires me { id ≡ node.now.now.me }
     requires mapped { requests.map_refusal node.now.now ≡ None }
-    ensures { IfOk result (λ l. l ≡ shows.map_line node.now.now partition (entry_of (list_at node.now.now partition) node.now.now.exchange.rows partition)) }
+    ensures { IfOk result (λ l. l ≡ shows.map_line node.now.now partition
+        (entry_of (list_at node.now.now partition) node.now.now.exchange.rows partition)) }
 {
     let Some((key, members)) = node.view() else {
         unreachable!();
@@ -112,7 +113,8 @@ impl World {
 fn place(alloc: Global, members: &[Member], partition: PartitionId) -> Result<MemberList, NoMemory>
     requires limit { length members.now ≤ 16 }
     requires order { IsDescending (ids_of members.now) }
-    ensures { IfOk result (λ l. l ≡ shows.with_roles members.now (lists.list members.now partition)) }
+    ensures { IfOk result
+        (λ l. l ≡ shows.with_roles members.now (lists.list members.now partition)) }
 {
     match Members::with_roles(members) {
         // There are none.
@@ -152,7 +154,8 @@ pub(crate) fn holds_line(
     node: &Node,
     digest: &Digest,
 ) -> Result<Line, NoMemory>
-    ensures { IfOk result (λ l. l ≡ line.Holds id digest.now (finite.get node.now.now.store.content digest.now)) }
+    ensures { IfOk result
+        (λ l. l ≡ line.Holds id digest.now (finite.get node.now.now.store.content digest.now)) }
 {
     let version = match node.holds(digest) {
         None => None,

@@ -34,7 +34,8 @@ pub(crate) struct EndStep {
 impl EndStep {
     /// A step that takes no message out of flight.
     pub fn of(event: Snapshot<Event>, from: u16, effects: Effects) -> EndStep
-        ensures { result ≡ record { event = event; from = from; landing = None; effects = effects } }
+        ensures { result
+            ≡ record { event = event; from = from; landing = None; effects = effects } }
     {
         EndStep {
             event,
@@ -54,12 +55,14 @@ impl EndStep {
         requires sent { net.old.sent ≤ line_limit }
         requires flying { IsInFlight net.old.flying self.landing }
         ensures ok { IfOk result (λ step. step ≡ with_all_lines self net.old) }
-        ensures within { OnOk result (IsWithin (ledger.old.journal.lines ++ end_step_lines self net.old)) }
+        ensures within { OnOk result
+            (IsWithin (ledger.old.journal.lines ++ end_step_lines self net.old)) }
         ensures few { OnOk result (length self.effects.sends ≤ line_limit) }
         ensures place { OnOk result (length self.effects.sends ≤ net.new.spare) }
         ensures room { OnOk result
             (length (end_step_lines self net.old) ≤ ledger.new.journal.spare) }
-        ensures too_long { IsErrOf result StepFault.RunTooLong → ¬ IsWithin (ledger.old.journal.lines ++ end_step_lines self net.old) }
+        ensures too_long { IsErrOf result StepFault.RunTooLong
+            → ¬ IsWithin (ledger.old.journal.lines ++ end_step_lines self net.old) }
         ensures numbers { OnOk result
             (nets.AreNumbers net.old.sent (nets.flying_ids net.old.flying)) }
         ensures net { nets.IsSameNetwork net.old net.new }
@@ -94,7 +97,9 @@ impl EndStep {
         requires place { length self.effects.sends ≤ net.old.spare }
         requires within { IsWithin (ledger.old.journal.lines ++ self.effects.lines) }
         requires room { length self.effects.lines ≤ ledger.old.journal.spare }
-        ensures net { nets.IsSameNetwork (all_posted_in (landing_from net.old self.landing) self.from self.effects.sends) net.new }
+        ensures net { nets.IsSameNetwork
+            (all_posted_in (landing_from net.old self.landing) self.from self.effects.sends)
+            net.new }
         ensures wrote { Wrote ledger.old ledger.new self.effects.lines self.event.value }
     {
         let EndStep {
@@ -113,13 +118,19 @@ impl EndStep {
     pub fn take(self, alloc: Global, net: &mut Net, ledger: &mut Ledger) -> Result<(), StepFault>
         requires sent { net.old.sent ≤ line_limit }
         requires flying { IsInFlight net.old.flying self.landing }
-        ensures net { OnOk result (nets.IsSameNetwork (all_posted_in (landing_from net.old self.landing) self.from self.effects.sends) net.new) }
+        ensures net { OnOk result (nets.IsSameNetwork
+            (all_posted_in (landing_from net.old self.landing) self.from self.effects.sends)
+            net.new) }
         ensures numbers { OnOk result
             (nets.AreNumbers net.old.sent (nets.flying_ids net.old.flying)) }
-        ensures wrote { OnOk result (Wrote ledger.old ledger.new (end_step_lines self net.old) self.event.value) }
-        ensures within { OnOk result (IsWithin (ledger.old.journal.lines ++ end_step_lines self net.old)) }
-        ensures too_long { IsErrOf result StepFault.RunTooLong → ¬ IsWithin (ledger.old.journal.lines ++ end_step_lines self net.old) }
-        ensures err { OnErr result (nets.IsSameNetwork net.old net.new × IsSameLedger ledger.old ledger.new) }
+        ensures wrote { OnOk result
+            (Wrote ledger.old ledger.new (end_step_lines self net.old) self.event.value) }
+        ensures within { OnOk result
+            (IsWithin (ledger.old.journal.lines ++ end_step_lines self net.old)) }
+        ensures too_long { IsErrOf result StepFault.RunTooLong
+            → ¬ IsWithin (ledger.old.journal.lines ++ end_step_lines self net.old) }
+        ensures err { OnErr result
+            (nets.IsSameNetwork net.old net.new × IsSameLedger ledger.old ledger.new) }
     {
         let step = self.prepare(alloc, net, ledger)?;
         step.finish(net, ledger);
@@ -138,13 +149,20 @@ impl EndStep {
         requires sent { net.old.sent ≤ line_limit }
         requires flying { IsInFlight net.old.flying self.landing }
         ensures node { OnOk result (IfSome node.old.next (λ f. node.new ≡ unplanned f)) }
-        ensures net { OnOk result (nets.IsSameNetwork (all_posted_in (landing_from net.old self.landing) self.from self.effects.sends) net.new) }
+        ensures net { OnOk result (nets.IsSameNetwork
+            (all_posted_in (landing_from net.old self.landing) self.from self.effects.sends)
+            net.new) }
         ensures numbers { OnOk result
             (nets.AreNumbers net.old.sent (nets.flying_ids net.old.flying)) }
-        ensures wrote { OnOk result (Wrote ledger.old ledger.new (end_step_lines self net.old) self.event.value) }
-        ensures within { OnOk result (IsWithin (ledger.old.journal.lines ++ end_step_lines self net.old)) }
-        ensures too_long { IsErrOf result StepFault.RunTooLong → ¬ IsWithin (ledger.old.journal.lines ++ end_step_lines self net.old) }
-        ensures err { OnErr result ((node.new ≡ node.old) × nets.IsSameNetwork net.old net.new × IsSameLedger ledger.old ledger.new) }
+        ensures wrote { OnOk result
+            (Wrote ledger.old ledger.new (end_step_lines self net.old) self.event.value) }
+        ensures within { OnOk result
+            (IsWithin (ledger.old.journal.lines ++ end_step_lines self net.old)) }
+        ensures too_long { IsErrOf result StepFault.RunTooLong
+            → ¬ IsWithin (ledger.old.journal.lines ++ end_step_lines self net.old) }
+        ensures err { OnErr result
+            ((node.new ≡ node.old) × nets.IsSameNetwork net.old net.new
+            × IsSameLedger ledger.old ledger.new) }
     {
         let step = self.prepare(alloc, net, ledger)?;
         node.commit();
@@ -175,10 +193,14 @@ impl LineStep {
         ensures net { OnOk result (nets.IsSameNetwork (landing_from net.old self.landing) net.new) }
         ensures numbers { OnOk result
             (nets.AreNumbers net.old.sent (nets.flying_ids net.old.flying)) }
-        ensures wrote { OnOk result (Wrote ledger.old ledger.new (self.line ∷ []) self.event.value) }
+        ensures wrote { OnOk result
+            (Wrote ledger.old ledger.new (self.line ∷ []) self.event.value) }
         ensures within { OnOk result (IsWithin (ledger.old.journal.lines ++ self.line ∷ [])) }
-        ensures too_long { IsErrOf result StepFault.RunTooLong → ¬ IsWithin (ledger.old.journal.lines ++ self.line ∷ []) }
-        ensures err { OnErr result ((endpoint.new ≡ endpoint.old) × nets.IsSameNetwork net.old net.new × IsSameLedger ledger.old ledger.new) }
+        ensures too_long { IsErrOf result StepFault.RunTooLong
+            → ¬ IsWithin (ledger.old.journal.lines ++ self.line ∷ []) }
+        ensures err { OnErr result
+            ((endpoint.new ≡ endpoint.old) × nets.IsSameNetwork net.old net.new
+            × IsSameLedger ledger.old ledger.new) }
     {
         let LineStep {
             event,

@@ -64,7 +64,8 @@ impl World {
         requires ranges { All IsProperHeaderLine header.now }
         ensures ok { IfOk result (λ w. w ≡ run_begun header.now) }
         ensures within { OnOk result (IsWithin (opening.header_lines header.now)) }
-        ensures too_long { IsErrOf result StepFault.RunTooLong → ¬ IsWithin (opening.header_lines header.now) }
+        ensures too_long { IsErrOf result StepFault.RunTooLong
+            → ¬ IsWithin (opening.header_lines header.now) }
     {
         let header = header.as_slice();
         let lines = header_lines(alloc, header)?;
@@ -97,8 +98,10 @@ impl World {
     pub fn step(&mut self, alloc: Global, event: &Event) -> Result<(), StepFault>
         requires { MayCome self.old event.now }
         ensures ok { OnOk result (self.new ≡ stepped self.old event.now) }
-        ensures within { OnOk result (IsWithin (run_lines self.old ++ next_lines self.old event.now)) }
-        ensures too_long { IsErrOf result StepFault.RunTooLong → ¬ IsWithin (run_lines self.old ++ next_lines self.old event.now) }
+        ensures within { OnOk result
+            (IsWithin (run_lines self.old ++ next_lines self.old event.now)) }
+        ensures too_long { IsErrOf result StepFault.RunTooLong
+            → ¬ IsWithin (run_lines self.old ++ next_lines self.old event.now) }
         ensures err { OnErr result (self.new ≡ self.old) }
         ensures claims { HasClaims (run_lines self.new) }
     {

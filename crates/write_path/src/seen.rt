@@ -24,7 +24,11 @@ impl Model for Seen {
 
     ghost Value = { Numbered };
 
-    ghost view = { λ s. record { numbers = numbers_of s.upto s.above.items; spare = deque_capacity s.above - deque_len s.above } };
+    ghost view = { λ s.
+        record {
+          numbers = numbers_of s.upto s.above.items;
+          spare = deque_capacity s.above - deque_len s.above;
+        } };
 
     ghost invariant = { λ s. IsAboveGap s.upto s.above.items };
 }

@@ -45,11 +45,14 @@ pub fn apply(
 ) -> Result<Version, NoMemory>
     requires { IsSomeAnd (txn_at txns.old.running t) IsToWrite }
     ensures version { IfOk result (λ v. Some v ≡ version_in clock (txn_at txns.old.running t)) }
-    ensures versions { IfOk result (λ v. store.new.versions ≡ records_with store.old.by store.old.versions (txn_at txns.old.running t) v) }
+    ensures versions { IfOk result (λ v. store.new.versions
+        ≡ records_with store.old.by store.old.versions (txn_at txns.old.running t) v) }
     ensures stamps { store.new.stamps ≡ store.old.stamps }
     ensures policy { store.new.by ≡ store.old.by }
-    ensures room { OnOk result (IfSome (txn_digest_at txns.old.running t) (λ d. UsesRoom (partition_of d) store.old.spare store.new.spare)) }
-    ensures applied { OnOk result (HasOpen (change_txn txns.old.running t (txn_with_write to)) txns.old txns.new) }
+    ensures room { OnOk result (IfSome (txn_digest_at txns.old.running t)
+        (λ d. UsesRoom (partition_of d) store.old.spare store.new.spare)) }
+    ensures applied { OnOk result
+        (HasOpen (change_txn txns.old.running t (txn_with_write to)) txns.old txns.new) }
     ensures err { OnErr result (store.new ≡ store.old) }
     ensures none_applied { OnErr result (txns.new ≡ txns.old) }
 {
@@ -76,10 +79,12 @@ pub fn apply_planned(
     requires version { Some v ≡ version_in clock (txn_at txns.old.running t) }
     requires room { IfSome (txn_digest_at txns.old.running t)
         (λ d. HasRoom (d ∷ []) store.old.spare) }
-    ensures versions { store.new.versions ≡ records_with store.old.by store.old.versions (txn_at txns.old.running t) v }
+    ensures versions { store.new.versions
+        ≡ records_with store.old.by store.old.versions (txn_at txns.old.running t) v }
     ensures stamps { store.new.stamps ≡ store.old.stamps }
     ensures policy { store.new.by ≡ store.old.by }
-    ensures room { IfSome (txn_digest_at txns.old.running t) (λ d. UsesRoom (partition_of d) store.old.spare store.new.spare) }
+    ensures room { IfSome (txn_digest_at txns.old.running t)
+        (λ d. UsesRoom (partition_of d) store.old.spare store.new.spare) }
     ensures applied { HasOpen
         (change_txn txns.old.running t (txn_with_write to)) txns.old txns.new }
 {
@@ -98,8 +103,10 @@ pub fn on_repl(
     d: Digest,
     v: &Version,
 ) -> Result<Joined, NoMemory>
-    ensures answer { IfOk result (λ became. became ≡ answer store.old.by v.now (finite.get store.old.versions d)) }
-    ensures versions { OnOk result (store.new.versions ≡ joined store.old.by store.old.versions d v.now) }
+    ensures answer { IfOk result
+        (λ became. became ≡ answer store.old.by v.now (finite.get store.old.versions d)) }
+    ensures versions { OnOk result
+        (store.new.versions ≡ joined store.old.by store.old.versions d v.now) }
     ensures stamps { store.new.stamps ≡ store.old.stamps }
     ensures policy { store.new.by ≡ store.old.by }
     ensures room { UsesRoom (partition_of d) store.old.spare store.new.spare }

@@ -24,7 +24,8 @@ pub fn groups_of(alloc: Global, fields: Parts) -> Result<Option<BoxedGroups>, No
 }
 
 fn each_group_of(alloc: Global, mut fields: Parts) -> Result<Option<Vec<NodeList>>, NoMemory>
-    ensures { IfOk result (λ g. grammar.option_items g ≡ grammar.each_group_of (slice_split grammar.is_bar fields.entry)) }
+    ensures { IfOk result (λ g.
+        grammar.option_items g ≡ grammar.each_group_of (slice_split grammar.is_bar fields.entry)) }
 {
     let mut groups = Vec::new(alloc);
     let mut ids: Vec<NodeId> = Vec::new(alloc);

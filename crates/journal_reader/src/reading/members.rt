@@ -60,7 +60,8 @@ fn some_members_of(alloc: Global, text: &[u8]) -> Result<Option<Vec<Member>>, No
 }
 
 fn each_member_of(alloc: Global, mut parts: Parts) -> Result<Option<Vec<Member>>, NoMemory>
-    ensures { IfOk result (λ m. grammar.option_items m ≡ grammar.all_of grammar.parsed_member parts.entry) }
+    ensures { IfOk result
+        (λ m. grammar.option_items m ≡ grammar.all_of grammar.parsed_member parts.entry) }
 {
     let mut members = Vec::new(alloc);
     while let Some(text) = parts.take_first() {

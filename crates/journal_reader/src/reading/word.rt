@@ -146,7 +146,8 @@ pub fn word_of(text: &[u8]) -> Option<Word>
 }
 
 fn word_in(mut table: &[(&[u8], Word)], text: &[u8]) -> Option<Word>
-    ensures { result ≡ words.word_in (map (λ entry. (entry.0.now, entry.1)) table.entry.now) text.now }
+    ensures { result
+        ≡ words.word_in (map (λ entry. (entry.0.now, entry.1)) table.entry.now) text.now }
 {
     while let [entry, rest @ ..] = table {
         if entry.0 == text {

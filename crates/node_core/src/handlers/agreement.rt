@@ -35,7 +35,9 @@ impl Node {
         requires unplanned { self.old.next ≡ None }
         requires peer { Contains self.old.now.peers from }
         ensures effects { IfOk result (λ e. e ≡ spelled (nothing)) }
-        ensures planned { OnOk result (self.new ≡ planning self.old.now (after_message self.old.now 0 from (message.Heartbeat beat.view beat.promised beat.hears beat.role))) }
+        ensures planned { OnOk result
+            (self.new ≡ planning self.old.now (after_message self.old.now 0 from
+            (message.Heartbeat beat.view beat.promised beat.hears beat.role))) }
         ensures err { OnErr result (self.new ≡ unplanned self.old.now) }
     {
         // Those that are heard are peers, and none twice: there is a place for this one.
@@ -54,7 +56,9 @@ impl Node {
         requires unplanned { self.old.next ≡ None }
         requires proper { IsProper (message.Propose key members.now) }
         ensures effects { IfOk result (λ e. e ≡ spelled (due_propose self.old.now from key)) }
-        ensures planned { OnOk result (self.new ≡ planning self.old.now (after_message self.old.now 0 from (message.Propose key members.now))) }
+        ensures planned { OnOk result
+            (self.new ≡ planning self.old.now
+            (after_message self.old.now 0 from (message.Propose key members.now))) }
         ensures err { OnErr result (self.new ≡ unplanned self.old.now) }
     {
         let (agree, vote) = self.agree.copy().on_propose(key, *members);
@@ -65,7 +69,9 @@ impl Node {
 
     /// The line of a promise, where the key isn't the one that was promised before.
     fn promise(&self, alloc: Global, key: ClusterKey) -> Result<Effects, NoMemory>
-        ensures { IfOk result (λ e. e ≡ spelled (lines_only (only_if (line.Promise self.now.now.me key) (not (same_key key self.now.now.agreement.promised))))) }
+        ensures { IfOk result (λ e. e ≡ spelled (lines_only (only_if
+            (line.Promise self.now.now.me key)
+            (not (same_key key self.now.now.agreement.promised))))) }
     {
         if key == self.agree.promised() {
             return Ok(Effects::new(alloc));
@@ -84,7 +90,9 @@ impl Node {
     ) -> Result<Effects, NoMemory>
         requires unplanned { self.old.next ≡ None }
         ensures effects { IfOk result (λ e. e ≡ spelled (due_accept self.old.now from key)) }
-        ensures planned { OnOk result (self.new ≡ planning self.old.now (after_message self.old.now 0 from (message.Accept key))) }
+        ensures planned { OnOk result
+            (self.new
+            ≡ planning self.old.now (after_message self.old.now 0 from (message.Accept key))) }
         ensures err { OnErr result (self.new ≡ unplanned self.old.now) }
     {
         let (agree, step) = self.agree.copy().on_accept(from, key);
@@ -108,8 +116,14 @@ impl Node {
         requires key { IsKeyField key }
         requires agree_of { agree.me ≡ self.old.now.me }
         requires ranges { HasRanges (record self.old.now { agreement = agree.agreement }) }
-        ensures effects { IfOk result (λ e. e ≡ spelled (record { lines = entering self.old.now key members; sends = to_each (others_among self.old.now.me members) (message.Commit key members) })) }
-        ensures planned { OnOk result (self.new ≡ planning self.old.now (agreed self.old.now agree.agreement (Some (view_at_entry self.old.now key members)))) }
+        ensures effects { IfOk result (λ e. e ≡ spelled (record {
+          lines = entering self.old.now key members;
+          sends = to_each (others_among self.old.now.me members)
+              (message.Commit key members);
+        })) }
+        ensures planned { OnOk result
+            (self.new ≡ planning self.old.now (agreed self.old.now agree.agreement
+            (Some (view_at_entry self.old.now key members)))) }
         ensures err { OnErr result (self.new ≡ self.old) }
     {
         let mut out = Effects::new(alloc);
@@ -128,7 +142,9 @@ impl Node {
     ) -> Result<Effects, NoMemory>
         requires unplanned { self.old.next ≡ None }
         ensures effects { IfOk result (λ e. e ≡ spelled (due_refuse self.old.now refused)) }
-        ensures planned { OnOk result (self.new ≡ planning self.old.now (after_message self.old.now 0 0 (message.Refuse refused promised))) }
+        ensures planned { OnOk result
+            (self.new ≡ planning self.old.now
+            (after_message self.old.now 0 0 (message.Refuse refused promised))) }
         ensures err { OnErr result (self.new ≡ unplanned self.old.now) }
     {
         let (agree, step) = self.agree.copy().on_refuse(refused, promised);
@@ -152,7 +168,9 @@ impl Node {
         requires unplanned { self.old.next ≡ None }
         requires proper { IsProper (message.Commit key members.now) }
         ensures effects { IfOk result (λ e. e ≡ spelled (due_commit self.old.now key members.now)) }
-        ensures planned { OnOk result (self.new ≡ planning self.old.now (after_message self.old.now 0 0 (message.Commit key members.now))) }
+        ensures planned { OnOk result
+            (self.new ≡ planning self.old.now
+            (after_message self.old.now 0 0 (message.Commit key members.now))) }
         ensures err { OnErr result (self.new ≡ unplanned self.old.now) }
     {
         let (agree, step) = self.agree.copy().on_commit(key, *members);
@@ -171,7 +189,8 @@ impl Node {
         requires agree_of { agree.me ≡ self.old.now.me }
         requires ranges { HasRanges (record self.old.now { agreement = agree.agreement }) }
         ensures same { result ≡ out }
-        ensures planned { self.new ≡ planning self.old.now (record self.old.now { agreement = agree.agreement }) }
+        ensures planned { self.new
+            ≡ planning self.old.now (record self.old.now { agreement = agree.agreement }) }
     {
         let entered = None;
         self.plan(out, Planned::Agreed { agree, entered })

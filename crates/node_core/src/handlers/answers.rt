@@ -33,8 +33,11 @@ impl Node {
     ) -> Result<Effects, NoMemory>
         requires unplanned { self.old.next ≡ None }
         requires proper { IsProper (message.Ask key transaction digest.now) }
-        ensures effects { IfOk result (λ e. e ≡ spelled (due_ask self.old.now from key transaction digest.now)) }
-        ensures planned { OnOk result (self.new ≡ planning self.old.now (after_message self.old.now 0 from (message.Ask key transaction digest.now))) }
+        ensures effects { IfOk result
+            (λ e. e ≡ spelled (due_ask self.old.now from key transaction digest.now)) }
+        ensures planned { OnOk result
+            (self.new ≡ planning self.old.now
+            (after_message self.old.now 0 from (message.Ask key transaction digest.now))) }
         ensures err { OnErr result (self.new ≡ unplanned self.old.now) }
     {
         if self.view_of(key).is_none() {
@@ -63,8 +66,11 @@ impl Node {
         requires unplanned { self.old.next ≡ None }
         requires proper { IsProper (message.Answer key transaction (option_copied version)) }
         requires counts { HaveNumbers self.old.now }
-        ensures effects { IfOk result (λ e. e ≡ spelled (due_answer self.old.now clock from key transaction (option_copied version.entry))) }
-        ensures planned { OnOk result (self.new ≡ planning self.old.now (after_message self.old.now clock from (message.Answer key transaction (option_copied version.entry)))) }
+        ensures effects { IfOk result (λ e. e ≡ spelled
+            (due_answer self.old.now clock from key transaction (option_copied version.entry))) }
+        ensures planned { OnOk result
+            (self.new ≡ planning self.old.now (after_message self.old.now clock from
+            (message.Answer key transaction (option_copied version.entry)))) }
         ensures err { OnErr result (self.new ≡ unplanned self.old.now) }
     {
         let Some(view) = self.view_of(key) else {
@@ -101,8 +107,14 @@ impl Node {
         requires last { AwaitsLast self.old.now from transaction }
         requires answer { IsOptionVersion (option_copied version) }
         requires in_one { IsSome self.old.now.exchange.view }
-        ensures effects { IfOk result (λ e. e ≡ spelled (answer_of self.old.now clock from (option_copied version.entry) (rules.transaction self.old.now.transactions transaction))) }
-        ensures planned { OnOk result (self.new ≡ planning self.old.now (resolved_with (answer_came self.old.now from transaction (option_copied version.entry) true) clock from (option_copied version.entry) (rules.transaction self.old.now.transactions transaction))) }
+        ensures effects { IfOk result (λ e. e ≡ spelled (answer_of self.old.now clock from
+            (option_copied version.entry)
+            (rules.transaction self.old.now.transactions transaction))) }
+        ensures planned { OnOk result
+            (self.new ≡ planning self.old.now (resolved_with
+            (answer_came self.old.now from transaction (option_copied version.entry) true) clock
+            from (option_copied version.entry)
+            (rules.transaction self.old.now.transactions transaction))) }
         ensures err { OnErr result (self.new ≡ self.old) }
     {
         let mut out = Effects::new(alloc);
@@ -130,7 +142,10 @@ impl Node {
         clock: u64,
     ) -> Result<Resolving, NoMemory>
         requires { IsSome (rules.transaction self.now.now.transactions transaction) }
-        ensures { IfOk result (λ r. IfSome (rules.transaction self.now.now.transactions transaction) (λ t. r ≡ resolving_of clock (rules.answered self.now.now.store.by 0 (option_copied version.entry) t))) }
+        ensures { IfOk result (λ r.
+            IfSome (rules.transaction self.now.now.transactions transaction) (λ t. r
+            ≡ resolving_of clock
+            (rules.answered self.now.now.store.by 0 (option_copied version.entry) t))) }
     {
         let Some(txn) = self.transaction(transaction) else {
             unreachable!()

@@ -25,7 +25,9 @@ impl Node {
         requires unplanned { self.old.next ≡ None }
         requires proper { IsProper (message.Batch batch.now) }
         ensures effects { IfOk result (λ e. e ≡ spelled (due_batch self.old.now from batch.now)) }
-        ensures planned { OnOk result (self.new ≡ planning self.old.now (after_message self.old.now 0 from (message.Batch batch.now))) }
+        ensures planned { OnOk result
+            (self.new ≡ planning self.old.now
+            (after_message self.old.now 0 from (message.Batch batch.now))) }
         ensures err { OnErr result (self.new ≡ unplanned self.old.now) }
     {
         if self.view_of(batch.key).is_none() {
@@ -46,8 +48,11 @@ impl Node {
         number: u32,
     ) -> Result<Effects, NoMemory>
         requires unplanned { self.old.next ≡ None }
-        ensures effects { IfOk result (λ e. e ≡ spelled (due_batch_ack self.old.now from key number)) }
-        ensures planned { OnOk result (self.new ≡ planning self.old.now (after_message self.old.now 0 from (message.BatchAck key number))) }
+        ensures effects { IfOk result
+            (λ e. e ≡ spelled (due_batch_ack self.old.now from key number)) }
+        ensures planned { OnOk result
+            (self.new ≡ planning self.old.now
+            (after_message self.old.now 0 from (message.BatchAck key number))) }
         ensures err { OnErr result (self.new ≡ unplanned self.old.now) }
     {
         let Some(view) = self.view_of(key) else {

@@ -31,9 +31,14 @@ impl Node {
     ) -> Result<Effects, NoMemory>
         requires unplanned { self.old.next ≡ None }
         requires proper { IsProper (message.Progress key wants done.now handed.now settled.now) }
-        requires sender { ComesFrom self.old.now from (message.Progress key wants done.now handed.now settled.now) }
-        ensures effects { IfOk result (λ e. e ≡ spelled (due_progress partition_count self.old.now (reached self.old.now from (message.Progress key wants done.now handed.now settled.now)) from key wants)) }
-        ensures planned { OnOk result (self.new ≡ planning self.old.now (after_message self.old.now 0 from (message.Progress key wants done.now handed.now settled.now))) }
+        requires sender { ComesFrom self.old.now from
+            (message.Progress key wants done.now handed.now settled.now) }
+        ensures effects { IfOk result (λ e. e ≡ spelled (due_progress partition_count self.old.now
+            (reached self.old.now from (message.Progress key wants done.now handed.now settled.now))
+            from key wants)) }
+        ensures planned { OnOk result
+            (self.new ≡ planning self.old.now (after_message self.old.now 0 from
+            (message.Progress key wants done.now handed.now settled.now))) }
         ensures err { OnErr result (self.new ≡ unplanned self.old.now) }
     {
         // What it sends keeps its ranges.

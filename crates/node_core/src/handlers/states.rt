@@ -26,8 +26,11 @@ impl Node {
         requires unplanned { self.old.next ≡ None }
         requires proper { IsProper (message.State key wants row.now) }
         requires sender { ComesFrom self.old.now from (message.State key wants row.now) }
-        ensures effects { IfOk result (λ e. e ≡ spelled (due_state self.old.now (reached self.old.now from (message.State key wants row.now)) from key wants)) }
-        ensures planned { OnOk result (self.new ≡ planning self.old.now (after_message self.old.now 0 from (message.State key wants row.now))) }
+        ensures effects { IfOk result (λ e. e ≡ spelled (due_state self.old.now
+            (reached self.old.now from (message.State key wants row.now)) from key wants)) }
+        ensures planned { OnOk result
+            (self.new ≡ planning self.old.now
+            (after_message self.old.now 0 from (message.State key wants row.now))) }
         ensures err { OnErr result (self.new ≡ unplanned self.old.now) }
     {
         if self.view_of(key).is_none() {

@@ -15,7 +15,8 @@ impl Node {
     pub(crate) fn on_map_ask(&mut self, alloc: Global) -> Result<Effects, NoMemory>
         requires unplanned { self.old.next ≡ None }
         ensures effects { IfOk result (λ e. e ≡ spelled (due_map_ask self.old.now)) }
-        ensures planned { OnOk result (self.new ≡ planning self.old.now (after_message self.old.now 0 0 message.MapAsk)) }
+        ensures planned { OnOk result
+            (self.new ≡ planning self.old.now (after_message self.old.now 0 0 message.MapAsk)) }
         ensures err { OnErr result (self.new ≡ unplanned self.old.now) }
     {
         let Some(view) = &self.view else {

@@ -32,8 +32,11 @@ impl Node {
     ) -> Result<Effects, NoMemory>
         requires unplanned { self.old.next ≡ None }
         requires proper { IsProper (message.Repl key transaction nth digest.now version.now) }
-        ensures effects { IfOk result (λ e. e ≡ spelled (due_repl self.old.now from key transaction digest.now version.now)) }
-        ensures planned { OnOk result (self.new ≡ planning self.old.now (after_message self.old.now 0 from (message.Repl key transaction nth digest.now version.now))) }
+        ensures effects { IfOk result
+            (λ e. e ≡ spelled (due_repl self.old.now from key transaction digest.now version.now)) }
+        ensures planned { OnOk result
+            (self.new ≡ planning self.old.now (after_message self.old.now 0 from
+            (message.Repl key transaction nth digest.now version.now))) }
         ensures err { OnErr result (self.new ≡ unplanned self.old.now) }
     {
         if self.view_of(key).is_none() {
@@ -64,8 +67,11 @@ impl Node {
         transaction: u32,
     ) -> Result<Effects, NoMemory>
         requires unplanned { self.old.next ≡ None }
-        ensures effects { IfOk result (λ e. e ≡ spelled (due_repl_ack self.old.now from key transaction)) }
-        ensures planned { OnOk result (self.new ≡ planning self.old.now (after_message self.old.now 0 from (message.ReplAck key transaction))) }
+        ensures effects { IfOk result
+            (λ e. e ≡ spelled (due_repl_ack self.old.now from key transaction)) }
+        ensures planned { OnOk result
+            (self.new ≡ planning self.old.now
+            (after_message self.old.now 0 from (message.ReplAck key transaction))) }
         ensures err { OnErr result (self.new ≡ unplanned self.old.now) }
     {
         let Some(view) = self.view_of(key) else {
@@ -93,8 +99,10 @@ impl Node {
         requires unplanned { self.old.next ≡ None }
         requires in_one { IsSome self.old.now.exchange.view }
         requires open_one { IsSome (rules.transaction self.old.now.transactions transaction) }
-        ensures effects { IfOk result (λ e. e ≡ spelled (lines_only (only_if (line.Done self.old.now.me key transaction) is_last))) }
-        ensures planned { OnOk result (self.new ≡ planning self.old.now (after_ack self.old.now from transaction is_last)) }
+        ensures effects { IfOk result (λ e. e
+            ≡ spelled (lines_only (only_if (line.Done self.old.now.me key transaction) is_last))) }
+        ensures planned { OnOk result
+            (self.new ≡ planning self.old.now (after_ack self.old.now from transaction is_last)) }
         ensures err { OnErr result (self.new ≡ self.old) }
     {
         let node = self.me;

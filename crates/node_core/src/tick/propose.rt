@@ -28,7 +28,8 @@ impl Node {
         out: &mut Effects,
     ) -> Result<Option<Box<View>>, NoMemory>
         requires { IsProposed (after_ages self.old.now) agree.now proposal.now }
-        ensures effects { OnOk result (out.new ≡ then_effects out.old (tick.propose (after_ages self.old.now))) }
+        ensures effects { OnOk result
+            (out.new ≡ then_effects out.old (tick.propose (after_ages self.old.now))) }
         ensures view { IfOk result (λ v. EntersBy (after_ages self.old.now) proposal.now v) }
         ensures same { self.new ≡ self.old }
     {
@@ -48,7 +49,10 @@ impl Node {
 
     /// The line of the promise, where it is another one.
     fn tell_promise(&self, promised: ClusterKey, out: &mut Effects) -> Result<(), NoMemory>
-        ensures { OnOk result (out.new ≡ then_effects out.old (lines_only (only_if (line.Promise self.now.now.me promised) (not (same_key promised self.now.now.agreement.promised))))) }
+        ensures { OnOk result
+            (out.new ≡ then_effects out.old (lines_only (only_if
+            (line.Promise self.now.now.me promised)
+            (not (same_key promised self.now.now.agreement.promised))))) }
     {
         if promised != self.agree.promised() {
             out.lines.push(Line::Promise {

@@ -21,7 +21,9 @@ pub fn tell_commit(
     out: &mut Effects,
 ) -> Result<(), NoMemory>
     requires { IsKeyField key }
-    ensures { OnOk result (out.new ≡ with_sends out.old (map (λ n. (n, spelling (message.Commit key members.now))) to.now)) }
+    ensures { OnOk result
+        (out.new
+        ≡ with_sends out.old (map (λ n. (n, spelling (message.Commit key members.now))) to.now)) }
 {
     members_fit(members);
     let commit = Message::Commit {
@@ -53,7 +55,9 @@ pub fn tell_proposal(
     out: &mut Effects,
 ) -> Result<(), NoMemory>
     requires { IsKeyField key }
-    ensures { OnOk result (out.new ≡ with_sends out.old (map (λ n. (n, spelling (message.Propose key members.now))) to.now)) }
+    ensures { OnOk result
+        (out.new ≡ with_sends out.old
+        (map (λ n. (n, spelling (message.Propose key members.now))) to.now)) }
 {
     members_fit(members);
     let propose = Message::Propose {

@@ -23,7 +23,10 @@ pub fn batch_effects(
     newer: &Records,
 ) -> Result<Effects, NoMemory>
     requires { IsProper (message.BatchAck batch.now.key batch.now.number) }
-    ensures { IfOk result (λ e. e ≡ spelled (record { lines = map (merge_line me batch.now.key) newer.now; sends = to_one from (message.BatchAck batch.now.key batch.now.number) })) }
+    ensures { IfOk result (λ e. e ≡ spelled (record {
+      lines = map (merge_line me batch.now.key) newer.now;
+      sends = to_one from (message.BatchAck batch.now.key batch.now.number);
+    })) }
 {
     let mut out = Effects::new(alloc);
     write_merges(alloc, me, batch.key, newer, &mut out.lines)?;

@@ -33,7 +33,12 @@ pub fn progress_effects(
     requires settled { IsRow settled.now }
     requires own_handed { IsRow view.now.bits.handed }
     requires own_settled { IsRow view.now.bits.settled }
-    ensures { (f : Facts) (done : List Bool) → IsViewOf f view.now → IfOk result (λ e. e ≡ spelled (answer_progress partition_count (progress_came f to done handed.now settled.now true) to (wants && knows_all_settled (progress_came f to done handed.now settled.now true) partition_count 0))) }
+    ensures { (f : Facts) (done : List Bool) → IsViewOf f view.now
+        → IfOk result (λ e. e ≡ spelled (answer_progress partition_count
+        (progress_came f to done handed.now settled.now true) to
+        (wants
+        && knows_all_settled (progress_came f to done handed.now settled.now true)
+        partition_count 0))) }
 {
     let mut out = Effects::new(alloc);
     if !wants || !view.knows_all_settled_with(settled) {
@@ -55,7 +60,9 @@ fn answer(
     requires settled { IsRow settled.now }
     requires own_handed { IsRow view.now.bits.handed }
     requires own_settled { IsRow view.now.bits.settled }
-    ensures { IfOk result (λ m. m ≡ message.Progress (viewed_key view.now) false (done_row view.now.exchange.exchanged view.now.batches partition_count 0) (or_rows view.now.bits.handed handed.now) (or_rows view.now.bits.settled settled.now)) }
+    ensures { IfOk result (λ m. m ≡ message.Progress (viewed_key view.now) false
+        (done_row view.now.exchange.exchanged view.now.batches partition_count 0)
+        (or_rows view.now.bits.handed handed.now) (or_rows view.now.bits.settled settled.now)) }
 {
     Ok(Message::Progress {
         key: view.key(),

@@ -33,7 +33,8 @@ pub fn state_effects(
 ) -> Result<Effects, NoMemory>
     requires { IsProper
         (message.State (viewed_key view.now) false (own_row_in (facts_seen view.now))) }
-    ensures { (f : Facts) → IsInView f view.now → IfOk result (λ e. e ≡ spelled (sends_only (answer_state f to wants))) }
+    ensures { (f : Facts) → IsInView f view.now
+        → IfOk result (λ e. e ≡ spelled (sends_only (answer_state f to wants))) }
 {
     let mut out = Effects::new(alloc);
     if !wants {
@@ -53,9 +54,14 @@ pub fn plan_row(
     out: &mut Effects,
 ) -> Result<Planned, NoMemory>
     requires member { Contains (others_among view.old.me (members_of view.old.exchange.view)) from }
-    ensures lines { OnOk result (out.new ≡ then_effects out.old (lines_only (only_if (line.Exchanged view.old.me (viewed_key view.old)) (finishes_with view.old from row.now)))) }
-    ensures planned { IfOk result (λ p. (f : Facts) → IsNodeInView f view.old store.now → taken f p ≡ after_row f from row.now) }
-    ensures fits { IfOk result (λ p. (f : Facts) → IsNodeInView f view.old store.now → IsSome f.exchange.view → FitsPlanned f p) }
+    ensures lines { OnOk result
+        (out.new ≡ then_effects out.old (lines_only (only_if
+        (line.Exchanged view.old.me (viewed_key view.old))
+        (finishes_with view.old from row.now)))) }
+    ensures planned { IfOk result (λ p.
+        (f : Facts) → IsNodeInView f view.old store.now → taken f p ≡ after_row f from row.now) }
+    ensures fits { IfOk result (λ p. (f : Facts) → IsNodeInView f view.old store.now
+        → IsSome f.exchange.view → FitsPlanned f p) }
     ensures room { IfOk result NeedsNoRoom }
     ensures same { view.new ≡ view.old }
 {

@@ -30,7 +30,8 @@ pub fn merge_effects(
     version: &Version,
     is_newer: bool,
 ) -> Result<Effects, NoMemory>
-    ensures { IfOk result (λ e. e ≡ spelled (lines_only (only_if (line.Merge node key digest.now version.now) is_newer))) }
+    ensures { IfOk result (λ e.
+        e ≡ spelled (lines_only (only_if (line.Merge node key digest.now version.now) is_newer))) }
 {
     if !is_newer {
         return Ok(Effects::new(alloc));
@@ -53,7 +54,9 @@ pub fn acknowledge(
     out: &mut Effects,
 ) -> Result<(), NoMemory>
     requires { IsProper (message.ReplAck key transaction) }
-    ensures { OnOk result (out.new ≡ then_effects out.old (sends_only (to_one to (message.ReplAck key transaction)))) }
+    ensures { OnOk result
+        (out.new
+        ≡ then_effects out.old (sends_only (to_one to (message.ReplAck key transaction)))) }
 {
     let ack = Message::ReplAck { key, transaction };
     out.send(alloc, to.number(), &ack)
@@ -66,8 +69,11 @@ pub fn plan_merge(
     digest: &Digest,
     version: &Version,
 ) -> Result<Option<Version>, NoMemory>
-    ensures newer { IfOk result (λ v. v ≡ some_if (is_newer store.old.by version.now (finite.get store.old.versions digest.now)) version.now) }
-    ensures room { IfOk result (λ v. ForSome v (λ _. 0 < room_at store.new.spare (partition_of digest.now))) }
+    ensures newer { IfOk result (λ v. v ≡ some_if
+        (is_newer store.old.by version.now (finite.get store.old.versions digest.now))
+        version.now) }
+    ensures room { IfOk result
+        (λ v. ForSome v (λ _. 0 < room_at store.new.spare (partition_of digest.now))) }
     ensures kept { HoldsTheSame store.old store.new }
 {
     match store.would_join(digest, version) {

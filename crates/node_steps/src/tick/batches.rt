@@ -26,8 +26,10 @@ pub fn batches(
 ) -> Result<Vec<(NodeId, Batch)>, NoMemory>
     requires { HaveNumbers f.now }
     ensures sends { OnOk result (out.new ≡ then_effects out.old (tick.batches f.now)) }
-    ensures sent { IfOk result (λ bs. bs.items ≡ batches_due (view_key f.now) f.now.store.content f.now.batches) }
-    ensures next { IfOk result (λ bs. AreNext f.now.exchange.exchanged (view_key f.now) f.now.batches bs.items) }
+    ensures sent { IfOk result
+        (λ bs. bs.items ≡ batches_due (view_key f.now) f.now.store.content f.now.batches) }
+    ensures next { IfOk result
+        (λ bs. AreNext f.now.exchange.exchanged (view_key f.now) f.now.batches bs.items) }
 {
     let mut sent = Vec::new(alloc);
     let Some(view) = f.view else {
@@ -43,7 +45,8 @@ pub fn batches(
 /// Sends the batch, and hands it back.
 fn send_batch(alloc: Global, to: NodeId, batch: Batch, out: &mut Effects) -> Result<Batch, NoMemory>
     requires { IsProper (message.Batch batch) }
-    ensures sends { OnOk result (out.new ≡ with_sends out.old ((to, spelling (message.Batch batch)) ∷ [])) }
+    ensures sends { OnOk result
+        (out.new ≡ with_sends out.old ((to, spelling (message.Batch batch)) ∷ [])) }
     ensures same { IfOk result (λ b. b ≡ batch) }
 {
     let message = Message::Batch(batch);

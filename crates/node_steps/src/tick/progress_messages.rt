@@ -26,8 +26,11 @@ pub fn progress(
     out: &mut Effects,
 ) -> Result<(), NoMemory>
     requires due { AreSettlings f.now settlings.now }
-    requires settled { settled_by f.now settlings.now ≡ noted None f.now (settling_due partition_count f.now) }
-    ensures { OnOk result (out.new ≡ then_effects out.old (tick.progress partition_count (settled_by f.now settlings.now))) }
+    requires settled { settled_by f.now settlings.now
+        ≡ noted None f.now (settling_due partition_count f.now) }
+    ensures { OnOk result
+        (out.new
+        ≡ then_effects out.old (tick.progress partition_count (settled_by f.now settlings.now))) }
 {
     // What it knows has a spelling.
     let _ = &f.me;
@@ -66,7 +69,8 @@ fn settled_count(settlings: &[Settling]) -> usize
 
 /// The partitions that were handed over, those of this tick with them.
 fn handed_row(view: &View, settlings: &[Settling]) -> Row4096
-    ensures { result ≡ fold (λ row s. if s.hands then with_bit row s.partition else row) view.now.bits.handed settlings.now }
+    ensures { result ≡ fold (λ row s. if s.hands then with_bit row s.partition else row)
+        view.now.bits.handed settlings.now }
 {
     let mut row = *view.handed_row();
     for settling in settlings {
@@ -79,7 +83,8 @@ fn handed_row(view: &View, settlings: &[Settling]) -> Row4096
 
 /// The partitions that were settled, those of this tick with them.
 fn settled_row(view: &View, settlings: &[Settling]) -> Row4096
-    ensures { result ≡ fold (λ row s. if s.settles then with_bit row s.partition else row) view.now.bits.settled settlings.now }
+    ensures { result ≡ fold (λ row s. if s.settles then with_bit row s.partition else row)
+        view.now.bits.settled settlings.now }
 {
     let mut row = *view.settled_row();
     for settling in settlings {

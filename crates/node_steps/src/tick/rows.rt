@@ -29,7 +29,8 @@ pub fn rows(alloc: Global, f: &Ground<'_>, out: &mut Effects) -> Result<(), NoMe
 
 /// The other members whose rows aren't there, in member order.
 fn lacking(view: &View) -> NodeList
-    ensures { result ≡ filter (lacks view.now.exchange.rows) (others_among view.now.me (members_of view.now.exchange.view)) }
+    ensures { result ≡ filter (lacks view.now.exchange.rows)
+        (others_among view.now.me (members_of view.now.exchange.view)) }
 {
     let mut lacking = NodeList::new();
     for n in view.others().as_slice() {

@@ -26,10 +26,13 @@ pub fn settlings(
     f: &Ground<'_>,
     out: &mut Effects,
 ) -> Result<Vec<Settling>, NoMemory>
-    ensures lines { OnOk result (out.new ≡ then_effects out.old (tick.settlings partition_count f.now)) }
+    ensures lines { OnOk result
+        (out.new ≡ then_effects out.old (tick.settlings partition_count f.now)) }
     ensures due { IfOk result (λ ss. AreSettlings f.now ss.items) }
-    ensures told { IfOk result (λ ss. settling_lines f.now.me (view_key f.now) ss.items ≡ settling_due partition_count f.now) }
-    ensures settled { IfOk result (λ ss. settled_by f.now ss.items ≡ noted None f.now (settling_due partition_count f.now)) }
+    ensures told { IfOk result (λ ss.
+        settling_lines f.now.me (view_key f.now) ss.items ≡ settling_due partition_count f.now) }
+    ensures settled { IfOk result
+        (λ ss. settled_by f.now ss.items ≡ noted None f.now (settling_due partition_count f.now)) }
 {
     let Some(view) = f.exchanged() else {
         return Ok(Vec::new(alloc));
@@ -43,7 +46,9 @@ pub fn settlings(
 
 /// The lines of a partition.
 fn write_lines(view: &View, settling: Settling, out: &mut Effects) -> Result<(), NoMemory>
-    ensures { OnOk result (out.new ≡ then_effects out.old (lines_only (lines_of_settling view.now.me (viewed_key view.now) settling))) }
+    ensures { OnOk result
+        (out.new ≡ then_effects out.old
+        (lines_only (lines_of_settling view.now.me (viewed_key view.now) settling))) }
 {
     let node = view.me();
     let key = view.key();

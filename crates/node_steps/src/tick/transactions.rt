@@ -43,8 +43,11 @@ fn send_again(alloc: Global, view: &View, txn: &Txn, out: &mut Effects) -> Resul
     requires key { IsKeyField (viewed_key view.now) }
     requires open_one { IsSome (rules.transaction view.now.transactions txn.now.id) }
     requires spelled { ForSome (rules.transaction view.now.transactions txn.now.id) HasSpelling }
-    requires same { ForSome (rules.transaction view.now.transactions txn.now.id) (IsAsKept txn.now) }
-    ensures { (f : Facts) → IsInView f view.now → ForSome (rules.transaction f.transactions txn.now.id) (λ t. OnOk result (out.new ≡ then_effects out.old (sends_only (sends_again f t t.applied)))) }
+    requires same { ForSome (rules.transaction view.now.transactions txn.now.id)
+        (IsAsKept txn.now) }
+    ensures { (f : Facts) → IsInView f view.now
+        → ForSome (rules.transaction f.transactions txn.now.id) (λ t.
+        OnOk result (out.new ≡ then_effects out.old (sends_only (sends_again f t t.applied)))) }
 {
     let message = match view.written(txn.id) {
         None => ask(view, txn),
@@ -66,7 +69,8 @@ fn ask(view: &View, txn: &Txn) -> Message
 
 /// The message by which the transaction's write goes to a replica.
 fn repl(alloc: Global, view: &View, txn: &Txn, write: &Write) -> Result<Message, NoMemory>
-    ensures { IfOk result (λ m. m ≡ message.Repl (viewed_key view.now) txn.now.id write.now.nth txn.now.digest write.now.version) }
+    ensures { IfOk result (λ m. m ≡ message.Repl (viewed_key view.now) txn.now.id write.now.nth
+        txn.now.digest write.now.version) }
 {
     Ok(Message::Repl {
         key: view.key(),

@@ -21,7 +21,8 @@ pub fn ask(before: &Before, fields: Fields) -> Result<Command, LineFault>
 
 /// `cput KEY VALUE`.
 pub fn client_put(alloc: Global, fields: Fields) -> Result<Command, LineFault>
-    ensures { ReadsOutcome result (map_ok (λ p. Command.ClientPut p.0 p.1) (forms.key_and_value fields.entry)) }
+    ensures { ReadsOutcome result
+        (map_ok (λ p. Command.ClientPut p.0 p.1) (forms.key_and_value fields.entry)) }
 {
     let (digest, value) = key_and_value(alloc, fields)?;
     Ok(Command::ClientPut { digest, value })
@@ -47,7 +48,8 @@ pub fn client_del(fields: Fields) -> Result<Command, LineFault>
 
 /// `oput KEY VALUE`.
 pub fn call_put(alloc: Global, fields: Fields) -> Result<Command, LineFault>
-    ensures { ReadsOutcome result (map_ok (λ p. Command.CallPut p.0 p.1) (forms.key_and_value fields.entry)) }
+    ensures { ReadsOutcome result
+        (map_ok (λ p. Command.CallPut p.0 p.1) (forms.key_and_value fields.entry)) }
 {
     let (digest, value) = key_and_value(alloc, fields)?;
     Ok(Command::CallPut { digest, value })

@@ -15,7 +15,8 @@ use std::alloc::Global;
 
 /// `tick N`.
 pub fn tick(before: &Before, fields: Fields) -> Result<Command, LineFault>
-    ensures { ReadsOutcome result (map_ok (λ id. Command.Tick id) (forms.at_node before.now fields.entry)) }
+    ensures { ReadsOutcome result
+        (map_ok (λ id. Command.Tick id) (forms.at_node before.now fields.entry)) }
 {
     let node = at_node(before, fields)?;
     Ok(Command::Tick { node })
@@ -23,7 +24,8 @@ pub fn tick(before: &Before, fields: Fields) -> Result<Command, LineFault>
 
 /// `stop N`.
 pub fn stop(before: &Before, fields: Fields) -> Result<Command, LineFault>
-    ensures { ReadsOutcome result (map_ok (λ id. Command.Stop id) (forms.at_node before.now fields.entry)) }
+    ensures { ReadsOutcome result
+        (map_ok (λ id. Command.Stop id) (forms.at_node before.now fields.entry)) }
 {
     let node = at_node(before, fields)?;
     Ok(Command::Stop { node })
@@ -31,7 +33,8 @@ pub fn stop(before: &Before, fields: Fields) -> Result<Command, LineFault>
 
 /// `start N`.
 pub fn start(before: &Before, fields: Fields) -> Result<Command, LineFault>
-    ensures { ReadsOutcome result (map_ok (λ id. Command.Start id) (forms.at_node before.now fields.entry)) }
+    ensures { ReadsOutcome result
+        (map_ok (λ id. Command.Start id) (forms.at_node before.now fields.entry)) }
 {
     let node = at_node(before, fields)?;
     Ok(Command::Start { node })
@@ -39,7 +42,8 @@ pub fn start(before: &Before, fields: Fields) -> Result<Command, LineFault>
 
 /// `put N KEY VALUE`.
 pub fn put(alloc: Global, before: &Before, fields: Fields) -> Result<Command, LineFault>
-    ensures { ReadsOutcome result (map_ok (λ p. Command.Put p.0 p.1 p.2) (forms.node_key_and_value before.now fields.entry)) }
+    ensures { ReadsOutcome result
+        (map_ok (λ p. Command.Put p.0 p.1 p.2) (forms.node_key_and_value before.now fields.entry)) }
 {
     let (node, digest, value) = node_key_and_value(alloc, before, fields)?;
     Ok(Command::Put {
@@ -51,7 +55,8 @@ pub fn put(alloc: Global, before: &Before, fields: Fields) -> Result<Command, Li
 
 /// `get N KEY`.
 pub fn get(before: &Before, fields: Fields) -> Result<Command, LineFault>
-    ensures { ReadsOutcome result (map_ok (λ p. Command.Get p.0 p.1) (forms.node_and_key before.now fields.entry)) }
+    ensures { ReadsOutcome result
+        (map_ok (λ p. Command.Get p.0 p.1) (forms.node_and_key before.now fields.entry)) }
 {
     let (node, digest) = node_and_key(before, fields)?;
     Ok(Command::Get { node, digest })
@@ -59,7 +64,8 @@ pub fn get(before: &Before, fields: Fields) -> Result<Command, LineFault>
 
 /// `del N KEY`.
 pub fn del(before: &Before, fields: Fields) -> Result<Command, LineFault>
-    ensures { ReadsOutcome result (map_ok (λ p. Command.Del p.0 p.1) (forms.node_and_key before.now fields.entry)) }
+    ensures { ReadsOutcome result
+        (map_ok (λ p. Command.Del p.0 p.1) (forms.node_and_key before.now fields.entry)) }
 {
     let (node, digest) = node_and_key(before, fields)?;
     Ok(Command::Del { node, digest })
@@ -67,7 +73,8 @@ pub fn del(before: &Before, fields: Fields) -> Result<Command, LineFault>
 
 /// `quiesce N`.
 pub fn quiesce(before: &Before, fields: Fields) -> Result<Command, LineFault>
-    ensures { ReadsOutcome result (map_ok (λ id. Command.Quiesce id) (forms.at_node before.now fields.entry)) }
+    ensures { ReadsOutcome result
+        (map_ok (λ id. Command.Quiesce id) (forms.at_node before.now fields.entry)) }
 {
     let node = at_node(before, fields)?;
     Ok(Command::Quiesce { node })
@@ -75,7 +82,8 @@ pub fn quiesce(before: &Before, fields: Fields) -> Result<Command, LineFault>
 
 /// `unquiesce N`.
 pub fn unquiesce(before: &Before, fields: Fields) -> Result<Command, LineFault>
-    ensures { ReadsOutcome result (map_ok (λ id. Command.Unquiesce id) (forms.at_node before.now fields.entry)) }
+    ensures { ReadsOutcome result
+        (map_ok (λ id. Command.Unquiesce id) (forms.at_node before.now fields.entry)) }
 {
     let node = at_node(before, fields)?;
     Ok(Command::Unquiesce { node })
@@ -83,7 +91,8 @@ pub fn unquiesce(before: &Before, fields: Fields) -> Result<Command, LineFault>
 
 /// `pput N KEY VALUE`.
 pub fn proxy_put(alloc: Global, before: &Before, fields: Fields) -> Result<Command, LineFault>
-    ensures { ReadsOutcome result (map_ok (λ p. Command.ProxyPut p.0 p.1 p.2) (forms.node_key_and_value before.now fields.entry)) }
+    ensures { ReadsOutcome result (map_ok (λ p. Command.ProxyPut p.0 p.1 p.2)
+        (forms.node_key_and_value before.now fields.entry)) }
 {
     let (node, digest, value) = node_key_and_value(alloc, before, fields)?;
     Ok(Command::ProxyPut {
@@ -95,7 +104,8 @@ pub fn proxy_put(alloc: Global, before: &Before, fields: Fields) -> Result<Comma
 
 /// `pget N KEY`.
 pub fn proxy_get(before: &Before, fields: Fields) -> Result<Command, LineFault>
-    ensures { ReadsOutcome result (map_ok (λ p. Command.ProxyGet p.0 p.1) (forms.node_and_key before.now fields.entry)) }
+    ensures { ReadsOutcome result
+        (map_ok (λ p. Command.ProxyGet p.0 p.1) (forms.node_and_key before.now fields.entry)) }
 {
     let (node, digest) = node_and_key(before, fields)?;
     Ok(Command::ProxyGet { node, digest })
@@ -103,7 +113,8 @@ pub fn proxy_get(before: &Before, fields: Fields) -> Result<Command, LineFault>
 
 /// `pdel N KEY`.
 pub fn proxy_del(before: &Before, fields: Fields) -> Result<Command, LineFault>
-    ensures { ReadsOutcome result (map_ok (λ p. Command.ProxyDel p.0 p.1) (forms.node_and_key before.now fields.entry)) }
+    ensures { ReadsOutcome result
+        (map_ok (λ p. Command.ProxyDel p.0 p.1) (forms.node_and_key before.now fields.entry)) }
 {
     let (node, digest) = node_and_key(before, fields)?;
     Ok(Command::ProxyDel { node, digest })
@@ -111,7 +122,8 @@ pub fn proxy_del(before: &Before, fields: Fields) -> Result<Command, LineFault>
 
 /// `pagain N`.
 pub fn proxy_again(before: &Before, fields: Fields) -> Result<Command, LineFault>
-    ensures { ReadsOutcome result (map_ok (λ id. Command.ProxyAgain id) (forms.at_node before.now fields.entry)) }
+    ensures { ReadsOutcome result
+        (map_ok (λ id. Command.ProxyAgain id) (forms.at_node before.now fields.entry)) }
 {
     let node = at_node(before, fields)?;
     Ok(Command::ProxyAgain { node })

@@ -31,7 +31,8 @@ pub fn place(fields: Fields) -> Result<Command, LineFault>
 
 /// `show N KEY`.
 pub fn show(before: &Before, fields: Fields) -> Result<Command, LineFault>
-    ensures { ReadsOutcome result (map_ok (λ p. Command.Show p.0 p.1) (forms.node_and_key before.now fields.entry)) }
+    ensures { ReadsOutcome result
+        (map_ok (λ p. Command.Show p.0 p.1) (forms.node_and_key before.now fields.entry)) }
 {
     let (node, digest) = node_and_key(before, fields)?;
     Ok(Command::Show { node, digest })

@@ -340,7 +340,9 @@ impl<'a> Reader<'a> {
     /// The fields of a message of that kind.
     pub(crate) fn message(&mut self, alloc: Global, kind: u8) -> Result<Message, ReadFault>
         requires { (0 < kind) × (kind ≤ 25) }
-        ensures { (read : List ℕ → Result (Message × List ℕ) FieldFault) → kinds.kind_of kind ≡ Some read → Reads result (read self.old.rest.now) self.new.rest.now }
+        ensures { (read : List ℕ → Result (Message × List ℕ) FieldFault)
+            → kinds.kind_of kind ≡ Some read
+            → Reads result (read self.old.rest.now) self.new.rest.now }
     {
         match kind {
             1 => self.heartbeat(),

@@ -55,7 +55,9 @@ impl<'a> Reader<'a> {
 
     /// A member for each place.
     fn fill_members(&mut self, places: &mut [Member]) -> Result<(), ReadFault>
-        ensures { Fills result places.new (items_at member_at with_member (length places.old) nobody_before self.old.rest.now) self.new.rest.now }
+        ensures { Fills result places.new
+            (items_at member_at with_member (length places.old) nobody_before self.old.rest.now)
+            self.new.rest.now }
     {
         let mut before = nobody_before();
         for i in 0..places.len() {
@@ -70,7 +72,9 @@ impl<'a> Reader<'a> {
     fn members_in(&mut self, places: &mut [Member]) -> Result<Members, ReadFault>
         requires some { 0 < length places.old }
         requires limit { length places.old ≤ 16 }
-        ensures { Reads result (items_at member_at with_member (length places.old) nobody_before self.old.rest.now) self.new.rest.now }
+        ensures { Reads result
+            (items_at member_at with_member (length places.old) nobody_before self.old.rest.now)
+            self.new.rest.now }
     {
         self.fill_members(places)?;
         match Members::with_roles(places) {

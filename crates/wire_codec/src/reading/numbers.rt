@@ -66,7 +66,8 @@ impl<'a> Reader<'a> {
     /// A byte from `least` to `most`.
     #[tactic(auto, unfolding(wire_messages::specs::Fields::field, wire_messages::specs::Numbers::byte_at))]
     pub(crate) fn byte(&mut self, least: u8, most: u8) -> Result<u8, ReadFault>
-        ensures reads { Reads result (byte_at (between least most) self.old.rest.now) self.new.rest.now }
+        ensures reads { Reads result (byte_at (between least most) self.old.rest.now)
+            self.new.rest.now }
         ensures range { IfOk result (λ b. (least ≤ b) × (b ≤ most)) }
     {
         match self.rest {

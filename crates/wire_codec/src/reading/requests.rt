@@ -25,7 +25,8 @@ impl<'a> Reader<'a> {
     /// The tag of a reply: below 6, and 6 too where there may be no view.
     #[tactic(auto, unfolding(wire_messages::specs::Fields::field, wire_messages::specs::Numbers::byte_at))]
     fn reply_tag(&mut self, no_view: bool) -> Result<u8, ReadFault>
-        ensures { Reads result (byte_at (is_reply_tag no_view) self.old.rest.now) self.new.rest.now }
+        ensures { Reads result (byte_at (is_reply_tag no_view) self.old.rest.now)
+            self.new.rest.now }
     {
         let bytes = self.rest;
         let tag = self.byte(0, 6)?;

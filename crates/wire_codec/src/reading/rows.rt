@@ -51,7 +51,8 @@ impl<'a> Reader<'a> {
     /// A partition.
     #[tactic(auto, unfolding(wire_messages::specs::Fields::field, wire_messages::specs::Numbers::number_at))]
     pub(crate) fn partition(&mut self) -> Result<PartitionId, ReadFault>
-        ensures { Reads result (number_at w16 (λ p. nat_lt p partition_count) self.old.rest.now) self.new.rest.now }
+        ensures { Reads result (number_at w16 (λ p. nat_lt p partition_count) self.old.rest.now)
+            self.new.rest.now }
     {
         let bytes = self.rest;
         let number = self.u16()?;
@@ -64,7 +65,9 @@ impl<'a> Reader<'a> {
     /// A partition above the one before it, if there is one.
     #[tactic(auto, unfolding(wire_messages::specs::Fields::field, wire_messages::specs::Numbers::number_at))]
     fn partition_above(&mut self, before: Option<PartitionId>) -> Result<PartitionId, ReadFault>
-        ensures reads { Reads result (number_at w16 (λ p. nat_lt p partition_count && is_above before p) self.old.rest.now) self.new.rest.now }
+        ensures reads { Reads result
+            (number_at w16 (λ p. nat_lt p partition_count && is_above before p) self.old.rest.now)
+            self.new.rest.now }
         ensures above { IfOk result (λ p. (b : ℕ) → before ≡ Some b → b < p) }
     {
         let bytes = self.rest;
@@ -107,7 +110,8 @@ impl<'a> Reader<'a> {
     /// The number of entries.
     #[tactic(auto, unfolding(wire_messages::specs::Fields::field, wire_messages::specs::Numbers::number_at))]
     fn entry_count(&mut self) -> Result<u16, ReadFault>
-        ensures { Reads result (number_at w16 (between 0 4096) self.old.rest.now) self.new.rest.now }
+        ensures { Reads result (number_at w16 (between 0 4096) self.old.rest.now)
+            self.new.rest.now }
     {
         let bytes = self.rest;
         let count = self.u16()?;
@@ -119,7 +123,8 @@ impl<'a> Reader<'a> {
 
     /// So many entries.
     fn entries(&mut self, alloc: Global, count: u16) -> Result<StateRow, ReadFault>
-        ensures { Reads result (items_at entry_at with_entry count None self.old.rest.now) self.new.rest.now }
+        ensures { Reads result (items_at entry_at with_entry count None self.old.rest.now)
+            self.new.rest.now }
     {
         let mut row = StateRow::new(alloc);
         let mut before = None;
@@ -142,7 +147,9 @@ impl<'a> Reader<'a> {
 
     /// An id for each place.
     fn fill_ids(&mut self, ids: &mut [NodeId]) -> Result<(), ReadFault>
-        ensures { Fills result ids.new (items_at any_id_at with_any_id (length ids.old) None self.old.rest.now) self.new.rest.now }
+        ensures { Fills result ids.new
+            (items_at any_id_at with_any_id (length ids.old) None self.old.rest.now)
+            self.new.rest.now }
     {
         for i in 0..ids.len() {
             let id = self.id()?;

@@ -122,7 +122,8 @@ impl<'a> Reader<'a> {
 
     /// So many records.
     fn counted_records(&mut self, alloc: Global, count: u8) -> Result<Records, ReadFault>
-        ensures { Reads result (items_at record_at with_record count None self.old.rest.now) self.new.rest.now }
+        ensures { Reads result (items_at record_at with_record count None self.old.rest.now)
+            self.new.rest.now }
     {
         let mut records = Records::new(alloc);
         let mut before = None;

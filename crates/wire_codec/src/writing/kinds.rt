@@ -36,7 +36,9 @@ fn put_heartbeat(
     role: Role,
 ) -> Result<(), NoMemory>
     requires { IsProper (message.Heartbeat view promised hears.now role) }
-    ensures { OnOk result (out.new.items ≡ appended out.old.items (fields_of (message.Heartbeat view promised hears.now role))) }
+    ensures { OnOk result
+        (out.new.items
+        ≡ appended out.old.items (fields_of (message.Heartbeat view promised hears.now role))) }
 {
     let plain = is_plain(role);
     put_byte(out, if plain { 1 } else { 16 })?;
@@ -50,7 +52,8 @@ fn put_heartbeat(
 #[tactic(auto, unfolding(wire_messages::specs::Numbers::byte_field))]
 fn put_accept(out: &mut Vec<u8>, key: ClusterKey) -> Result<(), NoMemory>
     requires { IsProper (message.Accept key) }
-    ensures { OnOk result (out.new.items ≡ appended out.old.items (fields_of (message.Accept key))) }
+    ensures { OnOk result
+        (out.new.items ≡ appended out.old.items (fields_of (message.Accept key))) }
 {
     put_byte(out, 3)?;
     put_key(out, key)
@@ -60,7 +63,8 @@ fn put_accept(out: &mut Vec<u8>, key: ClusterKey) -> Result<(), NoMemory>
 #[tactic(auto, unfolding(wire_messages::specs::Numbers::byte_field))]
 fn put_refuse(out: &mut Vec<u8>, refused: ClusterKey, promised: ClusterKey) -> Result<(), NoMemory>
     requires { IsProper (message.Refuse refused promised) }
-    ensures { OnOk result (out.new.items ≡ appended out.old.items (fields_of (message.Refuse refused promised))) }
+    ensures { OnOk result
+        (out.new.items ≡ appended out.old.items (fields_of (message.Refuse refused promised))) }
 {
     put_byte(out, 4)?;
     put_key(out, refused)?;
@@ -76,7 +80,8 @@ fn put_state(
     row: &StateRow,
 ) -> Result<(), NoMemory>
     requires { IsProper (message.State key wants row.now) }
-    ensures { OnOk result (out.new.items ≡ appended out.old.items (fields_of (message.State key wants row.now))) }
+    ensures { OnOk result
+        (out.new.items ≡ appended out.old.items (fields_of (message.State key wants row.now))) }
 {
     put_byte(out, 6)?;
     put_key(out, key)?;
@@ -88,7 +93,8 @@ fn put_state(
 #[tactic(auto, unfolding(wire_messages::specs::Numbers::byte_field))]
 fn put_batch(out: &mut Vec<u8>, batch: &Batch) -> Result<(), NoMemory>
     requires { IsProper (message.Batch batch.now) }
-    ensures { OnOk result (out.new.items ≡ appended out.old.items (fields_of (message.Batch batch.now))) }
+    ensures { OnOk result
+        (out.new.items ≡ appended out.old.items (fields_of (message.Batch batch.now))) }
 {
     put_byte(out, 7)?;
     put_key(out, batch.key)?;
@@ -100,7 +106,8 @@ fn put_batch(out: &mut Vec<u8>, batch: &Batch) -> Result<(), NoMemory>
 #[tactic(auto, unfolding(wire_messages::specs::Numbers::byte_field))]
 fn put_batch_ack(out: &mut Vec<u8>, key: ClusterKey, number: u32) -> Result<(), NoMemory>
     requires { IsProper (message.BatchAck key number) }
-    ensures { OnOk result (out.new.items ≡ appended out.old.items (fields_of (message.BatchAck key number))) }
+    ensures { OnOk result
+        (out.new.items ≡ appended out.old.items (fields_of (message.BatchAck key number))) }
 {
     put_byte(out, 8)?;
     put_key(out, key)?;
@@ -118,7 +125,9 @@ fn put_progress(
     settled: &BoxedRow,
 ) -> Result<(), NoMemory>
     requires { IsProper (message.Progress key wants done.now handed.now settled.now) }
-    ensures { OnOk result (out.new.items ≡ appended out.old.items (fields_of (message.Progress key wants done.now handed.now settled.now))) }
+    ensures { OnOk result
+        (out.new.items ≡ appended out.old.items
+        (fields_of (message.Progress key wants done.now handed.now settled.now))) }
 {
     put_byte(out, 9)?;
     put_key(out, key)?;
@@ -139,7 +148,9 @@ fn put_repl(
     version: &Version,
 ) -> Result<(), NoMemory>
     requires { IsProper (message.Repl key transaction nth digest.now version.now) }
-    ensures { OnOk result (out.new.items ≡ appended out.old.items (fields_of (message.Repl key transaction nth digest.now version.now))) }
+    ensures { OnOk result
+        (out.new.items ≡ appended out.old.items
+        (fields_of (message.Repl key transaction nth digest.now version.now))) }
 {
     put_byte(out, 10)?;
     put_key(out, key)?;
@@ -153,7 +164,8 @@ fn put_repl(
 #[tactic(auto, unfolding(wire_messages::specs::Numbers::byte_field))]
 fn put_repl_ack(out: &mut Vec<u8>, key: ClusterKey, transaction: u32) -> Result<(), NoMemory>
     requires { IsProper (message.ReplAck key transaction) }
-    ensures { OnOk result (out.new.items ≡ appended out.old.items (fields_of (message.ReplAck key transaction))) }
+    ensures { OnOk result
+        (out.new.items ≡ appended out.old.items (fields_of (message.ReplAck key transaction))) }
 {
     put_byte(out, 11)?;
     put_key(out, key)?;
@@ -169,7 +181,9 @@ fn put_ask(
     digest: &Digest,
 ) -> Result<(), NoMemory>
     requires { IsProper (message.Ask key transaction digest.now) }
-    ensures { OnOk result (out.new.items ≡ appended out.old.items (fields_of (message.Ask key transaction digest.now))) }
+    ensures { OnOk result
+        (out.new.items
+        ≡ appended out.old.items (fields_of (message.Ask key transaction digest.now))) }
 {
     put_byte(out, 12)?;
     put_key(out, key)?;
@@ -186,7 +200,9 @@ fn put_answer(
     version: &Option<Version>,
 ) -> Result<(), NoMemory>
     requires { IsProper (message.Answer key transaction version.now) }
-    ensures { OnOk result (out.new.items ≡ appended out.old.items (fields_of (message.Answer key transaction version.now))) }
+    ensures { OnOk result
+        (out.new.items
+        ≡ appended out.old.items (fields_of (message.Answer key transaction version.now))) }
 {
     put_byte(out, 13)?;
     put_key(out, key)?;
@@ -198,7 +214,8 @@ fn put_answer(
 #[tactic(auto, unfolding(wire_messages::specs::Numbers::byte_field))]
 fn put_map_table(out: &mut Vec<u8>, table: &MapTable) -> Result<(), NoMemory>
     requires { IsProper (message.MapTable table.now) }
-    ensures { OnOk result (out.new.items ≡ appended out.old.items (fields_of (message.MapTable table.now))) }
+    ensures { OnOk result
+        (out.new.items ≡ appended out.old.items (fields_of (message.MapTable table.now))) }
 {
     put_byte(out, 15)?;
     put_key(out, table.key)?;
@@ -216,7 +233,9 @@ fn put_proxy(
     want: &Want,
 ) -> Result<(), NoMemory>
     requires { IsProper (message.Proxy key number digest.now want.now) }
-    ensures { OnOk result (out.new.items ≡ appended out.old.items (fields_of (message.Proxy key number digest.now want.now))) }
+    ensures { OnOk result
+        (out.new.items
+        ≡ appended out.old.items (fields_of (message.Proxy key number digest.now want.now))) }
 {
     put_byte(out, 19)?;
     put_key(out, key)?;
@@ -234,7 +253,9 @@ fn put_proxy_reply(
     reply: &ReplyBody,
 ) -> Result<(), NoMemory>
     requires { IsProper (message.ProxyReply key number reply.now) }
-    ensures { OnOk result (out.new.items ≡ appended out.old.items (fields_of (message.ProxyReply key number reply.now))) }
+    ensures { OnOk result
+        (out.new.items
+        ≡ appended out.old.items (fields_of (message.ProxyReply key number reply.now))) }
 {
     put_byte(out, 20)?;
     put_key(out, key)?;
@@ -246,7 +267,9 @@ fn put_proxy_reply(
 #[tactic(auto, unfolding(wire_messages::specs::Numbers::byte_field))]
 fn put_call(out: &mut Vec<u8>, number: u32, digest: &Digest, want: &Want) -> Result<(), NoMemory>
     requires { IsProper (message.Call number digest.now want.now) }
-    ensures { OnOk result (out.new.items ≡ appended out.old.items (fields_of (message.Call number digest.now want.now))) }
+    ensures { OnOk result
+        (out.new.items
+        ≡ appended out.old.items (fields_of (message.Call number digest.now want.now))) }
 {
     put_byte(out, 21)?;
     put_u32(out, number)?;
@@ -263,7 +286,8 @@ fn put_client_reply(
     reply: &ReplyBody,
 ) -> Result<(), NoMemory>
     requires { IsProper (message.Reply key number reply.now) }
-    ensures { OnOk result (out.new.items ≡ appended out.old.items (fields_of (message.Reply key number reply.now))) }
+    ensures { OnOk result
+        (out.new.items ≡ appended out.old.items (fields_of (message.Reply key number reply.now))) }
 {
     put_byte(out, 22)?;
     put_key(out, key)?;
@@ -280,7 +304,9 @@ fn put_scan_ask(
     after: &Option<Digest>,
 ) -> Result<(), NoMemory>
     requires { IsProper (message.ScanAsk scan partition after.now) }
-    ensures { OnOk result (out.new.items ≡ appended out.old.items (fields_of (message.ScanAsk scan partition after.now))) }
+    ensures { OnOk result
+        (out.new.items
+        ≡ appended out.old.items (fields_of (message.ScanAsk scan partition after.now))) }
 {
     put_byte(out, 23)?;
     put_u32(out, scan)?;
@@ -292,7 +318,8 @@ fn put_scan_ask(
 #[tactic(auto, unfolding(wire_messages::specs::Numbers::byte_field))]
 fn put_scan_no(out: &mut Vec<u8>, scan: u32, refusal: &ScanRefusal) -> Result<(), NoMemory>
     requires { IsProper (message.ScanNo scan refusal.now) }
-    ensures { OnOk result (out.new.items ≡ appended out.old.items (fields_of (message.ScanNo scan refusal.now))) }
+    ensures { OnOk result
+        (out.new.items ≡ appended out.old.items (fields_of (message.ScanNo scan refusal.now))) }
 {
     put_byte(out, 25)?;
     put_u32(out, scan)?;
@@ -316,7 +343,8 @@ fn put_view(
     members: &Members,
 ) -> Result<(), NoMemory>
     requires { IsKeyField key }
-    ensures { OnOk result (out.new.items ≡ appended out.old.items (view_fields plain_kind kind key members.now)) }
+    ensures { OnOk result
+        (out.new.items ≡ appended out.old.items (view_fields plain_kind kind key members.now)) }
 {
     if all_plain(members.as_slice()) {
         put_byte(out, plain_kind)?;
@@ -332,7 +360,8 @@ fn put_view(
 #[tactic(auto, unfolding(wire_messages::specs::Numbers::byte_field))]
 fn put_propose(out: &mut Vec<u8>, key: ClusterKey, members: &Members) -> Result<(), NoMemory>
     requires { IsProper (message.Propose key members.now) }
-    ensures { OnOk result (out.new.items ≡ appended out.old.items (fields_of (message.Propose key members.now))) }
+    ensures { OnOk result
+        (out.new.items ≡ appended out.old.items (fields_of (message.Propose key members.now))) }
 {
     put_view(out, 2, 17, key, members)
 }
@@ -341,7 +370,8 @@ fn put_propose(out: &mut Vec<u8>, key: ClusterKey, members: &Members) -> Result<
 #[tactic(auto, unfolding(wire_messages::specs::Numbers::byte_field))]
 fn put_commit(out: &mut Vec<u8>, key: ClusterKey, members: &Members) -> Result<(), NoMemory>
     requires { IsProper (message.Commit key members.now) }
-    ensures { OnOk result (out.new.items ≡ appended out.old.items (fields_of (message.Commit key members.now))) }
+    ensures { OnOk result
+        (out.new.items ≡ appended out.old.items (fields_of (message.Commit key members.now))) }
 {
     put_view(out, 5, 18, key, members)
 }
@@ -350,7 +380,10 @@ fn put_commit(out: &mut Vec<u8>, key: ClusterKey, members: &Members) -> Result<(
 #[tactic(auto, unfolding(wire_messages::specs::Numbers::byte_field))]
 fn put_page_head(out: &mut Vec<u8>, page: &ScanPage) -> Result<(), NoMemory>
     requires { IsKeyField page.now.key }
-    ensures { OnOk result (out.new.items ≡ appended out.old.items (byte_field 24 ∷ key_field page.now.key ∷ number_field w32 page.now.scan ∷ option_digest_field page.now.after ∷ number_field w32 page.now.writes ∷ [])) }
+    ensures { OnOk result
+        (out.new.items ≡ appended out.old.items
+        (byte_field 24 ∷ key_field page.now.key ∷ number_field w32 page.now.scan
+        ∷ option_digest_field page.now.after ∷ number_field w32 page.now.writes ∷ [])) }
 {
     put_byte(out, 24)?;
     put_key(out, page.key)?;
@@ -363,7 +396,8 @@ fn put_page_head(out: &mut Vec<u8>, page: &ScanPage) -> Result<(), NoMemory>
 #[tactic(auto, unfolding(wire_messages::specs::Numbers::byte_field))]
 fn put_scan_page(out: &mut Vec<u8>, page: &ScanPage) -> Result<(), NoMemory>
     requires { IsProper (message.ScanPage page.now) }
-    ensures { OnOk result (out.new.items ≡ appended out.old.items (fields_of (message.ScanPage page.now))) }
+    ensures { OnOk result
+        (out.new.items ≡ appended out.old.items (fields_of (message.ScanPage page.now))) }
 {
     put_page_head(out, page)?;
     put_records(out, &page.records)?;

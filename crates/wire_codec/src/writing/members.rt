@@ -9,7 +9,8 @@ use cluster_types::{Member, Members, NoMemory};
 
 /// The ids of members, one after another.
 fn put_each_id(out: &mut Vec<u8>, members: &[Member]) -> Result<(), NoMemory>
-    ensures { OnOk result (out.new.items ≡ out.old.items ++ flat_map (λ m. id_field m.id) members.now) }
+    ensures { OnOk result
+        (out.new.items ≡ out.old.items ++ flat_map (λ m. id_field m.id) members.now) }
 {
     for member in members {
         put_id(out, member.id)?;
