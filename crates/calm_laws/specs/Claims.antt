@@ -64,7 +64,9 @@ OthersAreForgotten =
 
 -- a group is in one view of just it from the fifteenth round on
 abbrev pub GroupsAgree : Type 0
-GroupsAgree = (n : ℕ) (ns gs : List ℕ) (g : ℕ) (set : List Member) (w : World) (most : ℕ) → Basis n ns gs g set w most → 15 ≤ most → Agreed n gs g set w most
+GroupsAgree =
+    (n : ℕ) (ns gs : List ℕ) (g : ℕ) (set : List Member) (w : World) (most : ℕ)
+    → Basis n ns gs g set w most → 15 ≤ most → Agreed n gs g set w most
 
 -- it is so of each group that has agreed, and has what the phases behind agreement stand on
 abbrev pub OfAgreed : ((n : ℕ) (gs : List ℕ) (w : World) (most : ℕ) → Type 0) → Type 0

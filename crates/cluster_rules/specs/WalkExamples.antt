@@ -10,6 +10,7 @@ use Rattle.wire_messages.specs.declared.message.Message.{Message}
 use Rattle.wire_messages.specs.declared.message.Message.TheVariants as message
 use Rattle.journal_lines.specs.declared.line.Line.{Line}
 use Rattle.journal_lines.specs.declared.line.Line.TheVariants as line
+use Rattle.node_rules.specs.declared.beat.Beat.{Beat}
 use Rattle.node_rules.specs.declared.member_row.MemberRow.{MemberRow}
 use Rattle.node_rules.specs.Batches.{new_target}
 use Rattle.node_rules.specs.Effects.{Effects, to_one}
@@ -33,11 +34,20 @@ newer = version 0 1 98
 abbrev pub both_whole : List MemberRow
 both_whole = row_of 1 0 (Whole (key 1 1) 1) ∷ row_of 2 0 (Whole (key 1 2) 1) ∷ []
 
+-- what a member of view 2.2 beats that hears these nodes
+abbrev pub beat_in_view : List ℕ → Beat
+beat_in_view hears = record {
+  view = key 2 2;
+  promised = key 2 2;
+  hears = hears;
+  role = plain_role;
+}
+
 -- one of the sides, which has finished the exchange of 2.2, hears the other and has its record pending
 abbrev pub side : ℕ → ℕ → Version → Facts
 side me other v = record (migrating me other both_whole false false) {
   hearing = record {
-    heard = (other, record { age = 0; beat = record { view = key 2 2; promised = key 2 2; hears = me ∷ []; role = plain_role } }) ∷ [];
+    heard = (other, record { age = 0; beat = beat_in_view (me ∷ []) }) ∷ [];
     set = Some two;
     quiet = 2;
   };

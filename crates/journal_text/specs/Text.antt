@@ -11,7 +11,8 @@ words l = join_with_byte 32 (fields l)
 
 -- the text of a word, the number of a message and its two ends
 abbrev pub message_text : List ℕ → ℕ → ℕ → ℕ → List ℕ
-message_text word message from to = word ++ 32 ∷ decimal message ++ 32 ∷ decimal from ++ 32 ∷ decimal to
+message_text word message from to =
+    word ++ 32 ∷ decimal message ++ 32 ∷ decimal from ++ 32 ∷ decimal to
 
 -- a line and its line feed
 abbrev pub line_text : Line → List ℕ

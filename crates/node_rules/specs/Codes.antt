@@ -64,4 +64,18 @@ abbrev pub member_row_code : Coded MemberRow
 member_row_code = member_row.the_row.coded
 
 -- the codes of all of them
-pub ruleset facts_codes = (codes, content_code, stamps_code, policy_code, version_code, want_code, key_code, copy_state_code, member_code, role_code, batch_code, beat_code, member_row_code)
+pub ruleset facts_codes = (
+  codes,
+  content_code,
+  stamps_code,
+  policy_code,
+  version_code,
+  want_code,
+  key_code,
+  copy_state_code,
+  member_code,
+  role_code,
+  batch_code,
+  beat_code,
+  member_row_code,
+)

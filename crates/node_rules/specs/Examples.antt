@@ -11,6 +11,7 @@ use Rattle.cluster_types.specs.declared.member.Role.{Role}
 use Rattle.cluster_types.specs.Members.{plain_role, plain_member}
 use Rattle.cluster_types.specs.declared.copy_state.CopyState.{CopyState}
 use Rattle.cluster_types.specs.declared.copy_state.CopyState.TheVariants.{Part, Whole}
+use Rattle.node_rules.specs.declared.beat.Beat.{Beat}
 use Rattle.node_rules.specs.declared.member_row.MemberRow.{MemberRow}
 use Rattle.node_rules.specs.Exchange.{begun}
 use Rattle.cluster_types.specs.ClusterKeys.{none}
@@ -119,11 +120,15 @@ five_rows =
 abbrev pub five : List ℕ
 five = 5 ∷ 4 ∷ 3 ∷ 2 ∷ 1 ∷ []
 
+-- what a node beats that has been in no view and promised to none, and hears these nodes
+abbrev pub first_beat : List ℕ → Beat
+first_beat hears = record { view = none; promised = none; hears = hears; role = plain_role }
+
 -- node 2 of a script of two nodes, which has heard at one tick that node 1 hears it
 abbrev pub hearing_one : Facts
 hearing_one = record (fresh 2 plain_role (1 ∷ []) 2 Time) {
   hearing = record {
-    heard = (1, record { age = 0; beat = record { view = none; promised = none; hears = 2 ∷ []; role = plain_role } }) ∷ [];
+    heard = (1, record { age = 0; beat = first_beat (2 ∷ []) }) ∷ [];
     set = Some two;
     quiet = 1;
   };

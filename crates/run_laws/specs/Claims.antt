@@ -25,7 +25,9 @@ OfTakenSteps P = (h : Header) (ss : List Step) → Taken h ss → P (journal h (
 
 -- of the journal of a proper script's run
 abbrev pub OfRuns : (List Line → Type 0) → Type 0
-OfRuns P = (s : Script) (lines : List Line) → Run s lines → IsProper s → length lines < line_bound → P lines
+OfRuns P =
+    (s : Script) (lines : List Line) → Run s lines → IsProper s → length lines < line_bound
+    → P lines
 
 -- of that of its run that was begun
 abbrev pub OfBegunRuns : (List Line → Type 0) → Type 0

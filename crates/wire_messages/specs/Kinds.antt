@@ -177,7 +177,17 @@ scan_page_at bytes = do
   writes ← number_at w32 every after.1
   records ← records_at 0 writes.1
   more ← flag_at records.1
-  Ok (message.ScanPage (record { key = key.0; scan = scan.0; after = after.0; writes = writes.0; records = records.0; more = more.0 }), more.1)
+  Ok (
+    message.ScanPage (record {
+      key = key.0;
+      scan = scan.0;
+      after = after.0;
+      writes = writes.0;
+      records = records.0;
+      more = more.0;
+    }),
+    more.1,
+  )
 
 unfoldable pub scan_no_at : List ℕ → Result (Message × List ℕ) FieldFault
 scan_no_at bytes = do
