@@ -3,7 +3,7 @@ use Rattle.std.proofs.Common.{ℕ, ◌+◌, ◌<◌, ◌^◌, arith}
 use Rattle.std.proofs.lemmas.Bool.Decides.{nat_tests}
 use Rattle.std.specs.Bool.{Decides}
 use Rattle.cluster_types.specs.declared.cluster_key.ClusterKey.{ClusterKey}
-use Rattle.cluster_types.specs.ClusterKeys.{IsKey, IsBelow, key_lt, next}
+use Rattle.cluster_types.specs.ClusterKeys.{IsKey, IsBelow, key_lt, next_round_key}
 
 pub key_lt_decides : (a b : ClusterKey) → Decides (key_lt a b) (IsBelow a b)
 key_lt_decides a b = (
@@ -12,9 +12,9 @@ key_lt_decides a b = (
 )
 
 -- a key is below the next one, whoever leads it
-pub next_is_above : (k : ClusterKey) (by : ℕ) → IsBelow k (next k by)
+pub next_is_above : (k : ClusterKey) (by : ℕ) → IsBelow k (next_round_key k by)
 next_is_above k by = record { rounds = omega arith; principals = λ same. absurd (omega (arith, same)) }
 
 -- the next key is a key up to the last round
-pub next_is_key : (k : ClusterKey) (by : ℕ) → k.round + 1 < 2 ^ 48 → 0 < by → IsKey (next k by)
+pub next_is_key : (k : ClusterKey) (by : ℕ) → k.round + 1 < 2 ^ 48 → 0 < by → IsKey (next_round_key k by)
 next_is_key k by below led = record { above_none = omega arith; below_limit = below; led = led }

@@ -13,8 +13,8 @@ abbrev pub none : ClusterKey
 none = record { round = 0; principal = 0 }
 
 -- the key one round higher, led by that node
-abbrev pub next : ClusterKey → ℕ → ClusterKey
-next k by = record { round = k.round + 1; principal = by }
+abbrev pub next_round_key : ClusterKey → ℕ → ClusterKey
+next_round_key k by = record { round = k.round + 1; principal = by }
 
 -- whether the first key is below the second: by round, and by principal in the same round. This is what `<` answers
 abbrev pub key_lt : ClusterKey → ClusterKey → Bool

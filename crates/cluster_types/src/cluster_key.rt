@@ -40,7 +40,7 @@ impl ClusterKey {
     /// The key of the next round, led by `by`. `None` at the last round, 2^48 - 1; a round above
     /// it, which no key has, has no next one either.
     pub fn next(self, by: NodeId) -> Option<ClusterKey>
-        ensures { SomeIff result (self.round < 2 ^ 48 - 1) (keys.next self by) }
+        ensures { SomeIff result (self.round < 2 ^ 48 - 1) (keys.next_round_key self by) }
     {
         if self.round >= ROUND_LIMIT - 1 {
             return None;

@@ -10,7 +10,7 @@ use Rattle.cluster_types.specs.declared.member.Role.{Role}
 use Rattle.cluster_types.specs.Distinct.{IsDescending}
 use Rattle.wire_messages.specs.Fields.{items_at}
 use Rattle.wire_messages.specs.Numbers.{positive, between, byte_field, byte_at}
-use Rattle.wire_messages.specs.Nodes.{id_field, is_below, id_below_at, id_at, IsId, falling_ids_at, ids_field, ids_at, AreHeard, any_id_at, with_any_id, table_at, role_field, is_plain, role_of, role_at}
+use Rattle.wire_messages.specs.Nodes.{id_field, is_below, id_below_at, id_at, IsId, falling_ids_at, ids_field, ids_at, AreHeard, any_id_at, with_any_id, table_at, role_field, is_plain, role_of_bytes, role_at}
 use Rattle.wire_messages.proofs.Forms.{IsForm, field_form}
 use Rattle.wire_messages.proofs.NumberForms.{form_as, Allowed, number_form, wide16, byte_form, count_from, between_is}
 use Rattle.wire_messages.proofs.ItemForms.{AreItems, counted_items_form, items_again, items_take, items_cut, items_small, Follows, Next, last_key, each_pair, each_item, items_from_none}
@@ -117,7 +117,7 @@ pub record IsRole (plain_allowed : Bool) (role : Role) : Type 0 where
   pub rack : role.rack < 2 ^ 8
 
 role_back : (plain_allowed : Bool) (rack : ℕ) (quiesced : Bool) → (plain_allowed || not (is_plain (record { rack = rack; quiesced = quiesced }))) ≡ true
-    → role_of plain_allowed (rack ∷ cond quiesced 1 0 ∷ []) ≡ Some (record { rack = rack; quiesced = quiesced })
+    → role_of_bytes plain_allowed (rack ∷ cond quiesced 1 0 ∷ []) ≡ Some (record { rack = rack; quiesced = quiesced })
 role_back plain_allowed rack true h = rw h refl
 role_back plain_allowed rack false h = rw h refl
 
@@ -136,7 +136,7 @@ mark_below false = lit< tt
 
 pub role_form : (plain_allowed : Bool) → IsForm (IsRole plain_allowed) role_field (role_at plain_allowed)
 unfolding role_field role_at
-role_form plain_allowed = field_form (IsRole plain_allowed) role_field 2 (role_of plain_allowed)
+role_form plain_allowed = field_form (IsRole plain_allowed) role_field 2 (role_of_bytes plain_allowed)
     (λ role p. refl)
     (λ role p. role_back plain_allowed role.rack role.quiesced p.test)
     (λ bytes role len fits e.

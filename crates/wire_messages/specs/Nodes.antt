@@ -81,14 +81,14 @@ abbrev pub is_plain : Role → Bool
 is_plain role = (role.rack == 0) && not role.quiesced
 
 -- the role of a rack and a mark; the mark is 0 or 1, and a plain role may be barred
-abbrev pub role_of : Bool → List ℕ → Option Role
-role_of plain_allowed bytes =
+abbrev pub role_of_bytes : Bool → List ℕ → Option Role
+role_of_bytes plain_allowed bytes =
     let role : Role = record { rack = slice_index bytes 0; quiesced = slice_index bytes 1 == 1 } in
     if nat_lt (slice_index bytes 1) 2 && (plain_allowed || not (is_plain role)) then Some role
     else None
 
 unfoldable pub role_at : Bool → List ℕ → Result (Role × List ℕ) FieldFault
-role_at plain_allowed bytes = field 2 (role_of plain_allowed) bytes
+role_at plain_allowed bytes = field 2 (role_of_bytes plain_allowed) bytes
 
 -- ---- members
 
