@@ -19,7 +19,7 @@ use Rattle.conflict_order.specs.declared.want.Action.{Action}
 use Rattle.conflict_order.specs.declared.want.Action.TheVariants as action
 use Rattle.cluster_types.specs.Texts.{digest_text}
 use Rattle.wire_messages.specs.Versions.{AreBytes, IsDigest, IsValue}
-use Rattle.journal_reader.specs.Fields.{is_capital, parsed_bytes, parsed_digest, parsed_value, parsed_policy, parsed_action, if_so}
+use Rattle.journal_reader.specs.Fields.{is_capital, parsed_bytes, parsed_digest, parsed_value, parsed_policy, parsed_action, if_allowed}
 use Rattle.journal_text.specs.Values.{policy_word, action_word}
 use Rattle.journal_reader.proofs.Readers.{Reads, reads_wider}
 use Rattle.journal_reader.proofs.KeyFields.{IsVisible}
@@ -193,13 +193,13 @@ digest_field = record { again = digest_back; written = digest_written; clean = �
 value_back : (value : List ℕ) → IsValue value → parsed_value (encode_lower value) ≡ Some value
 unfolding parsed_value
 value_back value v =
-    ap (option_and_then (if_so (λ bytes. nat_le (length bytes) 128))) (bytes_back value v.each)
+    ap (option_and_then (if_allowed (λ bytes. nat_le (length bytes) 128))) (bytes_back value v.each)
     ∙ ap (λ t. cond t (Some value) None) (le-leb _ _ v.limit)
 
 value_written : (text value : List ℕ) → parsed_value text ≡ Some value → (encode_lower value ≡ text) × IsValue value
 unfolding parsed_value
 value_written text value e =
-    option_and_then_some (if_so (λ bytes. nat_le (length bytes) 128)) (parsed_bytes text) value e (λ bytes is allowed.
+    option_and_then_some (if_allowed (λ bytes. nat_le (length bytes) 128)) (parsed_bytes text) value e (λ bytes is allowed.
     let c = cond_some (nat_le (length bytes) 128) bytes value allowed in
     let w = bytes_written text bytes is in
     subst (λ x. (encode_lower x ≡ text) × IsValue x) c.1 (w.0, record { limit = leb-true _ _ c.0; each = w.1 }))

@@ -16,7 +16,7 @@ use Rattle.cluster_types.specs.NodeLists.{IsNodeList}
 use Rattle.cluster_types.specs.Texts.{node_text}
 use Rattle.wire_messages.specs.Nodes.{IsId}
 use Rattle.journal_lines.specs.Proper.{AreIdGroups}
-use Rattle.journal_reader.specs.Fields.{all_of, parsed_node, is_bar, parsed_group, each_group_of, are_distinct_ids, are_groups, parsed_groups, if_so}
+use Rattle.journal_reader.specs.Fields.{all_of, parsed_node, is_bar, parsed_group, each_group_of, are_distinct_ids, are_groups, parsed_groups, if_allowed}
 use Rattle.journal_text.specs.LineFields.{between_bars, ids_fields, groups_fields}
 use Rattle.journal_text.specs.Values.{ids_text, more_groups_text, groups_text}
 use Rattle.journal_reader.proofs.Readers.{ReadsAll, AreClean, map_some}
@@ -84,12 +84,12 @@ record IsGroup (ids : List ℕ) : Type 0 where
 group_again : (ids : List ℕ) → IsGroup ids → parsed_group (ids_fields ids) ≡ Some ids
 unfolding parsed_group
 group_again ids g =
-    ap (option_and_then (if_so are_distinct_ids)) (each_again node_field ids g.fit).0 ∙ ap (λ t. cond t (Some ids) None) g.distinct
+    ap (option_and_then (if_allowed are_distinct_ids)) (each_again node_field ids g.fit).0 ∙ ap (λ t. cond t (Some ids) None) g.distinct
 
 group_written : (fields : List (List ℕ)) (ids : List ℕ) → parsed_group fields ≡ Some ids → (ids_fields ids ≡ fields) × IsGroup ids
 unfolding parsed_group
 group_written fields ids e =
-    option_and_then_some (if_so are_distinct_ids) (all_of parsed_node fields) ids e
+    option_and_then_some (if_allowed are_distinct_ids) (all_of parsed_node fields) ids e
     (λ xs is allowed.
     let c = cond_some (are_distinct_ids xs) xs ids allowed in
     let w = each_written node_field fields xs is in
@@ -151,14 +151,14 @@ groups_again : (groups : List (List ℕ)) → AreIdGroups groups → parsed_grou
 unfolding parsed_groups
 groups_again groups g =
     let list : IsNodeList (concat groups) = record { limit = g.divide.ids_limit; distinct = g.divide.distinct } in
-    ap (λ parts. option_and_then (if_so are_groups) (each_group_of parts)) (split_groups groups g.divide.some g.fit)
-    ∙ ap (option_and_then (if_so are_groups)) (groups_again_each groups (each_is_group groups g.fit (test_of_distinct (concat groups) list)))
+    ap (λ parts. option_and_then (if_allowed are_groups) (each_group_of parts)) (split_groups groups g.divide.some g.fit)
+    ∙ ap (option_and_then (if_allowed are_groups)) (groups_again_each groups (each_is_group groups g.fit (test_of_distinct (concat groups) list)))
     ∙ ap (λ t. cond t (Some groups) None) (test_of_groups groups g.divide)
 
 groups_written : (fields : List (List ℕ)) (groups : List (List ℕ)) → parsed_groups fields ≡ Some groups → (groups_fields groups ≡ fields) × AreIdGroups groups
 unfolding parsed_groups
 groups_written fields groups e =
-    option_and_then_some (if_so are_groups) (each_group_of (slice_split is_bar fields)) groups e (λ gs is allowed.
+    option_and_then_some (if_allowed are_groups) (each_group_of (slice_split is_bar fields)) groups e (λ gs is allowed.
     let c = cond_some (are_groups gs) gs groups allowed in
     let w = groups_written_each (slice_split is_bar fields) gs is in
     subst (λ (hs : List (List ℕ)). (groups_fields hs ≡ fields) × AreIdGroups hs) c.1

@@ -15,7 +15,7 @@ use Rattle.cluster_types.specs.Members.{ids_of}
 use Rattle.cluster_types.specs.Texts.{node_text}
 use Rattle.wire_messages.specs.Nodes.{FitsMember, AreMembersField}
 use Rattle.journal_lines.specs.Proper.{AreListed}
-use Rattle.journal_reader.specs.Fields.{parts_of, all_of, parsed_member, some_members_of, are_members, are_distinct_members, if_so, parsed_members, list_of}
+use Rattle.journal_reader.specs.Fields.{parts_of, all_of, parsed_member, some_members_of, are_members, are_distinct_members, if_allowed, parsed_members, list_of}
 use Rattle.journal_text.specs.Values.{role_text, member_text, more_members_text, members_text}
 use Rattle.journal_reader.proofs.Readers.{Reads, ReadsAll, IsFull, split_join, join_clean, reads_same}
 use Rattle.journal_reader.proofs.KeyFields.{IsVisible}
@@ -98,17 +98,17 @@ some_members = record { again = some_members_again; written = some_members_writt
 -- a reader with a test behind it
 pub reads_tested : {A : Type 0} {P : ℕ → Type 0} {G H : A → Type 0} {write : A → List ℕ} {read : List ℕ → Option A} (test : A → Bool)
     → Reads P G write read → ((x : A) → H x → G x) → ((x : A) → H x → test x ≡ true) → ((x : A) → G x → test x ≡ true → H x)
-    → Reads P H write (λ text. option_and_then (if_so test) (read text))
+    → Reads P H write (λ text. option_and_then (if_allowed test) (read text))
 reads_tested {H = H} {write = write} {read = read} test r weaker passes good = record {
-  again = λ x h. ap (option_and_then (if_so test)) (r.again x (weaker x h)) ∙ ap (λ t. cond t (Some x) None) (passes x h);
-  written = λ text x e. option_and_then_some (if_so test) (read text) x e (λ y is allowed.
+  again = λ x h. ap (option_and_then (if_allowed test)) (r.again x (weaker x h)) ∙ ap (λ t. cond t (Some x) None) (passes x h);
+  written = λ text x e. option_and_then_some (if_allowed test) (read text) x e (λ y is allowed.
       let c = cond_some (test y) y x allowed in
       let w = r.written text y is in
       subst (λ z. (write z ≡ text) × H z) c.1 (w.0, good y w.1 c.0));
   clean = λ x h. r.clean x (weaker x h);
 }
 
-members_read : (text : List ℕ) → parsed_members text ≡ option_and_then (if_so are_members) (some_members_of text)
+members_read : (text : List ℕ) → parsed_members text ≡ option_and_then (if_allowed are_members) (some_members_of text)
 unfolding parsed_members
 members_read text = refl
 
@@ -116,7 +116,7 @@ pub members_field : Reads IsVisible AreMembersField members_text parsed_members
 members_field = reads_same members_text parsed_members (λ ms. refl) members_read
     (reads_tested are_members some_members (λ ms h. h.fit) (λ ms h. test_of_members ms h.view) (λ ms g t. record { view = members_from_test ms t; fit = g }))
 
-list_read : (text : List ℕ) → list_of text ≡ option_and_then (if_so are_distinct_members) (some_members_of text)
+list_read : (text : List ℕ) → list_of text ≡ option_and_then (if_allowed are_distinct_members) (some_members_of text)
 unfolding list_of
 list_read text = refl
 

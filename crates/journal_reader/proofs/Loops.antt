@@ -5,7 +5,7 @@ use Rattle.std.specs.Option.{option_map, option_and_then}
 use Rattle.std.proofs.lemmas.Bool.{false≢true}
 use Rattle.std.proofs.lemmas.List.{append-nil, take_more}
 use Rattle.std.proofs.lemmas.List.Folds.{concat-append}
-use Rattle.journal_reader.specs.Fields.{at_end, all_of, parsed_node, is_bar, parsed_group, each_group_of, are_distinct_ids, if_so}
+use Rattle.journal_reader.specs.Fields.{at_end, all_of, parsed_node, is_bar, parsed_group, each_group_of, are_distinct_ids, if_allowed}
 use Rattle.journal_reader.proofs.GroupFields.{AreParts, split_parts}
 
 -- what was read before, in front of what is read
@@ -47,7 +47,7 @@ shorter old new field e = let same = ap length e in omega (arith, same)
 
 -- the group that begins with these ids and goes on with the fields of the part
 abbrev open_group : List ℕ → List (List ℕ) → Option (List ℕ)
-open_group ids part = option_and_then (if_so are_distinct_ids) (onto ids (all_of parsed_node part))
+open_group ids part = option_and_then (if_allowed are_distinct_ids) (onto ids (all_of parsed_node part))
 
 -- whole groups, and a group of which these ids are read, before the parts that are left
 abbrev pub groups_left : List (List ℕ) → List ℕ → List (List (List ℕ)) → Option (List (List ℕ))
@@ -56,7 +56,7 @@ groups_left done ids (part ∷ parts) = onto done (option_and_then (λ g. option
 
 none_open : (part : List (List ℕ)) → open_group [] part ≡ parsed_group part
 unfolding parsed_group
-none_open part = ap (option_and_then (if_so are_distinct_ids)) (onto_none (all_of parsed_node part))
+none_open part = ap (option_and_then (if_allowed are_distinct_ids)) (onto_none (all_of parsed_node part))
 
 groups_at : (done : List (List ℕ)) (parts : List (List (List ℕ))) → AreParts parts → groups_left done [] parts ≡ onto done (each_group_of parts)
 unfolding each_group_of
@@ -66,9 +66,9 @@ groups_at done (part ∷ parts) full = ap (λ o. onto done (option_and_then (λ 
 pub groups_init : (fields : List (List ℕ)) → groups_left [] [] (slice_split is_bar fields) ≡ each_group_of (slice_split is_bar fields)
 groups_init fields = groups_at [] (slice_split is_bar fields) (split_parts fields) ∙ onto_none (each_group_of (slice_split is_bar fields))
 
-closed : (ids : List ℕ) → open_group ids [] ≡ if_so are_distinct_ids ids
+closed : (ids : List ℕ) → open_group ids [] ≡ if_allowed are_distinct_ids ids
 unfolding all_of
-closed ids = ap (if_so are_distinct_ids) (append-nil ids)
+closed ids = ap (if_allowed are_distinct_ids) (append-nil ids)
 
 split_bar : (field : List ℕ) (fields : List (List ℕ)) → is_bar field ≡ true → slice_split is_bar (field ∷ fields) ≡ [] ∷ slice_split is_bar fields
 split_bar field fields is = ap (λ t. cond t ([] ∷ slice_split is_bar fields) (onto_first field (slice_split is_bar fields))) is
@@ -104,7 +104,7 @@ open_more : (done : List (List ℕ)) (ids : List ℕ) (n : ℕ) (field : List �
 unfolding all_of
 open_more done ids n field [] full is = absurd full
 open_more done ids n field (part ∷ parts) full is =
-    ap (λ o. onto done (option_and_then (λ g. option_map (λ gs. g ∷ gs) (each_group_of parts)) (option_and_then (if_so are_distinct_ids) o)))
+    ap (λ o. onto done (option_and_then (λ g. option_map (λ gs. g ∷ gs) (each_group_of parts)) (option_and_then (if_allowed are_distinct_ids) o)))
     (sym (onto_more ids n (all_of parsed_node part)) ∙ ap (λ o. onto ids (option_and_then (λ y. option_map (λ ys. y ∷ ys) (all_of parsed_node part)) o)) is)
 
 open_none : (done : List (List ℕ)) (ids : List ℕ) (field : List ℕ) (parts : List (List (List ℕ))) → AreParts parts → None ≡ parsed_node field
@@ -112,7 +112,7 @@ open_none : (done : List (List ℕ)) (ids : List ℕ) (field : List ℕ) (parts 
 unfolding all_of
 open_none done ids field [] full is = absurd full
 open_none done ids field (part ∷ parts) full is =
-    ap (λ o. onto done (option_and_then (λ g. option_map (λ gs. g ∷ gs) (each_group_of parts)) (option_and_then (if_so are_distinct_ids) (onto ids (option_and_then (λ y. option_map (λ ys. y ∷ ys) (all_of parsed_node part)) o))))) is
+    ap (λ o. onto done (option_and_then (λ g. option_map (λ gs. g ∷ gs) (each_group_of parts)) (option_and_then (if_allowed are_distinct_ids) (onto ids (option_and_then (λ y. option_map (λ ys. y ∷ ys) (all_of parsed_node part)) o))))) is
 
 pub id_good : (done : List (List ℕ)) (ids : List ℕ) (n : ℕ) (field : List ℕ) (old new : List (List ℕ)) (all : Option (List (List ℕ)))
     → old ≡ field ∷ new → is_bar field ≡ false → Some n ≡ parsed_node field → groups_left done ids (slice_split is_bar old) ≡ all

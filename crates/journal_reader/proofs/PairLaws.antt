@@ -10,7 +10,7 @@ use Rattle.std.proofs.lemmas.List.Sums.{AllPass-from_list_all, list_all-from_All
 use Rattle.cluster_types.specs.declared.member.Member.{Member}
 use Rattle.cluster_types.specs.Members.{AreMembers, AreDistinctMembers, ids_of}
 use Rattle.cluster_types.specs.NodeLists.{IsNodeList}
-use Rattle.journal_reader.specs.Fields.{holds_of_pairs, are_members, are_distinct_ids, are_distinct_members, if_so}
+use Rattle.journal_reader.specs.Fields.{holds_of_pairs, are_members, are_distinct_ids, are_distinct_members, if_allowed}
 
 pairs_head : {A : Type 0} (R : A → A → Type 0) (x : A) (xs : List A) → AllPairs R (x ∷ xs) → All (R x) xs
 pairs_head R x xs h k d lt = h 0 (suc k) d (omega arith) (omega arith)
@@ -89,10 +89,10 @@ pub distinct_if : (ids : List ℕ) → (IsNodeList ids → false ≡ true) → a
 distinct_if ids never = false_from_ne_true _ (λ t. false≢true (never (distinct_from_test ids t)))
 
 -- a value with a test, as it is made
-pub allowed : {A : Type 0} (test : A → Bool) (x made : A) → made ≡ x → test x ≡ true → Some made ≡ if_so test x
+pub allowed : {A : Type 0} (test : A → Bool) (x made : A) → made ≡ x → test x ≡ true → Some made ≡ if_allowed test x
 allowed test x made e is = ap Some e ∙ sym (ap (λ t. cond t (Some x) None) is)
 
-pub barred : {A : Type 0} (test : A → Bool) (x : A) → test x ≡ false → None ≡ if_so test x
+pub barred : {A : Type 0} (test : A → Bool) (x : A) → test x ≡ false → None ≡ if_allowed test x
 barred test x is = sym (ap (λ t. cond t (Some x) None) is)
 
 pub listed_test : (ms : List Member) → AreDistinctMembers ms → are_distinct_members ms ≡ true
@@ -108,14 +108,14 @@ listed_from_test ms t =
     let same = length-map ms (λ m. m.id) in
     record { limit = omega (arith, limit, same); distinct = list.distinct }
 
-pub a_list : (made ms : List Member) → made ≡ ms → AreDistinctMembers ms → Some made ≡ if_so are_distinct_members ms
+pub a_list : (made ms : List Member) → made ≡ ms → AreDistinctMembers ms → Some made ≡ if_allowed are_distinct_members ms
 a_list made ms e h = allowed are_distinct_members ms made e (listed_test ms h)
 
-pub no_list : (ms : List Member) → (AreDistinctMembers ms → false ≡ true) → None ≡ if_so are_distinct_members ms
+pub no_list : (ms : List Member) → (AreDistinctMembers ms → false ≡ true) → None ≡ if_allowed are_distinct_members ms
 no_list ms never = barred are_distinct_members ms (false_from_ne_true _ (λ t. false≢true (never (listed_from_test ms t))))
 
-pub a_view : (made ms : List Member) → made ≡ ms → AreMembers ms → Some made ≡ if_so are_members ms
+pub a_view : (made ms : List Member) → made ≡ ms → AreMembers ms → Some made ≡ if_allowed are_members ms
 a_view made ms e h = allowed are_members ms made e (test_of_members ms h)
 
-pub no_view : (ms : List Member) → (AreMembers ms → false ≡ true) → None ≡ if_so are_members ms
+pub no_view : (ms : List Member) → (AreMembers ms → false ≡ true) → None ≡ if_allowed are_members ms
 no_view ms never = barred are_members ms (false_from_ne_true _ (λ t. false≢true (never (members_from_test ms t))))

@@ -19,6 +19,7 @@ use Rattle.cluster_types.specs.declared.cluster_key.ClusterKey.{ClusterKey}
 use Rattle.cluster_types.specs.declared.member.Role.{Role}
 use Rattle.cluster_types.specs.declared.member.Member.{Member}
 use Rattle.cluster_types.specs.Members.{ids_of, plain_member}
+pub use Rattle.wire_messages.specs.Fields.{if_allowed}
 
 -- ---- fields one after another
 
@@ -59,10 +60,6 @@ all_of read (field ∷ fields) =
 abbrev pub option_items : {A : Type 0} → Option (Vec A) → Option (List A)
 option_items None = None
 option_items (Some v) = Some v.items
-
--- the value, if it is allowed
-abbrev pub if_so : {A : Type 0} → (A → Bool) → A → Option A
-if_so allowed x = if allowed x then Some x else None
 
 -- ---- numbers
 
@@ -146,7 +143,7 @@ parsed_digest field = if list_any is_capital field then None else result_ok (dec
 
 -- at most 128 bytes
 unfoldable pub parsed_value : List ℕ → Option (List ℕ)
-parsed_value field = option_and_then (if_so (λ bytes. nat_le (length bytes) 128))
+parsed_value field = option_and_then (if_allowed (λ bytes. nat_le (length bytes) 128))
     (parsed_bytes field)
 
 -- ---- versions
@@ -232,14 +229,14 @@ are_distinct_ids ids = nat_le (length ids) 16 && holds_of_pairs (λ x y. not (x 
 
 -- the members of a view
 unfoldable pub parsed_members : List ℕ → Option (List Member)
-parsed_members field = option_and_then (if_so are_members) (some_members_of field)
+parsed_members field = option_and_then (if_allowed are_members) (some_members_of field)
 
 abbrev pub are_distinct_members : List Member → Bool
 are_distinct_members members = are_distinct_ids (ids_of members)
 
 -- members in any order
 unfoldable pub list_of : List ℕ → Option (List Member)
-list_of field = option_and_then (if_so are_distinct_members) (some_members_of field)
+list_of field = option_and_then (if_allowed are_distinct_members) (some_members_of field)
 
 -- ---- groups
 
@@ -249,7 +246,7 @@ is_bar field = bytes_eq field (codes "|")
 
 -- a group by its ids
 unfoldable pub parsed_group : Reader (List ℕ)
-parsed_group fields = option_and_then (if_so are_distinct_ids) (all_of parsed_node fields)
+parsed_group fields = option_and_then (if_allowed are_distinct_ids) (all_of parsed_node fields)
 
 -- each group by its ids
 unfoldable pub each_group_of : List (List (List ℕ)) → Option (List (List ℕ))
@@ -266,5 +263,5 @@ are_groups groups =
 
 -- groups with bars between them
 unfoldable pub parsed_groups : Reader (List (List ℕ))
-parsed_groups fields = option_and_then (if_so are_groups)
+parsed_groups fields = option_and_then (if_allowed are_groups)
     (each_group_of (slice_split is_bar fields))

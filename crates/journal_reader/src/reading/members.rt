@@ -20,7 +20,7 @@ pub fn members_of(alloc: Global, text: &[u8]) -> Result<Option<Members>, NoMemor
 }
 
 fn in_a_view(members: &[Member]) -> Option<Members>
-    ensures { result ≡ grammar.if_so grammar.are_members members.now }
+    ensures { result ≡ grammar.if_allowed grammar.are_members members.now }
 {
     match Members::with_roles(members) {
         Ok(members) => Some(members),
@@ -40,7 +40,7 @@ pub fn list_of(alloc: Global, text: &[u8]) -> Result<Option<MemberList>, NoMemor
 }
 
 fn in_a_list(members: &[Member]) -> Option<MemberList>
-    ensures { result ≡ grammar.if_so grammar.are_distinct_members members.now }
+    ensures { result ≡ grammar.if_allowed grammar.are_distinct_members members.now }
 {
     match MemberList::from_slice(members) {
         Ok(members) => Some(members),
