@@ -9,12 +9,13 @@ use Rattle.conflict_order.specs.Order.{version_cmp, is_newer}
 use Rattle.conflict_order.proofs.OrderLaws.{AtMost_refl}
 use Rattle.cluster_types.specs.Partitions.{partition_of}
 use Rattle.cluster_types.specs.Rows.{bit}
+use Rattle.cluster_types.specs.RowBytes.{bits_of}
 use Rattle.wire_messages.specs.declared.message.Message.TheVariants as message
 use Rattle.wire_messages.specs.Numbers.{number_field, number_at, byte_field, byte_at, flag_field, flag_at}
 use Rattle.wire_messages.specs.Fields.{field, items_at}
 use Rattle.wire_messages.specs.Keys.{key_field, key_where, key_at}
 use Rattle.wire_messages.specs.Versions.{bytes_at, digest_at, digest_above_at, value_field, value_at, body_field, body_at, version_field, version_at, record_field, record_at, records_field, records_at}
-use Rattle.wire_messages.specs.Rows.{row_of, row_at, state_field, state_at, entry_field, entry_at, state_row_field, state_row_at}
+use Rattle.wire_messages.specs.Rows.{row_at, state_field, state_at, entry_field, entry_at, state_row_field, state_row_at}
 use Rattle.wire_messages.specs.Kinds.{state_message_at, batch_at, batch_ack_at, progress_at}
 use Rattle.wire_messages.specs.Spelling.{spelling}
 use Rattle.wire_messages.specs.Decoding.{decoded, message_of}
@@ -39,7 +40,7 @@ unfoldable computing : Unit {0}
 unfolding join next version_cmp is_newer fnv1a jenkins_state jenkins_end node_bytes partition_bytes place list view_master is_view_replica other_view_replicas view_acting is_view_empty same_view_class is_view_class_first view_sends_to asks number_field number_at byte_field byte_at flag_field flag_at field items_at key_field key_where key_at bytes_at digest_at digest_above_at value_field value_at body_field body_at version_field version_at record_field record_at records_field records_at row_at state_field state_at entry_field entry_at state_row_field state_row_at state_message_at batch_at batch_ack_at progress_at spelling decoded message_of
 computing = tt
 
-read_handed : message_of (progress_bytes no_bits_bytes last_bit) ≡ Some (message.Progress (key 4 2) false (row_of no_bits_bytes) (row_of last_bit) (row_of no_bits_bytes))
+read_handed : message_of (progress_bytes no_bits_bytes last_bit) ≡ Some (message.Progress (key 4 2) false (bits_of no_bits_bytes) (bits_of last_bit) (bits_of no_bits_bytes))
 unfolding computing
 read_handed = refl
 
@@ -208,13 +209,13 @@ opened_late = running_at_opening handing_ground (key 4 2) 1 ((at_line 20).node 1
 -- it asks nobody
 asks_nobody : opened_late.awaiting ≡ []
 unfolding computing
-asks_nobody = go (bit (row_of no_bits_bytes) 4095) [] refl
+asks_nobody = go (bit (bits_of no_bits_bytes) 4095) [] refl
   where
     go : (b : Bool) (ids : List ℕ) → ids ≡ [] → (if b || false then ids else ids) ≡ []
     go true ids e = e
     go false ids e = e
 
-handed_alone : (p : ℕ) → bit (row_of last_bit) p ≡ true → ((at_line 22).stay 1 (key 4 2)).handed p ≡ true
+handed_alone : (p : ℕ) → bit (bits_of last_bit) p ≡ true → ((at_line 22).stay 1 (key 4 2)).handed p ≡ true
 unfolding computing
 handed_alone p e = subst (λ (q : ℕ). ((at_line 22).stay 1 (key 4 2)).handed q ≡ true) (sym (only_last p e)) refl
 

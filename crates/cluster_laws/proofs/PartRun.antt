@@ -7,12 +7,13 @@ use Rattle.conflict_order.specs.Next.{next}
 use Rattle.conflict_order.specs.Order.{version_cmp, is_newer}
 use Rattle.conflict_order.proofs.OrderLaws.{AtMost_refl}
 use Rattle.cluster_types.specs.Partitions.{partition_of}
+use Rattle.cluster_types.specs.RowBytes.{bits_of}
 use Rattle.wire_messages.specs.declared.message.Message.TheVariants as message
 use Rattle.wire_messages.specs.Numbers.{number_field, number_at, byte_field, byte_at, flag_field, flag_at}
 use Rattle.wire_messages.specs.Fields.{field, items_at}
 use Rattle.wire_messages.specs.Keys.{key_field, key_where, key_at}
 use Rattle.wire_messages.specs.Versions.{bytes_at, digest_at, digest_above_at, value_field, value_at, body_field, body_at, version_field, version_at, record_field, record_at, records_field, records_at}
-use Rattle.wire_messages.specs.Rows.{row_of, row_at, state_field, state_at, entry_field, entry_at, state_row_field, state_row_at}
+use Rattle.wire_messages.specs.Rows.{row_at, state_field, state_at, entry_field, entry_at, state_row_field, state_row_at}
 use Rattle.wire_messages.specs.Kinds.{state_message_at, batch_at, batch_ack_at, progress_at}
 use Rattle.wire_messages.specs.Spelling.{spelling}
 use Rattle.wire_messages.specs.Decoding.{decoded, message_of}
@@ -44,7 +45,7 @@ read_batch : message_of (spelling (message.Batch two_records)) ≡ Some (message
 unfolding computing
 read_batch = refl
 
-read_progress : message_of (progress_bytes all_bits no_bits_bytes) ≡ Some (message.Progress (key 4 2) false (row_of all_bits) (row_of no_bits_bytes) (row_of no_bits_bytes))
+read_progress : message_of (progress_bytes all_bits no_bits_bytes) ≡ Some (message.Progress (key 4 2) false (bits_of all_bits) (bits_of no_bits_bytes) (bits_of no_bits_bytes))
 unfolding computing
 read_progress = refl
 

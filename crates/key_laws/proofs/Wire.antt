@@ -15,6 +15,7 @@ use Rattle.cluster_types.specs.declared.member.Member.{Member}
 use Rattle.cluster_types.specs.declared.member.Role.{Role}
 use Rattle.cluster_types.specs.ClusterKeys.{none}
 use Rattle.cluster_types.specs.Partitions.{partition_count}
+use Rattle.cluster_types.specs.RowBytes.{bytes_of}
 use Rattle.wire_messages.specs.declared.message.Batch.{Batch}
 use Rattle.wire_messages.specs.declared.message.MapTable.{MapTable}
 use Rattle.wire_messages.specs.declared.message.Message.{Message}
@@ -27,7 +28,7 @@ use Rattle.wire_messages.specs.Keys.{IsKeyField, IsKeyOrNone, key_field, key_whe
 use Rattle.wire_messages.specs.Kinds.{kind_of, heartbeat_at, heartbeat_with_role_at, propose_at, propose_with_roles_at, accept_at, refuse_at, commit_at, commit_with_roles_at, state_message_at, batch_at, batch_ack_at, progress_at, repl_at, repl_ack_at, ask_at, answer_at, map_ask_at, map_table_at}
 use Rattle.wire_messages.specs.Nodes.{AreMembersField, is_plain, all_plain, ids_at, ids_field, role_at, role_field, id_field, plain_members_field, plain_members_at, members_field, members_at, member_field, table_at}
 use Rattle.wire_messages.specs.Numbers.{between, positive, every, number_at, byte_at, byte_field, flag_at, flag_field, number_field}
-use Rattle.wire_messages.specs.Rows.{row_at, row_field, state_row_at, state_row_field, state_at, state_field, entry_at, entry_field, with_entry, whole_if, is_above}
+use Rattle.wire_messages.specs.Rows.{row_at, state_row_at, state_row_field, state_at, state_field, entry_at, entry_field, with_entry, whole_if, is_above}
 use Rattle.wire_messages.specs.Spelling.{spelling, view_fields}
 use Rattle.wire_messages.specs.Versions.{digest_at, version_at, version_field, option_version_at, option_version_field, records_at, records_field}
 use Rattle.wire_messages.proofs.DecodingLaws.{are_small, read_back}
@@ -129,7 +130,7 @@ pub read_progress : (P : Message → Type 0) (k : ClusterKey) (wants : Bool) (do
     → ((w : Bool) (a b c : List Bool) → P (message.Progress k w a b c)) → Read P (message.Progress k wants done handed settled)
 unfolding spelling byte_field progress_at
 read_progress P k wants done handed settled key h =
-    let rest : List ℕ = flag_field wants ++ (row_field done ++ (row_field handed ++ (row_field settled ++ []))) in
+    let rest : List ℕ = flag_field wants ++ (bytes_of done ++ (bytes_of handed ++ (bytes_of settled ++ []))) in
     from_fields P 9 (key_field k ++ rest) progress_at refl
     (key_first (λ x. P x.0) k key rest _ (onward (λ x. P x.0) (flag_at rest) _ (λ w. onward (λ x. P x.0) (row_at w.1) _ (λ a. onward (λ x. P x.0) (row_at a.1) _ (λ b. onward (λ x. P x.0) (row_at b.1) _ (λ c. h w.0 a.0 b.0 c.0))))))
 
@@ -167,7 +168,7 @@ read_map_ask P h = from_fields P 14 [] map_ask_at refl h
 pub read_table : (P : Message → Type 0) (x : MapTable) → IsKeyOrNone x.key → ((y : MapTable) → y.key ≡ x.key → P (message.MapTable y)) → Read P (message.MapTable x)
 unfolding spelling byte_field map_table_at
 read_table P x key h =
-    let rest : List ℕ = flat_map id_field x.ids ++ (row_field x.moved ++ []) in
+    let rest : List ℕ = flat_map id_field x.ids ++ (bytes_of x.moved ++ []) in
     from_fields P 15 (key_field x.key ++ rest) map_table_at refl (key_first (λ x. P x.0) x.key key rest _ (onward (λ x. P x.0) (table_at rest) _ (λ i. onward (λ x. P x.0) (row_at i.1) _ (λ m. h _ refl))))
 
 -- ---- rows

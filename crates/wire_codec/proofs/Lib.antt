@@ -3,4 +3,3 @@ pub mod Highest
 pub mod Loops
 pub mod Lowest
 pub mod Orders
-pub mod SameRows

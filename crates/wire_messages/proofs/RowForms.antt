@@ -5,7 +5,8 @@ use Rattle.std.specs.List.{range_with_len}
 use Rattle.std.proofs.lemmas.Bool.{and_left, le-ltb, lt-ltb, ne_eqb, eq-eqb, cases_order, eqb-true, eqb-false, cond_both}
 use Rattle.std.proofs.lemmas.List.FromFn.{length-map-range_with_len, get_or-map-range_with_len, fill_by_all}
 use Rattle.cluster_types.specs.Rows.{bit, IsClear}
-use Rattle.wire_messages.specs.Rows.{bit_number, row_byte, row_field, row_bit, row_of, row_at, IsRow}
+use Rattle.cluster_types.specs.RowBytes.{bit_number, row_byte, bytes_of, byte_bit, bits_of}
+use Rattle.wire_messages.specs.Rows.{row_at, IsRow}
 use Rattle.wire_messages.proofs.Forms.{IsBytes, Small, IsForm, field_form}
 
 number_bit : (b : Bool) → (bit_number b == 1) ≡ b
@@ -58,44 +59,44 @@ row_digits row i = digits _ _ _ _ _ _ _ _ (bit_below (bit row (8 * i))) (bit_bel
 digit_is : (n : ℕ) (b : Bool) → n ≡ bit_number b → (n == 1) ≡ b
 digit_is n b e = ap (λ m. m == 1) e ∙ number_bit b
 
-byte_bit : (row : List Bool) (i b : ℕ) → b < 8 → (row_byte row i / 2 ^ b % 2 == 1) ≡ bit row (8 * i + b)
-byte_bit row i zero lt = digit_is _ (bit row (8 * i)) (row_digits row i).d0 ∙ ap (bit row) (let e : 8 * i ≡ 8 * i + 0 = omega arith in e)
-byte_bit row i (suc zero) lt = digit_is _ (bit row (8 * i + 1)) (row_digits row i).d1
-byte_bit row i (suc (suc zero)) lt = digit_is _ (bit row (8 * i + 2)) (row_digits row i).d2
-byte_bit row i (suc (suc (suc zero))) lt = digit_is _ (bit row (8 * i + 3)) (row_digits row i).d3
-byte_bit row i (suc (suc (suc (suc zero)))) lt = digit_is _ (bit row (8 * i + 4)) (row_digits row i).d4
-byte_bit row i (suc (suc (suc (suc (suc zero))))) lt = digit_is _ (bit row (8 * i + 5)) (row_digits row i).d5
-byte_bit row i (suc (suc (suc (suc (suc (suc zero)))))) lt = digit_is _ (bit row (8 * i + 6)) (row_digits row i).d6
-byte_bit row i (suc (suc (suc (suc (suc (suc (suc zero))))))) lt = digit_is _ (bit row (8 * i + 7)) (row_digits row i).d7
-byte_bit row i (suc (suc (suc (suc (suc (suc (suc (suc b)))))))) lt = absurd (omega (arith, lt))
+bit_of_byte : (row : List Bool) (i b : ℕ) → b < 8 → (row_byte row i / 2 ^ b % 2 == 1) ≡ bit row (8 * i + b)
+bit_of_byte row i zero lt = digit_is _ (bit row (8 * i)) (row_digits row i).d0 ∙ ap (bit row) (let e : 8 * i ≡ 8 * i + 0 = omega arith in e)
+bit_of_byte row i (suc zero) lt = digit_is _ (bit row (8 * i + 1)) (row_digits row i).d1
+bit_of_byte row i (suc (suc zero)) lt = digit_is _ (bit row (8 * i + 2)) (row_digits row i).d2
+bit_of_byte row i (suc (suc (suc zero))) lt = digit_is _ (bit row (8 * i + 3)) (row_digits row i).d3
+bit_of_byte row i (suc (suc (suc (suc zero)))) lt = digit_is _ (bit row (8 * i + 4)) (row_digits row i).d4
+bit_of_byte row i (suc (suc (suc (suc (suc zero))))) lt = digit_is _ (bit row (8 * i + 5)) (row_digits row i).d5
+bit_of_byte row i (suc (suc (suc (suc (suc (suc zero)))))) lt = digit_is _ (bit row (8 * i + 6)) (row_digits row i).d6
+bit_of_byte row i (suc (suc (suc (suc (suc (suc (suc zero))))))) lt = digit_is _ (bit row (8 * i + 7)) (row_digits row i).d7
+bit_of_byte row i (suc (suc (suc (suc (suc (suc (suc (suc b)))))))) lt = absurd (omega (arith, lt))
 
-field_byte : (row : List Bool) (i : ℕ) → i < 512 → slice_index (row_field row) i ≡ row_byte row i
-unfolding row_field
+field_byte : (row : List Bool) (i : ℕ) → i < 512 → slice_index (bytes_of row) i ≡ row_byte row i
+unfolding bytes_of
 field_byte row i lt = get_or-map-range_with_len (row_byte row) 0 512 i i 0 lt (omega arith)
 
-field_bit : (row : List Bool) (p : ℕ) → p < 4096 → row_bit (row_field row) p ≡ bit row p
+field_bit : (row : List Bool) (p : ℕ) → p < 4096 → byte_bit (bytes_of row) p ≡ bit row p
 field_bit row p lt =
     ap (λ n. n / 2 ^ (p % 8) % 2 == 1) (field_byte row (p / 8) (omega arith))
-    ∙ byte_bit row (p / 8) (p % 8) (omega arith)
+    ∙ bit_of_byte row (p / 8) (p % 8) (omega arith)
     ∙ ap (bit row) (let e : 8 * (p / 8) + p % 8 ≡ p = omega arith in e)
 
-row_again : (row : List Bool) → length row ≡ 4096 → row_of (row_field row) ≡ row
-unfolding row_of
-row_again row size = sym (fill_by_all (row_bit (row_field row)) row 4096 false size (λ p lt. sym (field_bit row p lt)))
+row_again : (row : List Bool) → length row ≡ 4096 → bits_of (bytes_of row) ≡ row
+unfolding bits_of
+row_again row size = sym (fill_by_all (byte_bit (bytes_of row)) row 4096 false size (λ p lt. sym (field_bit row p lt)))
 
 -- ---- a row was written so
 
-bit_at : (bytes : List ℕ) (i b p : ℕ) → i < 512 → b < 8 → p ≡ 8 * i + b → bit (row_of bytes) p ≡ (get_or bytes i 0 / 2 ^ b % 2 == 1)
-unfolding row_of
+bit_at : (bytes : List ℕ) (i b p : ℕ) → i < 512 → b < 8 → p ≡ 8 * i + b → bit (bits_of bytes) p ≡ (get_or bytes i 0 / 2 ^ b % 2 == 1)
+unfolding bits_of
 bit_at bytes i b p lt small is =
-    get_or-map-range_with_len (row_bit bytes) 0 4096 p p false (omega arith) (omega arith)
+    get_or-map-range_with_len (byte_bit bytes) 0 4096 p p false (omega arith) (omega arith)
     ∙ ap (λ j. get_or bytes j 0 / 2 ^ (p % 8) % 2 == 1) (let e : p / 8 ≡ i = omega arith in e)
     ∙ ap (λ c. get_or bytes i 0 / 2 ^ c % 2 == 1) (let e : p % 8 ≡ b = omega arith in e)
 
-number_at_bit : (bytes : List ℕ) (i b p : ℕ) → i < 512 → b < 8 → p ≡ 8 * i + b → bit_number (bit (row_of bytes) p) ≡ get_or bytes i 0 / 2 ^ b % 2
+number_at_bit : (bytes : List ℕ) (i b p : ℕ) → i < 512 → b < 8 → p ≡ 8 * i + b → bit_number (bit (bits_of bytes) p) ≡ get_or bytes i 0 / 2 ^ b % 2
 number_at_bit bytes i b p lt small is = ap bit_number (bit_at bytes i b p lt small is) ∙ bit_of_number (get_or bytes i 0 / 2 ^ b % 2) (omega arith)
 
-byte_again : (bytes : List ℕ) (i : ℕ) → i < 512 → get_or bytes i 0 < 256 → row_byte (row_of bytes) i ≡ get_or bytes i 0
+byte_again : (bytes : List ℕ) (i : ℕ) → i < 512 → get_or bytes i 0 < 256 → row_byte (bits_of bytes) i ≡ get_or bytes i 0
 byte_again bytes i lt fits =
     rw (
       number_at_bit bytes i 0 (8 * i) lt (lit< tt) (omega arith),
@@ -109,16 +110,16 @@ byte_again bytes i lt fits =
     )
     (byte_is (get_or bytes i 0) fits)
 
-bytes_again : (bytes : List ℕ) → length bytes ≡ 512 → IsBytes bytes → row_field (row_of bytes) ≡ bytes
-unfolding row_field
-bytes_again bytes size fits = sym (fill_by_all (row_byte (row_of bytes)) bytes 512 0 size (λ i lt. sym (byte_again bytes i lt (fits i))))
+bytes_again : (bytes : List ℕ) → length bytes ≡ 512 → IsBytes bytes → bytes_of (bits_of bytes) ≡ bytes
+unfolding bytes_of
+bytes_again bytes size fits = sym (fill_by_all (row_byte (bits_of bytes)) bytes 512 0 size (λ i lt. sym (byte_again bytes i lt (fits i))))
 
-row_size : (bytes : List ℕ) → length (row_of bytes) ≡ 4096
-unfolding row_of
-row_size bytes = length-map-range_with_len (row_bit bytes) 0 4096
+row_size : (bytes : List ℕ) → length (bits_of bytes) ≡ 4096
+unfolding bits_of
+row_size bytes = length-map-range_with_len (byte_bit bytes) 0 4096
 
-field_size : (row : List Bool) → length (row_field row) ≡ 512
-unfolding row_field
+field_size : (row : List Bool) → length (bytes_of row) ≡ 512
+unfolding bytes_of
 field_size row = length-map-range_with_len (row_byte row) 0 512
 
 byte_below : (row : List Bool) (i : ℕ) → row_byte row i < 256
@@ -139,18 +140,18 @@ all_below : (row : List Bool) (a n : ℕ) → Small (map (row_byte row) (range_w
 all_below row a zero = tt
 all_below row a (suc n) = (byte_below row a, all_below row (a + 1) n)
 
-field_small : (row : List Bool) → Small (row_field row)
-unfolding row_field
+field_small : (row : List Bool) → Small (bytes_of row)
+unfolding bytes_of
 field_small row = all_below row 0 512
 
-pub row_form : IsForm IsRow row_field row_at
+pub row_form : IsForm IsRow bytes_of row_at
 unfolding row_at
-row_form = field_form IsRow row_field 512 (λ b. Some (row_of b))
+row_form = field_form IsRow bytes_of 512 (λ b. Some (bits_of b))
     (λ row p. field_size row)
     (λ row p. ap (λ r. Some r) (row_again row p.size))
     (λ bytes row len fits e.
-    let is : row_of bytes ≡ row = cc in
-    (subst IsRow is (record { size = row_size bytes }), ap row_field (sym is) ∙ bytes_again bytes len fits))
+    let is : bits_of bytes ≡ row = cc in
+    (subst IsRow is (record { size = row_size bytes }), ap bytes_of (sym is) ∙ bytes_again bytes len fits))
     (λ row p. field_small row)
 
 -- ---- a row is read bit by bit
@@ -159,20 +160,20 @@ or_false : (b : Bool) → (b || false) ≡ b
 or_false true = refl
 or_false false = refl
 
-pub no_bits : (row : List Bool) (bytes : List ℕ) → IsClear row → (q : ℕ) → bit row q ≡ (nat_lt q 0 && row_bit bytes q)
-no_bits row bytes h q = h.clear q ∙ sym (and_left (nat_lt q 0) (row_bit bytes q) (le-ltb q 0 (omega arith)))
+pub no_bits : (row : List Bool) (bytes : List ℕ) → IsClear row → (q : ℕ) → bit row q ≡ (nat_lt q 0 && byte_bit bytes q)
+no_bits row bytes h q = h.clear q ∙ sym (and_left (nat_lt q 0) (byte_bit bytes q) (le-ltb q 0 (omega arith)))
 
-pub more_bits : (old new : List Bool) (bytes : List ℕ) (p : ℕ) → ((q : ℕ) → bit new q ≡ (bit old q || ((q == p) && row_bit bytes p)))
-    → ((q : ℕ) → bit old q ≡ (nat_lt q p && row_bit bytes q)) → (q : ℕ) → bit new q ≡ (nat_lt q (p + 1) && row_bit bytes q)
+pub more_bits : (old new : List Bool) (bytes : List ℕ) (p : ℕ) → ((q : ℕ) → bit new q ≡ (bit old q || ((q == p) && byte_bit bytes p)))
+    → ((q : ℕ) → bit old q ≡ (nat_lt q p && byte_bit bytes q)) → (q : ℕ) → bit new q ≡ (nat_lt q (p + 1) && byte_bit bytes q)
 more_bits old new bytes p put h q =
-    put q ∙ ap (λ b. b || ((q == p) && row_bit bytes p)) (h q) ∙ at (cases_order q p)
+    put q ∙ ap (λ b. b || ((q == p) && byte_bit bytes p)) (h q) ∙ at (cases_order q p)
   where
-    at : (q ≡ p) ⊎ ((q < p) ⊎ (p < q)) → ((nat_lt q p && row_bit bytes q) || ((q == p) && row_bit bytes p)) ≡ (nat_lt q (p + 1) && row_bit bytes q)
+    at : (q ≡ p) ⊎ ((q < p) ⊎ (p < q)) → ((nat_lt q p && byte_bit bytes q) || ((q == p) && byte_bit bytes p)) ≡ (nat_lt q (p + 1) && byte_bit bytes q)
     at (inl e) = rw (e, le-ltb p p (omega arith), eq-eqb p p refl, lt-ltb p (p + 1) (omega arith)) refl
-    at (inr (inl lt)) = rw (lt-ltb q p lt, ne_eqb q p (λ e. omega (arith, e, lt)), lt-ltb q (p + 1) (omega (arith, lt))) (or_false (row_bit bytes q))
+    at (inr (inl lt)) = rw (lt-ltb q p lt, ne_eqb q p (λ e. omega (arith, e, lt)), lt-ltb q (p + 1) (omega (arith, lt))) (or_false (byte_bit bytes q))
     at (inr (inr gt)) = rw (le-ltb q p (omega (arith, gt)), ne_eqb q p (λ e. omega (arith, e, gt)), le-ltb q (p + 1) (omega (arith, gt))) refl
 
-pub all_bits : (row : List Bool) (bytes : List ℕ) (p : ℕ) → length row ≡ 4096 → 4096 ≤ p → ((q : ℕ) → bit row q ≡ (nat_lt q p && row_bit bytes q)) → row ≡ row_of bytes
-unfolding row_of
+pub all_bits : (row : List Bool) (bytes : List ℕ) (p : ℕ) → length row ≡ 4096 → 4096 ≤ p → ((q : ℕ) → bit row q ≡ (nat_lt q p && byte_bit bytes q)) → row ≡ bits_of bytes
+unfolding bits_of
 all_bits row bytes p size end h =
-    fill_by_all (row_bit bytes) row 4096 false size (λ q lt. h q ∙ ap (λ b. b && row_bit bytes q) (lt-ltb q p (omega (arith, lt, end))))
+    fill_by_all (byte_bit bytes) row 4096 false size (λ q lt. h q ∙ ap (λ b. b && byte_bit bytes q) (lt-ltb q p (omega (arith, lt, end))))

@@ -9,6 +9,7 @@ use Rattle.cluster_types.specs.declared.cluster_key.ClusterKey.{ClusterKey}
 use Rattle.cluster_types.specs.declared.copy_state.CopyState.{CopyState}
 use Rattle.cluster_types.specs.declared.member.Member.{Member}
 use Rattle.cluster_types.specs.declared.member.Role.{Role}
+use Rattle.cluster_types.specs.RowBytes.{bytes_of}
 use Rattle.wire_messages.specs.declared.message.Message.{Message}
 use Rattle.wire_messages.specs.declared.message.Message.TheVariants as message
 use Rattle.wire_messages.specs.declared.message.Batch.{Batch}
@@ -20,7 +21,7 @@ use Rattle.wire_messages.specs.Numbers.{number_field, byte_field, flag_field}
 use Rattle.wire_messages.specs.Keys.{is_none, key_field}
 use Rattle.wire_messages.specs.Nodes.{id_field, ids_field, role_field, is_plain, all_plain, plain_members_field, members_field}
 use Rattle.wire_messages.specs.Versions.{option_digest_field, version_field, option_version_field, records_field}
-use Rattle.wire_messages.specs.Rows.{row_field, state_row_field}
+use Rattle.wire_messages.specs.Rows.{state_row_field}
 use Rattle.wire_messages.specs.Requests.{want_field, reply_field, refusal_field}
 use Rattle.wire_messages.specs.Kinds.{heartbeat_at, propose_at, accept_at, refuse_at, commit_at, state_message_at, batch_at, batch_ack_at, progress_at, repl_at, repl_ack_at, ask_at, answer_at, map_ask_at, map_table_at, heartbeat_with_role_at, propose_with_roles_at, commit_with_roles_at, proxy_at, proxy_reply_at, call_at, reply_message_at, scan_ask_at, scan_page_at, scan_no_at}
 use Rattle.wire_messages.specs.Proper.{IsProper, IsBatch, IsMapTable, IsScanPage}
@@ -105,7 +106,7 @@ unfolding progress_at spelling byte_field
 spelled_progress key wants done handed settled p = record {
   kind = 9;
   read = progress_at;
-  text = key_field key ++ (flag_field wants ++ (row_field done ++ (row_field handed ++ (row_field settled ++ []))));
+  text = key_field key ++ (flag_field wants ++ (bytes_of done ++ (bytes_of handed ++ (bytes_of settled ++ []))));
   spelled = refl;
   known = refl;
   again = λ rest. again_step key_form key p.0 _ _ _ _ (again_step flag_form wants tt _ _ _ _ (again_step row_form done p.1 _ _ _ _ (again_step row_form handed p.2 _ _ _ _ (again_step row_form settled p.3 _ _ _ _ refl))));
@@ -183,7 +184,7 @@ unfolding map_table_at spelling byte_field
 spelled_map_table t p = record {
   kind = 15;
   read = map_table_at;
-  text = key_field t.key ++ (flat_map id_field t.ids ++ (row_field t.moved ++ []));
+  text = key_field t.key ++ (flat_map id_field t.ids ++ (bytes_of t.moved ++ []));
   spelled = refl;
   known = refl;
   again = λ rest. again_step key_form t.key p.key _ _ _ _ (again_step table_form t.ids (record { size = p.size; each = p.ids }) _ _ _ _ (again_step row_form t.moved p.moved _ _ _ _ refl));

@@ -1,11 +1,10 @@
 -- Bit rows and rows of copy states as fields.
-use Rattle.std.specs.Prelude.{◌≡◌, ℕ, ◌+◌, ◌*◌, ◌/◌, ◌%◌, ◌^◌, ◌<◌, nat_lt, ◌==◌, ◌&&◌, Bool, true, if◌then◌else◌, List, [], ◌∷◌, ◌++◌, length, map, flat_map, slice_index, Option, Some, None, Result, Ok, All}
-use Rattle.std.specs.List.{range_with_len}
+use Rattle.std.specs.Prelude.{◌≡◌, ℕ, ◌^◌, ◌<◌, nat_lt, ◌==◌, ◌&&◌, Bool, true, if◌then◌else◌, List, [], ◌∷◌, ◌++◌, length, flat_map, Option, Some, None, Result, Ok, All}
 use Rattle.std.specs.Int.{w16, w32}
 use Rattle.cluster_types.specs.declared.copy_state.CopyState.{CopyState}
 use Rattle.cluster_types.specs.declared.copy_state.CopyState.TheVariants.{Empty, Part, Whole}
 use Rattle.cluster_types.specs.Partitions.{partition_count}
-use Rattle.cluster_types.specs.Rows.{bit}
+use Rattle.cluster_types.specs.RowBytes.{bits_of}
 use Rattle.cluster_types.specs.StateRows.{IsStateRow}
 use Rattle.wire_messages.specs.declared.fault.FieldFault.{FieldFault}
 use Rattle.wire_messages.specs.Fields.{◌>>=◌, field, items_at}
@@ -14,30 +13,8 @@ use Rattle.wire_messages.specs.Keys.{key_field, key_at, IsKeyField}
 
 -- ---- bit rows
 
--- 1 where the bit is set, and otherwise 0
-abbrev pub bit_number : Bool → ℕ
-bit_number b = if b then 1 else 0
-
--- byte i has the bits of the partitions 8 * i to 8 * i + 7, that of the least partition lowest
-abbrev pub row_byte : List Bool → ℕ → ℕ
-row_byte row i =
-    bit_number (bit row (8 * i)) + 2 * bit_number (bit row (8 * i + 1))
-    + 4 * bit_number (bit row (8 * i + 2)) + 8 * bit_number (bit row (8 * i + 3))
-    + 16 * bit_number (bit row (8 * i + 4)) + 32 * bit_number (bit row (8 * i + 5))
-    + 64 * bit_number (bit row (8 * i + 6)) + 128 * bit_number (bit row (8 * i + 7))
-
-unfoldable pub row_field : List Bool → List ℕ
-row_field row = map (row_byte row) (range_with_len 0 512)
-
--- the bit of partition p is bit p mod 8 of byte p div 8
-abbrev pub row_bit : List ℕ → ℕ → Bool
-row_bit bytes p = slice_index bytes (p / 8) / 2 ^ (p % 8) % 2 == 1
-
-unfoldable pub row_of : List ℕ → List Bool
-row_of bytes = map (row_bit bytes) (range_with_len 0 4096)
-
 unfoldable pub row_at : List ℕ → Result (List Bool × List ℕ) FieldFault
-row_at bytes = field 512 (λ b. Some (row_of b)) bytes
+row_at bytes = field 512 (λ b. Some (bits_of b)) bytes
 
 pub record IsRow (row : List Bool) : Type 0 where
   pub size : length row ≡ 4096

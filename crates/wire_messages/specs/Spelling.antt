@@ -5,13 +5,14 @@ use Rattle.std.specs.Int.{w16, w32}
 use Rattle.cluster_types.specs.declared.cluster_key.ClusterKey.{ClusterKey}
 use Rattle.cluster_types.specs.declared.member.Member.{Member}
 use Rattle.cluster_types.specs.declared.member.Role.{Role}
+use Rattle.cluster_types.specs.RowBytes.{bytes_of}
 use Rattle.wire_messages.specs.declared.message.Message.{Message}
 use Rattle.wire_messages.specs.declared.message.Message.TheVariants as message
 use Rattle.wire_messages.specs.Numbers.{number_field, byte_field, flag_field}
 use Rattle.wire_messages.specs.Keys.{key_field}
 use Rattle.wire_messages.specs.Nodes.{id_field, ids_field, role_field, is_plain, all_plain, plain_members_field, members_field}
 use Rattle.wire_messages.specs.Versions.{option_digest_field, version_field, option_version_field, records_field}
-use Rattle.wire_messages.specs.Rows.{row_field, state_row_field}
+use Rattle.wire_messages.specs.Rows.{state_row_field}
 use Rattle.wire_messages.specs.Requests.{want_field, reply_field, refusal_field}
 
 -- a plain role isn't written
@@ -43,8 +44,8 @@ fields_of (message.Batch b) =
 fields_of (message.BatchAck key number) =
     byte_field 8 ∷ key_field key ∷ number_field w32 number ∷ []
 fields_of (message.Progress key wants done handed settled) =
-    byte_field 9 ∷ key_field key ∷ flag_field wants ∷ row_field done ∷ row_field handed
-    ∷ row_field settled ∷ []
+    byte_field 9 ∷ key_field key ∷ flag_field wants ∷ bytes_of done ∷ bytes_of handed
+    ∷ bytes_of settled ∷ []
 fields_of (message.Repl key transaction nth digest version) =
     byte_field 10 ∷ key_field key ∷ number_field w32 transaction ∷ number_field w32 nth ∷ digest
     ∷ version_field version ∷ []
@@ -56,7 +57,7 @@ fields_of (message.Answer key transaction version) =
     byte_field 13 ∷ key_field key ∷ number_field w32 transaction ∷ option_version_field version ∷ []
 fields_of message.MapAsk = byte_field 14 ∷ []
 fields_of (message.MapTable t) =
-    byte_field 15 ∷ key_field t.key ∷ flat_map id_field t.ids ∷ row_field t.moved ∷ []
+    byte_field 15 ∷ key_field t.key ∷ flat_map id_field t.ids ∷ bytes_of t.moved ∷ []
 fields_of (message.Proxy key number digest want) =
     byte_field 19 ∷ key_field key ∷ number_field w32 number ∷ digest ∷ want_field want ∷ []
 fields_of (message.ProxyReply key number reply) =

@@ -3,11 +3,11 @@ ghost use Rattle.std.specs.Prelude.{◌≡◌, ◌≢◌, ◌<◌, ◌+◌, ◌*
 ghost use Rattle.std.specs.Int.{w16};
 ghost use Rattle.cluster_types.specs.declared.copy_state.CopyState.TheVariants.{Empty};
 ghost use Rattle.cluster_types.specs.Partitions.{partition_count};
+ghost use Rattle.cluster_types.specs.RowBytes.{bits_of};
 ghost use Rattle.wire_messages.specs.Fields.{items_at};
 ghost use Rattle.wire_messages.specs.Nodes.{any_id_at, with_any_id, table_at};
 ghost use Rattle.wire_messages.specs.Numbers.{between, number_at};
 ghost use Rattle.wire_codec.specs.Reading.{Reads, Fills};
-ghost use Rattle.wire_messages.specs.Rows as rows;
 ghost use Rattle.wire_messages.specs.Rows.{is_above, row_at, state_at, entry_at, with_entry, state_row_at};
 
 use crate::reading::{ReadFault, Reader, bad, short};
@@ -29,7 +29,7 @@ fn least_ids() -> [NodeId; 4096]
 /// The row of which these are the bytes.
 fn row_of(bytes: &[u8]) -> Row4096
     requires { length bytes.now ≡ 512 }
-    ensures { result ≡ rows.row_of bytes.now }
+    ensures { result ≡ bits_of bytes.now }
 {
     Row4096::from_bytes(bytes)
 }

@@ -2,7 +2,8 @@
 ghost use Rattle.std.specs.Prelude.{◌≡◌, ◌≢◌, ◌++◌, ◌+◌, ◌*◌, ◌<◌, ◌≤◌, ◌^◌, All, length, map, OnOk};
 ghost use Rattle.std.specs.List.{flat_map, range_with_len};
 ghost use Rattle.cluster_types.specs.declared.copy_state.CopyState.TheVariants.{Empty};
-ghost use Rattle.wire_messages.specs.Rows.{row_field, state_field, entry_field, state_row_field, FitsState};
+ghost use Rattle.cluster_types.specs.RowBytes.{bytes_of};
+ghost use Rattle.wire_messages.specs.Rows.{state_field, entry_field, state_row_field, FitsState};
 
 use crate::writing::keys::put_key;
 use crate::writing::numbers::{put_byte, put_u16, put_u32};
@@ -10,7 +11,7 @@ use cluster_types::{CopyState, NoMemory, PartitionId, Row4096, StateRow};
 
 /// A bit row.
 pub(crate) fn put_row(out: &mut Vec<u8>, row: &Row4096) -> Result<(), NoMemory>
-    ensures { OnOk result (out.new.items ≡ out.old.items ++ row_field row.now) }
+    ensures { OnOk result (out.new.items ≡ out.old.items ++ bytes_of row.now) }
 {
     out.extend_from_slice(row.as_bytes())?;
     Ok(())
