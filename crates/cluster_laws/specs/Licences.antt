@@ -6,6 +6,7 @@ use Rattle.std.specs.Prelude.{◌≡◌, ℕ, ◌+◌, Bool, true, false, List, 
 use Rattle.conflict_order.specs.declared.version.Version.{Version}
 use Rattle.conflict_order.specs.Join.{AtMost}
 use Rattle.conflict_order.specs.Next.{next}
+use Rattle.conflict_order.specs.Records.{Record}
 use Rattle.cluster_types.specs.declared.cluster_key.ClusterKey.{ClusterKey}
 use Rattle.cluster_types.specs.declared.copy_state.CopyState.{CopyState}
 use Rattle.cluster_types.specs.declared.copy_state.CopyState.TheVariants.{Empty, Part, Whole}
@@ -43,7 +44,7 @@ pub record WasSent (w : Picture) (from to : ℕ) (m : Message) : Type 0 where
   pub message : packet.message ≡ Some m
 
 -- the record is one of those
-pub record IsAmong (records : List (List ℕ × Version)) (d : List ℕ) (v : Version) : Type 0 where
+pub record IsAmong (records : List Record) (d : List ℕ) (v : Version) : Type 0 where
   pub place : ℕ
   pub here : slice_get records place ≡ Some (d, v)
 
@@ -191,7 +192,7 @@ pub record MayDrop (G : Ground) (w : Picture) (n : ℕ) (k : ClusterKey) (p : �
 
 -- each record is held so, and is pending to the receiver
 pub record AreHeldAndPending (content : Versions) (s : Stay) (r : ℕ)
-    (records : List (List ℕ × Version)) : Type 0 where
+    (records : List Record) : Type 0 where
   pub held : (d : List ℕ) (v : Version) → IsAmong records d v → content d ≡ Some v
   pub pending : (d : List ℕ) (v : Version) → IsAmong records d v → s.pending r d ≡ true
 

@@ -5,6 +5,7 @@
 -- the stay of its view's key.
 use Rattle.std.specs.Prelude.{ℕ, Bool, false, List, [], Option, None}
 use Rattle.conflict_order.specs.declared.version.Version.{Version}
+use Rattle.conflict_order.specs.Records.{Record}
 use Rattle.wire_messages.specs.declared.message.Batch.{Batch}
 use Rattle.node_rules.specs.Transactions.{Write}
 
@@ -48,7 +49,7 @@ pub record Stay : Type 0 where
   -- the batch that is out to a member, how many were sent to it, and the records of each by its number
   pub out : ℕ → Option Batch
   pub batches : ℕ → ℕ
-  pub batch : ℕ → ℕ → Option (List (List ℕ × Version))
+  pub batch : ℕ → ℕ → Option (List Record)
   -- how many transactions were opened, the digest of each by its number, and those that are open
   pub opened : ℕ
   pub begun : ℕ → Option (List ℕ)

@@ -2,7 +2,7 @@
 use Rattle.std.specs.Prelude.{ℕ, ◌+◌, ◌==◌, ◌&&◌, Bool, false, not, if◌then◌else◌, List, [], ◌∷◌, Option, Some, None, find, filter, filter_map, map, option_map, option_and_then, take, bytes_eq}
 use Rattle.std.specs.List.{list_any}
 use Rattle.std.specs.FinMap as finite
-use Rattle.conflict_order.specs.declared.version.Version.{Version}
+use Rattle.conflict_order.specs.Records.{Record}
 use Rattle.cluster_types.specs.declared.cluster_key.ClusterKey.{ClusterKey}
 use Rattle.wire_messages.specs.declared.message.Batch.{Batch}
 use Rattle.node_rules.specs.Copies.{Content, digests, is_of}
@@ -71,7 +71,7 @@ abbrev pub done_row : Bool → Targets → ℕ → ℕ → List Bool
 done_row exchanged targets n p = bits_from (λ q. exchanged && not (is_pending targets q)) n p
 
 -- the records of these digests, as they are held
-abbrev pub records_of : Content → List (List ℕ) → List (List ℕ × Version)
+abbrev pub records_of : Content → List (List ℕ) → List Record
 records_of content ds = filter_map (λ d. option_map (λ v. (d, v)) (finite.get content d)) ds
 
 -- a new batch: the least digests that are pending, as many as a batch has or all
@@ -101,7 +101,7 @@ abbrev pub next_batch_to : ClusterKey → Content → Targets → ℕ → Option
 next_batch_to key content targets n = option_and_then (next_batch key content) (target targets n)
 
 -- whether the digest is one of the records'
-abbrev pub is_among : List (List ℕ × Version) → List ℕ → Bool
+abbrev pub is_among : List Record → List ℕ → Bool
 is_among records d = list_any (λ r. bytes_eq r.0 d) records
 
 -- the batch was acknowledged: its digests are no longer pending, and none is out

@@ -1,17 +1,13 @@
 -- What records that come from another node make of what a node holds.
-use Rattle.std.specs.Prelude.{ℕ, Bool, true, false, List, [], ◌∷◌, ◌++◌, fold}
+use Rattle.std.specs.Prelude.{Bool, true, false, List, [], ◌∷◌, ◌++◌, fold}
 use Rattle.std.specs.FinMap as finite
 use Rattle.conflict_order.specs.declared.policy.Policy.{Policy}
-use Rattle.conflict_order.specs.declared.version.Version.{Version}
 use Rattle.conflict_order.specs.Order.{is_newer}
+pub use Rattle.conflict_order.specs.Records.{Record}
 use Rattle.cluster_types.specs.declared.cluster_key.ClusterKey.{ClusterKey}
 use Rattle.cluster_types.specs.Partitions.{partition_of}
 use Rattle.node_rules.specs.Copies.{Content, Store, Stamps, joined}
 use Rattle.node_rules.specs.Stamps.{spoiled, changed_stamps}
-
--- a digest with a version of it
-abbrev pub Record : Type 0
-Record = List ℕ × Version
 
 -- whether the record is newer than what is held of it
 abbrev pub is_newer_than_held : Policy → Content → Record → Bool

@@ -4,6 +4,7 @@ use Rattle.std.specs.Prelude.{ℕ, zero, suc, ◌+◌, ◌&&◌, Bool, true, fal
 use Rattle.std.specs.FinMap as finite
 use Rattle.conflict_order.specs.declared.version.Version.{Version}
 use Rattle.conflict_order.specs.Order.{is_newer}
+use Rattle.conflict_order.specs.Records.{Record}
 use Rattle.cluster_types.specs.declared.cluster_key.ClusterKey.{ClusterKey}
 use Rattle.cluster_types.specs.declared.member.Member.{Member}
 use Rattle.cluster_types.specs.ClusterKeys as keys
@@ -123,7 +124,7 @@ due_state f now from key wants = state_came f now from wants (in_view f key)
 -- ---- batches
 
 -- the line of a record that was newer
-abbrev pub merge_line : ℕ → ClusterKey → List ℕ × Version → Line
+abbrev pub merge_line : ℕ → ClusterKey → Record → Line
 merge_line me key r = line.Merge me key r.0 r.1
 
 -- a line where the version is newer than what is held
@@ -133,7 +134,7 @@ merging f digest v =
     (is_newer f.store.by v (finite.get f.store.content digest))
 
 -- a line for each record, in order, that is newer than what is held as it comes to it
-abbrev pub merging_all : Facts → List (List ℕ × Version) → List Line
+abbrev pub merging_all : Facts → List Record → List Line
 merging_all f [] = []
 merging_all f (r ∷ rs) = merging f r.0 r.1 ++ merging_all (noted None f (merging f r.0 r.1)) rs
 

@@ -18,11 +18,12 @@ use Rattle.cluster_types.proofs.DistinctLaws.{length_without}
 use Rattle.node_rules.specs.Agreement.{others_among}
 use Rattle.cluster_types.specs.Partitions.{partition_count}
 use Rattle.cluster_types.specs.Rows.{bit, IsClear}
+use Rattle.cluster_types.specs.RowBytes.{bit_number}
 use Rattle.node_rules.specs.Bits.{clear_row}
 use Rattle.node_rules.specs.Tables.{at, table_with}
 use Rattle.progress.specs.declared.told.Told.{Told}
 use Rattle.progress.specs.Known.{Known, nothing_known}
-use Rattle.progress.specs.Told.{AreTold, done_entry, is_done_at, told_nodes, one_if, silent_member, told_table, telling}
+use Rattle.progress.specs.Told.{AreTold, done_entry, is_done_at, told_nodes, silent_member, told_table, telling}
 use Rattle.progress.proofs.RowLaws.{clear_is_clear}
 use Rattle.progress.proofs.TableLaws.{Under, under_snoc, put_before, put_behind, put_again, find_before, find_behind, find_itself, is_itself}
 
@@ -162,13 +163,13 @@ clear_telling (t ∷ ts) (suc i) d row h =
     (clear_telling ts i d row (All-tail (λ x. x.came ≡ false → IsClear x.done) t ts h))
 
 -- one that is known done is counted
-pub is_counted : (ts : List Told) (known : List ℕ) (i p : ℕ) (d : Told) → AreTold ts known → i < length ts → p < partition_count → one_if (bit (get_or ts i d).done p) ≤ slice_index known p
+pub is_counted : (ts : List Told) (known : List ℕ) (i p : ℕ) (d : Told) → AreTold ts known → i < length ts → p < partition_count → bit_number (bit (get_or ts i d).done p) ≤ slice_index known p
 is_counted ts known i p d h inside within =
-    let le : one_if (bit (get_or ts i d).done p) ≤ count_by (is_done_at p) ts = get_or-le-sum_by (λ t. cond (is_done_at p t) 1 0) ts i d inside in
+    let le : bit_number (bit (get_or ts i d).done p) ≤ count_by (is_done_at p) ts = get_or-le-sum_by (λ t. cond (is_done_at p t) 1 0) ts i d inside in
     omega (arith, h.counts p within, le)
 
 pub told_telling : (ts : List Told) (known next : List ℕ) (i : ℕ) (d : Told) (row : List Bool) → AreTold ts known → i < length ts → length next ≡ partition_count
-    → ((p : ℕ) → p < partition_count → slice_index next p + one_if (bit (get_or ts i d).done p) ≡ slice_index known p + one_if (bit row p))
+    → ((p : ℕ) → p < partition_count → slice_index next p + bit_number (bit (get_or ts i d).done p) ≡ slice_index known p + bit_number (bit row p))
     → AreTold (set ts i (telling (get_or ts i d) row)) next
 told_telling ts known next i d row h inside size each = record {
   falls = subst IsDescending (sym (nodes_telling ts i d row)) h.falls;
@@ -176,7 +177,7 @@ told_telling ts known next i d row h inside size each = record {
   clear = clear_telling ts i d row h.clear;
   size = size;
   counts = λ p within.
-      let moved : count_by (is_done_at p) (set ts i (telling (get_or ts i d) row)) + one_if (bit (get_or ts i d).done p) ≡ count_by (is_done_at p) ts + one_if (bit row p) =
+      let moved : count_by (is_done_at p) (set ts i (telling (get_or ts i d) row)) + bit_number (bit (get_or ts i d).done p) ≡ count_by (is_done_at p) ts + bit_number (bit row p) =
       sum_by-set (λ t. cond (is_done_at p t) 1 0) ts i (telling (get_or ts i d) row) d inside in
       omega (arith, moved, each p within, h.counts p within);
 }

@@ -32,10 +32,6 @@ abbrev pub told_table : List Told → Table (List Bool)
 told_table [] = []
 told_table (t ∷ ts) = told_table ts ++ done_entry t
 
--- 1 where the test holds, and 0 where it doesn't
-abbrev pub one_if : Bool → ℕ
-one_if b = cond b 1 0
-
 -- what is kept of the other members, and of each partition the number of those that are known done
 pub record AreTold (heard : List Told) (known : List ℕ) : Type 0 where
   pub falls : IsDescending (told_nodes heard)

@@ -3,7 +3,7 @@ ghost use Rattle.std.specs.Int.{bit_at};
 ghost use Rattle.std.specs.Prelude.{◌≡◌, ◌<◌, ◌≤◌, ◌+◌, ℕ, IfOk, length, replicate, slice_index};
 ghost use Rattle.cluster_types.specs.Partitions.{partition_count};
 ghost use Rattle.cluster_types.specs.Rows.{bit};
-ghost use Rattle.progress.specs.Told.{one_if};
+ghost use Rattle.cluster_types.specs.RowBytes.{bit_number};
 
 use cluster_types::partition::PARTITIONS;
 use cluster_types::{NoMemory, Row4096};
@@ -28,10 +28,10 @@ pub(crate) fn recount(known: &mut [u8], before: &Row4096, after: &Row4096)
     requires size { length known.old ≡ partition_count }
     requires room { (p : ℕ) → p < partition_count → slice_index known.old p < 255 }
     requires counted { (p : ℕ) → p < partition_count
-        → one_if (bit before.now p) ≤ slice_index known.old p }
+        → bit_number (bit before.now p) ≤ slice_index known.old p }
     ensures counts { (p : ℕ) → p < partition_count
-        → slice_index known.new p + one_if (bit before.now p)
-        ≡ slice_index known.old p + one_if (bit after.now p) }
+        → slice_index known.new p + bit_number (bit before.now p)
+        ≡ slice_index known.old p + bit_number (bit after.now p) }
     ensures size { length known.new ≡ partition_count }
 {
     let was = before.as_bytes();

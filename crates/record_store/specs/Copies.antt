@@ -5,12 +5,13 @@ use Rattle.std.specs.Cmp.Lexicographic.{slice_cmp}
 use Rattle.std.specs.FinMap as finite
 use Rattle.std.specs.FinMap.{find, is_sorted}
 use Rattle.conflict_order.specs.declared.version.Version.{Version}
+use Rattle.conflict_order.specs.Records.{Record}
 use Rattle.cluster_types.specs.Partitions.{partition_count, partition_of}
 use Rattle.sorted_chain.specs.Chain.{Chain}
 use Rattle.record_store.specs.Store.{Records}
 
 abbrev pub Entries : Type 0
-Entries = List (List ℕ × Version)
+Entries = List Record
 
 -- the lists in rising order of their partitions
 abbrev pub copies_of : List (Chain Version) → List Entries

@@ -5,6 +5,7 @@ use Rattle.std.specs.Ordering.{nat_cmp, is_lt}
 use Rattle.std.specs.Cmp.Lexicographic.{slice_cmp}
 use Rattle.std.specs.Int.{w32, w64}
 use Rattle.conflict_order.specs.declared.version.Version.{Version}
+use Rattle.conflict_order.specs.Records.{Record}
 use Rattle.conflict_order.specs.declared.version.Body.{Body}
 use Rattle.conflict_order.specs.declared.version.Body.TheVariants.{Tombstone, Value}
 use Rattle.wire_messages.specs.declared.fault.FieldFault.{FieldFault}
@@ -126,35 +127,35 @@ IsOptionVersion (Some v) = IsVersion v
 
 -- ---- records
 
-unfoldable pub record_field : List ℕ × Version → List ℕ
+unfoldable pub record_field : Record → List ℕ
 record_field r = r.0 ++ version_field r.1
 
 -- a record whose digest is above the one before it
 unfoldable pub record_at : Option (List ℕ) → ℕ → List ℕ
-    → Result ((List ℕ × Version) × List ℕ) FieldFault
+    → Result (Record × List ℕ) FieldFault
 record_at before after bytes = do
   digest ← digest_above_at before bytes
   version ← version_at digest.1
   Ok ((digest.0, version.0), version.1)
 
-abbrev pub with_record : Option (List ℕ) → List ℕ × Version → Option (List ℕ)
+abbrev pub with_record : Option (List ℕ) → Record → Option (List ℕ)
 with_record before r = Some r.0
 
 -- records behind their number
-unfoldable pub records_field : List (List ℕ × Version) → List ℕ
+unfoldable pub records_field : List Record → List ℕ
 records_field records = byte_field (length records) ++ flat_map record_field records
 
 -- least to 64 records
-unfoldable pub records_at : ℕ → List ℕ → Result (List (List ℕ × Version) × List ℕ) FieldFault
+unfoldable pub records_at : ℕ → List ℕ → Result (List Record × List ℕ) FieldFault
 records_at least bytes = do
   count ← byte_at (between least 64) bytes
   items_at record_at with_record count.0 None count.1
 
-pub record IsRecord (r : List ℕ × Version) : Type 0 where
+pub record IsRecord (r : Record) : Type 0 where
   pub digest : IsDigest r.0
   pub version : IsVersion r.1
 
-pub record AreRecords (least : ℕ) (records : List (List ℕ × Version)) : Type 0 where
+pub record AreRecords (least : ℕ) (records : List Record) : Type 0 where
   pub some : least ≤ length records
   pub limit : length records ≤ 64
   pub rising : AllPairs (λ a b. slice_cmp nat_cmp a.0 b.0 ≡ Less) records
