@@ -8,8 +8,8 @@ use Rattle.cluster_types.specs.Distinct.{without}
 use Rattle.cluster_types.specs.Members.{ids_of}
 use Rattle.cluster_types.specs.MembersEqual.{same_members}
 use Rattle.node_rules.specs.Keys.{same_key}
-use Rattle.node_rules.specs.Copies.{is_nil}
 use Rattle.node_rules.specs.Exchange.{is_member}
+use Rattle.node_rules.specs.Tables.{is_nil}
 
 -- a view that the node proposes
 pub record Proposal : Type 0 where

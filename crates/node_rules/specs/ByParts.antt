@@ -12,7 +12,7 @@ use Rattle.journal_lines.specs.declared.refusal.Refusal.{Refusal}
 use Rattle.wire_messages.specs.declared.message.Batch.{Batch}
 use Rattle.node_rules.specs.Agreement as agreement
 use Rattle.node_rules.specs.Batches.{Targets, next_batch, sending}
-use Rattle.node_rules.specs.Copies.{Content, is_nil}
+use Rattle.node_rules.specs.Copies.{Content}
 use Rattle.node_rules.specs.Exchange.{is_single}
 use Rattle.node_rules.specs.Facts.{Facts, view_key, list_at}
 use Rattle.node_rules.specs.Notes.{noted, after_ages, own_row, entered, exchanged, transaction_opened, closed, write_applied, merged, opening_transaction}
@@ -20,6 +20,7 @@ use Rattle.node_rules.specs.Settling.{settling_due}
 use Rattle.node_rules.specs.Standing.{other_replicas}
 use Rattle.node_rules.specs.Tick.{propose}
 use Rattle.node_rules.specs.Transactions.{Transaction, answered, awaits_answer, is_last_awaited}
+use Rattle.node_rules.specs.Tables.{is_nil}
 
 -- ---- views
 

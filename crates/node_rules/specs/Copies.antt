@@ -1,5 +1,5 @@
 -- What a node's store holds: a version for each digest, and a stamp for each copy that was whole.
-use Rattle.std.specs.Prelude.{ℕ, zero, suc, ◌+◌, ◌==◌, Bool, true, false, not, List, [], ◌∷◌, Option, Some, None}
+use Rattle.std.specs.Prelude.{ℕ, zero, suc, ◌+◌, ◌==◌, Bool, not, List, [], ◌∷◌, Option, Some, None}
 use Rattle.std.specs.Coded.{Coded, coded_ℕ, coded×, coded_list}
 use Rattle.std.specs.Ordering.{nat_cmp}
 use Rattle.std.specs.Cmp.Lexicographic.{slice_cmp}
@@ -13,6 +13,7 @@ use Rattle.cluster_types.specs.contracts.cluster_key.ClusterKey as key
 use Rattle.cluster_types.specs.declared.copy_state.CopyState.{CopyState}
 use Rattle.cluster_types.specs.declared.copy_state.CopyState.TheVariants.{Empty, Part, Whole}
 use Rattle.cluster_types.specs.Partitions.{partition_of}
+pub use Rattle.node_rules.specs.Tables.{is_nil}
 
 -- a version for each digest that is held
 abbrev pub Content : Type 0
@@ -80,11 +81,6 @@ dropping s p = record s {
 -- the store with this stamp for a partition's copy
 abbrev pub stamping : Store → ℕ → Stamp → Store
 stamping s p stamp = record s { stamps = map.insert s.stamps p stamp }
-
--- whether there are none
-abbrev pub is_nil : {X : Type 0} → List X → Bool
-is_nil [] = true
-is_nil (x ∷ xs) = false
 
 -- whether a record of the partition is held
 abbrev pub holds_of : Content → ℕ → Bool

@@ -18,7 +18,6 @@ use Rattle.wire_messages.specs.declared.message.Message.TheVariants as message
 use Rattle.node_rules.specs.Agreement as agreement
 use Rattle.node_rules.specs.Agreement.{Proposal, proposes, without_missing, others_among}
 use Rattle.node_rules.specs.Batches.{out_to, has_number}
-use Rattle.node_rules.specs.Copies.{is_nil}
 use Rattle.node_rules.specs.Effects.{Effects, nothing, lines_only, sends_only, to_each, to_one}
 use Rattle.node_rules.specs.Entering.{entering}
 use Rattle.node_rules.specs.Exchange.{first_missing}
@@ -29,6 +28,7 @@ use Rattle.node_rules.specs.Settling.{line_if}
 use Rattle.node_rules.specs.Standing.{named, has_moved, knows_all_settled}
 use Rattle.node_rules.specs.Tick.{state, progress_message}
 use Rattle.node_rules.specs.Transactions.{Transaction, transaction, awaits_answer, awaits_ack, answered, is_last_awaited}
+use Rattle.node_rules.specs.Tables.{is_nil}
 
 -- the message is of another view, or of no use
 abbrev pub stale : Facts → Effects

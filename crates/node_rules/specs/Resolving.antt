@@ -11,12 +11,12 @@ use Rattle.journal_lines.specs.declared.line.Line.{Line}
 use Rattle.journal_lines.specs.declared.line.Line.TheVariants as line
 use Rattle.wire_messages.specs.declared.message.Message.{Message}
 use Rattle.wire_messages.specs.declared.message.Message.TheVariants as message
-use Rattle.node_rules.specs.Copies.{is_nil}
 use Rattle.node_rules.specs.Effects.{Effects, lines_only, to_each}
 use Rattle.node_rules.specs.Facts.{Facts, view_key}
 use Rattle.node_rules.specs.Notes.{next_nth}
 use Rattle.node_rules.specs.Standing.{other_replicas}
 use Rattle.node_rules.specs.Transactions.{Transaction, Write}
+use Rattle.node_rules.specs.Tables.{is_nil}
 
 -- a write is done at once where no other replica is to acknowledge it
 abbrev pub done_if : Facts → ℕ → Bool → List Line

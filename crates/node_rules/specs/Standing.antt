@@ -6,13 +6,13 @@ use Rattle.cluster_types.specs.Partitions.{partition_count}
 use Rattle.cluster_types.specs.Rows.{bit}
 use Rattle.partition_lists.specs.Lists.{replicas}
 use Rattle.node_rules.specs.declared.member_row.MemberRow.{MemberRow}
-use Rattle.node_rules.specs.Tables.{contains}
+use Rattle.node_rules.specs.Tables.{contains, is_nil}
 use Rattle.node_rules.specs.Agreement as agreement
 use Rattle.node_rules.specs.Map.{acting_by_rows, list_master, all_empty}
 use Rattle.node_rules.specs.Classes.{asked_by_rows}
 use Rattle.node_rules.specs.Batches.{is_pending}
 use Rattle.node_rules.specs.Bits.{knows_each_done}
-use Rattle.node_rules.specs.Copies.{holds_of, is_nil}
+use Rattle.node_rules.specs.Copies.{holds_of}
 use Rattle.node_rules.specs.Facts.{Facts, members_of_view, list_at}
 
 -- the other members of the view, in member order

@@ -25,6 +25,11 @@ changed_if change x false = x
 abbrev pub contains : List ℕ → ℕ → Bool
 contains ns n = list_any (λ m. m == n) ns
 
+-- whether there are none
+abbrev pub is_nil : {X : Type 0} → List X → Bool
+is_nil [] = true
+is_nil (x ∷ xs) = false
+
 -- ---- tests of numbers in succession
 
 -- whether so many numbers, from one on, all pass the test

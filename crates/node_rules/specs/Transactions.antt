@@ -6,8 +6,8 @@ use Rattle.conflict_order.specs.declared.version.Version.{Version}
 use Rattle.conflict_order.specs.declared.want.Want.{Want}
 use Rattle.conflict_order.specs.Join.{join}
 use Rattle.cluster_types.specs.Distinct.{without}
-use Rattle.node_rules.specs.Copies.{is_of, is_nil}
-use Rattle.node_rules.specs.Tables.{changed_if, contains}
+use Rattle.node_rules.specs.Copies.{is_of}
+use Rattle.node_rules.specs.Tables.{changed_if, contains, is_nil}
 
 -- the version that a transaction applied, and which of the node's writes in the view and partition it is
 pub record Write : Type 0 where
