@@ -1,11 +1,13 @@
 -- The runs of scripts. The number of partitions is an argument.
-use Rattle.std.specs.Prelude.{◌≡◌, ℕ, ◌<◌, false, List, [], ◌∷◌, ◌++◌, map, IsTrue}
+use Rattle.std.specs.Prelude.{◌≡◌, ℕ, ◌<◌, false, List, [], ◌∷◌, ◌++◌, map, Option, Some, None, IsTrue}
 use Rattle.cluster_types.specs.Partitions.{partition_count}
 use Rattle.script_lang.specs.declared.script.Command.{Command}
 use Rattle.script_lang.specs.declared.script.Command.TheVariants as command
 use Rattle.script_lang.specs.declared.script.Script.{Script}
 use Rattle.journal_lines.specs.declared.line.Line.{Line}
+use Rattle.cluster_rules.specs.declared.event.Event.{Event}
 use Rattle.cluster_rules.specs.declared.event.Event.TheVariants as event
+use Rattle.cluster_rules.specs.Allowed.{event_of}
 use Rattle.cluster_rules.specs.Calm.{is_calm_of}
 use Rattle.cluster_rules.specs.Marks.{Mark, Writes}
 use Rattle.cluster_rules.specs.Opening.{Header, header_lines}
@@ -31,43 +33,17 @@ pub record Calms (n : ℕ) (w : World) (x : Played) : Type 0 where
 
 -- ---- commands
 
+-- what the event that a command is makes of a world; a command that is none makes nothing so
+abbrev pub PlaysEvent : ℕ → World → Option Event → Played → Type 0
+PlaysEvent n w None x = ⊥
+PlaysEvent n w (Some e) x = x ≡ play n e w
+
 -- what a command makes of a world: a flow, a round, rounds up to calm, or one event
 abbrev pub Plays : ℕ → World → Command → Played → Type 0
 Plays n w command.Flow x = x ≡ flow n w
 Plays n w command.Round x = x ≡ round n w
 Plays n w command.Calm x = Calms n w x
-Plays n w (command.Clock node time) x = x ≡ play n (event.Clock node time) w
-Plays n w (command.Groups groups) x = x ≡ play n (event.Groups groups) w
-Plays n w (command.Tick node) x = x ≡ play n (event.Tick node) w
-Plays n w (command.Stop node) x = x ≡ play n (event.Stop node) w
-Plays n w (command.Start node) x = x ≡ play n (event.Start node) w
-Plays n w (command.Put node d v) x = x ≡ play n (event.Put node d v) w
-Plays n w (command.Get node d) x = x ≡ play n (event.Get node d) w
-Plays n w (command.Del node d) x = x ≡ play n (event.Del node d) w
-Plays n w (command.ClientPut d v) x = x ≡ play n (event.ClientPut d v) w
-Plays n w (command.ClientGet d) x = x ≡ play n (event.ClientGet d) w
-Plays n w (command.ClientDel d) x = x ≡ play n (event.ClientDel d) w
-Plays n w (command.Ask node) x = x ≡ play n (event.Ask node) w
-Plays n w (command.Deliver i) x = x ≡ play n (event.Deliver i) w
-Plays n w (command.Repeat i) x = x ≡ play n (event.Repeat i) w
-Plays n w (command.Lose i) x = x ≡ play n (event.Lose i) w
-Plays n w (command.Cut i size) x = x ≡ play n (event.Cut i size) w
-Plays n w (command.Map node from to) x = x ≡ play n (event.Map node from to) w
-Plays n w (command.Place p) x = x ≡ play n (event.Place p) w
-Plays n w (command.Hash d) x = x ≡ play n (event.Hash d) w
-Plays n w (command.Show node d) x = x ≡ play n (event.Show node d) w
-Plays n w (command.Quiesce node) x = x ≡ play n (event.Quiesce node) w
-Plays n w (command.Unquiesce node) x = x ≡ play n (event.Unquiesce node) w
-Plays n w (command.ProxyGet node d) x = x ≡ play n (event.ProxyGet node d) w
-Plays n w (command.ProxyPut node d v) x = x ≡ play n (event.ProxyPut node d v) w
-Plays n w (command.ProxyDel node d) x = x ≡ play n (event.ProxyDel node d) w
-Plays n w (command.ProxyAgain node) x = x ≡ play n (event.ProxyAgain node) w
-Plays n w (command.CallGet d) x = x ≡ play n (event.CallGet d) w
-Plays n w (command.CallPut d v) x = x ≡ play n (event.CallPut d v) w
-Plays n w (command.CallDel d) x = x ≡ play n (event.CallDel d) w
-Plays n w (command.CallAgain q) x = x ≡ play n (event.CallAgain q) w
-Plays n w (command.Scan p) x = x ≡ play n (event.Scan p) w
-Plays n w (command.ScanNext s) x = x ≡ play n (event.ScanNext s) w
+Plays n w c x = PlaysEvent n w (event_of c) x
 
 -- one thing is played, and then others in the world after it
 pub record InTurn (First : Played → Type 0) (Others : World → Played → Type 0) (x : Played)
