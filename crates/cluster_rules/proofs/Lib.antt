@@ -11,6 +11,7 @@ pub mod OneCalm
 pub mod BegunExamples
 pub mod FrontRuns
 pub mod CalmBounds
+pub mod NeverCalm
 pub mod KeptFacts
 pub mod WorldReadings
 pub mod StepCodes

@@ -172,6 +172,12 @@ committed =
 abbrev pub parted_and_quiet : World
 parted_and_quiet = (play_all 0 (map event.Lose (1 ∷ 2 ∷ 3 ∷ 4 ∷ 5 ∷ 6 ∷ [])) parted).world
 
+-- ---- two nodes that are never calm
+
+-- it names no node, so no round ticks the two that run in its group
+abbrev pub unticked : World
+unticked = record (opened two_nodes) { nodes = [] }
+
 -- ---- a lone node in its view
 
 abbrev pub alone : World

@@ -36,11 +36,11 @@ ghost use Rattle.cluster_rules.specs.DueEvents.{due_of, due_at_client, sent_line
 ghost use Rattle.std.specs.List.{list_all};
 ghost use Rattle.cluster_rules.specs.Allowed.{AreAllowed, may_come, is_playable};
 ghost use Rattle.cluster_rules.specs.Begun.{ComesNext, AllBegun, BegunRunOf, BegunRun};
-ghost use Rattle.cluster_rules.specs.Runs.{PlaysAll, RunOf, Run, run_marks};
+ghost use Rattle.cluster_rules.specs.Runs.{ComesToCalm, PlaysAll, RunOf, Run, run_marks};
 ghost use Rattle.cluster_rules.specs.Steps.{Step, Played, AreDue, all_marks, all_lines, play, play_all, round, rounds};
 ghost use Rattle.cluster_rules.specs.World.{World, opened, is_up, up_nodes};
 ghost use Rattle.cluster_rules.specs.WalkExamples.{older, newer, side, batch_of, ack, handing_on, being_done, resting, acking, one_sent, two_sent, merge, one_has, two_has, one_done, two_done, two_knows, settle, two_rests, one_knows, learn, one_rests, one_again, one_third, one_acked};
-ghost use Rattle.cluster_rules.specs.WorldExamples.{one_node, one_node_journal, entering_lines, put_lines, two_nodes, beat, beats, agreeing, beaten, split, halved, calm_twice, calm_twice_journal, table, told, racked, leaving, parted, hearing, proposing, proposed, committing, committed, parted_and_quiet, alone, next, accepting, wants};
+ghost use Rattle.cluster_rules.specs.WorldExamples.{one_node, one_node_journal, entering_lines, put_lines, two_nodes, beat, beats, agreeing, beaten, split, halved, calm_twice, calm_twice_journal, table, told, racked, leaving, parted, hearing, proposing, proposed, committing, committed, parted_and_quiet, unticked, alone, next, accepting, wants};
 
 /// A line adds nothing unless its word is one of those that count: it only tells, as one of the header or one that
 /// shows something.
@@ -331,4 +331,12 @@ pub fn what_stands_is_a_front()
 pub fn calm_comes_in_time()
     ensures { (n : ℕ) → (w : World) → CalmIsReached n w → ((i : ℕ) → is_full_round n w i ≡ false)
         → ComesInTime n w }
+{}
+
+/// A world that isn't calm and in which nobody ticks is never calm. A bound of the rounds after which calm comes holds
+/// of it, since calm doesn't come; that calm is reached in time doesn't.
+pub fn a_calm_that_never_comes_is_not_reached()
+    ensures never { (k : ℕ) → ComesToCalm 0 unticked k → ⊥ }
+    ensures within { (k : ℕ) → ComesToCalm 0 unticked k → IsWithinCalm 0 unticked k }
+    ensures reached { CalmIsReached 0 unticked → ⊥ }
 {}
