@@ -16,6 +16,10 @@ none = record { round = 0; principal = 0 }
 abbrev pub next_round_key : ClusterKey → ℕ → ClusterKey
 next_round_key k by = record { round = k.round + 1; principal = by }
 
+-- whether the keys have one round and one principal
+abbrev pub same_key : ClusterKey → ClusterKey → Bool
+same_key a b = (a.round == b.round) && (a.principal == b.principal)
+
 -- whether the first key is below the second: by round, and by principal in the same round. This is what `<` answers
 abbrev pub key_lt : ClusterKey → ClusterKey → Bool
 key_lt a b = nat_lt a.round b.round || ((a.round == b.round) && nat_lt a.principal b.principal)

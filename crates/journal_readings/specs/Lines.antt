@@ -4,11 +4,9 @@ use Rattle.std.specs.List.{list_any}
 use Rattle.std.specs.Ordering.{nat_cmp, eq_by_cmp}
 use Rattle.std.specs.Cmp.Lexicographic.{slice_cmp}
 use Rattle.cluster_types.specs.declared.cluster_key.ClusterKey.{ClusterKey}
+pub use Rattle.cluster_types.specs.ClusterKeys.{same_key}
 use Rattle.journal_lines.specs.declared.line.Line.{Line}
 use Rattle.journal_lines.specs.declared.line.Line.TheVariants as line
-
-abbrev pub same_key : ClusterKey → ClusterKey → Bool
-same_key k l = (k.round == l.round) && (k.principal == l.principal)
 
 abbrev pub same_digest : List ℕ → List ℕ → Bool
 same_digest d e = eq_by_cmp (slice_cmp nat_cmp) d e
