@@ -1,5 +1,5 @@
 -- Members of views, and the lists of them.
-use Rattle.std.specs.Prelude.{◌==◌, ℕ, ◌<◌, ◌≤◌, List, length, map, find, ◌&&◌, Bool, false, Option}
+use Rattle.std.specs.Prelude.{◌==◌, ℕ, ◌<◌, ◌≤◌, List, length, map, find, ◌&&◌, Bool, false, Option, unwrap_or}
 use Rattle.std.specs.Option.{option_map}
 use Rattle.std.specs.Bool.{beq}
 use Rattle.cluster_types.specs.Distinct.{AreDistinct, IsDescending}
@@ -21,6 +21,10 @@ ids_of members = map (λ m. m.id) members
 -- the role of the node among the members, if it is one of them
 abbrev pub role_of : List Member → ℕ → Option Role
 role_of members n = option_map (λ m. m.role) (find (λ m. m.id == n) members)
+
+-- the nodes with the roles that they have among the members, or plain ones
+abbrev pub with_roles : List Member → List ℕ → List Member
+with_roles ms ids = map (λ n. record { id = n; role = unwrap_or (role_of ms n) plain_role }) ids
 
 -- the members of a view: 1 to 16, each id below those before it
 pub record AreMembers (members : List Member) : Type 0 where

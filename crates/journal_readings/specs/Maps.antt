@@ -1,10 +1,10 @@
 -- The map of a view: of each partition the list, and the member that acts for it.
-use Rattle.std.specs.Prelude.{ℕ, Bool, false, not, List, map, find, Option, Some, None, unwrap_or}
+use Rattle.std.specs.Prelude.{ℕ, Bool, false, not, List, find, Option, Some, None, unwrap_or}
 use Rattle.std.specs.List.{list_any}
 use Rattle.cluster_types.specs.declared.cluster_key.ClusterKey.{ClusterKey}
 use Rattle.cluster_types.specs.declared.member.Member.{Member}
 use Rattle.cluster_types.specs.ClusterKeys.{key_lt}
-use Rattle.cluster_types.specs.Members.{plain_role, role_of}
+pub use Rattle.cluster_types.specs.Members.{with_roles}
 use Rattle.journal_lines.specs.declared.line.Line.{Line}
 use Rattle.journal_readings.specs.Views.{members, succession_list, first_of}
 use Rattle.journal_readings.specs.Rows.{row, row_whole_key}
@@ -34,10 +34,6 @@ acting factor k p lines =
     (first_of (succession_list k p lines))
 
 -- ---- the list as a map line shows it
-
--- the nodes with the roles that they have among the members
-abbrev pub with_roles : List Member → List ℕ → List Member
-with_roles ms ids = map (λ n. record { id = n; role = unwrap_or (role_of ms n) plain_role }) ids
 
 -- the list of the partition, each member with its role
 abbrev pub listed_members : ClusterKey → ℕ → List Line → List Member

@@ -1,10 +1,9 @@
 -- What a node shows of its map and of its store.
-use Rattle.std.specs.Prelude.{ℕ, ◌+◌, ◌-◌, List, [], ◌∷◌, Option, Some, None, map, unwrap_or}
+use Rattle.std.specs.Prelude.{ℕ, ◌+◌, ◌-◌, List, [], ◌∷◌, Option, Some, None, map}
 use Rattle.std.specs.List.{range_with_len}
 use Rattle.std.specs.FinMap as finite
 use Rattle.cluster_types.specs.declared.map_view.MapEntry.{MapEntry}
-use Rattle.cluster_types.specs.declared.member.Member.{Member}
-use Rattle.cluster_types.specs.Members.{plain_role, role_of}
+pub use Rattle.cluster_types.specs.Members.{with_roles}
 use Rattle.journal_lines.specs.declared.line.Line.{Line}
 use Rattle.journal_lines.specs.declared.line.Line.TheVariants as line
 use Rattle.journal_lines.specs.declared.refusal.Refusal.{Refusal}
@@ -12,10 +11,6 @@ use Rattle.node_rules.specs.Effects.{Effects, lines_only}
 use Rattle.node_rules.specs.Facts.{Facts, view_key, members_of_view, list_at}
 use Rattle.node_rules.specs.Map.{entry_of}
 use Rattle.node_rules.specs.Requests.{map_refusal}
-
--- the nodes with the roles that they have among the members
-abbrev pub with_roles : List Member → List ℕ → List Member
-with_roles ms ids = map (λ n. record { id = n; role = unwrap_or (role_of ms n) plain_role }) ids
 
 -- the line of a partition that is served so: its whole list, each member with its role in the view, and
 -- the acting master by the rows
