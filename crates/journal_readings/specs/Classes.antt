@@ -4,7 +4,7 @@ use Rattle.cluster_types.specs.declared.cluster_key.ClusterKey.{ClusterKey}
 use Rattle.cluster_types.specs.declared.copy_state.CopyState.{CopyState}
 use Rattle.cluster_types.specs.declared.copy_state.CopyState.TheVariants.{Empty, Part, Whole}
 use Rattle.journal_lines.specs.declared.line.Line.{Line}
-use Rattle.partition_lists.specs.Classes.{no_class}
+use Rattle.partition_lists.specs.Classes.{no_class, is_that}
 use Rattle.journal_readings.specs.Lines.{same_key, has_node}
 use Rattle.journal_readings.specs.Views.{succession_list}
 use Rattle.journal_readings.specs.Rows.{row}
@@ -42,11 +42,7 @@ are_in_one_class factor k p n m lines =
 abbrev pub first_of_class : ℕ → ClusterKey → ℕ → ℕ → List Line → Option ℕ
 first_of_class factor k p n lines = slice_get (class_of factor k p n lines) 0
 
-abbrev pub is_node : ℕ → Option ℕ → Bool
-is_node n None = false
-is_node n (Some m) = m == n
-
 -- whether the member n hands its records on to r: it is the first of its class, and r isn't in it
 unfoldable pub hands_on : ℕ → ClusterKey → ℕ → ℕ → ℕ → List Line → Bool
 hands_on factor k n r p lines =
-    is_node n (first_of_class factor k p n lines) && not (has_node (class_of factor k p n lines) r)
+    is_that (first_of_class factor k p n lines) n && not (has_node (class_of factor k p n lines) r)
