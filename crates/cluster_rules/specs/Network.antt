@@ -1,14 +1,10 @@
 -- The network: the messages that were sent, those that are in flight, and the groups of nodes.
-use Rattle.std.specs.Prelude.{ℕ, ◌-◌, ◌==◌, ◌&&◌, nat_lt, Bool, true, false, not, List, [], ◌∷◌, ◌++◌, Option, None, slice_get}
+use Rattle.std.specs.Prelude.{ℕ, ◌-◌, nat_lt, Bool, true, false, List, [], ◌∷◌, ◌++◌, Option, None, slice_get}
 use Rattle.cluster_types.specs.Distinct.{without}
-use Rattle.cluster_types.specs.Groups.{apart}
+use Rattle.cluster_types.specs.Endpoints.{stand_apart}
+pub use Rattle.cluster_types.specs.Endpoints.{flight_limit, has_place}
 use Rattle.journal_readings.specs.Lines.{has_node}
-use Rattle.node_rules.specs.Messages.{client}
 use Rattle.journal_readings.specs.Messages.{Posting}
-
--- so many messages may be in flight
-abbrev pub flight_limit : ℕ
-flight_limit = 262144
 
 pub record Network : Type 0 where
   -- all messages that were ever sent: the one of number I stands at place I - 1
@@ -56,12 +52,8 @@ landed net i = record net { flying = without net.flying i }
 abbrev pub posting : Network → ℕ → Posting → Network
 posting net i p = record net { sent = net.sent ++ p ∷ []; flying = net.flying ++ i ∷ [] }
 
--- whether one more message may be in flight where there are so many
-abbrev pub has_place : ℕ → Bool
-has_place flying = nat_lt flying flight_limit
-
 -- ---- groups
 
 -- whether the two ends are nodes of different groups. The client stands in none
 abbrev pub are_apart : Network → ℕ → ℕ → Bool
-are_apart net a b = not (a == client) && (not (b == client) && apart net.groups a b)
+are_apart net a b = stand_apart net.groups a b

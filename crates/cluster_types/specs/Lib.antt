@@ -1,5 +1,6 @@
 pub mod ClusterKeys
 pub mod Distinct
+pub mod Endpoints
 pub mod Filled
 pub mod Groups
 pub mod Members

@@ -1,13 +1,10 @@
 -- What a caller sees of the network, and what its calls make of that.
-use Rattle.std.specs.Prelude.{◌≡◌, ◌==◌, ℕ, ◌+◌, ◌<◌, ◌≤◌, nat_lt, Bool, false, not, ◌&&◌, List, [], ◌∷◌, ◌++◌, if◌then◌else◌, length, map, filter, Option, Some, None, All, AllPairs}
-use Rattle.cluster_types.specs.Groups.{apart}
+use Rattle.std.specs.Prelude.{◌≡◌, ◌==◌, ℕ, ◌+◌, ◌<◌, ◌≤◌, Bool, false, not, List, [], ◌∷◌, ◌++◌, if◌then◌else◌, length, map, filter, Option, Some, None, All, AllPairs}
+use Rattle.cluster_types.specs.Endpoints.{has_place, stand_apart}
+pub use Rattle.cluster_types.specs.Endpoints.{flight_limit}
 use Rattle.net_script.specs.declared.net.Flying.{Flying}
 use Rattle.net_script.specs.declared.net.Posted.{Posted}
 use Rattle.net_script.specs.declared.net.Posted.TheVariants.{Kept, Full}
-
--- so many messages may be in flight
-abbrev pub flight_limit : ℕ
-flight_limit = 262144
 
 pub record NetworkState : Type 0 where
   -- the messages in flight, each behind its number, in rising number
@@ -52,7 +49,7 @@ flying_without id es = filter (λ e. not (e.0 == id)) es
 
 -- whether one more message may be in flight
 abbrev pub has_flight_place : List (ℕ × Flying) → Bool
-has_flight_place es = nat_lt (length es) flight_limit
+has_flight_place es = has_place (length es)
 
 -- what is said of the next message: it is kept where it has a place, and else lost at once
 abbrev pub next_posted : NetworkState → Posted
@@ -65,4 +62,4 @@ with_next n m = if has_flight_place n.flying then n.flying ++ (n.sent + 1, m) �
 -- whether two endpoints are nodes of different groups. Endpoint 0, the client, stands in none
 abbrev pub ends_apart : Option (List (List ℕ)) → ℕ → ℕ → Bool
 ends_apart None a b = false
-ends_apart (Some groups) a b = not (a == 0) && not (b == 0) && apart groups a b
+ends_apart (Some groups) a b = stand_apart groups a b

@@ -8,6 +8,7 @@ use Rattle.conflict_order.specs.Records.{Record}
 use Rattle.cluster_types.specs.declared.cluster_key.ClusterKey.{ClusterKey}
 use Rattle.cluster_types.specs.declared.member.Member.{Member}
 use Rattle.cluster_types.specs.ClusterKeys as keys
+pub use Rattle.cluster_types.specs.Endpoints.{client}
 use Rattle.cluster_types.specs.Partitions.{partition_count, partition_of}
 use Rattle.journal_lines.specs.declared.line.Line.{Line}
 use Rattle.journal_lines.specs.declared.line.Line.TheVariants as line
@@ -270,10 +271,6 @@ map_table f = record {
   ids = named_from f partition_count 0;
   moved = moved_from f partition_count 0;
 }
-
--- the client, as an endpoint of messages
-abbrev pub client : ℕ
-client = 0
 
 -- the table to the client, where the test holds
 abbrev pub table_if : Facts → Bool → Effects

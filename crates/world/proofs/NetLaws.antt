@@ -237,11 +237,6 @@ numbers_left net (Some i) h = subst (λ (is : List ℕ). AreNumbers net.sent is)
 
 -- ---- groups
 
--- three tests, by either side
-grouped : (x y z : Bool) → ((x && y) && z) ≡ (x && (y && z))
-grouped true y z = refl
-grouped false y z = refl
-
 -- the ends are apart in the network as they are by the rules
 pub apart_is : (net : nets.NetworkState) (n : Network) (a b : ℕ) → IsNetwork net n → ends_apart net.groups a b ≡ are_apart n a b
 apart_is net n a b h = go net.groups h.groups
@@ -253,7 +248,7 @@ apart_is net n a b h = go net.groups h.groups
 
     go : (o : Option (List (List ℕ))) → AreDivided o n.groups → ends_apart o a b ≡ are_apart n a b
     go None d = sym (ap (λ (gs : List (List ℕ)). not (a == 0) && (not (b == 0) && apart gs a b)) d ∙ none (not (a == 0)) (not (b == 0)))
-    go (Some gs) d = grouped (not (a == 0)) (not (b == 0)) (apart gs a b) ∙ ap (λ (xs : List (List ℕ)). not (a == 0) && (not (b == 0) && apart xs a b)) d
+    go (Some gs) d = ap (λ (xs : List (List ℕ)). not (a == 0) && (not (b == 0) && apart xs a b)) d
 
 -- ---- how many are in flight
 
