@@ -24,9 +24,9 @@ use Rattle.node_rules.specs.Messages.{due_message_of, finishes}
 use Rattle.node_rules.specs.Notes as notes
 use Rattle.node_rules.specs.Notes.{after_ages, all_sent, in_view, note, noted, reached, sent}
 use Rattle.node_rules.specs.Resolving.{repl}
-use Rattle.node_rules.specs.Settling.{line_if, settling_due}
+use Rattle.node_rules.specs.Settling.{settling_due}
 use Rattle.node_rules.specs.Standing.{others}
-use Rattle.node_rules.specs.Tables.{changed_if}
+use Rattle.node_rules.specs.Tables.{changed_if, only_if}
 use Rattle.node_rules.specs.Tick.{batch_to, batches, beat, propose, propose_new, propose_with, progress, progress_if, rows, sends_again, state, tick_if, transactions}
 use Rattle.node_rules.specs.Transactions.{Transaction, Write}
 use Rattle.journal_readings.specs.Lines.{has_node}
@@ -142,7 +142,7 @@ and_false false = refl
 no_end : (f : Facts) (from : ℕ) (row : Row) (wants b : Bool) → f.exchange.exchanged ≡ true → Each Leaves (due.state_came f (notes.row_came f from row b) from wants b).lines
 no_end f from row wants false e = (λ q g. refl, tt)
 no_end f from row wants true e =
-    subst (λ (c : Bool). Each Leaves (line_if (line.Exchanged f.me (view_key f)) c)) (sym over) tt
+    subst (λ (c : Bool). Each Leaves (only_if (line.Exchanged f.me (view_key f)) c)) (sym over) tt
   where
     over : finishes f (notes.row_came f from row true) ≡ false
     over = ap (λ (c : Bool). is_none (first_missing (notes.row_came f from row true).exchange.rows (members_of_view (notes.row_came f from row true))) && not c) e ∙ and_false _

@@ -19,10 +19,11 @@ use Rattle.node_rules.specs.Copies.{Content, digests, digests_of, holds_of, is_n
 use Rattle.node_rules.specs.Exchange.{members_of}
 use Rattle.node_rules.specs.Facts.{Facts, list_at, view_key}
 use Rattle.node_rules.specs.Notes.{noted}
-use Rattle.node_rules.specs.Settling.{drop, hand, learn, line_if, may_hand, may_settle, settle, settling_at, settling_from}
+use Rattle.node_rules.specs.Settling.{drop, hand, learn, may_hand, may_settle, settle, settling_at, settling_from}
 use Rattle.node_rules.specs.Standing.{has_nothing_to_learn_or_drop, has_settled_bit, is_done, is_own_replica, is_to_drop, is_to_learn}
 use Rattle.journal_lines.specs.declared.line.Line.TheVariants as line
 use Rattle.node_rules.proofs.NoteLaws.{noted-append}
+use Rattle.node_rules.specs.Tables.{only_if}
 use Rattle.cluster_rules.proofs.KeptFacts.{num_same}
 use Rattle.cluster_laws.proofs.At.{differ}
 use Rattle.calm_laws.specs.Calming.{Reaches}
@@ -130,22 +131,22 @@ and_less true true true a b g e = refl
 and_less true true false a b g e = g e
 
 -- lines of one partition owe nothing at another
-hand_keeps : (f : Facts) (l : List ℕ) (p q : ℕ) (b : Bool) → Nothing f q → Nothing (noted None f (line_if (line.Handed f.me (view_key f) p) b)) q
+hand_keeps : (f : Facts) (l : List ℕ) (p q : ℕ) (b : Bool) → Nothing f q → Nothing (noted None f (only_if (line.Handed f.me (view_key f) p) b)) q
 hand_keeps f l p q true h = record { learn = h.learn; drop = h.drop }
 hand_keeps f l p q false h = h
 
-settle_keeps : (f : Facts) (p q : ℕ) (b : Bool) → (p ≡ q → ⊥) → Nothing f q → Nothing (noted None f (line_if (line.Settled f.me (view_key f) p) b)) q
+settle_keeps : (f : Facts) (p q : ℕ) (b : Bool) → (p ≡ q → ⊥) → Nothing f q → Nothing (noted None f (only_if (line.Settled f.me (view_key f) p) b)) q
 settle_keeps f p q true d h = record {
   learn = ap (λ (b : Bool). b && (is_own_replica f (list_at f q) && not (bit f.bits.learnt q))) (bit_others f.bits.settled p q d) ∙ h.learn;
   drop = ap (λ (b : Bool). b && (is_done f q && (not (is_own_replica f (list_at f q)) && holds_of f.store.content q))) (bit_others f.bits.settled p q d) ∙ h.drop;
 }
 settle_keeps f p q false d h = h
 
-learn_keeps : (f : Facts) (p q : ℕ) (b : Bool) → (p ≡ q → ⊥) → Nothing f q → Nothing (noted None f (line_if (line.Learn f.me (view_key f) p) b)) q
+learn_keeps : (f : Facts) (p q : ℕ) (b : Bool) → (p ≡ q → ⊥) → Nothing f q → Nothing (noted None f (only_if (line.Learn f.me (view_key f) p) b)) q
 learn_keeps f p q true d h = record { learn = ap (λ (b : Bool). has_settled_bit f q && (is_own_replica f (list_at f q) && not b)) (bit_others f.bits.learnt p q d) ∙ h.learn; drop = h.drop }
 learn_keeps f p q false d h = h
 
-drop_keeps : (f : Facts) (p q : ℕ) (b : Bool) → Nothing f q → Nothing (noted None f (line_if (line.Drop f.me (view_key f) p) b)) q
+drop_keeps : (f : Facts) (p q : ℕ) (b : Bool) → Nothing f q → Nothing (noted None f (only_if (line.Drop f.me (view_key f) p) b)) q
 drop_keeps f p q true h = record {
   learn = h.learn;
   drop = and_less (has_settled_bit f q) (is_done f q) (is_own_replica f (list_at f q)) (holds_of f.store.content q) (holds_of (finite.retain_keys f.store.content (λ d. not (is_of p d))) q) (dropped_other f.store.content p q) h.drop;
@@ -190,19 +191,19 @@ pub record Placed (n : ℕ) (members : List Member) (f : Facts) : Type 0 where
   pub members_are : members_of f.exchange.view ≡ members
   pub reaches : (p : ℕ) → p < n → Reaches f.bits.learnt p
 
-hand_placed : (n : ℕ) (ms : List Member) (f : Facts) (p : ℕ) (b : Bool) → Placed n ms f → Placed n ms (noted None f (line_if (line.Handed f.me (view_key f) p) b))
+hand_placed : (n : ℕ) (ms : List Member) (f : Facts) (p : ℕ) (b : Bool) → Placed n ms f → Placed n ms (noted None f (only_if (line.Handed f.me (view_key f) p) b))
 hand_placed n ms f p true h = record { members_are = h.members_are; reaches = h.reaches }
 hand_placed n ms f p false h = h
 
-settle_placed : (n : ℕ) (ms : List Member) (f : Facts) (p : ℕ) (b : Bool) → Placed n ms f → Placed n ms (noted None f (line_if (line.Settled f.me (view_key f) p) b))
+settle_placed : (n : ℕ) (ms : List Member) (f : Facts) (p : ℕ) (b : Bool) → Placed n ms f → Placed n ms (noted None f (only_if (line.Settled f.me (view_key f) p) b))
 settle_placed n ms f p true h = record { members_are = h.members_are; reaches = h.reaches }
 settle_placed n ms f p false h = h
 
-learn_placed : (n : ℕ) (ms : List Member) (f : Facts) (p : ℕ) (b : Bool) → Placed n ms f → Placed n ms (noted None f (line_if (line.Learn f.me (view_key f) p) b))
+learn_placed : (n : ℕ) (ms : List Member) (f : Facts) (p : ℕ) (b : Bool) → Placed n ms f → Placed n ms (noted None f (only_if (line.Learn f.me (view_key f) p) b))
 learn_placed n ms f p true h = record { members_are = h.members_are; reaches = λ q lt. reaches_set f.bits.learnt p q (h.reaches q lt) }
 learn_placed n ms f p false h = h
 
-drop_placed : (n : ℕ) (ms : List Member) (f : Facts) (p : ℕ) (b : Bool) → Placed n ms f → Placed n ms (noted None f (line_if (line.Drop f.me (view_key f) p) b))
+drop_placed : (n : ℕ) (ms : List Member) (f : Facts) (p : ℕ) (b : Bool) → Placed n ms f → Placed n ms (noted None f (only_if (line.Drop f.me (view_key f) p) b))
 drop_placed n ms f p true h = record { members_are = h.members_are; reaches = h.reaches }
 drop_placed n ms f p false h = h
 
@@ -228,15 +229,15 @@ never_drops true false r c e = refl
 never_drops true true true c e = refl
 never_drops true true false c e = e
 
-learns : (f : Facts) (l : List ℕ) (p : ℕ) → Reaches f.bits.learnt p → (b : Bool) → is_to_learn f l p ≡ b → is_to_learn (noted None f (line_if (line.Learn f.me (view_key f) p) b)) l p ≡ false
+learns : (f : Facts) (l : List ℕ) (p : ℕ) → Reaches f.bits.learnt p → (b : Bool) → is_to_learn f l p ≡ b → is_to_learn (noted None f (only_if (line.Learn f.me (view_key f) p) b)) l p ≡ false
 learns f l p h true e = never_learns (has_settled_bit f p) (is_own_replica f l) (bit (with_bit f.bits.learnt p) p) h
 learns f l p h false e = e
 
-drop_learns : (f : Facts) (l : List ℕ) (p : ℕ) (b : Bool) → is_to_learn f l p ≡ false → is_to_learn (noted None f (line_if (line.Drop f.me (view_key f) p) b)) l p ≡ false
+drop_learns : (f : Facts) (l : List ℕ) (p : ℕ) (b : Bool) → is_to_learn f l p ≡ false → is_to_learn (noted None f (only_if (line.Drop f.me (view_key f) p) b)) l p ≡ false
 drop_learns f l p true e = e
 drop_learns f l p false e = e
 
-drops : (f : Facts) (l : List ℕ) (p : ℕ) → (b : Bool) → is_to_drop f l p ≡ b → is_to_drop (noted None f (line_if (line.Drop f.me (view_key f) p) b)) l p ≡ false
+drops : (f : Facts) (l : List ℕ) (p : ℕ) → (b : Bool) → is_to_drop f l p ≡ b → is_to_drop (noted None f (only_if (line.Drop f.me (view_key f) p) b)) l p ≡ false
 drops f l p true e = never_drops (has_settled_bit f p) (is_done f p) (is_own_replica f l) (holds_of (finite.retain_keys f.store.content (λ d. not (is_of p d))) p) (dropped_holds f.store.content p)
 drops f l p false e = e
 

@@ -21,10 +21,11 @@ use Rattle.node_rules.specs.Facts.{Facts, list_at, view_key}
 use Rattle.node_rules.specs.Messages.{vote_effects, commit_effects, accept_effects, unless_stale, entry_effects_if, state_came, finishes, batch_came, batch_ack_came, unless_spent, progress_effects_if, answer_progress, repl_came, done_by, ack_of, repl_ack_came, ask_came, resolving_if, answered_by, answer_of, answer_effects_if, table_if, may_enter_view, merging, merging_all, due_message_of}
 use Rattle.node_rules.specs.Notes.{note, noted, reached, in_view, after_ages}
 use Rattle.node_rules.specs.Resolving.{done_if, writing, resolving_want}
-use Rattle.node_rules.specs.Settling.{drop, hand, learn, line_if, settle, settling_at, settling_from, settling_if}
+use Rattle.node_rules.specs.Settling.{drop, hand, learn, settle, settling_at, settling_from, settling_if}
 use Rattle.node_rules.specs.Standing.{other_replicas}
 use Rattle.node_rules.specs.Tick.{Part, parts_in_order, beat, propose, proposal_effects, propose_new, propose_with, rows, transactions, batches, settlings, progress, progress_if, tick_if, tick_of}
 use Rattle.node_rules.specs.Transactions.{Transaction, Write, transaction, awaits_answer, awaits_ack, answered, is_last_awaited}
+use Rattle.node_rules.specs.Tables.{only_if}
 use Rattle.cluster_rules.specs.NodeSteps.{IsOf}
 use Rattle.cluster_rules.proofs.OwnLines.{noted_me}
 
@@ -64,7 +65,7 @@ pub own_append : (a : ℕ) (ls ms : List Line) → AllSteady a ls → AllSteady 
 own_append a [] ms h i = i
 own_append a (l ∷ ls) ms h i = (h.0, own_append a ls ms h.1 i)
 
-line_if_own : (a : ℕ) (l : Line) (b : Bool) → Steady a l → AllSteady a (line_if l b)
+line_if_own : (a : ℕ) (l : Line) (b : Bool) → Steady a l → AllSteady a (only_if l b)
 line_if_own a l true h = (h, tt)
 line_if_own a l false h = tt
 

@@ -7,10 +7,11 @@ use Rattle.partition_lists.proofs.InOrderLaws.{equal}
 use Rattle.node_rules.specs.Bits.{with_bit}
 use Rattle.node_rules.specs.Facts.{Facts, list_at, view_key}
 use Rattle.node_rules.specs.Notes.{noted}
-use Rattle.node_rules.specs.Settling.{line_if, may_hand, may_settle, settling_at, settling_from}
+use Rattle.node_rules.specs.Settling.{may_hand, may_settle, settling_at, settling_from}
 use Rattle.node_rules.specs.Standing.{are_all_done, is_acting, is_all_empty, is_master, is_to_drop, is_to_learn}
 use Rattle.node_rules.specs.Transactions.{is_busy}
 use Rattle.node_rules.proofs.NoteLaws.{noted-append}
+use Rattle.node_rules.specs.Tables.{only_if}
 use Rattle.cluster_rules.proofs.KeptFacts.{num_same}
 use Rattle.cluster_laws.proofs.At.{differ}
 use Rattle.calm_laws.specs.Calming.{Reaches}
@@ -21,10 +22,10 @@ use Rattle.calm_laws.proofs.Owing.{after_hand, after_learn, after_settle, four, 
 
 -- what each of the four lines of a partition keeps, the lines of all keep
 pub record Lasts (P : List ℕ → Facts → Type 0) : Type 0 where
-  pub hand : (l : List ℕ) (f : Facts) (p : ℕ) (b : Bool) → P l f → P l (noted None f (line_if (line.Handed f.me (view_key f) p) b))
-  pub settle : (l : List ℕ) (f : Facts) (p : ℕ) (b : Bool) → P l f → P l (noted None f (line_if (line.Settled f.me (view_key f) p) b))
-  pub learn : (l : List ℕ) (f : Facts) (p : ℕ) (b : Bool) → P l f → P l (noted None f (line_if (line.Learn f.me (view_key f) p) b))
-  pub drop : (l : List ℕ) (f : Facts) (p : ℕ) (b : Bool) → P l f → P l (noted None f (line_if (line.Drop f.me (view_key f) p) b))
+  pub hand : (l : List ℕ) (f : Facts) (p : ℕ) (b : Bool) → P l f → P l (noted None f (only_if (line.Handed f.me (view_key f) p) b))
+  pub settle : (l : List ℕ) (f : Facts) (p : ℕ) (b : Bool) → P l f → P l (noted None f (only_if (line.Settled f.me (view_key f) p) b))
+  pub learn : (l : List ℕ) (f : Facts) (p : ℕ) (b : Bool) → P l f → P l (noted None f (only_if (line.Learn f.me (view_key f) p) b))
+  pub drop : (l : List ℕ) (f : Facts) (p : ℕ) (b : Bool) → P l f → P l (noted None f (only_if (line.Drop f.me (view_key f) p) b))
 
 all_last : (P : List ℕ → Facts → Type 0) → Lasts P → (k : List ℕ) (f : Facts) (l : List ℕ) (p : ℕ) → P k f → P k (noted None f (settling_at l p f))
 all_last P h k f l p x =
@@ -69,22 +70,22 @@ comes_about P Q h j q l makes (suc k) p f le lt x =
 bit_lasts : (c : Bool) (q : ℕ) → Lasts (λ l f. Has c q f.bits)
 bit_lasts c q = record { hand = λ l. hand c; settle = λ l. settle c; learn = λ l. learn c; drop = λ l. drop c }
   where
-    hand : (c : Bool) (f : Facts) (p : ℕ) (b : Bool) → Has c q f.bits → Has c q (noted None f (line_if (line.Handed f.me (view_key f) p) b)).bits
+    hand : (c : Bool) (f : Facts) (p : ℕ) (b : Bool) → Has c q f.bits → Has c q (noted None f (only_if (line.Handed f.me (view_key f) p) b)).bits
     hand true f p true h = bit_stays f.bits.handed p q h
     hand false f p true h = h
     hand c f p false h = h
 
-    settle : (c : Bool) (f : Facts) (p : ℕ) (b : Bool) → Has c q f.bits → Has c q (noted None f (line_if (line.Settled f.me (view_key f) p) b)).bits
+    settle : (c : Bool) (f : Facts) (p : ℕ) (b : Bool) → Has c q f.bits → Has c q (noted None f (only_if (line.Settled f.me (view_key f) p) b)).bits
     settle true f p true h = h
     settle false f p true h = bit_stays f.bits.settled p q h
     settle c f p false h = h
 
-    learn : (c : Bool) (f : Facts) (p : ℕ) (b : Bool) → Has c q f.bits → Has c q (noted None f (line_if (line.Learn f.me (view_key f) p) b)).bits
+    learn : (c : Bool) (f : Facts) (p : ℕ) (b : Bool) → Has c q f.bits → Has c q (noted None f (only_if (line.Learn f.me (view_key f) p) b)).bits
     learn true f p true h = h
     learn false f p true h = h
     learn c f p false h = h
 
-    drop : (c : Bool) (f : Facts) (p : ℕ) (b : Bool) → Has c q f.bits → Has c q (noted None f (line_if (line.Drop f.me (view_key f) p) b)).bits
+    drop : (c : Bool) (f : Facts) (p : ℕ) (b : Bool) → Has c q f.bits → Has c q (noted None f (only_if (line.Drop f.me (view_key f) p) b)).bits
     drop c f p true h = h
     drop c f p false h = h
 
@@ -113,19 +114,19 @@ set_both (x ∷ xs) (y ∷ ys) (suc p) (suc q) h r e = set_both xs ys p q h r e
 hands_last : (q : ℕ) → Lasts (Hands q)
 hands_last q = record { hand = hand; settle = settle; learn = learn; drop = drop }
   where
-    hand : (l : List ℕ) (f : Facts) (p : ℕ) (b : Bool) → Hands q l f → Hands q l (noted None f (line_if (line.Handed f.me (view_key f) p) b))
+    hand : (l : List ℕ) (f : Facts) (p : ℕ) (b : Bool) → Hands q l f → Hands q l (noted None f (only_if (line.Handed f.me (view_key f) p) b))
     hand l f p true h = record { list_is = h.list_is; acting = h.acting; master = h.master; done = h.done; free = h.free; reach = reaches_set f.bits.handed p q h.reach; own = set_both f.bits.own_handed f.bits.handed p q h.own h.reach }
     hand l f p false h = h
 
-    settle : (l : List ℕ) (f : Facts) (p : ℕ) (b : Bool) → Hands q l f → Hands q l (noted None f (line_if (line.Settled f.me (view_key f) p) b))
+    settle : (l : List ℕ) (f : Facts) (p : ℕ) (b : Bool) → Hands q l f → Hands q l (noted None f (only_if (line.Settled f.me (view_key f) p) b))
     settle l f p true h = record { list_is = h.list_is; acting = h.acting; master = h.master; done = h.done; free = h.free; reach = h.reach; own = h.own }
     settle l f p false h = h
 
-    learn : (l : List ℕ) (f : Facts) (p : ℕ) (b : Bool) → Hands q l f → Hands q l (noted None f (line_if (line.Learn f.me (view_key f) p) b))
+    learn : (l : List ℕ) (f : Facts) (p : ℕ) (b : Bool) → Hands q l f → Hands q l (noted None f (only_if (line.Learn f.me (view_key f) p) b))
     learn l f p true h = record { list_is = h.list_is; acting = h.acting; master = h.master; done = h.done; free = h.free; reach = h.reach; own = h.own }
     learn l f p false h = h
 
-    drop : (l : List ℕ) (f : Facts) (p : ℕ) (b : Bool) → Hands q l f → Hands q l (noted None f (line_if (line.Drop f.me (view_key f) p) b))
+    drop : (l : List ℕ) (f : Facts) (p : ℕ) (b : Bool) → Hands q l f → Hands q l (noted None f (only_if (line.Drop f.me (view_key f) p) b))
     drop l f p true h = record { list_is = h.list_is; acting = h.acting; master = h.master; done = h.done; free = h.free; reach = h.reach; own = h.own }
     drop l f p false h = h
 
@@ -143,7 +144,7 @@ hands_now q l f h = go (may_hand f l q) refl
     left true false b false y i j k r e = differ k refl
     left true false b true true i j k r e = differ refl r
 
-    go : (b : Bool) → may_hand f l q ≡ b → Has true q (noted None f (line_if (line.Handed f.me (view_key f) q) b)).bits
+    go : (b : Bool) → may_hand f l q ≡ b → Has true q (noted None f (only_if (line.Handed f.me (view_key f) q) b)).bits
     go true e = h.reach
     go false e = h.own (left (is_acting f l q) (is_master f l) (bit f.bits.own_handed q) (are_all_done f q) (is_busy f.transactions q) h.acting h.master h.done h.free e)
 
@@ -173,7 +174,7 @@ pub record Settles (q : ℕ) (l : List ℕ) (f : Facts) : Type 0 where
 settles_last : (q : ℕ) → Lasts (Settles q)
 settles_last q = record { hand = hand; settle = settle; learn = learn; drop = drop }
   where
-    hand : (l : List ℕ) (f : Facts) (p : ℕ) (b : Bool) → Settles q l f → Settles q l (noted None f (line_if (line.Handed f.me (view_key f) p) b))
+    hand : (l : List ℕ) (f : Facts) (p : ℕ) (b : Bool) → Settles q l f → Settles q l (noted None f (only_if (line.Handed f.me (view_key f) p) b))
     hand l f p true h = record {
       list_is = h.list_is;
       master = h.master;
@@ -184,19 +185,19 @@ settles_last q = record { hand = hand; settle = settle; learn = learn; drop = dr
     }
     hand l f p false h = h
 
-    settle : (l : List ℕ) (f : Facts) (p : ℕ) (b : Bool) → Settles q l f → Settles q l (noted None f (line_if (line.Settled f.me (view_key f) p) b))
+    settle : (l : List ℕ) (f : Facts) (p : ℕ) (b : Bool) → Settles q l f → Settles q l (noted None f (only_if (line.Settled f.me (view_key f) p) b))
     settle l f p true h = record { list_is = h.list_is; master = h.master; some = h.some; free = h.free; may = h.may; reach = reaches_set f.bits.settled p q h.reach }
     settle l f p false h = h
 
-    learn : (l : List ℕ) (f : Facts) (p : ℕ) (b : Bool) → Settles q l f → Settles q l (noted None f (line_if (line.Learn f.me (view_key f) p) b))
+    learn : (l : List ℕ) (f : Facts) (p : ℕ) (b : Bool) → Settles q l f → Settles q l (noted None f (only_if (line.Learn f.me (view_key f) p) b))
     learn l f p true h = record { list_is = h.list_is; master = h.master; some = h.some; free = h.free; may = h.may; reach = h.reach }
     learn l f p false h = h
 
-    drop : (l : List ℕ) (f : Facts) (p : ℕ) (b : Bool) → Settles q l f → Settles q l (noted None f (line_if (line.Drop f.me (view_key f) p) b))
+    drop : (l : List ℕ) (f : Facts) (p : ℕ) (b : Bool) → Settles q l f → Settles q l (noted None f (only_if (line.Drop f.me (view_key f) p) b))
     drop l f p true h = record { list_is = h.list_is; master = h.master; some = h.some; free = h.free; may = h.may; reach = h.reach }
     drop l f p false h = h
 
-settles_now : (q : ℕ) (l : List ℕ) (f : Facts) → Settles q l f → Has false q (noted None f (line_if (line.Settled f.me (view_key f) q) (may_settle f l q))).bits
+settles_now : (q : ℕ) (l : List ℕ) (f : Facts) → Settles q l f → Has false q (noted None f (only_if (line.Settled f.me (view_key f) q) (may_settle f l q))).bits
 settles_now q l f h = go (may_settle f l q) refl
   where
     left : (m a b y o : Bool) → m ≡ true → a ≡ false → y ≡ false → o ≡ true → (m && (not a && (not b && (not y && o)))) ≡ false → b ≡ true
@@ -207,7 +208,7 @@ settles_now q l f h = go (may_settle f l q) refl
     left true false b true o i j k r e = differ refl k
     left true false b false false i j k r e = differ r refl
 
-    go : (b : Bool) → may_settle f l q ≡ b → Has false q (noted None f (line_if (line.Settled f.me (view_key f) q) b)).bits
+    go : (b : Bool) → may_settle f l q ≡ b → Has false q (noted None f (only_if (line.Settled f.me (view_key f) q) b)).bits
     go true e = h.reach
     go false e = left (is_master f l) (is_all_empty f q) (bit f.bits.settled q) (is_busy f.transactions q) (bit f.bits.handed q || (is_acting f l q && are_all_done f q)) h.master h.some h.free h.may e
 

@@ -15,8 +15,9 @@ use Rattle.node_rules.specs.Messages as due
 use Rattle.node_rules.specs.Messages.{due_message_of, finishes}
 use Rattle.node_rules.specs.Notes as notes
 use Rattle.node_rules.specs.Notes.{after_ages, all_sent, in_view, note, noted, reached, sent}
-use Rattle.node_rules.specs.Settling.{line_if, settling_due}
+use Rattle.node_rules.specs.Settling.{settling_due}
 use Rattle.node_rules.specs.Tick.{propose_new, propose_with}
+use Rattle.node_rules.specs.Tables.{only_if}
 use Rattle.cluster_laws.proofs.At.{differ}
 use Rattle.key_laws.proofs.DueViews.{AllOfView, OfView, settling_of_view}
 use Rattle.calm_laws.specs.Acts.{Gets, Ticks, acted, as_read}
@@ -93,7 +94,7 @@ reached_still f from (message.ReplAck key t) h = ack_still f from t (in_view f k
 reached_still f from (message.Answer key t v) h = answer_still f from t v (in_view f key)
 reached_still f from m h = refl
 
-ended : (f g : Facts) (k : ClusterKey) (b : Bool) → (noted None g (line_if (line.Exchanged f.me k) b)).exchange ≡ finished_if g.exchange b
+ended : (f g : Facts) (k : ClusterKey) (b : Bool) → (noted None g (only_if (line.Exchanged f.me k) b)).exchange ≡ finished_if g.exchange b
 ended f g k true = refl
 ended f g k false = refl
 

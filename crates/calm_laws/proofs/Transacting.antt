@@ -27,9 +27,8 @@ use Rattle.node_rules.specs.Messages.{due_message_of}
 use Rattle.node_rules.specs.Notes as notes
 use Rattle.node_rules.specs.Notes.{all_sent, in_view, note, noted, reached, sent}
 use Rattle.node_rules.specs.Resolving.{done_if, repl, resolving_want, writing}
-use Rattle.node_rules.specs.Settling.{line_if}
 use Rattle.node_rules.specs.Standing.{other_replicas}
-use Rattle.node_rules.specs.Tables.{changed_if, contains}
+use Rattle.node_rules.specs.Tables.{changed_if, contains, only_if}
 use Rattle.node_rules.specs.Transactions as transactions
 use Rattle.node_rules.specs.Transactions.{Transaction, Transactions, acknowledged, answered, awaits_ack, awaits_answer, is_last_awaited, transaction}
 use Rattle.cluster_rules.proofs.KeptFacts.{num_same}
@@ -168,7 +167,7 @@ ack_here f x number t e = go (awaits_ack t x) refl
     now : open_at (acked f x number) number ≡ Some (changed_if (acknowledged x) t (awaits_ack t x))
     now = changed_here f.transactions number (λ t. changed_if (acknowledged x) t (awaits_ack t x)) (ack_keeps x) t e
 
-    ends : awaits_ack t x ≡ true → (last : Bool) → open_at (noted None (acked f x number) (line_if (line.Done f.me (view_key f) t.number) last)) number ≡ ack_next t x true last
+    ends : awaits_ack t x ≡ true → (last : Bool) → open_at (noted None (acked f x number) (only_if (line.Done f.me (view_key f) t.number) last)) number ≡ ack_next t x true last
     ends i true =
         ap (λ (y : ℕ). transaction (transactions.without_transaction (acked f x number).transactions y) number) (found_number f.transactions.running number t e)
         ∙ find_closed (acked f x number).transactions.running number
@@ -188,7 +187,7 @@ ack_other f x number at d (Some t) e = go (awaits_ack t x)
     other : open_at (acked f x at) number ≡ open_at f number
     other = changed_other f.transactions number at (λ t. changed_if (acknowledged x) t (awaits_ack t x)) (ack_keeps x) d
 
-    ends : (last : Bool) → open_at (noted None (acked f x at) (line_if (line.Done f.me (view_key f) t.number) last)) number ≡ open_at f number
+    ends : (last : Bool) → open_at (noted None (acked f x at) (only_if (line.Done f.me (view_key f) t.number) last)) number ≡ open_at f number
     ends true = find_other (acked f x at).transactions.running number t.number (ap (λ (y : ℕ). y == number) (found_number f.transactions.running at t e) ∙ d) ∙ other
     ends false = other
 

@@ -20,9 +20,9 @@ use Rattle.node_rules.specs.Messages as due
 use Rattle.node_rules.specs.Messages.{due_message_of}
 use Rattle.node_rules.specs.Notes as notes
 use Rattle.node_rules.specs.Notes.{note, noted, reached, sent, all_sent, in_view}
-use Rattle.node_rules.specs.Settling.{line_if}
 use Rattle.node_rules.specs.Transactions.{Transaction, Write}
 use Rattle.node_rules.proofs.NoteLaws.{noted-append}
+use Rattle.node_rules.specs.Tables.{only_if}
 use Rattle.cluster_laws.proofs.At.{differ}
 use Rattle.key_laws.proofs.Order.{lt_below, at_most_lt, below_at_most}
 use Rattle.calm_laws.specs.Acts.{Gets, as_read, acted}
@@ -136,7 +136,7 @@ voted f from key true e =
     sym (ap (λ (b : Bool). record (stance_of f) { agreement = agreement.promising_if f.agreement key b }) (at_most_lt f.agreement.promised key (below_at_most (lt_below key f.agreement.promised e))))
 voted f from key false e = go (key_lt f.agreement.promised key)
   where
-    go : (b : Bool) → stance_of (noted None f (line_if (line.Promise f.me key) b)) ≡ record (stance_of f) { agreement = agreement.promising_if f.agreement key b }
+    go : (b : Bool) → stance_of (noted None f (only_if (line.Promise f.me key) b)) ≡ record (stance_of f) { agreement = agreement.promising_if f.agreement key b }
     go true = refl
     go false = refl
 

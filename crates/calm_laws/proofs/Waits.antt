@@ -29,7 +29,7 @@ use Rattle.node_rules.specs.Messages as due
 use Rattle.node_rules.specs.Notes as notes
 use Rattle.node_rules.specs.Notes.{after_ages, if_view, in_view, neighbours, opening_transaction, note, noted, reached}
 use Rattle.node_rules.specs.Requests.{request_refusal}
-use Rattle.node_rules.specs.Settling.{drop, hand, learn, line_if, settle, settling_due, settling_at, settling_from, settling_if}
+use Rattle.node_rules.specs.Settling.{drop, hand, learn, settle, settling_due, settling_at, settling_from, settling_if}
 use Rattle.node_rules.specs.Standing.{other_replicas}
 use Rattle.node_rules.specs.Steps.{after_message, after_tick}
 use Rattle.node_rules.specs.Tick.{is_candidate, propose}
@@ -39,7 +39,7 @@ use Rattle.node_rules.proofs.NoteLaws.{noted-append}
 use Rattle.node_rules.proofs.PartLaws as parts
 use Rattle.node_rules.proofs.TickParts.{alone_is, among_others_is, down_is, up_is}
 use Rattle.node_rules.proofs.Ticking.{tick_agrees}
-use Rattle.node_rules.specs.Tables.{changed_if}
+use Rattle.node_rules.specs.Tables.{changed_if, only_if}
 use Rattle.cluster_rules.specs.declared.event.Event.{Event}
 use Rattle.cluster_rules.specs.World.{World}
 use Rattle.cluster_rules.proofs.KeptFacts.{num_same}
@@ -301,7 +301,7 @@ entered_awaits f k ms = go (is_single ms)
     go false t i = absurd i
 
 -- the lines of settling leave the transactions
-if_transactions : (f : Facts) (l : Line) (b : Bool) → (note None f l).transactions ≡ f.transactions → (noted None f (line_if l b)).transactions ≡ f.transactions
+if_transactions : (f : Facts) (l : Line) (b : Bool) → (note None f l).transactions ≡ f.transactions → (noted None f (only_if l b)).transactions ≡ f.transactions
 if_transactions f l true e = e
 if_transactions f l false e = refl
 

@@ -18,9 +18,9 @@ use Rattle.node_rules.specs.Facts.{Facts}
 use Rattle.node_rules.specs.Messages.{unless_stale, state_came, finishes, batch_came, batch_ack_came, unless_spent, progress_effects_if, answer_progress, repl_came, done_by, ack_of, repl_ack_came, ask_came, resolving_if, answered_by, answer_of, answer_effects_if, table_if, merging, merging_all, due_message_of}
 use Rattle.node_rules.specs.Notes.{noted, reached, in_view}
 use Rattle.node_rules.specs.Resolving.{done_if, writing, resolving_want}
-use Rattle.node_rules.specs.Settling.{line_if}
 use Rattle.node_rules.specs.Standing.{other_replicas}
 use Rattle.node_rules.specs.Transactions.{Transaction, transaction, awaits_answer, awaits_ack, answered, is_last_awaited}
+use Rattle.node_rules.specs.Tables.{only_if}
 use Rattle.cluster_laws.proofs.At.{differ}
 
 -- what holds of each of the lines
@@ -44,7 +44,7 @@ pub each_append : (P : Line → Type 0) (ls ms : List Line) → Each P ls → Ea
 each_append P [] ms h i = i
 each_append P (l ∷ ls) ms h i = (h.0, each_append P ls ms h.1 i)
 
-pub each_if : (P : Line → Type 0) (l : Line) (b : Bool) → P l → Each P (line_if l b)
+pub each_if : (P : Line → Type 0) (l : Line) (b : Bool) → P l → Each P (only_if l b)
 each_if P l true h = (h, tt)
 each_if P l false h = tt
 

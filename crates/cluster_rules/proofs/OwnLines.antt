@@ -20,10 +20,11 @@ use Rattle.node_rules.specs.Messages.{due_message_of}
 use Rattle.node_rules.specs.Notes.{note, noted, neighbours, opening_transaction, reached, in_view}
 use Rattle.node_rules.specs.Requests.{due_request, due_stop, due_start, asking, request_refusal, request_if, stop_if, start_if}
 use Rattle.node_rules.specs.Resolving.{resolving_want, done_if}
-use Rattle.node_rules.specs.Settling.{line_if, hand, settle, learn, drop, lines_then, settling_at, settling_from, settling_if}
+use Rattle.node_rules.specs.Settling.{hand, settle, learn, drop, lines_then, settling_at, settling_from, settling_if}
 use Rattle.node_rules.specs.Tick as tick
 use Rattle.node_rules.specs.Tick.{Part, parts_in_order, tick_of}
 use Rattle.node_rules.specs.Transactions.{Transaction, Write, answered, is_last_awaited}
+use Rattle.node_rules.specs.Tables.{only_if}
 use Rattle.cluster_rules.specs.NodeSteps.{IsOf, AreOf}
 
 note_me : (q : Option Want) (f : Facts) (l : Line) → (note q f l).me ≡ f.me
@@ -56,7 +57,7 @@ are_append : (n : ℕ) (ls more : List Line) → AreOf n ls → AreOf n more →
 are_append n [] more a b = b
 are_append n (l ∷ ls) more a b = (a.0, are_append n ls more a.1 b)
 
-one_if : (n : ℕ) (l : Line) (b : Bool) → IsOf n l → AreOf n (line_if l b)
+one_if : (n : ℕ) (l : Line) (b : Bool) → IsOf n l → AreOf n (only_if l b)
 one_if n l true h = (h, tt)
 one_if n l false h = tt
 

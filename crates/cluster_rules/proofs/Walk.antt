@@ -15,9 +15,10 @@ use Rattle.journal_lines.specs.declared.line.Line.TheVariants as line
 use Rattle.node_rules.specs.Effects.{Effects}
 use Rattle.node_rules.specs.Examples.{key, zeros}
 use Rattle.node_rules.specs.Messages.{due_message}
-use Rattle.node_rules.specs.Settling.{line_if, settling_from}
+use Rattle.node_rules.specs.Settling.{settling_from}
 use Rattle.node_rules.specs.Standing.{knows_all_settled, has_nothing_to_learn_or_drop}
 use Rattle.node_rules.specs.Tick.{tick_of, done_from}
+use Rattle.node_rules.specs.Tables.{only_if}
 use Rattle.cluster_rules.specs.WalkExamples.{older, newer, side, batch_of, hearing, telling, handing_on, acking, merge, one_sent, two_sent, two_has}
 
 -- the lists of partitions, and what walks over one partition
@@ -56,7 +57,7 @@ two_hands = two_held ∙ ap (handing_held 2 1) (holds newer)
 -- ---- merges
 
 abbrev merging_held : ℕ → ℕ → Version → Option Version → Effects
-merging_held me other v held = acking other (line_if (line.Merge me (key 2 2) zeros v) (is_newer Time v held) ++ [])
+merging_held me other v held = acking other (only_if (line.Merge me (key 2 2) zeros v) (is_newer Time v held) ++ [])
 
 one_merging : due_message one_sent 0 2 (batch_of newer) ≡ merging_held 1 2 newer (finite.get (side 1 2 older).store.content zeros)
 one_merging = refl

@@ -14,7 +14,8 @@ use Rattle.conflict_order.specs.Join.{kept}
 use Rattle.conflict_order.specs.Order.{is_newer}
 use Rattle.record_store.proofs.CopyLaws.{joined_kept}
 use Rattle.node_rules.specs.Copies.{Content, joined}
-use Rattle.node_rules.specs.Merging.{Record, is_newer_than_held, record_if, content_joined_if, newer_records, joined_all}
+use Rattle.node_rules.specs.Merging.{Record, is_newer_than_held, content_joined_if, newer_records, joined_all}
+use Rattle.node_rules.specs.Tables.{only_if}
 use Rattle.immigrate.specs.Digests.{IsRising, record_digests}
 
 abbrev digest_cmp : List ℕ → List ℕ → Ordering
@@ -30,7 +31,7 @@ others_stay by c r true q above =
     ∙ ap (λ b. cond b (Some (kept by (get c r.0) r.1)) (get c q)) (apart r.0 q above)
 others_stay by c r false q above = refl
 
-first_step : (by : Policy) (e : Content) (r : Record) (rs fs : List Record) → ((b : Bool) → newer_records by (content_joined_if by e r b) rs ≡ fs) → (b : Bool) → record_if r b ++ newer_records by (content_joined_if by e r b) rs ≡ cond b (r ∷ fs) fs
+first_step : (by : Policy) (e : Content) (r : Record) (rs fs : List Record) → ((b : Bool) → newer_records by (content_joined_if by e r b) rs ≡ fs) → (b : Bool) → only_if r b ++ newer_records by (content_joined_if by e r b) rs ≡ cond b (r ∷ fs) fs
 first_step by e r rs fs rest true = ap (λ xs. r ∷ xs) (rest true)
 first_step by e r rs fs rest false = rest false
 
@@ -50,7 +51,7 @@ pub newer_is_filter : (by : Policy) (c : Content) (rs : List Record) → IsRisin
 newer_is_filter by c rs rising = filtered by c c rs rising (λ k d within. refl)
 
 joined_step : (by : Policy) (c : Content) (r : Record) (rs : List Record) → ((m : Content) → joined_all by m (newer_records by m rs) ≡ joined_all by m rs)
-    → (b : Bool) → is_newer_than_held by c r ≡ b → joined_all by c (record_if r b ++ newer_records by (content_joined_if by c r b) rs) ≡ joined_all by (joined by c r.0 r.1) rs
+    → (b : Bool) → is_newer_than_held by c r ≡ b → joined_all by c (only_if r b ++ newer_records by (content_joined_if by c r b) rs) ≡ joined_all by (joined by c r.0 r.1) rs
 joined_step by c r rs rest true is = rest (joined by c r.0 r.1)
 joined_step by c r rs rest false is = rest c ∙ ap (λ m. joined_all by m rs) (joined_kept by c r.0 r.1 is)
 

@@ -32,9 +32,9 @@ use Rattle.node_rules.specs.Notes as notes
 use Rattle.node_rules.specs.Notes.{noted, neighbours, after_ages, reached, in_view, opening_transaction}
 use Rattle.node_rules.specs.Requests.{due_request, due_stop, due_start, asking, request_if, request_refusal, stop_if, start_if}
 use Rattle.node_rules.specs.Resolving.{repl, resolving_want}
-use Rattle.node_rules.specs.Settling.{settling_due, line_if, hand, settle, learn, drop, settling_at, settling_from, settling_if}
+use Rattle.node_rules.specs.Settling.{settling_due, hand, settle, learn, drop, settling_at, settling_from, settling_if}
 use Rattle.node_rules.specs.Standing.{others, other_replicas, asked}
-use Rattle.node_rules.specs.Tables.{contains}
+use Rattle.node_rules.specs.Tables.{contains, only_if}
 use Rattle.node_rules.specs.Tick as tick
 use Rattle.node_rules.specs.Tick.{tick_of, propose, is_candidate, state, progress_message}
 use Rattle.node_rules.specs.Transactions.{Transaction, Write, transaction, answered}
@@ -240,7 +240,7 @@ nothing_later n g i h e =
     rw first (rw second (rw third (rw fourth refl)))
 
 -- settling leaves the view
-same_view_if : (f : Facts) (l : Line) (b : Bool) → (notes.note None f l).exchange ≡ f.exchange → (noted None f (line_if l b)).exchange ≡ f.exchange
+same_view_if : (f : Facts) (l : Line) (b : Bool) → (notes.note None f l).exchange ≡ f.exchange → (noted None f (only_if l b)).exchange ≡ f.exchange
 same_view_if f l true e = e
 same_view_if f l false e = refl
 

@@ -27,9 +27,9 @@ use Rattle.node_rules.specs.Keys.{same_key}
 use Rattle.node_rules.specs.Messages.{stale, spent, vote_effects, due_propose, commit_effects, accept_effects, due_accept, unless_stale, entry_effects_if, due_commit, finishes, answer_state, state_came, merging, merging_all, batch_came, unless_spent, batch_ack_came, answer_progress, progress_effects_if, repl_came, done_by, ack_of, repl_ack_came, ask_came, resolving_if, answered_by, answer_of, answer_effects_if, map_table, table_if, due_message_of, due_state}
 use Rattle.node_rules.specs.Notes.{noted, reached, in_view}
 use Rattle.node_rules.specs.Resolving.{done_if, writing, resolving, resolving_want}
-use Rattle.node_rules.specs.Settling.{line_if}
 use Rattle.node_rules.specs.Standing.{other_replicas}
 use Rattle.node_rules.specs.Transactions.{Transaction, transaction, awaits_answer, awaits_ack, answered, is_last_awaited}
+use Rattle.node_rules.specs.Tables.{only_if}
 use Rattle.cluster_rules.specs.DueEvents.{written}
 use Rattle.cluster_rules.specs.Network.{Network}
 use Rattle.key_laws.specs.Traced.{Traced, facts_of, traced_after_all}
@@ -54,7 +54,7 @@ spent_quiet t n f = record { lines = (tt, tt); posts = tt }
 nothing_quiet : (t : Traced) (n : ℕ) → Quiet t n nothing
 nothing_quiet t n = record { lines = tt; posts = tt }
 
-if_quiet : (t : Traced) (l : Line) (b : Bool) → QuietLines t (l ∷ []) → QuietLines t (line_if l b)
+if_quiet : (t : Traced) (l : Line) (b : Bool) → QuietLines t (l ∷ []) → QuietLines t (only_if l b)
 if_quiet t l true h = h
 if_quiet t l false h = tt
 
@@ -185,7 +185,7 @@ propose_ok t net f from k ms c = go (keys.key_lt k f.agreement.promised)
     listed : Listed t k ms
     listed = c.sound.lists k ms c.says.1
 
-    promising : (b : Bool) → keys.key_lt f.agreement.promised k ≡ b → LicensedMarks t (writes (line_if (line.Promise f.me k) b))
+    promising : (b : Bool) → keys.key_lt f.agreement.promised k ≡ b → LicensedMarks t (writes (only_if (line.Promise f.me k) b))
     promising true e = (record { above = subst (λ (g : Facts). IsBelow g.agreement.promised k) (sym c.here) (lt_below f.agreement.promised k e); source = inr (ms, c.was_sent) }, tt)
     promising false e = tt
 
@@ -195,7 +195,7 @@ propose_ok t net f from k ms c = go (keys.key_lt k f.agreement.promised)
       posts = (posts_of t f.me _ (read_refuse (λ x. Says t f.me x × MaySendKey t f.me x) k f.agreement.promised listed.known.field c.keys.agrees.promised.field ((listed.known, c.keys.agrees.promised), tt)), tt);
     })
     go false =
-        let ok : LicensedMarks t (writes (line_if (line.Promise f.me k) (keys.key_lt f.agreement.promised k))) = promising (keys.key_lt f.agreement.promised k) refl in
+        let ok : LicensedMarks t (writes (only_if (line.Promise f.me k) (keys.key_lt f.agreement.promised k))) = promising (keys.key_lt f.agreement.promised k) refl in
         written_ok t f.me net (vote_effects f from k false) ok c.sound (accept_posts _ f.me k (known_grows t _ (kept_all t _ ok c.sound).grows k listed.known), tt)
 
 -- ---- a row
@@ -213,14 +213,14 @@ state_ok t net f from k wants row c = go (in_view f k) refl
     view : view_key f ≡ view_key (facts_of t f.me)
     view = ap (λ v. exchange_key v) (row_same t f from row (in_view f k) c.says.1).view ∙ ap (λ (g : Facts). view_key g) (sym c.here)
 
-    finishing : Visited t f.me (view_key f) → (b : Bool) → LicensedMarks t (writes (line_if (line.Exchanged f.me (view_key f)) b))
+    finishing : Visited t f.me (view_key f) → (b : Bool) → LicensedMarks t (writes (only_if (line.Exchanged f.me (view_key f)) b))
     finishing h true = (record { visited = h; view = view }, tt)
     finishing h false = tt
 
     go : (b : Bool) → in_view f k ≡ b → LicensedMarks t (writes (written net f.me (state_came f now from wants b)))
     go true e =
-        let ok : LicensedMarks t (writes (line_if (line.Exchanged f.me (view_key f)) (finishes f now))) = finishing (viewed t f.me f k c.keys e) (finishes f now) in
-        let g : Grows t (traced_after_all t (writes (line_if (line.Exchanged f.me (view_key f)) (finishes f now)))) = (kept_all t _ ok c.sound).grows in
+        let ok : LicensedMarks t (writes (only_if (line.Exchanged f.me (view_key f)) (finishes f now))) = finishing (viewed t f.me f k c.keys e) (finishes f now) in
+        let g : Grows t (traced_after_all t (writes (only_if (line.Exchanged f.me (view_key f)) (finishes f now)))) = (kept_all t _ ok c.sound).grows in
         written_ok t f.me net (state_came f now from wants true) ok c.sound (answer_state_posts _ f.me f from wants (known_grows t _ g (view_key f) known) (rows_grow t _ g f.exchange.rows c.keys.rows))
     go false e = quiet_ok t f.me net _ c.sound (stale_quiet t f.me f)
 

@@ -20,10 +20,11 @@ use Rattle.node_rules.specs.Exchange.{View, is_single, exchange_key, is_view}
 use Rattle.node_rules.specs.Facts.{Facts, view_key, list_at}
 use Rattle.node_rules.specs.Notes.{note, noted, in_view}
 use Rattle.node_rules.specs.Resolving.{repl}
-use Rattle.node_rules.specs.Settling.{line_if, hand, settle, learn, drop, lines_then, settling_at, settling_from, settling_if, settling_due, may_hand, may_settle}
+use Rattle.node_rules.specs.Settling.{hand, settle, learn, drop, lines_then, settling_at, settling_from, settling_if, settling_due, may_hand, may_settle}
 use Rattle.node_rules.specs.Standing.{is_to_learn, is_to_drop, others}
 use Rattle.node_rules.specs.Tick.{sends_again, transactions, batch_to, batches, state, own_row_in, rows, progress_message, progress_if}
 use Rattle.node_rules.specs.Transactions.{Transaction, Write}
+use Rattle.node_rules.specs.Tables.{only_if}
 use Rattle.cluster_rules.specs.Marks.{Writes, Begins, Mark}
 use Rattle.journal_readings.specs.Lines.{is_enter}
 use Rattle.key_laws.proofs.Frames.{at_here, never}
@@ -134,7 +135,7 @@ pub of_view_append : (m : ℕ) (k : ClusterKey) (a b : List Line) → AllOfView 
 of_view_append m k [] b h i = i
 of_view_append m k (l ∷ a) b h i = (h.0, of_view_append m k a b h.1 i)
 
-pub line_if_of_view : (m : ℕ) (k : ClusterKey) (l : Line) (b : Bool) → OfView m k l → AllOfView m k (line_if l b)
+pub line_if_of_view : (m : ℕ) (k : ClusterKey) (l : Line) (b : Bool) → OfView m k l → AllOfView m k (only_if l b)
 line_if_of_view m k l true h = (h, tt)
 line_if_of_view m k l false h = tt
 

@@ -30,10 +30,10 @@ use Rattle.node_rules.specs.Messages.{due_message_of}
 use Rattle.node_rules.specs.Notes.{noted, neighbours, opening_transaction, reached, in_view, after_ages}
 use Rattle.node_rules.specs.Requests.{due_request, due_stop, due_start, asking, request_refusal, refusal_after, acting_refusal, busy_refusal, map_refusal, up_refusal, view_refusal, exchange_refusal, request_if, stop_if, start_if}
 use Rattle.node_rules.specs.Resolving.{resolving_want, done_if}
-use Rattle.node_rules.specs.Settling.{line_if, hand, settle, learn, drop, lines_then, settling_at, settling_from, settling_if}
+use Rattle.node_rules.specs.Settling.{hand, settle, learn, drop, lines_then, settling_at, settling_from, settling_if}
 use Rattle.node_rules.specs.Shows.{with_roles, map_line, map_if, due_map, due_show}
 use Rattle.node_rules.specs.Standing.{acts}
-use Rattle.node_rules.specs.Tables.{Table, contains, table_with}
+use Rattle.node_rules.specs.Tables.{Table, contains, table_with, only_if}
 use Rattle.node_rules.specs.Tick as tick
 use Rattle.node_rules.specs.Tick.{Part, parts_in_order, tick_of}
 use Rattle.node_rules.specs.Transactions.{Transaction, Write, answered, is_last_awaited, transaction_on}
@@ -141,7 +141,7 @@ pub name_append : (P : ℕ → Type 0) (ls more : List Line) → AllName P ls �
 name_append P [] more a b = b
 name_append P (l ∷ ls) more a b = (a.0, name_append P ls more a.1 b)
 
-one_if : (P : ℕ → Type 0) (l : Line) (b : Bool) → LineNames P l → AllName P (line_if l b)
+one_if : (P : ℕ → Type 0) (l : Line) (b : Bool) → LineNames P l → AllName P (only_if l b)
 one_if P l true h = (h, tt)
 one_if P l false h = tt
 

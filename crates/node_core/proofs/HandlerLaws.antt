@@ -22,9 +22,9 @@ use Rattle.node_rules.specs.Keys.{same_key}
 use Rattle.node_rules.specs.Messages as due
 use Rattle.node_rules.specs.Notes.{in_view}
 use Rattle.node_rules.specs.Steps.{Planning, unplanned}
+use Rattle.node_rules.specs.Tables.{only_if}
 use Rattle.node_view.specs.Views.{IsInView, Viewed, viewed_key}
 use Rattle.node_steps.specs.declared.effects.Effects.{Effects}
-use Rattle.node_steps.specs.Plans.{only_if}
 use Rattle.node_steps.specs.Spelled.{vote_message, spelled, with_sends}
 
 -- a message is of the view that has its key

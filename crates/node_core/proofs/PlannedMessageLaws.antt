@@ -17,7 +17,7 @@ use Rattle.node_steps.specs.declared.effects.Effects.{Effects}
 use Rattle.node_core.specs.declared.node.Node.TheInside.{Inside}
 use Rattle.node_steps.specs.declared.planned.Planned.TheVariants as planned
 use Rattle.node_core.specs.Nodes.{planning_of, PartsAgree, node_facts}
-use Rattle.node_steps.specs.Plans.{taken, only_if}
+use Rattle.node_steps.specs.Plans.{taken}
 use Rattle.node_steps.specs.Spelled.{spelled, then_effects}
 use Rattle.std.specs.FinMap as finite
 use Rattle.conflict_order.specs.declared.version.Version.{Version}
@@ -29,6 +29,7 @@ use Rattle.node_view.specs.Plans.{some_if}
 use Rattle.std.specs.Global.{Box}
 use Rattle.partition_lists.specs.Lists.{list}
 use Rattle.node_rules.specs.Exchange.{Exchange, members_of}
+use Rattle.node_rules.specs.Tables.{only_if}
 use Rattle.node_view.specs.declared.view.View.{View}
 use Rattle.node_view.specs.Views.{Viewed}
 use Rattle.node_core.proofs.NodeLaws as nodes

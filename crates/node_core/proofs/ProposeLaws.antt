@@ -22,8 +22,8 @@ use Rattle.node_rules.specs.Notes.{neighbours}
 use Rattle.node_rules.specs.Tick.{is_candidate, propose, propose_new, proposal_effects}
 use Rattle.node_rules.proofs.Agreeing.{same_itself}
 use Rattle.wire_messages.specs.Keys.{IsKeyField}
+use Rattle.node_rules.specs.Tables.{only_if}
 use Rattle.node_steps.specs.declared.effects.Effects.{Effects}
-use Rattle.node_steps.specs.Plans.{only_if}
 use Rattle.node_steps.specs.Spelled.{then_effects}
 use Rattle.node_steps.proofs.SpelledLaws.{told_twice}
 

@@ -19,10 +19,10 @@ use Rattle.node_rules.specs.Keys.{same_key}
 use Rattle.node_rules.specs.Messages as due
 use Rattle.node_rules.specs.Notes.{note, noted, all_sent, reached}
 use Rattle.node_rules.specs.Requests.{stop_if}
-use Rattle.node_rules.specs.Settling.{line_if}
 use Rattle.node_rules.specs.Steps.{facts_after, after_message, after_stop}
 use Rattle.node_rules.specs.Transactions.{Transaction, Write}
 use Rattle.node_rules.proofs.NoteLaws.{noted-append}
+use Rattle.node_rules.specs.Tables.{only_if}
 
 -- ---- keys
 
@@ -89,7 +89,7 @@ voted : (f : Facts) (from : ℕ) (key : ClusterKey) (b : Bool) → key_lt key f.
 voted f from key true e = sym (ap (agreement.promising_if f.agreement key) (not_above key f.agreement.promised e))
 voted f from key false e = go (key_lt f.agreement.promised key)
   where
-    go : (b : Bool) → (noted None f (line_if (line.Promise f.me key) b)).agreement ≡ agreement.promising_if f.agreement key b
+    go : (b : Bool) → (noted None f (only_if (line.Promise f.me key) b)).agreement ≡ agreement.promising_if f.agreement key b
     go true = refl
     go false = refl
 

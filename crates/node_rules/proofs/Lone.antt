@@ -23,11 +23,12 @@ use Rattle.node_rules.specs.Examples.{key, lone, itself, ticked_twice, in_its_vi
 use Rattle.node_rules.specs.Facts.{Facts, list_at}
 use Rattle.node_rules.specs.Notes.{note, noted, entered}
 use Rattle.node_rules.specs.Requests.{due_request}
-use Rattle.node_rules.specs.Settling.{hand, settle, learn, drop, line_if, lines_then, settling_at, settling_from}
+use Rattle.node_rules.specs.Settling.{hand, settle, learn, drop, lines_then, settling_at, settling_from}
 use Rattle.node_rules.specs.Standing.{knows_settled, knows_all_settled, is_own_replica, is_done}
 use Rattle.node_rules.specs.Steps.{facts_after, after_tick}
 use Rattle.node_rules.specs.Tick.{Part, parts_in_order, rows, transactions, batches, settlings, progress, progress_if, due_tick}
 use Rattle.node_rules.proofs.Empty.{empty_row, clear_bit}
+use Rattle.node_rules.specs.Tables.{only_if}
 
 -- ---- where nothing is due
 
@@ -74,8 +75,8 @@ only_one p = refl
 none_due : (p : ℕ) → settling_at (1 ∷ []) p alone ≡ []
 none_due p =
     none_at (1 ∷ []) p alone refl refl
-    (ap (λ b. line_if (line.Learn 1 (key 1 1) p) (b && (is_own_replica alone (1 ∷ []) && not (bit alone.bits.learnt p)))) (clear_bit p))
-    (ap (λ b. line_if (line.Drop 1 (key 1 1) p) (b && (is_done alone p && (not (is_own_replica alone (1 ∷ [])) && holds_of alone.store.content p)))) (clear_bit p))
+    (ap (λ b. only_if (line.Learn 1 (key 1 1) p) (b && (is_own_replica alone (1 ∷ []) && not (bit alone.bits.learnt p)))) (clear_bit p))
+    (ap (λ b. only_if (line.Drop 1 (key 1 1) p) (b && (is_done alone p && (not (is_own_replica alone (1 ∷ [])) && holds_of alone.store.content p)))) (clear_bit p))
 
 none_due_at : (p : ℕ) → settling_at (list_at alone p) p alone ≡ []
 none_due_at p = ap (λ l. settling_at l p alone) (only_one p) ∙ none_due p

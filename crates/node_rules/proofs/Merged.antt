@@ -1,10 +1,10 @@
 -- What a batch merges is what is newer in it than what is held.
 use Rattle.std.proofs.Common.{◌≡◌, Bool, true, false, List, [], ◌∷◌, ◌++◌, None, map, refl, ap}
 use Rattle.node_rules.specs.Facts.{Facts, view_key}
-use Rattle.node_rules.specs.Merging.{Record, is_newer_than_held, record_if, content_joined_if, newer_records, joined_all, store_merged_all}
+use Rattle.node_rules.specs.Merging.{Record, is_newer_than_held, content_joined_if, newer_records, joined_all, store_merged_all}
 use Rattle.node_rules.specs.Messages.{merging_all, merge_line}
 use Rattle.node_rules.specs.Notes.{note, noted}
-use Rattle.node_rules.specs.Settling.{line_if}
+use Rattle.node_rules.specs.Tables.{only_if}
 
 -- the facts of which a batch's lines are due
 record Merges (f : Facts) (rs : List Record) : Type 0 where
@@ -14,15 +14,15 @@ record Merges (f : Facts) (rs : List Record) : Type 0 where
 
 -- the facts with the record where the test holds
 abbrev with_record : Facts → Record → Bool → Facts
-with_record f r b = noted None f (line_if (merge_line f.me (view_key f) r) b)
+with_record f r b = noted None f (only_if (merge_line f.me (view_key f) r) b)
 
 record MergesFirst (f : Facts) (r : Record) (rs : List Record) (b : Bool) : Type 0 where
-  lines : (line_if (merge_line f.me (view_key f) r) b ++ merging_all (with_record f r b) rs)
-      ≡ map (merge_line f.me (view_key f)) (record_if r b ++ newer_records f.store.by (content_joined_if f.store.by f.store.content r b) rs)
-  content : (noted None f (line_if (merge_line f.me (view_key f) r) b ++ merging_all (with_record f r b) rs)).store.content
-      ≡ joined_all f.store.by f.store.content (record_if r b ++ newer_records f.store.by (content_joined_if f.store.by f.store.content r b) rs)
-  facts : noted None f (line_if (merge_line f.me (view_key f) r) b ++ merging_all (with_record f r b) rs)
-      ≡ record f { store = store_merged_all f.store (view_key f) (record_if r b ++ newer_records f.store.by (content_joined_if f.store.by f.store.content r b) rs) }
+  lines : (only_if (merge_line f.me (view_key f) r) b ++ merging_all (with_record f r b) rs)
+      ≡ map (merge_line f.me (view_key f)) (only_if r b ++ newer_records f.store.by (content_joined_if f.store.by f.store.content r b) rs)
+  content : (noted None f (only_if (merge_line f.me (view_key f) r) b ++ merging_all (with_record f r b) rs)).store.content
+      ≡ joined_all f.store.by f.store.content (only_if r b ++ newer_records f.store.by (content_joined_if f.store.by f.store.content r b) rs)
+  facts : noted None f (only_if (merge_line f.me (view_key f) r) b ++ merging_all (with_record f r b) rs)
+      ≡ record f { store = store_merged_all f.store (view_key f) (only_if r b ++ newer_records f.store.by (content_joined_if f.store.by f.store.content r b) rs) }
 
 first : (f : Facts) (r : Record) (rs : List Record) → ((g : Facts) → Merges g rs) → (b : Bool) → MergesFirst f r rs b
 first f r rs rest true =

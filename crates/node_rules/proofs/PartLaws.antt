@@ -33,7 +33,6 @@ use Rattle.node_rules.specs.Messages as due
 use Rattle.node_rules.specs.Notes.{note, noted, sent, all_sent, reached, entered, own_row, closed, in_view, if_view, row_came, batch_acked, progress_came, write_counted_if, write_came, write_acked, answer_came, opening_transaction, transaction_opened, stopped, started, next_nth}
 use Rattle.node_rules.specs.Requests.{request_if, asking, request_refusal, stop_if, start_if}
 use Rattle.node_rules.specs.Resolving.{repl, resolving_want, writing, done_if}
-use Rattle.node_rules.specs.Settling.{line_if}
 use Rattle.node_rules.specs.Standing.{knows_all_settled, other_replicas}
 use Rattle.node_rules.specs.Steps.{facts_after, after_message, after_request, after_stop, after_start}
 use Rattle.node_rules.specs.Transactions as transactions
@@ -41,6 +40,7 @@ use Rattle.node_rules.specs.Transactions.{Transaction, Transactions, Write, tran
 use Rattle.node_rules.proofs.Agreeing.{propose_agrees}
 use Rattle.node_rules.proofs.Merged.{merges_facts}
 use Rattle.node_rules.proofs.NoteLaws.{noted-append}
+use Rattle.node_rules.specs.Tables.{only_if}
 
 -- ---- entering
 
@@ -75,7 +75,7 @@ voted_is : (f : Facts) (from : ℕ) (key : ClusterKey) (b : Bool) → facts_afte
 voted_is f from key true = refl
 voted_is f from key false = go (key_lt f.agreement.promised key)
   where
-    go : (b : Bool) → noted None f (line_if (line.Promise f.me key) b) ≡ record f { agreement = (noted None f (line_if (line.Promise f.me key) b)).agreement }
+    go : (b : Bool) → noted None f (only_if (line.Promise f.me key) b) ≡ record f { agreement = (noted None f (only_if (line.Promise f.me key) b)).agreement }
     go true = refl
     go false = refl
 
@@ -170,7 +170,7 @@ pub state_is : (f : Facts) (clock from : ℕ) (key : ClusterKey) (wants : Bool) 
     ≡ if_view (in_view f key) (exchanged_if (row_came f from row true) (view_key f) (due.finishes f (row_came f from row true))) f
 state_is f clock from key wants row = go (in_view f key)
   where
-    deep : (b c : Bool) → all_sent (noted None (row_came f from row true) (line_if (line.Exchanged f.me (view_key f)) b)) (due.answer_state f from c) ≡ exchanged_if (row_came f from row true) (view_key f) b
+    deep : (b c : Bool) → all_sent (noted None (row_came f from row true) (only_if (line.Exchanged f.me (view_key f)) b)) (due.answer_state f from c) ≡ exchanged_if (row_came f from row true) (view_key f) b
     deep true true = refl
     deep true false = refl
     deep false true = refl
@@ -222,7 +222,7 @@ repl_is f clock from key t nth digest v = go (in_view f key)
     heard : Facts
     heard = write_counted_if f key (list_at f (partition_of digest)) (partition_of digest) nth (from == list_master (list_at f (partition_of digest)))
 
-    deep : (b : Bool) → noted None heard (line_if (line.Merge f.me (view_key f) digest v) b) ≡ merged_if heard (view_key f) digest v b
+    deep : (b : Bool) → noted None heard (only_if (line.Merge f.me (view_key f) digest v) b) ≡ merged_if heard (view_key f) digest v b
     deep true = refl
     deep false = refl
 
@@ -249,7 +249,7 @@ pub repl_ack_is : (f : Facts) (clock from : ℕ) (key : ClusterKey) (t : ℕ)
 repl_ack_is f clock from key number = go (in_view f key)
   where
     last : (t : Transaction) (b : Bool) → t.number ≡ number
-        → noted None (write_acked f from number true) (line_if (line.Done f.me (view_key f) t.number) b) ≡ record f { transactions = closing_if (acknowledging f.transactions from number) number b }
+        → noted None (write_acked f from number true) (only_if (line.Done f.me (view_key f) t.number) b) ≡ record f { transactions = closing_if (acknowledging f.transactions from number) number b }
     last t true e = ap (λ (k : ℕ). record f { transactions = transactions.without_transaction (acknowledging f.transactions from number) k }) e
     last t false e = refl
 

@@ -15,24 +15,25 @@ use Rattle.journal_lines.specs.declared.line.Line.TheVariants as line
 use Rattle.node_rules.specs.Copies.{Content, is_of, is_nil}
 use Rattle.node_rules.specs.Facts.{Facts, view_key, list_at}
 use Rattle.node_rules.specs.Notes.{noted}
-use Rattle.node_rules.specs.Settling.{settling_at, settling_from, line_if, may_hand, may_settle, hand, settle, learn, drop}
+use Rattle.node_rules.specs.Settling.{settling_at, settling_from, may_hand, may_settle, hand, settle, learn, drop}
 use Rattle.node_rules.specs.Standing.{is_to_learn, is_to_drop}
 use Rattle.node_rules.proofs.NoteLaws.{noted-append}
 use Rattle.node_rules.specs.Here.{IsAsleep, IsOver, live_from, Here, here, hands, settles, lines_here, part_lines, lines_from, HasRows}
+use Rattle.node_rules.specs.Tables.{only_if}
 
 -- ---- the facts after a line that may stand
 
 abbrev handed_if : Facts → ℕ → Bool → Facts
-handed_if f p b = noted None f (line_if (line.Handed f.me (view_key f) p) b)
+handed_if f p b = noted None f (only_if (line.Handed f.me (view_key f) p) b)
 
 abbrev settled_if : Facts → ℕ → Bool → Facts
-settled_if f p b = noted None f (line_if (line.Settled f.me (view_key f) p) b)
+settled_if f p b = noted None f (only_if (line.Settled f.me (view_key f) p) b)
 
 abbrev learnt_if : Facts → ℕ → Bool → Facts
-learnt_if f p b = noted None f (line_if (line.Learn f.me (view_key f) p) b)
+learnt_if f p b = noted None f (only_if (line.Learn f.me (view_key f) p) b)
 
 abbrev dropped_if : Facts → ℕ → Bool → Facts
-dropped_if f p b = noted None f (line_if (line.Drop f.me (view_key f) p) b)
+dropped_if f p b = noted None f (only_if (line.Drop f.me (view_key f) p) b)
 
 bit_here : (row : List Bool) (p : ℕ) → length row ≡ partition_count → p < partition_count → bit (set row p true) p ≡ true
 bit_here row p size within = get_or-set_same row p true false (omega (arith, size, within))
@@ -93,7 +94,7 @@ drop_after f l p false false false h within = ap (drops_where (here f l p)) (set
 -- the four lines, where the tests came out so
 four : (f : Facts) (l : List ℕ) (p : ℕ) (b1 b2 b3 b4 : Bool) → hands (here f l p) ≡ b1 → may_settle (handed_if f p b1) l p ≡ b2
     → is_to_learn (settled_if (handed_if f p b1) p b2) l p ≡ b3 → is_to_drop (learnt_if (settled_if (handed_if f p b1) p b2) p b3) l p ≡ b4
-    → settling_at l p f ≡ line_if (line.Handed f.me (view_key f) p) b1 ++ (line_if (line.Settled f.me (view_key f) p) b2 ++ (line_if (line.Learn f.me (view_key f) p) b3 ++ line_if (line.Drop f.me (view_key f) p) b4))
+    → settling_at l p f ≡ only_if (line.Handed f.me (view_key f) p) b1 ++ (only_if (line.Settled f.me (view_key f) p) b2 ++ (only_if (line.Learn f.me (view_key f) p) b3 ++ only_if (line.Drop f.me (view_key f) p) b4))
 four f l p true true true b4 e1 e2 e3 e4 = rw e1 (rw e2 (rw e3 (rw e4 refl)))
 four f l p true true false b4 e1 e2 e3 e4 = rw e1 (rw e2 (rw e3 (rw e4 refl)))
 four f l p true false true b4 e1 e2 e3 e4 = rw e1 (rw e2 (rw e3 (rw e4 refl)))
@@ -126,21 +127,21 @@ keeps_then p f g k h more =
     let i = more h.rows in
     record { rows = i.rows; lines = λ q other. i.lines q other ∙ h.lines q other }
 
-keeps_handed : (f : Facts) (n : ℕ) (k : ClusterKey) (p : ℕ) (b : Bool) → HasRows f → Keeps p f (noted None f (line_if (line.Handed n k p) b))
+keeps_handed : (f : Facts) (n : ℕ) (k : ClusterKey) (p : ℕ) (b : Bool) → HasRows f → Keeps p f (noted None f (only_if (line.Handed n k p) b))
 keeps_handed f n k p false h = kept p f h
 keeps_handed f n k p true h = record {
   rows = record { handed = length-set f.bits.handed p true ∙ h.handed; settled = h.settled };
   lines = λ q other. ap₂ (λ b c. lines_here f.me (view_key f) q (record (here f (list_at f q) q) { handed = b; own_handed = c })) (bit_other f.bits.handed p q other) (bit_other f.bits.own_handed p q other);
 }
 
-keeps_settled : (f : Facts) (n : ℕ) (k : ClusterKey) (p : ℕ) (b : Bool) → HasRows f → Keeps p f (noted None f (line_if (line.Settled n k p) b))
+keeps_settled : (f : Facts) (n : ℕ) (k : ClusterKey) (p : ℕ) (b : Bool) → HasRows f → Keeps p f (noted None f (only_if (line.Settled n k p) b))
 keeps_settled f n k p false h = kept p f h
 keeps_settled f n k p true h = record {
   rows = record { handed = h.handed; settled = length-set f.bits.settled p true ∙ h.settled };
   lines = λ q other. ap (λ b. lines_here f.me (view_key f) q (record (here f (list_at f q) q) { settled = b })) (bit_other f.bits.settled p q other);
 }
 
-keeps_learnt : (f : Facts) (n : ℕ) (k : ClusterKey) (p : ℕ) (b : Bool) → HasRows f → Keeps p f (noted None f (line_if (line.Learn n k p) b))
+keeps_learnt : (f : Facts) (n : ℕ) (k : ClusterKey) (p : ℕ) (b : Bool) → HasRows f → Keeps p f (noted None f (only_if (line.Learn n k p) b))
 keeps_learnt f n k p false h = kept p f h
 keeps_learnt f n k p true h = record {
   rows = record { handed = h.handed; settled = h.settled };
@@ -164,7 +165,7 @@ apart content p q other =
         let there : is_of p d ≡ false = grind (arith, nat_tests, h, other) in
         rw h (map.get-retain_keys content (λ e. not (is_of p e)) d (λ x same. ap (λ e. not (is_of p e)) (tied x d same)) ∙ rw there refl)
 
-keeps_dropped : (f : Facts) (n : ℕ) (k : ClusterKey) (p : ℕ) (b : Bool) → HasRows f → Keeps p f (noted None f (line_if (line.Drop n k p) b))
+keeps_dropped : (f : Facts) (n : ℕ) (k : ClusterKey) (p : ℕ) (b : Bool) → HasRows f → Keeps p f (noted None f (only_if (line.Drop n k p) b))
 keeps_dropped f n k p false h = kept p f h
 keeps_dropped f n k p true h = record {
   rows = record { handed = h.handed; settled = h.settled };

@@ -18,7 +18,7 @@ use Rattle.node_rules.specs.Facts.{Facts, view_key, list_at}
 use Rattle.node_rules.specs.Hearing.{heard_ids}
 use Rattle.node_rules.specs.Notes.{note, noted, sent, all_sent, neighbours, after_ages}
 use Rattle.node_rules.specs.Resolving.{repl}
-use Rattle.node_rules.specs.Settling.{line_if, hand, settle, learn, drop, lines_then, settling_at, settling_from, settling_if}
+use Rattle.node_rules.specs.Settling.{hand, settle, learn, drop, lines_then, settling_at, settling_from, settling_if}
 use Rattle.node_rules.specs.Standing.{others}
 use Rattle.node_rules.specs.Steps.{facts_after, after_tick}
 use Rattle.node_rules.specs.Tick as tick
@@ -26,6 +26,7 @@ use Rattle.node_rules.specs.Tick.{Part, parts_in_order, is_candidate}
 use Rattle.node_rules.specs.Transactions.{Transaction, Write}
 use Rattle.node_rules.proofs.Agreeing.{same_itself, entering_agrees}
 use Rattle.node_rules.proofs.NoteLaws.{noted-append, all_sent-append}
+use Rattle.node_rules.specs.Tables.{only_if}
 
 -- ---- what leaves the agreement as it is
 
@@ -64,7 +65,7 @@ quiet_sends-append : (ms more : List (ℕ × Message)) → QuietSends ms → Qui
 quiet_sends-append [] more a b = b
 quiet_sends-append (m ∷ ms) more a b = (a.0, quiet_sends-append ms more a.1 b)
 
-quiet_if : (l : Line) → ((f : Facts) → Keeps f (note None f l)) → (b : Bool) → QuietLines (line_if l b)
+quiet_if : (l : Line) → ((f : Facts) → Keeps f (note None f l)) → (b : Bool) → QuietLines (only_if l b)
 quiet_if l q true = (q, tt)
 quiet_if l q false = tt
 

@@ -16,7 +16,7 @@ use Rattle.partition_lists.specs.Lists.{list}
 use Rattle.node_rules.specs.Effects.{Effects, lines_only, to_one}
 use Rattle.node_rules.specs.Examples.{key, seven, hi, first_hi, second_hi, waiting_for, migrating, whole_and_part}
 use Rattle.node_rules.specs.Messages.{due_message}
-use Rattle.node_rules.specs.Settling.{line_if}
+use Rattle.node_rules.specs.Tables.{only_if}
 
 pub reads : due_message (waiting_for want.Get) 5 1 (message.Answer (key 2 2) 1 (Some first_hi)) ≡ lines_only (line.Value 2 (key 2 2) 1 seven (Some first_hi) ∷ [])
 unfolding join
@@ -28,7 +28,7 @@ writes = refl
 
 -- what is due of a Repl where that is held
 abbrev merging : Option Version → Effects
-merging held = record { lines = line_if (line.Merge 1 (key 2 2) seven second_hi) (is_newer Time second_hi held); sends = to_one 2 (message.ReplAck (key 2 2) 1) }
+merging held = record { lines = only_if (line.Merge 1 (key 2 2) seven second_hi) (is_newer Time second_hi held); sends = to_one 2 (message.ReplAck (key 2 2) 1) }
 
 newer_than_none : merging None ≡ record { lines = line.Merge 1 (key 2 2) seven second_hi ∷ []; sends = to_one 2 (message.ReplAck (key 2 2) 1) }
 unfolding is_newer

@@ -7,9 +7,9 @@ use Rattle.journal_lines.specs.declared.line.Line.{Line}
 use Rattle.journal_lines.specs.declared.line.Line.TheVariants as line
 use Rattle.node_rules.specs.Copies.{holds_of}
 use Rattle.node_rules.specs.Facts.{Facts, view_key, list_at}
-use Rattle.node_rules.specs.Settling.{line_if}
 use Rattle.node_rules.specs.Standing.{is_acting, is_master, is_own_replica, is_all_empty, are_all_done, is_done, has_settled_bit, knows_handed, has_handed}
 use Rattle.node_rules.specs.Transactions.{is_busy}
+use Rattle.node_rules.specs.Tables.{only_if}
 
 -- how a node stands to a partition of its view
 pub record Here : Type 0 where
@@ -75,9 +75,9 @@ drops h = (h.settled || settles h) && (h.done && (not h.replica && h.holds))
 -- the lines of settling of a partition to which a node stands so
 abbrev pub lines_here : ℕ → ClusterKey → ℕ → Here → List Line
 lines_here me key p h =
-    line_if (line.Handed me key p) (hands h)
-    ++ (line_if (line.Settled me key p) (settles h)
-    ++ (line_if (line.Learn me key p) (learns h) ++ line_if (line.Drop me key p) (drops h)))
+    only_if (line.Handed me key p) (hands h)
+    ++ (only_if (line.Settled me key p) (settles h)
+    ++ (only_if (line.Learn me key p) (learns h) ++ only_if (line.Drop me key p) (drops h)))
 
 -- the lines of settling of the partition, as the facts stand
 abbrev pub part_lines : Facts → ℕ → List Line

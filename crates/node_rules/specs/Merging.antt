@@ -8,15 +8,11 @@ use Rattle.cluster_types.specs.declared.cluster_key.ClusterKey.{ClusterKey}
 use Rattle.cluster_types.specs.Partitions.{partition_of}
 use Rattle.node_rules.specs.Copies.{Content, Store, Stamps, joined}
 use Rattle.node_rules.specs.Stamps.{spoiled, changed_stamps}
+use Rattle.node_rules.specs.Tables.{only_if}
 
 -- whether the record is newer than what is held of it
 abbrev pub is_newer_than_held : Policy → Content → Record → Bool
 is_newer_than_held by content r = is_newer by r.1 (finite.get content r.0)
-
--- the record where the test holds
-abbrev pub record_if : Record → Bool → List Record
-record_if r true = r ∷ []
-record_if r false = []
 
 -- the content with the record where the test holds
 abbrev pub content_joined_if : Policy → Content → Record → Bool → Content
@@ -27,7 +23,7 @@ content_joined_if by content r false = content
 abbrev pub newer_records : Policy → Content → List Record → List Record
 newer_records by content [] = []
 newer_records by content (r ∷ rs) =
-    record_if r (is_newer_than_held by content r)
+    only_if r (is_newer_than_held by content r)
     ++ newer_records by (content_joined_if by content r (is_newer_than_held by content r)) rs
 
 -- the content after these records came

@@ -25,11 +25,10 @@ use Rattle.node_rules.specs.Exchange.{first_missing}
 use Rattle.node_rules.specs.Facts.{Facts, view_key, members_of_view, list_at}
 use Rattle.node_rules.specs.Notes.{noted, reached, in_view}
 use Rattle.node_rules.specs.Resolving.{resolving}
-use Rattle.node_rules.specs.Settling.{line_if}
 use Rattle.node_rules.specs.Standing.{named, has_moved, knows_all_settled}
 use Rattle.node_rules.specs.Tick.{state, progress_message}
 use Rattle.node_rules.specs.Transactions.{Transaction, transaction, awaits_answer, awaits_ack, answered, is_last_awaited}
-use Rattle.node_rules.specs.Tables.{is_nil}
+use Rattle.node_rules.specs.Tables.{is_nil, only_if}
 
 -- the message is of another view, or of no use
 abbrev pub stale : Facts → Effects
@@ -45,7 +44,7 @@ spent f = lines_only (line.Spent f.me ∷ [])
 abbrev pub vote_effects : Facts → ℕ → ClusterKey → Bool → Effects
 vote_effects f from key true = sends_only (to_one from (message.Refuse key f.agreement.promised))
 vote_effects f from key false = record {
-  lines = line_if (line.Promise f.me key) (keys.key_lt f.agreement.promised key);
+  lines = only_if (line.Promise f.me key) (keys.key_lt f.agreement.promised key);
   sends = to_one from (message.Accept key);
 }
 
@@ -113,7 +112,7 @@ answer_state f from false = []
 -- a State, where the test says whether it is of the view
 abbrev pub state_came : Facts → Facts → ℕ → Bool → Bool → Effects
 state_came f now from wants true = record {
-  lines = line_if (line.Exchanged f.me (view_key f)) (finishes f now);
+  lines = only_if (line.Exchanged f.me (view_key f)) (finishes f now);
   sends = answer_state f from wants;
 }
 state_came f now from wants false = stale f
@@ -131,7 +130,7 @@ merge_line me key r = line.Merge me key r.0 r.1
 -- a line where the version is newer than what is held
 abbrev pub merging : Facts → List ℕ → Version → List Line
 merging f digest v =
-    line_if (line.Merge f.me (view_key f) digest v)
+    only_if (line.Merge f.me (view_key f) digest v)
     (is_newer f.store.by v (finite.get f.store.content digest))
 
 -- a line for each record, in order, that is newer than what is held as it comes to it
@@ -199,7 +198,7 @@ due_repl f from key number digest v = repl_came f from key number digest v (in_v
 -- a ReplAck of an open transaction, where the test says whether it is awaited
 abbrev pub done_by : Facts → Transaction → ℕ → Bool → Effects
 done_by f t from true =
-    lines_only (line_if (line.Done f.me (view_key f) t.number) (is_last_awaited t from))
+    lines_only (only_if (line.Done f.me (view_key f) t.number) (is_last_awaited t from))
 done_by f t from false = spent f
 
 -- a ReplAck, where that transaction is open

@@ -1,5 +1,5 @@
 -- Hand-over, settling, learning and dropping, partition by partition, whose list is an argument.
-use Rattle.std.specs.Prelude.{ℕ, zero, suc, ◌+◌, Bool, true, false, List, [], ◌∷◌, ◌++◌, None}
+use Rattle.std.specs.Prelude.{ℕ, zero, suc, ◌+◌, Bool, true, false, List, [], ◌++◌, None}
 use Rattle.journal_lines.specs.declared.line.Line.{Line}
 use Rattle.journal_lines.specs.declared.line.Line.TheVariants as line
 use Rattle.node_rules.specs.Bits as bits
@@ -7,6 +7,7 @@ use Rattle.node_rules.specs.Facts.{Facts, view_key, list_at}
 use Rattle.node_rules.specs.Notes.{noted}
 use Rattle.node_rules.specs.Standing.{is_acting, is_master, is_all_empty, are_all_done, is_to_learn, is_to_drop}
 use Rattle.node_rules.specs.Transactions.{is_busy}
+use Rattle.node_rules.specs.Tables.{only_if}
 
 -- whether the node hands the partition over: it is the acting master by the rows and not the list
 -- master, hasn't handed it over, is done at it and knows every other member done, and has no
@@ -24,26 +25,21 @@ may_settle f l p =
     bits.bits_may_settle f.bits p (is_acting f l p) (is_master f l) (is_all_empty f p)
     (are_all_done f p) (is_busy f.transactions p)
 
--- the line where the test holds
-abbrev pub line_if : Line → Bool → List Line
-line_if l true = l ∷ []
-line_if l false = []
-
 -- the line `handed`, where it is due
 abbrev pub hand : Facts → List ℕ → ℕ → List Line
-hand f l p = line_if (line.Handed f.me (view_key f) p) (may_hand f l p)
+hand f l p = only_if (line.Handed f.me (view_key f) p) (may_hand f l p)
 
 -- the line `settled`, where it is due
 abbrev pub settle : Facts → List ℕ → ℕ → List Line
-settle f l p = line_if (line.Settled f.me (view_key f) p) (may_settle f l p)
+settle f l p = only_if (line.Settled f.me (view_key f) p) (may_settle f l p)
 
 -- the line `learn`, where it is due
 abbrev pub learn : Facts → List ℕ → ℕ → List Line
-learn f l p = line_if (line.Learn f.me (view_key f) p) (is_to_learn f l p)
+learn f l p = only_if (line.Learn f.me (view_key f) p) (is_to_learn f l p)
 
 -- the line `drop`, where it is due
 abbrev pub drop : Facts → List ℕ → ℕ → List Line
-drop f l p = line_if (line.Drop f.me (view_key f) p) (is_to_drop f l p)
+drop f l p = only_if (line.Drop f.me (view_key f) p) (is_to_drop f l p)
 
 -- lines, and then those that are due of the facts with them
 abbrev pub lines_then : (Facts → List Line) → (Facts → List Line) → Facts → List Line

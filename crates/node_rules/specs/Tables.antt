@@ -30,6 +30,11 @@ abbrev pub is_nil : {X : Type 0} → List X → Bool
 is_nil [] = true
 is_nil (x ∷ xs) = false
 
+-- the item alone, where the test holds
+abbrev pub only_if : {X : Type 0} → X → Bool → List X
+only_if x true = x ∷ []
+only_if x false = []
+
 -- ---- tests of numbers in succession
 
 -- whether so many numbers, from one on, all pass the test

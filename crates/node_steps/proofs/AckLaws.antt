@@ -3,7 +3,6 @@ use Rattle.std.proofs.Common.{◌≡◌, ◌==◌, ◌&&◌, ℕ, Bool, true, fa
 use Rattle.std.specs.Prelude.{find, option_map}
 use Rattle.partition_lists.proofs.InOrderLaws.{from_equal}
 use Rattle.cluster_types.specs.declared.cluster_key.ClusterKey.{ClusterKey}
-use Rattle.journal_lines.specs.declared.line.Line.{Line}
 use Rattle.journal_lines.specs.declared.line.Line.TheVariants as line
 use Rattle.wire_messages.specs.declared.message.Message.TheVariants as message
 use Rattle.dup_resolve.specs.declared.txn.Txn.{Txn}
@@ -15,13 +14,12 @@ use Rattle.node_rules.specs.Facts.{Facts, view_key}
 use Rattle.node_rules.specs.Keys.{same_key}
 use Rattle.node_rules.specs.Messages as due
 use Rattle.node_rules.specs.Notes.{if_view, in_view}
-use Rattle.node_rules.specs.Settling.{line_if}
 use Rattle.node_rules.specs.Steps.{after_message}
-use Rattle.node_rules.specs.Tables.{changed_if}
+use Rattle.node_rules.specs.Tables.{changed_if, only_if}
 use Rattle.node_rules.specs.Transactions.{Transaction, Transactions, acknowledged, acknowledging, awaits_ack, closing_if, ends_by_ack, is_last_awaited, transaction}
 use Rattle.node_rules.proofs.PartLaws.{batch_ack_is, repl_ack_is}
 use Rattle.node_view.specs.Transactions.{kept_of}
-use Rattle.node_steps.specs.Plans.{after_ack, only_if}
+use Rattle.node_steps.specs.Plans.{after_ack}
 
 -- ---- batches
 
@@ -104,10 +102,6 @@ closing_acked from number (t ∷ ts) = go (t.number == number) refl (closing_ack
     go true is ih = gone _ _ _ (there (awaits_ack t from) is) ih ∙ sym (gone t ts _ is refl)
     go false is ih = rw is (ap (λ (xs : List Transaction). t ∷ xs) ih)
 
-same_line : (l : Line) (b : Bool) → line_if l b ≡ only_if l b
-same_line l true = refl
-same_line l false = refl
-
 -- an acknowledgement that is awaited
 pub ack_told : (f : Facts) (from : ℕ) (key : ClusterKey) (number : ℕ) (t : Transaction) (b : Bool) → in_view f key ≡ true → transaction f.transactions number ≡ Some t
     → awaits_ack t from ≡ true → is_last_awaited t from ≡ b → due.due_repl_ack f from key number ≡ lines_only (only_if (line.Done f.me key number) b)
@@ -115,9 +109,8 @@ ack_told f from key number t b of_view found awaited last =
     ap (λ (v : Bool). due.repl_ack_came f from number v) of_view
     ∙ ap (λ (o : Option Transaction). due.ack_of f from o) found
     ∙ ap (λ (v : Bool). due.done_by f t from v) awaited
-    ∙ ap (λ (v : Bool). lines_only (line_if (line.Done f.me (view_key f) t.number) v)) last
-    ∙ ap₂ (λ (k : ClusterKey) (n : ℕ). lines_only (line_if (line.Done f.me k n) b)) (view_key_is f key of_view) (number_is f.transactions number t found)
-    ∙ ap lines_only (same_line (line.Done f.me key number) b)
+    ∙ ap (λ (v : Bool). lines_only (only_if (line.Done f.me (view_key f) t.number) v)) last
+    ∙ ap₂ (λ (k : ClusterKey) (n : ℕ). lines_only (only_if (line.Done f.me k n) b)) (view_key_is f key of_view) (number_is f.transactions number t found)
 
 pub ack_after : (f : Facts) (from : ℕ) (key : ClusterKey) (number : ℕ) (t : Transaction) (b : Bool) → in_view f key ≡ true → transaction f.transactions number ≡ Some t
     → awaits_ack t from ≡ true → is_last_awaited t from ≡ b → after_message f 0 from (message.ReplAck key number) ≡ after_ack f from number b

@@ -14,13 +14,14 @@ use Rattle.node_rules.specs.Copies.{Content}
 use Rattle.node_rules.specs.Effects as rules
 use Rattle.node_rules.specs.Effects.{to_one}
 use Rattle.node_rules.specs.Facts.{Facts, view_key}
-use Rattle.node_rules.specs.Merging.{Record, is_newer_than_held, content_joined_if, newer_records, record_if, store_merged_all}
+use Rattle.node_rules.specs.Merging.{Record, is_newer_than_held, content_joined_if, newer_records, store_merged_all}
 use Rattle.node_rules.specs.Messages as due
 use Rattle.node_rules.specs.Messages.{merge_line}
 use Rattle.node_rules.specs.Notes.{if_view, in_view}
 use Rattle.node_rules.specs.Steps.{after_message}
 use Rattle.node_rules.proofs.Merged.{merges_lines}
 use Rattle.node_rules.proofs.PartLaws.{batch_is}
+use Rattle.node_rules.specs.Tables.{only_if}
 use Rattle.immigrate.specs.declared.merging.Merged.{Merged}
 use Rattle.node_view.specs.declared.view_step.ViewStep.TheVariants as step
 use Rattle.node_steps.specs.declared.planned.Planned.TheVariants as planned
@@ -40,13 +41,13 @@ pub newer_again : (by : Policy) (c : Content) (rs : List Record) → newer_recor
 newer_again by c [] = refl
 newer_again by c (r ∷ rs) = go (is_newer_than_held by c r) refl (newer_again by (content_joined_if by c r (is_newer_than_held by c r)) rs)
   where
-    first : (b : Bool) (xs : List Record) → is_newer_than_held by c r ≡ b → newer_records by c (r ∷ xs) ≡ record_if r b ++ newer_records by (content_joined_if by c r b) xs
+    first : (b : Bool) (xs : List Record) → is_newer_than_held by c r ≡ b → newer_records by c (r ∷ xs) ≡ only_if r b ++ newer_records by (content_joined_if by c r b) xs
     first b xs e = ap
-        (λ (x : Bool). record_if r x ++ newer_records by (content_joined_if by c r x) xs) e
+        (λ (x : Bool). only_if r x ++ newer_records by (content_joined_if by c r x) xs) e
 
     go : (b : Bool) → is_newer_than_held by c r ≡ b
         → newer_records by (content_joined_if by c r b) (newer_records by (content_joined_if by c r b) rs) ≡ newer_records by (content_joined_if by c r b) rs
-        → newer_records by c (record_if r b ++ newer_records by (content_joined_if by c r b) rs) ≡ record_if r b ++ newer_records by (content_joined_if by c r b) rs
+        → newer_records by c (only_if r b ++ newer_records by (content_joined_if by c r b) rs) ≡ only_if r b ++ newer_records by (content_joined_if by c r b) rs
     go true e ih = first true (newer_records by (content_joined_if by c r true) rs) e ∙ ap (λ (xs : List Record). r ∷ xs) ih
     go false e ih = ih
 

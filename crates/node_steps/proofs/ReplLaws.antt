@@ -16,15 +16,15 @@ use Rattle.node_rules.specs.Facts.{Facts, list_at, view_key}
 use Rattle.node_rules.specs.Map.{list_master}
 use Rattle.node_rules.specs.Messages as due
 use Rattle.node_rules.specs.Notes.{write_counted_if, if_view, in_view}
-use Rattle.node_rules.specs.Settling.{line_if}
 use Rattle.node_rules.specs.Steps.{after_message}
 use Rattle.node_rules.proofs.PartLaws.{repl_is}
 use Rattle.node_view.specs.declared.view_step.Counted.{Counted}
 use Rattle.node_view.specs.Plans.{replicated, some_if, with_count, with_newer}
-use Rattle.node_steps.specs.Plans.{only_if, taken}
+use Rattle.node_steps.specs.Plans.{taken}
 use Rattle.std.specs.Option.{ForSome}
 use Rattle.wire_messages.specs.Numbers.{IsNumber}
 use Rattle.wire_messages.specs.Versions.{IsDigest, IsVersion}
+use Rattle.node_rules.specs.Tables.{only_if}
 use Rattle.node_view.specs.declared.view_step.ViewStep.TheVariants as step
 use Rattle.node_steps.specs.declared.effects.Effects.{Effects}
 use Rattle.node_steps.specs.declared.planned.Planned.TheVariants as planned
@@ -66,10 +66,6 @@ repl_after f from key t nth digest v newer counted of_view is_newer_one is_count
     ∙ sym (newer_so g digest v newer b is_newer_one)
     ∙ ap (λ (x : Facts). with_newer x digest newer) (sym (counted_so f p nth counted sent is_counted))
 
-same_line : (l : Line) (b : Bool) → line_if l b ≡ only_if l b
-same_line l true = refl
-same_line l false = refl
-
 pub some_only_if : {X : Type 0} (x : X) (o : Option X) (b : Bool) → o ≡ some_if b x → is_some o ≡ b
 some_only_if x o true e = ap is_some e
 some_only_if x o false e = ap is_some e
@@ -80,7 +76,7 @@ pub repl_told : (f : Facts) (from : ℕ) (key : ClusterKey) (t : ℕ) (digest : 
 repl_told f from key t digest v b of_view is =
     ap (λ (x : Bool). due.repl_came f from key t digest v x) of_view
     ∙ ap (λ (ls : List Line). let e : rules.Effects = record { lines = ls; sends = to_one from (message.ReplAck key t) } in e)
-    (ap (line_if (line.Merge f.me (view_key f) digest v)) is ∙ same_line (line.Merge f.me (view_key f) digest v) b ∙ ap (λ (k : ClusterKey). only_if (line.Merge f.me k digest v) b) (view_key_is f key of_view))
+    (ap (only_if (line.Merge f.me (view_key f) digest v)) is ∙ ap (λ (k : ClusterKey). only_if (line.Merge f.me k digest v) b) (view_key_is f key of_view))
 
 -- it is the version, where there is one
 of_version : (P : Version → Type 0) (o : Option Version) (b : Bool) (v : Version) → o ≡ some_if b v → (b ≡ true → P v) → ForSome o P

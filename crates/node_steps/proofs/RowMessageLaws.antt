@@ -28,9 +28,8 @@ use Rattle.node_rules.specs.Effects.{lines_only, sends_only}
 use Rattle.node_rules.specs.Messages as due
 use Rattle.node_rules.specs.Messages.{answer_progress, answer_state, due_progress, due_state, finishes}
 use Rattle.node_rules.specs.Notes.{if_view, in_view, progress_came, row_came, own_targets}
-use Rattle.node_rules.specs.Settling.{line_if}
 use Rattle.node_rules.specs.Standing.{knows_all_settled, others}
-use Rattle.node_rules.specs.Tables.{bits_from}
+use Rattle.node_rules.specs.Tables.{bits_from, only_if}
 use Rattle.node_rules.specs.Tick.{own_row_in, progress_message}
 use Rattle.node_rules.specs.Steps.{after_message}
 use Rattle.node_rules.proofs.Forms.{done_by, settled_by}
@@ -42,7 +41,7 @@ use Rattle.node_view.specs.Views.{IsHandedOn, IsInView, IsNodeInView, IsOtherMem
 use Rattle.exchange.specs.Served.{AreServed}
 use Rattle.exchange.proofs.RowsLaws.{full_is_there, lacks_fresh}
 use Rattle.node_steps.specs.declared.effects.Effects.{Effects}
-use Rattle.node_steps.specs.Plans.{after_row, only_if}
+use Rattle.node_steps.specs.Plans.{after_row}
 use Rattle.node_steps.specs.Ranges.{HasRanges}
 use Rattle.node_steps.specs.Spelled.{then_effects, spelled, spelled_sends}
 use Rattle.node_steps.specs.Viewing.{finishes_with}
@@ -250,10 +249,6 @@ row_message_ranges f from row fit in_one h = go (finishes f (row_came f from row
     go true = last_row_ranges f from row fit in_one h
     go false = row_ranges f from row fit h
 
-one_line : (l : Line) (b : Bool) → only_if l b ≡ line_if l b
-one_line l true = refl
-one_line l false = refl
-
 pub state_told : (f : Facts) (v : Viewed) (from : ℕ) (key : ClusterKey) (wants : Bool) (row : Row) → IsInView f v → in_view f key ≡ true
     → then_effects (spelled (sends_only (answer_state f from wants))) (lines_only (only_if (line.Exchanged v.me (viewed_key v)) (finishes_with v from row)))
     ≡ spelled (due_state f (row_came f from row (in_view f key)) from key wants)
@@ -262,7 +257,7 @@ state_told f v from key wants row h of_view =
     let told : List Line → List (ℕ × List ℕ) → Effects = λ (ls : List Line) (ss : List (ℕ × List ℕ)). record { lines = ls; sends = ss } in
     ap₂ told
     (ap₂ (λ (me : ℕ) (k : ClusterKey). only_if (line.Exchanged me k) (finishes_with v from row)) (sym h.me) (ap (λ (x : Exchange). exchange.exchange_key x.view) (exchange_is f v h))
-    ∙ ap (only_if (line.Exchanged f.me (view_key f))) (finishes_seen f v from row h) ∙ one_line _ _)
+    ∙ ap (only_if (line.Exchanged f.me (view_key f))) (finishes_seen f v from row h))
     (append-nil sent)
     ∙ ap (λ (b : Bool). spelled (due.state_came f (row_came f from row b) from wants b)) (sym of_view)
 

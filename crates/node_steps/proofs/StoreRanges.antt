@@ -25,11 +25,11 @@ use Rattle.conflict_order.specs.declared.version.Version.{Version}
 use Rattle.node_rules.specs.Copies.{Content, Stamp, Stamps, Store, dropping, is_of, joined}
 use Rattle.node_rules.specs.Facts.{Facts, list_at}
 use Rattle.node_rules.specs.Keys.{same_key}
-use Rattle.node_rules.specs.Merging.{Record, is_newer_than_held, joined_all, content_joined_if, newer_records, record_if, spoiled_all, spoiled_at, store_merged_all}
+use Rattle.node_rules.specs.Merging.{Record, is_newer_than_held, joined_all, content_joined_if, newer_records, spoiled_all, spoiled_at, store_merged_all}
 use Rattle.node_rules.specs.Notes.{count_in, stamped_at, stamped_from}
 use Rattle.node_rules.specs.Stamps.{Numbers, Writes, applies_at, applying, changed_stamps, count_at, count_of, have_no_gap, hearing_write, no_class, numbers_at, recounted, spoiled, stamped_with, store_applied, store_counted, store_learnt, store_merged, with_number}
 use Rattle.node_rules.specs.Standing.{is_all_empty, is_master, is_own_replica}
-use Rattle.node_rules.specs.Tables.{Table, at, table_with}
+use Rattle.node_rules.specs.Tables.{Table, at, table_with, only_if}
 use Rattle.node_view.specs.Counts.{greatest_count}
 use Rattle.partition_lists.proofs.InOrderLaws.{from_equal}
 use Rattle.record_store.proofs.CopyLaws.{digest_cmp, same_digest}
@@ -152,9 +152,9 @@ pub of_newer : (P : Record → Type 0) (by : Policy) (rs : List Record) (c : Con
 of_newer P by [] c h = All-nil P
 of_newer P by (r ∷ rs) c h =
     let newer : Bool = is_newer_than_held by c r in
-    All-append P (record_if r newer) (newer_records by (content_joined_if by c r newer) rs) (one newer) (of_newer P by rs (content_joined_if by c r newer) (All-tail P r rs h))
+    All-append P (only_if r newer) (newer_records by (content_joined_if by c r newer) rs) (one newer) (of_newer P by rs (content_joined_if by c r newer) (All-tail P r rs h))
   where
-    one : (b : Bool) → All P (record_if r b)
+    one : (b : Bool) → All P (only_if r b)
     one true = All-cons P r [] (All-head P r rs h) (All-nil P)
     one false = All-nil P
 

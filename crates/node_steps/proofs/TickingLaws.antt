@@ -24,10 +24,11 @@ use Rattle.node_rules.specs.Facts.{Facts, list_at, view_key}
 use Rattle.node_rules.specs.Hearing.{Hearing, without_quiet}
 use Rattle.node_rules.specs.Here.{HasRows, Here, drops, hands, here, learns, lines_from, lines_here, part_lines, settles}
 use Rattle.node_rules.specs.Notes.{note, noted}
-use Rattle.node_rules.specs.Settling.{line_if, settling_due, settling_if}
+use Rattle.node_rules.specs.Settling.{settling_due, settling_if}
 use Rattle.node_rules.specs.Tick as tick
 use Rattle.node_rules.specs.Tick.{parts_in_order, progress}
 use Rattle.node_rules.proofs.SettlingLaws.{settled_apart}
+use Rattle.node_rules.specs.Tables.{only_if}
 use Rattle.node_view.specs.declared.here.Settling.{Settling}
 use Rattle.node_view.specs.declared.view.View.{View}
 use Rattle.node_view.specs.Fits.{AreNext, AreSettlings}
@@ -49,7 +50,7 @@ use Rattle.node_steps.proofs.TickLaws.{progress_alike, settling_alike, told_in_o
 
 -- ---- the lines of settling
 
-all_if : (P : Line → Type 0) (l : Line) (b : Bool) → P l → All P (line_if l b)
+all_if : (P : Line → Type 0) (l : Line) (b : Bool) → P l → All P (only_if l b)
 all_if P l true h = All-cons P l [] h (All-nil P)
 all_if P l false h = All-nil P
 
@@ -62,9 +63,9 @@ record HoldsOfLines (P : Line → Type 0) (me : ℕ) (key : ClusterKey) : Type 0
 
 all_here : (P : Line → Type 0) (me : ℕ) (key : ClusterKey) (p : ℕ) (h : Here) → HoldsOfLines P me key → All P (lines_here me key p h)
 all_here P me key p h each =
-    All-append P (line_if (line.Handed me key p) (hands h)) _ (all_if P (line.Handed me key p) (hands h) (each.handed p))
-    (All-append P (line_if (line.Settled me key p) (settles h)) _ (all_if P (line.Settled me key p) (settles h) (each.settled p))
-    (All-append P (line_if (line.Learn me key p) (learns h)) _ (all_if P (line.Learn me key p) (learns h) (each.learnt p))
+    All-append P (only_if (line.Handed me key p) (hands h)) _ (all_if P (line.Handed me key p) (hands h) (each.handed p))
+    (All-append P (only_if (line.Settled me key p) (settles h)) _ (all_if P (line.Settled me key p) (settles h) (each.settled p))
+    (All-append P (only_if (line.Learn me key p) (learns h)) _ (all_if P (line.Learn me key p) (learns h) (each.learnt p))
     (all_if P (line.Drop me key p) (drops h) (each.dropped p))))
 
 all_from_one : (P : Line → Type 0) (n p : ℕ) (f : Facts) → HoldsOfLines P f.me (view_key f) → All P (lines_from n p f)

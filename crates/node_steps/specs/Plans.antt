@@ -1,5 +1,5 @@
 -- What a planned step makes of the facts.
-use Rattle.std.specs.Prelude.{ℕ, Bool, true, false, if◌then◌else◌, List, [], ◌∷◌, Option, Some, None, option_map}
+use Rattle.std.specs.Prelude.{ℕ, Bool, true, if◌then◌else◌, List, [], Option, Some, None, option_map}
 use Rattle.wire_messages.specs.declared.message.Batch.{Batch}
 use Rattle.node_rules.specs.Agreement.{Agreement, seeing}
 use Rattle.node_rules.specs.ByParts.{exchanged_if, sending_all}
@@ -18,11 +18,6 @@ use Rattle.node_steps.specs.declared.planned.Planned.TheVariants as planned
 use Rattle.node_steps.specs.declared.planned.Ticked.{Ticked}
 
 -- ---- choices
-
--- the one where the test holds, and else none
-abbrev pub only_if : {X : Type 0} → X → Bool → List X
-only_if x true = x ∷ []
-only_if x false = []
 
 -- the first, and without it the second
 abbrev pub either : {X : Type 0} → Option X → Option X → Option X

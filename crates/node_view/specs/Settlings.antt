@@ -5,7 +5,7 @@ use Rattle.journal_lines.specs.declared.line.Line.{Line}
 use Rattle.journal_lines.specs.declared.line.Line.TheVariants as line
 use Rattle.node_rules.specs.Here as rules
 use Rattle.node_rules.specs.Here.{hands, settles, learns, drops}
-use Rattle.node_rules.specs.Settling.{line_if}
+use Rattle.node_rules.specs.Tables.{only_if}
 use Rattle.node_view.specs.declared.here.Here.{Here}
 use Rattle.node_view.specs.declared.here.Settling.{Settling}
 
@@ -52,10 +52,10 @@ settling_of p h = record {
 -- the lines of that
 abbrev pub lines_of_settling : ℕ → ClusterKey → Settling → List Line
 lines_of_settling me key s =
-    line_if (line.Handed me key s.partition) s.hands
-    ++ (line_if (line.Settled me key s.partition) s.settles
-    ++ (line_if (line.Learn me key s.partition) s.learns
-    ++ line_if (line.Drop me key s.partition) s.drops))
+    only_if (line.Handed me key s.partition) s.hands
+    ++ (only_if (line.Settled me key s.partition) s.settles
+    ++ (only_if (line.Learn me key s.partition) s.learns
+    ++ only_if (line.Drop me key s.partition) s.drops))
 
 -- the lines of what a tick does about partitions
 abbrev pub settling_lines : ℕ → ClusterKey → List Settling → List Line

@@ -17,12 +17,12 @@ use Rattle.node_rules.specs.Keys.{same_key}
 use Rattle.node_rules.specs.Messages as due
 use Rattle.node_rules.specs.Messages.{vote_effects, commit_effects, accept_effects, entry_effects_if, may_enter_view, unless_stale, table_if, map_table, due_propose, due_accept, due_refuse, due_commit, due_map_ask}
 use Rattle.node_rules.specs.Notes.{reached}
-use Rattle.node_rules.specs.Settling.{line_if}
 use Rattle.cluster_rules.specs.Marks.{Writes}
 use Rattle.cluster_laws.proofs.At.{and_right}
 use Rattle.key_laws.specs.Sound.{GoodList, ProposalStands, Proposed, Listed}
 use Rattle.wire_messages.specs.Keys.{IsKeyField, IsKeyOrNone}
 use Rattle.wire_messages.specs.declared.message.MapTable.{MapTable}
+use Rattle.node_rules.specs.Tables.{only_if}
 use Rattle.key_laws.proofs.DueViews.{view_known}
 use Rattle.key_laws.proofs.Wire.{read_accept, read_refuse, read_commit, read_table}
 use Rattle.run_laws.proofs.Reading.{Alike, ReadsWell}
@@ -61,7 +61,7 @@ propose_go {by} {factor} {z0} {z} {f} {clock} {from} {k} {ms} a read = go (key_l
     l : Listed z.chronicle.traced k ms
     l = a.listed k ms a.says.1
 
-    accepts : (b : Bool) → AreReadInRange (to_each (from ∷ []) (message.Accept k)) → NodeGo z f.me (record { lines = line_if (line.Promise f.me k) b; sends = to_each (from ∷ []) (message.Accept k) })
+    accepts : (b : Bool) → AreReadInRange (to_each (from ∷ []) (message.Accept k)) → NodeGo z f.me (record { lines = only_if (line.Promise f.me k) b; sends = to_each (from ∷ []) (message.Accept k) })
     accepts true r = record { due = ((a.owes, λ i. subst (λ (m : ℕ). IsDeclared z m) i (a.law_of.lists k ms k.principal a.says.1 (a.listed k ms a.says.1).good.led)), tt); sent = refl; sends = each_plain _ f.me (message.Accept k) (from ∷ []) refl (λ x. tt) (λ q. accept_reads k l.known.field) r; ends = promise_ends z0 z f.me k a.before a.elsewhere a.owes a.stays (subst (λ (g : Facts). Rests g) (sym a.is) a.rests) }
     accepts false r = record { due = tt; sent = refl; sends = each_plain z f.me (message.Accept k) (from ∷ []) refl (λ x. tt) (λ q. accept_reads k l.known.field) r; ends = ended_at a a.owes a.rests }
 

@@ -41,13 +41,14 @@ use Rattle.node_rules.specs.Notes as notes
 use Rattle.node_rules.specs.Notes.{noted, note, neighbours, after_ages, reached, in_view, opening_transaction}
 use Rattle.node_rules.specs.Requests.{due_request, asking, request_if, request_refusal}
 use Rattle.node_rules.specs.Resolving.{repl, resolving_want}
-use Rattle.node_rules.specs.Settling.{line_if, hand, settle, learn, drop, settling_due, settling_at, settling_from, settling_if}
+use Rattle.node_rules.specs.Settling.{hand, settle, learn, drop, settling_due, settling_at, settling_from, settling_if}
 use Rattle.node_rules.specs.Standing.{others, other_replicas, asked, knows_all_settled}
 use Rattle.node_rules.specs.Tick as tick
 use Rattle.node_rules.specs.Tick.{propose, is_candidate, state, progress_message, done_from, tick_if}
 use Rattle.node_rules.specs.Transactions.{Transaction, Write, transaction, answered, awaits_ack, awaits_answer, is_last_awaited}
 use Rattle.node_rules.proofs.NoteLaws.{noted-append}
 use Rattle.node_rules.proofs.TickParts.{alone_is, among_others_is}
+use Rattle.node_rules.specs.Tables.{only_if}
 use Rattle.cluster_rules.specs.NodeSteps as steps
 use Rattle.journal_readings.specs.Lines.{has_node}
 use Rattle.cluster_rules.proofs.OwnLines.{noted_me}
@@ -171,7 +172,7 @@ record Wide (f : Facts) : Type 0 where
 wide_of : {by : Policy} {factor : ℕ} {f : Facts} → LawOf by factor f → Wide f
 wide_of {by} {factor} {f} h = record { handed = h.handed_places; settled = h.settled_places }
 
-wide_if : (f : Facts) (l : Line) (b : Bool) → (Wide f → Wide (note None f l)) → Wide f → Wide (noted None f (line_if l b))
+wide_if : (f : Facts) (l : Line) (b : Bool) → (Wide f → Wide (note None f l)) → Wide f → Wide (noted None f (only_if l b))
 wide_if f l true n w = n w
 wide_if f l false n w = w
 

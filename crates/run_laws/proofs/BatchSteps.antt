@@ -19,12 +19,12 @@ use Rattle.node_rules.specs.Messages as due
 use Rattle.node_rules.specs.Messages.{merging, merging_all, batch_came}
 use Rattle.node_rules.specs.Notes as notes
 use Rattle.node_rules.specs.Notes.{note, noted, in_view}
-use Rattle.node_rules.specs.Settling.{line_if}
 use Rattle.cluster_rules.specs.Marks.{Writes}
 use Rattle.cluster_rules.specs.Network.{Network, posting_at}
 use Rattle.cluster_laws.specs.Licences.{IsAmong}
 use Rattle.cluster_laws.proofs.At.{some_same, no_some, digests}
 use Rattle.wire_messages.proofs.DecodingLaws.{what_is_read, read_back}
+use Rattle.node_rules.specs.Tables.{only_if}
 use Rattle.run_laws.proofs.Reading.{reads_itself}
 use Rattle.run_laws.specs.Fronts.{Front, world_of, facts_at, front_after}
 use Rattle.run_laws.specs.LineOk.{Came, IsDeclared}
@@ -122,8 +122,8 @@ merges_go n z f b from u (r ∷ rs) me is st o v k named came dec among = go (is
     }
 
     go : (q : Bool) → is_newer f.store.by r.1 (finite.get f.store.content r.0) ≡ q → MergesGo n z f rs → MergesGo n (front_after z (Writes (line.Merge n b.key r.0 r.1))) (notes.merged f b.key r.0 r.1) rs
-        → MergesLines n z f (r ∷ rs) (line_if (line.Merge f.me (view_key f) r.0 r.1) q ++ merging_all (noted None f (line_if (line.Merge f.me (view_key f) r.0 r.1) q)) rs)
-        (noted None f (line_if (line.Merge f.me (view_key f) r.0 r.1) q ++ merging_all (noted None f (line_if (line.Merge f.me (view_key f) r.0 r.1) q)) rs))
+        → MergesLines n z f (r ∷ rs) (only_if (line.Merge f.me (view_key f) r.0 r.1) q ++ merging_all (noted None f (only_if (line.Merge f.me (view_key f) r.0 r.1) q)) rs)
+        (noted None f (only_if (line.Merge f.me (view_key f) r.0 r.1) q ++ merging_all (noted None f (only_if (line.Merge f.me (view_key f) r.0 r.1) q)) rs))
     go true e old new = subst (λ (m : ℕ). MergesLines n z f (r ∷ rs) (line.Merge m (view_key f) r.0 r.1 ∷ merging_all (notes.merged f (view_key f) r.0 r.1) rs) (noted None (notes.merged f (view_key f) r.0 r.1) (merging_all (notes.merged f (view_key f) r.0 r.1) rs))) (sym me)
         (subst (λ (j : ClusterKey). MergesLines n z f (r ∷ rs) (line.Merge n j r.0 r.1 ∷ merging_all (notes.merged f j r.0 r.1) rs) (noted None (notes.merged f j r.0 r.1) (merging_all (notes.merged f j r.0 r.1) rs))) (sym named) (first new))
     go false e old new = record {

@@ -20,9 +20,8 @@ use Rattle.node_rules.specs.Messages as due
 use Rattle.node_rules.specs.Messages.{finishes, answer_state, state_came, merging, repl_came, merging_all, batch_came}
 use Rattle.node_rules.specs.Notes as notes
 use Rattle.node_rules.specs.Notes.{note, noted, reached, in_view}
-use Rattle.node_rules.specs.Settling.{line_if}
 use Rattle.node_rules.specs.Stamps.{with_number, numbers_at}
-use Rattle.node_rules.specs.Tables.{contains}
+use Rattle.node_rules.specs.Tables.{contains, only_if}
 use Rattle.node_rules.specs.Tick.{own_row_in}
 use Rattle.node_rules.specs.declared.member_row.MemberRow.{MemberRow}
 use Rattle.cluster_rules.specs.Marks.{Writes}
@@ -96,7 +95,7 @@ state_go {by} {factor} {z0} {z} {f} {clock} {from} {k} {wants} {row} a read = go
             by_flag true q = refl
             by_flag false q = differ (ap₂ (λ (x : Option ℕ) (y : Bool). is_none x && not y) (ap (λ (o : Option View). first_missing (with_row f.exchange.rows from row) (members_of o)) j ∙ none) q) i
 
-        over : (b : Bool) → finishes f (notes.row_came f from row true) ≡ b → NodeGo z f.me (record { lines = line_if (line.Exchanged f.me (view_key f)) b; sends = answer_state f from wants })
+        over : (b : Bool) → finishes f (notes.row_came f from row true) ≡ b → NodeGo z f.me (record { lines = only_if (line.Exchanged f.me (view_key f)) b; sends = answer_state f from wants })
         over false i = record {
           due = tt;
           sent = refl;
@@ -243,7 +242,7 @@ repl_go {by} {factor} {z0} {z} {f} {clock} {from} {k} {t} {nth} {d} {v} a read =
         }
 
         newer : (b : Bool) → is_newer f.store.by v (finite.get f.store.content d) ≡ b → z.owed ≡ owes (record { node = f.me; key = k; digest = d; version = v }) b
-            → NodeGo z f.me (record { lines = line_if (line.Merge f.me (view_key f) d v) b; sends = to_each (from ∷ []) (message.ReplAck k t) })
+            → NodeGo z f.me (record { lines = only_if (line.Merge f.me (view_key f) d v) b; sends = to_each (from ∷ []) (message.ReplAck k t) })
         newer true i o = subst (λ (j : ClusterKey). NodeGo z f.me (record { lines = line.Merge f.me j d v ∷ []; sends = to_each (from ∷ []) (message.ReplAck k t) })) (sym u.named) (by_merge o)
         newer false i o = record {
           due = tt;

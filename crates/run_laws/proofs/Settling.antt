@@ -11,8 +11,9 @@ use Rattle.node_rules.specs.Copies.{is_of}
 use Rattle.node_rules.specs.Exchange.{View, exchange_key, members_of}
 use Rattle.node_rules.specs.Facts.{Facts, list_at, view_key}
 use Rattle.node_rules.specs.Notes.{note, noted, dropped}
-use Rattle.node_rules.specs.Settling.{line_if, hand, settle, learn, drop, lines_then, settling_at, settling_from, settling_if, settling_due, may_hand, may_settle}
+use Rattle.node_rules.specs.Settling.{hand, settle, learn, drop, lines_then, settling_at, settling_from, settling_if, settling_due, may_hand, may_settle}
 use Rattle.node_rules.specs.Standing.{is_to_learn, is_to_drop, is_done}
+use Rattle.node_rules.specs.Tables.{only_if}
 use Rattle.cluster_laws.proofs.At.{number_same, number_here, and_left, and_right}
 use Rattle.run_laws.specs.Tied.{key_in, Among}
 use Rattle.run_laws.specs.Due.{Passes, SettleOk, Along, SettledOnly}
@@ -109,7 +110,7 @@ hand_goes : (v : View) (p : ℕ) → p < partition_count → GoesOn v (λ f. han
 unfolding GoesOn
 hand_goes v p lt f i = go (may_hand f (lists.list v.members p) p) refl
   where
-    go : (b : Bool) → may_hand f (lists.list v.members p) p ≡ b → Goes f (line_if (line.Handed f.me (view_key f) p) b)
+    go : (b : Bool) → may_hand f (lists.list v.members p) p ≡ b → Goes f (only_if (line.Handed f.me (view_key f) p) b)
     go true e = record { along = (passes v f _ p may_hand i refl lt e, tt); only = record { me = refl; factor = refl; agreement = refl; exchange = refl; transactions = refl; writes = refl; batches = refl; by = refl; content = λ d e. refl } }
     go false e = record { along = tt; only = only_itself f }
 
@@ -117,7 +118,7 @@ settle_goes : (v : View) (p : ℕ) → p < partition_count → GoesOn v (λ f. s
 unfolding GoesOn
 settle_goes v p lt f i = go (may_settle f (lists.list v.members p) p) refl
   where
-    go : (b : Bool) → may_settle f (lists.list v.members p) p ≡ b → Goes f (line_if (line.Settled f.me (view_key f) p) b)
+    go : (b : Bool) → may_settle f (lists.list v.members p) p ≡ b → Goes f (only_if (line.Settled f.me (view_key f) p) b)
     go true e = record { along = (passes v f _ p may_settle i refl lt e, tt); only = record { me = refl; factor = refl; agreement = refl; exchange = refl; transactions = refl; writes = refl; batches = refl; by = refl; content = λ d e. refl } }
     go false e = record { along = tt; only = only_itself f }
 
@@ -125,7 +126,7 @@ learn_goes : (v : View) (p : ℕ) → p < partition_count → GoesOn v (λ f. le
 unfolding GoesOn
 learn_goes v p lt f i = go (is_to_learn f (lists.list v.members p) p) refl
   where
-    go : (b : Bool) → is_to_learn f (lists.list v.members p) p ≡ b → Goes f (line_if (line.Learn f.me (view_key f) p) b)
+    go : (b : Bool) → is_to_learn f (lists.list v.members p) p ≡ b → Goes f (only_if (line.Learn f.me (view_key f) p) b)
     go true e = record { along = (passes v f _ p is_to_learn i refl lt e, tt); only = record { me = refl; factor = refl; agreement = refl; exchange = refl; transactions = refl; writes = refl; batches = refl; by = refl; content = λ d e. refl } }
     go false e = record { along = tt; only = only_itself f }
 
@@ -133,7 +134,7 @@ drop_goes : (v : View) (p : ℕ) → p < partition_count → GoesOn v (λ f. dro
 unfolding GoesOn
 drop_goes v p lt f i = go (is_to_drop f (lists.list v.members p) p) refl
   where
-    go : (b : Bool) → is_to_drop f (lists.list v.members p) p ≡ b → Goes f (line_if (line.Drop f.me (view_key f) p) b)
+    go : (b : Bool) → is_to_drop f (lists.list v.members p) p ≡ b → Goes f (only_if (line.Drop f.me (view_key f) p) b)
     go true e = record { along = (passes v f _ p is_to_drop i refl lt e, tt); only = drop_only f p (and_left (is_done f p) _ (and_right _ _ e)) }
     go false e = record { along = tt; only = only_itself f }
 

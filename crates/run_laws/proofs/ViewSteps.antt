@@ -20,9 +20,8 @@ use Rattle.node_rules.specs.Messages as due
 use Rattle.node_rules.specs.Messages.{finishes, answer_state, state_came, batch_ack_came, unless_spent, progress_effects_if, answer_progress, merging, repl_came, done_by, ack_of, repl_ack_came, ask_came, resolving_if, answered_by, answer_of, answer_effects_if}
 use Rattle.node_rules.specs.Notes as notes
 use Rattle.node_rules.specs.Notes.{note, reached, in_view}
-use Rattle.node_rules.specs.Settling.{line_if}
 use Rattle.node_rules.specs.Standing.{is_done, knows_all_settled}
-use Rattle.node_rules.specs.Tables.{changed_if}
+use Rattle.node_rules.specs.Tables.{changed_if, only_if}
 use Rattle.node_rules.specs.Tick.{done_from, progress_message}
 use Rattle.node_rules.specs.Transactions as transactions
 use Rattle.node_rules.specs.Transactions.{Transaction, Transactions, Write, transaction, awaits_ack, awaits_answer, is_last_awaited}
@@ -209,7 +208,7 @@ repl_ack_go {by} {factor} {z0} {z} {f} {clock} {from} {k} {t} a = go (in_view f 
         w : Now z (notes.write_acked f from t true)
         w = record { is = is; stays = a.stays; owes = a.owes }
 
-        last : (y : Transaction) → transaction f.transactions t ≡ Some y → awaits_ack y from ≡ true → (b : Bool) → is_last_awaited y from ≡ b → NodeGo z f.me (lines_only (line_if (line.Done f.me (view_key f) y.number) b))
+        last : (y : Transaction) → transaction f.transactions t ≡ Some y → awaits_ack y from ≡ true → (b : Bool) → is_last_awaited y from ≡ b → NodeGo z f.me (lines_only (only_if (line.Done f.me (view_key f) y.number) b))
         last y i h false j = nothing_go z f.me ends
         last y i h true j = let wrote : (x : Write) × (y.applied ≡ Some x) = some_is y.applied (and_left (is_some y.applied) _ h) in record {
           due = (

@@ -7,7 +7,8 @@ ghost use Rattle.node_rules.specs.Effects.{lines_only};
 ghost use Rattle.node_rules.specs.Messages.{due_repl, due_repl_ack};
 ghost use Rattle.node_rules.specs.Steps.{after_message, planning, unplanned};
 ghost use Rattle.node_rules.specs.Transactions as rules;
-ghost use Rattle.node_steps.specs.Plans.{after_ack, only_if};
+ghost use Rattle.node_steps.specs.Plans.{after_ack};
+ghost use Rattle.node_rules.specs.Tables.{only_if};
 ghost use Rattle.node_steps.specs.Spelled.{spelled};
 
 use crate::node::Node;

@@ -5,7 +5,7 @@ ghost use Rattle.node_rules.specs.Effects.{lines_only};
 ghost use Rattle.node_rules.specs.Keys.{same_key};
 ghost use Rattle.node_rules.specs.Notes.{after_ages};
 ghost use Rattle.node_rules.specs.Tick as tick;
-ghost use Rattle.node_steps.specs.Plans.{only_if};
+ghost use Rattle.node_rules.specs.Tables.{only_if};
 ghost use Rattle.node_steps.specs.Spelled.{then_effects};
 ghost use Rattle.node_steps.specs.Ticks.{EntersBy, IsProposed};
 

@@ -9,7 +9,7 @@ ghost use Rattle.wire_messages.specs.declared.message.Message.TheVariants as mes
 ghost use Rattle.wire_messages.specs.Proper.{IsProper};
 ghost use Rattle.record_store.specs.Store.{HoldsTheSame, room_at};
 ghost use Rattle.node_rules.specs.Effects.{lines_only, sends_only, to_one};
-ghost use Rattle.node_steps.specs.Plans.{only_if};
+ghost use Rattle.node_rules.specs.Tables.{only_if};
 ghost use Rattle.node_view.specs.Plans.{some_if};
 ghost use Rattle.node_steps.specs.Spelled.{then_effects, spelled};
 

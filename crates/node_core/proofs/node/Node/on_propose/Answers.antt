@@ -10,8 +10,8 @@ use Rattle.node_rules.specs.Effects.{lines_only}
 use Rattle.node_rules.specs.Keys.{same_key}
 use Rattle.node_rules.specs.Steps.{Planning, planning}
 use Rattle.node_rules.proofs.PartLaws.{propose_is}
+use Rattle.node_rules.specs.Tables.{only_if}
 use Rattle.node_steps.specs.declared.effects.Effects.{Effects}
-use Rattle.node_steps.specs.Plans.{only_if}
 use Rattle.node_steps.specs.Ranges.{HasRanges}
 use Rattle.node_steps.specs.Spelled.{vote_message, spelled, with_sends}
 use Rattle.node_core.proofs.HandlerLaws.{told_vote, vote_proper}

@@ -8,12 +8,13 @@ use Rattle.node_rules.specs.Facts.{Facts}
 use Rattle.node_rules.specs.Messages.{state_came}
 use Rattle.node_rules.specs.Notes.{in_view, row_came}
 use Rattle.node_rules.specs.Steps.{Planning, planning}
+use Rattle.node_rules.specs.Tables.{only_if}
 use Rattle.node_view.specs.declared.view.View.{View}
 use Rattle.node_view.specs.Views.{viewed_key}
 use Rattle.node_steps.specs.declared.effects.Effects.{Effects}
 use Rattle.node_steps.specs.Fits.{FitsPlanned}
 use Rattle.node_core.specs.Nodes.{node_facts, planning_of}
-use Rattle.node_steps.specs.Plans.{only_if, taken}
+use Rattle.node_steps.specs.Plans.{taken}
 use Rattle.node_steps.specs.Ranges.{HasRanges}
 use Rattle.node_steps.specs.Spelled.{then_effects, spelled}
 use Rattle.node_steps.specs.Viewing.{finishes_with}

@@ -4,7 +4,7 @@ use Rattle.journal_lines.specs.declared.line.Line.TheVariants as line
 use Rattle.node_rules.specs.Effects.{lines_only}
 use Rattle.node_rules.specs.Keys.{same_key}
 use Rattle.node_rules.specs.Steps.{Planning}
-use Rattle.node_steps.specs.Plans.{only_if}
+use Rattle.node_rules.specs.Tables.{only_if}
 use Rattle.node_steps.specs.Spelled.{spelled}
 use Rattle.node_core.proofs.node.Node.promise.Goals as goal
 
