@@ -12,12 +12,13 @@ use Rattle.cluster_types.specs.declared.cluster_key.ClusterKey.{ClusterKey}
 use Rattle.cluster_types.specs.declared.member.Member.{Member}
 use Rattle.cluster_types.specs.ClusterKeys as keys
 use Rattle.cluster_types.specs.Partitions.{partition_of}
+use Rattle.cluster_types.specs.ClusterKeys.{is_view_key}
 use Rattle.partition_lists.specs.Lists as lists
 use Rattle.journal_lines.specs.declared.line.Line.{Line}
 use Rattle.journal_lines.specs.declared.line.Line.TheVariants as line
 use Rattle.journal_readings.specs.Lines.{same_key, same_digest, lines_before, is_enter, is_exchanged, is_settled_line, is_done_line}
 use Rattle.journal_readings.specs.Contents.{content, content_step, join_all, joined_if}
-use Rattle.journal_readings.specs.Views.{view, view_step, some_key, is_key_of_view, is_in_view, members, master, first_of}
+use Rattle.journal_readings.specs.Views.{view, view_step, some_key, is_in_view, members, master, first_of}
 use Rattle.journal_readings.specs.Entries.{entry, applied_in, applied_in_step, fold_of}
 use Rattle.journal_readings.specs.Stamps.{entered_empty, is_empty_at_entry, is_empty_everywhere}
 use Rattle.journal_readings.specs.Settled.{is_settled, is_settled_by, is_open_write, has_open_write}
@@ -143,7 +144,7 @@ pub record IsQuiet (j : List Line) (l : Line) (k : ClusterKey) (d : List ℕ) : 
   pub contents : (by : Policy) (r : ℕ) (x : Option Version) → view r j ≡ Some k → content_step by r d x l ≡ x
 
 in_view : (j : List Line) (k : ClusterKey) (r : ℕ) → view r j ≡ Some k → is_in_view k r j ≡ true
-in_view j k r e = ap (is_key_of_view k) e ∙ same_key_itself k
+in_view j k r e = ap (λ (o : Option ClusterKey). is_view_key o k) e ∙ same_key_itself k
 
 turned : (a b c : Bool) → (a && (b || c)) ≡ false → (b && a) ≡ false
 turned true true c e = e

@@ -15,7 +15,7 @@ use Rattle.journal_lines.specs.declared.line.Line.TheVariants as line
 use Rattle.node_rules.specs.Keys.{same_key}
 use Rattle.node_rules.specs.Stamps as stamps
 use Rattle.journal_readings.specs.Messages.{Posting, Arrival, posted, posting_of, arrived, arrival, message_between}
-use Rattle.journal_readings.specs.Views.{is_key_of_view, is_in_view}
+use Rattle.journal_readings.specs.Views.{is_in_view}
 use Rattle.journal_readings.specs.Counts.{is_apply_in, repl_number, with_new_number, heard_numbers}
 use Rattle.journal_readings.proofs.StepLaws.{heard_numbers-more}
 use Rattle.cluster_laws.specs.Ground as ground
@@ -318,10 +318,6 @@ added false o xs ys h = h
 added true None xs ys h = h
 added true (Some x) xs ys h = one_number xs ys x h
 
-view_is : (k : ClusterKey) (o : Option ClusterKey) → is_key_of_view k o ≡ is_view_key o k
-view_is k None = refl
-view_is k (Some l) = refl
-
 between_is : (b : Bool) (k : ClusterKey) (p : ℕ) (m : Message) → option_and_then (repl_number k p) (cond b (Some m) None) ≡ cond b (repl_number k p m) None
 between_is true k p m = refl
 between_is false k p m = refl
@@ -337,7 +333,7 @@ came_tied G j w l vs h to from m e n k p = subst₂ SameNumbers (sym reading) (s
 
     reading : heard_numbers k n p (ground.view_master G k p) (j ++ l ∷ []) ≡ cond (is_view_key (w.node n).view k) (with_new_number (cond ((from == ground.view_master G k p) && (to == n)) (repl_number k p m) None) xs) xs
     reading = heard_numbers-more k n p (ground.view_master G k p) j l
-        ∙ ap₂ (λ (b : Bool) (o : Option ℕ). cond b (with_new_number o xs) xs) (ap (is_key_of_view k) (vs n) ∙ view_is k (w.node n).view)
+        ∙ ap₂ (λ (b : Bool) (o : Option ℕ). cond b (with_new_number o xs) xs) (ap (λ (o : Option ClusterKey). is_view_key o k) (vs n))
         (ap (λ (o : Option Arrival). option_and_then (repl_number k p) (option_and_then (message_between (ground.view_master G k p) n) o)) e ∙ between_is ((from == ground.view_master G k p) && (to == n)) k p m)
 
 -- no message arrives

@@ -5,13 +5,13 @@
 use Rattle.std.specs.Prelude.{ℕ, ◌==◌, nat_le, ◌&&◌, Bool, true, false, not, is_some, List, length, Option, Some, None}
 use Rattle.conflict_order.specs.declared.version.Version.{Version}
 use Rattle.cluster_types.specs.declared.cluster_key.ClusterKey.{ClusterKey}
+pub use Rattle.cluster_types.specs.ClusterKeys.{is_view_key}
 use Rattle.wire_messages.specs.declared.message.Batch.{Batch}
 use Rattle.wire_messages.specs.declared.message.Message.{Message}
 use Rattle.wire_messages.specs.declared.message.Message.TheVariants as message
 use Rattle.wire_messages.specs.Decoding.{message_of}
 use Rattle.journal_lines.specs.declared.line.Line.{Line}
 use Rattle.journal_lines.specs.declared.line.Line.TheVariants as line
-use Rattle.node_rules.specs.Keys.{same_key}
 use Rattle.node_rules.specs.Tables.{contains}
 use Rattle.cluster_laws.specs.Stay.{Running}
 use Rattle.cluster_laws.specs.Picture.{Packet, Picture}
@@ -49,11 +49,6 @@ pub data Effect : Type 0 where
       → (transaction : Running) → Effect
 
 -- ---- messages that came
-
--- whether that is the key of the view
-abbrev pub is_view_key : Option ClusterKey → ClusterKey → Bool
-is_view_key None k = false
-is_view_key (Some j) k = same_key j k
 
 -- the effect, where the test holds
 abbrev pub effect_if : Effect → Bool → Effect

@@ -1,8 +1,9 @@
 -- Which view a node is in, and who its members are.
-use Rattle.std.specs.Prelude.{ℕ, ◌==◌, Bool, false, if◌then◌else◌, List, [], ◌∷◌, fold, Option, Some, None, slice_index}
+use Rattle.std.specs.Prelude.{ℕ, ◌==◌, Bool, if◌then◌else◌, List, [], ◌∷◌, fold, Option, Some, None, slice_index}
 use Rattle.cluster_types.specs.declared.cluster_key.ClusterKey.{ClusterKey}
 use Rattle.cluster_types.specs.declared.member.Member.{Member}
 use Rattle.cluster_types.specs.ClusterKeys as keys
+use Rattle.cluster_types.specs.ClusterKeys.{is_view_key}
 use Rattle.partition_lists.specs.Lists as lists
 use Rattle.journal_lines.specs.declared.line.Line.{Line}
 use Rattle.journal_lines.specs.declared.line.Line.TheVariants as line
@@ -39,13 +40,9 @@ view_step n view _ = view
 unfoldable pub view : ℕ → List Line → Option ClusterKey
 view n lines = fold (view_step n) None lines
 
-abbrev pub is_key_of_view : ClusterKey → Option ClusterKey → Bool
-is_key_of_view k None = false
-is_key_of_view k (Some l) = same_key l k
-
 -- whether that is the node's view
 abbrev pub is_in_view : ClusterKey → ℕ → List Line → Bool
-is_in_view k n lines = is_key_of_view k (view n lines)
+is_in_view k n lines = is_view_key (view n lines) k
 
 -- ---- the members of a view
 
