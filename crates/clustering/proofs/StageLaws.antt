@@ -14,7 +14,6 @@ use Rattle.node_rules.specs.Copies.{is_nil}
 use Rattle.node_rules.specs.Exchange.{is_member}
 use Rattle.clustering.specs.declared.stage.Keys.{Keys}
 use Rattle.clustering.specs.declared.stage.Proposing.{Proposing}
-use Rattle.clustering.specs.declared.steps.Proposal.{Proposal}
 use Rattle.clustering.specs.Answers.{entered_or_sent, tick_answer}
 use Rattle.clustering.specs.Parts.{agreeing_with, agreeing_if_alone, answer_if_alone}
 use Rattle.clustering.specs.Stages.{IsProposing, agreement_with}

@@ -5,8 +5,8 @@ use Rattle.cluster_types.specs.declared.member.Member.{Member}
 use Rattle.node_rules.specs.Agreement as rules
 use Rattle.node_rules.specs.Agreement.{Agreement, refuses, proposes, is_accepted_with, may_enter, next_key, enters_alone, still_proposing, ticking}
 use Rattle.node_rules.specs.Exchange.{is_member}
-use Rattle.clustering.specs.declared.steps.Proposal.{Proposal}
-use Rattle.clustering.specs.declared.steps.Proposal.TheVariants as proposal
+use Rattle.clustering.specs.declared.steps.ProposalStep.{ProposalStep}
+use Rattle.clustering.specs.declared.steps.ProposalStep.TheVariants as proposal
 use Rattle.clustering.specs.declared.steps.Vote.{Vote}
 use Rattle.clustering.specs.declared.steps.Vote.TheVariants as vote
 use Rattle.clustering.specs.declared.steps.AcceptStep.{AcceptStep}
@@ -17,17 +17,17 @@ use Rattle.clustering.specs.declared.steps.CommitStep.{CommitStep}
 use Rattle.clustering.specs.declared.steps.CommitStep.TheVariants as commit
 
 -- a proposal is sent to the members that haven't accepted it
-abbrev pub sent_of : Option rules.Proposal → Proposal
+abbrev pub sent_of : Option rules.Proposal → ProposalStep
 sent_of None = proposal.Nothing
 sent_of (Some p) = proposal.Send p.key p.members p.missing
 
 -- the view is entered where the test holds, and else the proposal is sent, if there is one
-abbrev pub entered_or_sent : Bool → ClusterKey → List Member → Option rules.Proposal → Proposal
+abbrev pub entered_or_sent : Bool → ClusterKey → List Member → Option rules.Proposal → ProposalStep
 entered_or_sent true key set p = proposal.Enter key set
 entered_or_sent false key set p = sent_of p
 
 -- a tick: a new proposal without other members is entered, and a proposal that stands afterwards is sent
-abbrev pub tick_answer : ℕ → Agreement → List Member → Bool → Proposal
+abbrev pub tick_answer : ℕ → Agreement → List Member → Bool → ProposalStep
 tick_answer me a set candidate =
     entered_or_sent (enters_alone me (still_proposing a set) set candidate) (next_key me a) set
     (ticking me a set candidate).proposal

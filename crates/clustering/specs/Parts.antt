@@ -6,7 +6,7 @@ use Rattle.node_rules.specs.Agreement.{Agreement, agreement_entered, entering_if
 use Rattle.node_rules.specs.Copies.{is_nil}
 use Rattle.clustering.specs.declared.stage.Keys.{Keys}
 use Rattle.clustering.specs.declared.stage.Proposing.{Proposing}
-use Rattle.clustering.specs.declared.steps.Proposal.{Proposal}
+use Rattle.clustering.specs.declared.steps.ProposalStep.{ProposalStep}
 use Rattle.clustering.specs.Agreeing.{Agreeing}
 use Rattle.clustering.specs.Answers.{entered_or_sent}
 use Rattle.clustering.specs.Stages.{agreement_with, stage_proposal}
@@ -25,7 +25,7 @@ agreeing_if_alone k set to =
     agreeing_with k (proposing_to k.me (agreement_with k None) k.promised set to)
 
 -- what is said of that
-abbrev pub answer_if_alone : Keys → List Member → List ℕ → Proposal
+abbrev pub answer_if_alone : Keys → List Member → List ℕ → ProposalStep
 answer_if_alone k set to =
     entered_or_sent (is_nil to) k.promised set (Some (rules.proposal_of k.me k.promised set))
 

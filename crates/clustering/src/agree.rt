@@ -12,7 +12,7 @@ ghost use Rattle.clustering.specs.Parts.{agreeing_with, agreeing_if_accepted, ag
 ghost use Rattle.clustering.specs.Stages.{AreKeys, IsPromised, IsProposing, IsStage, agreement_at, agreement_with, keys_of, stage_proposal};
 
 use crate::stage::{Entered, Keys, Proposing, Stage};
-use crate::steps::{AcceptStep, CommitStep, Proposal, RefuseStep, Vote};
+use crate::steps::{AcceptStep, CommitStep, ProposalStep, RefuseStep, Vote};
 use cluster_types::{ClusterKey, Members, NodeId};
 use std::marker::Model;
 
@@ -96,7 +96,7 @@ impl Agree {
     /// A tick at which the neighbours, the node among them, are these, and the node is a candidate
     /// or not. A proposal of other members is given up. A candidate that then proposes nothing
     /// proposes them, where a round is left for that.
-    pub fn on_tick(self, set: Members, candidate: bool) -> (Agree, Proposal)
+    pub fn on_tick(self, set: Members, candidate: bool) -> (Agree, ProposalStep)
         requires { Contains (ids_of set) self.me }
         ensures agree { result.0
             ≡ with_agreement self (ticking self.me self.agreement set candidate) }
@@ -168,7 +168,7 @@ impl Agree {
 }
 
 /// A proposal of just these members stands, and any other is given up.
-fn tick(stage: &Stage, set: &Members, candidate: bool) -> (Agree, Proposal)
+fn tick(stage: &Stage, set: &Members, candidate: bool) -> (Agree, ProposalStep)
     requires stage { IsStage stage.now }
     requires member { Contains (ids_of set.now) (keys_of stage.now).me }
     ensures agree { let a = agreement_at stage.now in
@@ -187,10 +187,10 @@ fn tick(stage: &Stage, set: &Members, candidate: bool) -> (Agree, Proposal)
 }
 
 /// What is to be sent of a proposal.
-fn send(proposing: &Proposing) -> Proposal
+fn send(proposing: &Proposing) -> ProposalStep
     ensures { result ≡ sent_of (Some (stage_proposal proposing.now)) }
 {
-    Proposal::Send {
+    ProposalStep::Send {
         key: proposing.keys.promised,
         members: proposing.members,
         to: proposing.missing,
@@ -222,7 +222,7 @@ fn enter(keys: &Keys) -> Agree
 }
 
 /// A candidate without a proposal proposes these members, where a round is left for that.
-fn propose_if(candidate: bool, keys: &Keys, set: &Members) -> (Agree, Proposal)
+fn propose_if(candidate: bool, keys: &Keys, set: &Members) -> (Agree, ProposalStep)
     requires keys { AreKeys keys.now.promised keys.now.last }
     requires member { Contains (ids_of set.now) keys.now.me }
     ensures agree { result.0 ≡ agreeing_with keys.now
@@ -234,14 +234,14 @@ fn propose_if(candidate: bool, keys: &Keys, set: &Members) -> (Agree, Proposal)
         Some(key) if candidate => propose(&keys.promising(key), set),
         _ => {
             let stage = keys.at_rest();
-            (Agree { stage }, Proposal::Nothing)
+            (Agree { stage }, ProposalStep::Nothing)
         }
     }
 }
 
 /// The node proposes these members under the key that it has just promised, or enters their view
 /// where there are no others.
-fn propose(keys: &Keys, set: &Members) -> (Agree, Proposal)
+fn propose(keys: &Keys, set: &Members) -> (Agree, ProposalStep)
     requires promised { IsPromised keys.now }
     requires led { keys.now.promised.principal ≡ keys.now.me }
     requires member { Contains (ids_of set.now) keys.now.me }
@@ -254,7 +254,7 @@ fn propose(keys: &Keys, set: &Members) -> (Agree, Proposal)
     let members = *set;
     let proposing = Proposing::of(keys, set);
     if proposing.missing.is_empty() {
-        return (enter(keys), Proposal::Enter { key, members });
+        return (enter(keys), ProposalStep::Enter { key, members });
     }
     let answer = send(&proposing);
     let stage = Stage::Proposing(proposing);

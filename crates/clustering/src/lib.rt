@@ -10,4 +10,4 @@ mod stage;
 pub mod steps;
 
 pub use agree::Agree;
-pub use steps::{AcceptStep, CommitStep, Proposal, RefuseStep, Vote};
+pub use steps::{AcceptStep, CommitStep, ProposalStep, RefuseStep, Vote};

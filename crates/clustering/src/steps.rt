@@ -3,7 +3,7 @@ use cluster_types::{ClusterKey, Members, NodeList};
 
 /// What a tick says of the proposal.
 #[derive(Clone, Copy, Debug, PartialEq)]
-pub enum Proposal {
+pub enum ProposalStep {
     /// There is none.
     Nothing,
     /// It is to be sent to the members that haven't accepted it, in member order.

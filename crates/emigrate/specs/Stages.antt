@@ -4,17 +4,17 @@ use Rattle.wire_messages.specs.declared.message.Batch.{Batch}
 use Rattle.node_rules.specs.Batches.{Target}
 use Rattle.emigrate.specs.declared.target.AfterAck.{AfterAck}
 use Rattle.emigrate.specs.declared.target.AfterAck.TheVariants as after
-use Rattle.emigrate.specs.declared.target.Target.{Target as Stage}
-use Rattle.emigrate.specs.declared.target.Target.TheVariants as stage
+use Rattle.emigrate.specs.declared.target.TargetStage.{TargetStage}
+use Rattle.emigrate.specs.declared.target.TargetStage.TheVariants as stage
 
 -- the digests that are pending
-abbrev pub pending_in : Stage → List (List ℕ)
+abbrev pub pending_in : TargetStage → List (List ℕ)
 pending_in (stage.Ready pending) = pending
 pending_in (stage.Sent awaiting) = awaiting.pending
 pending_in (stage.Finished done) = []
 
 -- the batch that is out
-abbrev pub out_in : Stage → Option Batch
+abbrev pub out_in : TargetStage → Option Batch
 out_in (stage.Ready pending) = None
 out_in (stage.Sent awaiting) = Some awaiting.batch
 out_in (stage.Finished done) = None
@@ -25,7 +25,7 @@ pending_after (after.Ready pending) = pending
 pending_after (after.Finished done) = []
 
 -- the member's target in that stage, with so many batches that were sent
-abbrev pub target_seen : ℕ → ℕ → Stage → Target
+abbrev pub target_seen : ℕ → ℕ → TargetStage → Target
 target_seen node batches s = record {
   node = node;
   pending = pending_in s;

@@ -12,7 +12,7 @@ use crate::collect::outgoing_to;
 use crate::counts::Counts;
 use crate::outgoing::Outgoing;
 use crate::permit::DropPermit;
-use crate::target::Target;
+use crate::target::TargetStage;
 use cluster_types::{ClusterKey, MapView, Members, NoMemory, NodeId, PartitionId, Row4096};
 use progress::SettledBit;
 use record_store::RecordStore;
@@ -145,7 +145,7 @@ impl Emigration {
     }
 
     /// How far it is with the member; `None` where the node is no other member.
-    pub fn target(&self, to: NodeId) -> Option<&Target>
+    pub fn target(&self, to: NodeId) -> Option<&TargetStage>
         ensures pending { option_map (λ t. pending_in t.now) result
             ≡ option_map (λ t. t.pending) (target self.now.targets to) }
         ensures out { option_map (λ t. out_in t.now) result

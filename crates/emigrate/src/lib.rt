@@ -12,4 +12,4 @@ mod target;
 pub use cluster_types::NoMemory;
 pub use emigration::{AckStep, Emigration};
 pub use permit::{DropPermit, drop_copy};
-pub use target::{AfterAck, BATCH_LIMIT, Finished, Ready, Sent, Target};
+pub use target::{AfterAck, BATCH_LIMIT, Finished, Ready, Sent, TargetStage};

@@ -8,11 +8,11 @@ ghost use Rattle.node_rules.specs.Batches.{acked_out, batch_limit, has_number, n
 ghost use Rattle.node_rules.specs.Copies.{is_of};
 ghost use Rattle.emigrate.specs.Going.{AreRising, IsNext, batch_digests};
 ghost use Rattle.emigrate.specs.Stages.{out_in, pending_in, target_seen};
-ghost use Rattle.emigrate.specs.declared.target.Target.TheVariants as stage;
+ghost use Rattle.emigrate.specs.declared.target.TargetStage.TheVariants as stage;
 
 use crate::counts::Counts;
 use crate::emigration::AckStep;
-use crate::target::{Finished, Sent, Target, copy_of, new_batch, target_of};
+use crate::target::{Finished, Sent, TargetStage, copy_of, new_batch, target_of};
 use cluster_types::{ClusterKey, Digest, NoMemory, NodeId};
 use record_store::RecordStore;
 use std::alloc::Global;
@@ -26,7 +26,7 @@ use wire_messages::Batch;
 pub(crate) struct Outgoing {
     node: NodeId,
     batches: u32,
-    target: Target,
+    target: TargetStage,
 }
 
 impl Model for Outgoing {
@@ -59,7 +59,7 @@ impl Outgoing {
     }
 
     /// How far it is with the member.
-    pub(crate) fn target(&self) -> &Target
+    pub(crate) fn target(&self) -> &TargetStage
         ensures pending { pending_in result.now ≡ self.now.pending }
         ensures out { out_in result.now ≡ self.now.out }
     {
@@ -71,7 +71,7 @@ impl Outgoing {
         ensures { option_copied result ≡ self.now.out }
     {
         match &self.target {
-            Target::Sent(sent) => Some(sent.batch()),
+            TargetStage::Sent(sent) => Some(sent.batch()),
             _ => None,
         }
     }
@@ -90,9 +90,9 @@ impl Outgoing {
         ensures next { IfOk result (λ b. IfSome b (IsNext key self.now)) }
     {
         match &self.target {
-            Target::Finished(_) => Ok(None),
-            Target::Sent(sent) => Ok(Some(copy_of(alloc, sent.batch())?)),
-            Target::Ready(ready) => {
+            TargetStage::Finished(_) => Ok(None),
+            TargetStage::Sent(sent) => Ok(Some(copy_of(alloc, sent.batch())?)),
+            TargetStage::Ready(ready) => {
                 let number = self.batches + 1;
                 Ok(Some(new_batch(alloc, store, key, number, ready.pending())?))
             }
@@ -123,7 +123,7 @@ impl Outgoing {
             ≡ slice_index counts.old p + count_by (is_of p) self.new.pending }
     {
         match take_stage(&mut self.target) {
-            Target::Sent(sent) => {
+            TargetStage::Sent(sent) => {
                 let (target, step) = acked(sent, number, counts);
                 self.target = target;
                 step
@@ -137,14 +137,14 @@ impl Outgoing {
 }
 
 /// The target, in whose place a finished one is left.
-fn take_stage(target: &mut Target) -> Target
+fn take_stage(target: &mut TargetStage) -> TargetStage
     ensures { result ≡ target.old }
 {
-    mem::replace(target, Target::Finished(Finished))
+    mem::replace(target, TargetStage::Finished(Finished))
 }
 
 /// The target after the batch, which is one that may go to it next, went to it.
-fn sent(target: Target, batch: Batch) -> Target
+fn sent(target: TargetStage, batch: Batch) -> TargetStage
     requires out { (o : Batch) → out_in target ≡ Some o → batch ≡ o }
     requires some { out_in target ≡ None → pending_in target ≢ [] }
     requires digests { out_in target ≡ None
@@ -153,15 +153,15 @@ fn sent(target: Target, batch: Batch) -> Target
     ensures out { out_in result ≡ Some batch }
 {
     match target {
-        Target::Ready(ready) => Target::Sent(ready.sent(batch)),
-        Target::Sent(sent) => Target::Sent(sent.sent(batch)),
-        Target::Finished(_) => unreachable!(),
+        TargetStage::Ready(ready) => TargetStage::Sent(ready.sent(batch)),
+        TargetStage::Sent(sent) => TargetStage::Sent(sent.sent(batch)),
+        TargetStage::Finished(_) => unreachable!(),
     }
 }
 
 /// The target after the acknowledgement of the batch of that number, whose digests are then counted
 /// no more, and what became of it.
-fn acked(sent: Sent, number: u32, counts: &mut Counts) -> (Target, AckStep)
+fn acked(sent: Sent, number: u32, counts: &mut Counts) -> (TargetStage, AckStep)
     requires { (p : ℕ) → p < partition_count
         → count_by (is_of p) sent.pending ≤ slice_index counts.old p }
     ensures target { (n b : ℕ)
@@ -177,7 +177,7 @@ fn acked(sent: Sent, number: u32, counts: &mut Counts) -> (Target, AckStep)
         counts.remove_all(sent.batch());
     }
     match sent.acked(number) {
-        Ok(after) => (Target::from(after), AckStep::Taken),
-        Err(sent) => (Target::Sent(sent), AckStep::Spent),
+        Ok(after) => (TargetStage::from(after), AckStep::Taken),
+        Err(sent) => (TargetStage::Sent(sent), AckStep::Spent),
     }
 }

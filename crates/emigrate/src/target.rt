@@ -56,7 +56,7 @@ pub struct Finished;
 
 /// How far it is with the member.
 #[derive(Debug, Drop)]
-pub enum Target {
+pub enum TargetStage {
     Ready(Ready),
     Sent(Sent),
     Finished(Finished),
@@ -69,17 +69,17 @@ pub enum AfterAck {
     Finished(Finished),
 }
 
-impl From<AfterAck> for Target {
+impl From<AfterAck> for TargetStage {
     ghost use Rattle.std.specs.Prelude.{◌≡◌, None};
     ghost use Rattle.emigrate.specs.Stages.{out_in, pending_after, pending_in};
 
     ghost from_gives = { λ after target.
         (pending_in target ≡ pending_after after) × (out_in target ≡ None) };
 
-    fn from(after: AfterAck) -> Target {
+    fn from(after: AfterAck) -> TargetStage {
         match after {
-            AfterAck::Ready(ready) => Target::Ready(ready),
-            AfterAck::Finished(finished) => Target::Finished(finished),
+            AfterAck::Ready(ready) => TargetStage::Ready(ready),
+            AfterAck::Finished(finished) => TargetStage::Finished(finished),
         }
     }
 }
@@ -155,12 +155,12 @@ impl Sent {
 }
 
 /// The target to which these digests, in strictly rising order, are pending.
-pub(crate) fn target_of(pending: VecDeque<Digest>) -> Target
+pub(crate) fn target_of(pending: VecDeque<Digest>) -> TargetStage
     requires { AreRising pending.items }
     ensures pending { pending_in result ≡ pending.items }
     ensures out { out_in result ≡ None }
 {
-    Target::from(after_ack(pending))
+    TargetStage::from(after_ack(pending))
 }
 
 /// The batch with the records of the least digests that are pending, as the store holds them.

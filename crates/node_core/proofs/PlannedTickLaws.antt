@@ -12,7 +12,7 @@ use Rattle.cluster_types.specs.declared.member.Role.{Role}
 use Rattle.cluster_types.specs.Partitions.{partition_count}
 use Rattle.clustering.specs.Agreeing.{Agreeing, with_agreement}
 use Rattle.clustering.specs.Answers.{entered_or_sent, sent_of, tick_answer}
-use Rattle.clustering.specs.declared.steps.Proposal as answers
+use Rattle.clustering.specs.declared.steps.ProposalStep as answers
 use Rattle.emigrate.specs.Going.{AreHeld}
 use Rattle.heartbeat.specs.Adjacent.{Adjacent}
 use Rattle.journal_lines.specs.declared.line.Line.TheVariants as line
@@ -62,7 +62,7 @@ use Rattle.node_steps.proofs.StepRanges.{due_batches_fit, sent_ranges, settled_r
 use Rattle.node_steps.proofs.TickingLaws.{parts_apart, settled_apart_from}
 
 -- a tick of the node as it is planned
-pub record IsTicking (f : Facts) (hearing : Adjacent) (agree : Agreeing) (answer : answers.Proposal) (entered : Option (Box View)) : Type 0 where
+pub record IsTicking (f : Facts) (hearing : Adjacent) (agree : Agreeing) (answer : answers.ProposalStep) (entered : Option (Box View)) : Type 0 where
   pub heard : hearing ≡ record { me = f.me; role = f.role; hearing = ticked f.me f.role f.hearing }
   pub agrees : agree.me ≡ f.me
   pub proposed : IsProposed (after_ages f) agree answer
@@ -110,7 +110,7 @@ enters_by f a entered true o is onward h =
 still : (f : Facts) → still_proposing (after_ages f).agreement (neighbours (after_ages f)) ≡ (after_ages f).agreement
 still f = still_twice f.agreement (neighbours (after_ages f))
 
-pub how_enters : (f : Facts) (hearing : Adjacent) (agree : Agreeing) (answer : answers.Proposal) (entered : Option (Box View))
+pub how_enters : (f : Facts) (hearing : Adjacent) (agree : Agreeing) (answer : answers.ProposalStep) (entered : Option (Box View))
     → IsTicking f hearing agree answer entered → Enters (after_ages f) agree.agreement entered
 how_enters f hearing agree answer entered h =
     let g : Facts = after_ages f in
@@ -118,7 +118,7 @@ how_enters f hearing agree answer entered h =
     let b : Bool = is_candidate g in
     enters_by g agree.agreement entered (alone g) (proposing_if g.me g.agreement set (proposes_anew g.agreement b)).proposal refl
     (h.proposed.agreement ∙ ap (λ (a : Agreement). proposing_if g.me a set (proposes_anew a b)) (still f))
-    (subst (λ (x : answers.Proposal). EntersBy g x entered)
+    (subst (λ (x : answers.ProposalStep). EntersBy g x entered)
     (h.proposed.answered ∙ ap (λ (a : Agreement). entered_or_sent (enters_alone g.me a set b) (next_key g.me g.agreement) set (proposing_if g.me a set (proposes_anew a b)).proposal) (still f))
     h.enters)
 
@@ -144,7 +144,7 @@ entered_facts f hearing agree v heard onward view =
     ∙ agreed_alike h (agreement.agreement_entered h.agreement key) (view_at_entry g key (neighbours g)) v.value view.alike
     ∙ entered_is h key (neighbours g) (among_itself g)
 
-pub later_are : (f : Facts) (hearing : Adjacent) (agree : Agreeing) (answer : answers.Proposal) (entered : Option (Box View))
+pub later_are : (f : Facts) (hearing : Adjacent) (agree : Agreeing) (answer : answers.ProposalStep) (entered : Option (Box View))
     → IsTicking f hearing agree answer entered → proposed_facts f ≡ record (agreed f hearing agree entered) { agreement = (proposed_facts f).agreement }
 later_are f hearing agree answer entered h = go (how_enters f hearing agree answer entered h)
   where
@@ -208,7 +208,7 @@ round_for false y z w e = cc
 
 -- ---- the facts keep their ranges
 
-pub later_fit : (f : Facts) (hearing : Adjacent) (agree : Agreeing) (answer : answers.Proposal) (entered : Option (Box View))
+pub later_fit : (f : Facts) (hearing : Adjacent) (agree : Agreeing) (answer : answers.ProposalStep) (entered : Option (Box View))
     → IsTicking f hearing agree answer entered → HasRanges f → HasRanges (agreed f hearing agree entered)
 later_fit f hearing agree answer entered h r = go (how_enters f hearing agree answer entered h)
   where
@@ -228,7 +228,7 @@ later_fit f hearing agree answer entered h r = go (how_enters f hearing agree an
         (subst HasRanges (sym (agreed_alike heard agree.agreement (view_at_entry heard key set) v.value view.alike))
         (ranges_entered heard agree.agreement key set (ranges_agreed f hearing.hearing f.agreement r (keys_of f r)) keys k))
 
-pub later_count : (f : Facts) (hearing : Adjacent) (agree : Agreeing) (answer : answers.Proposal) (entered : Option (Box View))
+pub later_count : (f : Facts) (hearing : Adjacent) (agree : Agreeing) (answer : answers.ProposalStep) (entered : Option (Box View))
     → IsTicking f hearing agree answer entered → HaveNumbers f → HaveNumbers (agreed f hearing agree entered)
 later_count f hearing agree answer entered h n = go (how_enters f hearing agree answer entered h)
   where
@@ -254,7 +254,7 @@ pub data StandsIn (f : Facts) : Type 0 where
 abbrev pub HoldsPending : Facts → Type 0
 HoldsPending f = AreHeld f.store.content f.batches
 
-later_held : (f : Facts) (hearing : Adjacent) (agree : Agreeing) (answer : answers.Proposal) (entered : Option (Box View))
+later_held : (f : Facts) (hearing : Adjacent) (agree : Agreeing) (answer : answers.ProposalStep) (entered : Option (Box View))
     → IsTicking f hearing agree answer entered → HoldsPending f → HoldsPending (agreed f hearing agree entered)
 later_held f hearing agree answer entered h held = go (how_enters f hearing agree answer entered h)
   where
@@ -271,7 +271,7 @@ later_held f hearing agree answer entered h held = go (how_enters f hearing agre
         subst (λ (o : Option (Box View)). HoldsPending (agreed f hearing agree o)) (sym some)
         (subst HoldsPending (sym (agreed_alike heard agree.agreement (view_at_entry heard key set) v.value view.alike)) (first heard key set (is_single set)))
 
-later_stands : (f : Facts) (hearing : Adjacent) (agree : Agreeing) (answer : answers.Proposal) (entered : Option (Box View))
+later_stands : (f : Facts) (hearing : Adjacent) (agree : Agreeing) (answer : answers.ProposalStep) (entered : Option (Box View))
     → IsTicking f hearing agree answer entered → StandsIn f → StandsIn (agreed f hearing agree entered)
 later_stands f hearing agree answer entered h stands = go (how_enters f hearing agree answer entered h)
   where
@@ -292,7 +292,7 @@ later_stands f hearing agree answer entered h stands = go (how_enters f hearing 
 
 -- ---- the plan fits
 
-pub entered_fits : (f : Facts) (hearing : Adjacent) (agree : Agreeing) (answer : answers.Proposal) (entered : Option (Box View))
+pub entered_fits : (f : Facts) (hearing : Adjacent) (agree : Agreeing) (answer : answers.ProposalStep) (entered : Option (Box View))
     → IsTicking f hearing agree answer entered → FitsAgreed f agree entered
 entered_fits f hearing agree answer entered h = record { agree_of = h.agrees; view = go (how_enters f hearing agree answer entered h) }
   where
@@ -312,7 +312,7 @@ planned_facts : (f : Facts) (hearing : Adjacent) (agree : Agreeing) (entered : O
 planned_facts f hearing agree entered t heard from =
     ap₂ (λ (x : Adjacent) (y : Agreeing). agreed f x y t.entered) (sym heard) from.agreed_on ∙ ap (λ (o : Option (Box View)). agreed f hearing agree o) from.view
 
-pub tick_fits : (f : Facts) (hearing : Adjacent) (agree : Agreeing) (answer : answers.Proposal) (entered : Option (Box View)) (t : Ticked)
+pub tick_fits : (f : Facts) (hearing : Adjacent) (agree : Agreeing) (answer : answers.ProposalStep) (entered : Option (Box View)) (t : Ticked)
     → IsTicking f hearing agree answer entered → TicksFrom f hearing agree entered t → HasRanges f → FitsTick f t
 tick_fits f hearing agree answer entered t h from r =
     let same : ticked_facts f t ≡ agreed f hearing agree entered = planned_facts f hearing agree entered t h.heard from in
@@ -350,7 +350,7 @@ settled_agreement f (s ∷ ss) =
     settled_agreement (settled_at f s) ss ∙ kept_all (λ (g : Facts). g.agreement) f s (λ g. refl) (λ g. refl) (λ g. refl) (λ g. refl)
 
 -- what the plan changes is what the tick does
-pub ticked_is : (f : Facts) (hearing : Adjacent) (agree : Agreeing) (answer : answers.Proposal) (entered : Option (Box View)) (t : Ticked)
+pub ticked_is : (f : Facts) (hearing : Adjacent) (agree : Agreeing) (answer : answers.ProposalStep) (entered : Option (Box View)) (t : Ticked)
     → f.up ≡ true → IsTicking f hearing agree answer entered → TicksFrom f hearing agree entered t → HasRanges f
     → plans.tick_taken f t ≡ after_tick f
 ticked_is f hearing agree answer entered t up h from r =
@@ -376,7 +376,7 @@ ticked_is f hearing agree answer entered t up h from r =
 
 -- ---- what is told
 
-pub tick_told : (f : Facts) (hearing : Adjacent) (agree : Agreeing) (answer : answers.Proposal) (entered : Option (Box View))
+pub tick_told : (f : Facts) (hearing : Adjacent) (agree : Agreeing) (answer : answers.ProposalStep) (entered : Option (Box View))
     → f.up ≡ true → IsTicking f hearing agree answer entered → HasRanges f
     → then_effects (then_effects (then_effects (record { lines = line.Tick f.me ∷ []; sends = [] }) (tick.beat (after_ages f))) (propose (after_ages f))) (parts_in_order (later_parts partition_count) (agreed f hearing agree entered))
     ≡ spelled (due_tick f)
@@ -413,7 +413,7 @@ batches_fit f (StandsIn.inside some) held numbers r = due_batches_fit f some hel
 batches_fit f (StandsIn.outside is) held numbers r =
     subst (λ (ts : Targets). All (λ b. IsBatch b.1) (batches_due (view_key f) f.store.content ts)) (ap (λ (g : Facts). g.batches) is) (All-nil (λ b. IsBatch b.1))
 
-pub taken_fits : (f : Facts) (hearing : Adjacent) (agree : Agreeing) (answer : answers.Proposal) (entered : Option (Box View)) (t : Ticked)
+pub taken_fits : (f : Facts) (hearing : Adjacent) (agree : Agreeing) (answer : answers.ProposalStep) (entered : Option (Box View)) (t : Ticked)
     → IsTicking f hearing agree answer entered → TicksFrom f hearing agree entered t → StandsIn f → HoldsPending f → HaveNumbers f → HasRanges f
     → HasRanges (plans.tick_taken f t)
 taken_fits f hearing agree answer entered t h from stands held numbers r =
@@ -434,7 +434,7 @@ abbrev pub heard_as : ℕ → Role → Hearing → Adjacent
 heard_as me role hearing = record { me = me; role = role; hearing = hearing }
 
 -- what the agreement says is what the rules say
-pub proposed_so : (f : Facts) (x y : Agreeing) (answer : answers.Proposal) (set : List Member) (candidate : Bool) → x.me ≡ f.me → x.agreement ≡ f.agreement
+pub proposed_so : (f : Facts) (x y : Agreeing) (answer : answers.ProposalStep) (set : List Member) (candidate : Bool) → x.me ≡ f.me → x.agreement ≡ f.agreement
     → set ≡ neighbours (after_ages f) → candidate ≡ is_candidate (after_ages f)
     → y ≡ with_agreement x (ticking x.me x.agreement set candidate) → answer ≡ tick_answer x.me x.agreement set candidate
     → IsProposed (after_ages f) y answer

@@ -5,8 +5,8 @@ use Rattle.std.proofs.lemmas.Bool.Decides.{nat_tests}
 use Rattle.cluster_types.specs.declared.cluster_key.ClusterKey.{ClusterKey}
 use Rattle.cluster_types.specs.declared.member.Member.{Member}
 use Rattle.clustering.specs.Answers.{entered_or_sent, tick_answer}
-use Rattle.clustering.specs.declared.steps.Proposal as answers
-use Rattle.clustering.specs.declared.steps.Proposal.TheVariants as proposal
+use Rattle.clustering.specs.declared.steps.ProposalStep as answers
+use Rattle.clustering.specs.declared.steps.ProposalStep.TheVariants as proposal
 use Rattle.journal_lines.specs.declared.line.Line.{Line}
 use Rattle.journal_lines.specs.declared.line.Line.TheVariants as line
 use Rattle.wire_messages.specs.declared.message.Message.TheVariants as message
@@ -47,7 +47,7 @@ answer_twice me a set candidate =
 -- ---- what is said of the proposal
 
 -- what is due of that answer
-abbrev pub due_answer : Facts → answers.Proposal → rules.Effects
+abbrev pub due_answer : Facts → answers.ProposalStep → rules.Effects
 due_answer f proposal.Nothing = nothing
 due_answer f (proposal.Send key members to) = sends_only (to_each to (message.Propose key members))
 due_answer f (proposal.Enter key members) = lines_only (entering f key members)
@@ -66,10 +66,10 @@ new_key me a = above (seen_round a) me a.promised (seen_most a)
     above : (seen n : ℕ) (k : ClusterKey) → k.round ≤ seen → same_key (record { round = seen + 1; principal = n }) k ≡ false
     above seen n k most = grind (arith, nat_tests)
 
-abbrev answer_by : ℕ → Agreement → List Member → Bool → answers.Proposal
+abbrev answer_by : ℕ → Agreement → List Member → Bool → answers.ProposalStep
 answer_by me a set candidate = entered_or_sent (enters_alone me a set candidate) (next_key me a) set (proposing_if me a set (proposes_anew a candidate)).proposal
 
-abbrev pub told_by : Facts → Agreement → answers.Proposal → rules.Effects
+abbrev pub told_by : Facts → Agreement → answers.ProposalStep → rules.Effects
 told_by f a answer = rules.followed_by (lines_only (promise_lines f a.promised)) (due_answer f answer)
 
 -- facts with a proposal or none
@@ -100,7 +100,7 @@ said f (Some p) = rw (same_itself f.agreement.promised) refl
 said f None = said_none (with_proposal f None) (is_candidate f && has_round f.agreement) refl
 
 -- what the agreement says at a tick is due, with the line of a promise where there is a new one
-pub proposed_as : (f : Facts) (a : Agreement) (answer : answers.Proposal) → still_proposing f.agreement (neighbours f) ≡ f.agreement
+pub proposed_as : (f : Facts) (a : Agreement) (answer : answers.ProposalStep) → still_proposing f.agreement (neighbours f) ≡ f.agreement
     → a ≡ ticking f.me f.agreement (neighbours f) (is_candidate f) → answer ≡ tick_answer f.me f.agreement (neighbours f) (is_candidate f)
     → propose f ≡ told_by f a answer
 proposed_as f a answer still is answered =
@@ -108,7 +108,7 @@ proposed_as f a answer still is answered =
     let b : Bool = is_candidate f in
     said f f.agreement.proposal
     ∙ ap (λ (x : Agreement). told_by f (proposing_if f.me x set (proposes_anew x b)) (entered_or_sent (enters_alone f.me x set b) (next_key f.me f.agreement) set (proposing_if f.me x set (proposes_anew x b)).proposal)) (sym still)
-    ∙ ap₂ (λ (x : Agreement) (y : answers.Proposal). told_by f x y) (sym is) (sym answered)
+    ∙ ap₂ (λ (x : Agreement) (y : answers.ProposalStep). told_by f x y) (sym is) (sym answered)
 
 -- ---- what follows from an answer
 
@@ -126,7 +126,7 @@ entered_set false k key set ms None e = cc
 entered_set false k key set ms (Some p) e = cc
 
 -- what is told of an answer is what is due
-pub told_answer : (told : Effects) (f : Facts) (a : Agreement) (answer : answers.Proposal) → propose f ≡ told_by f a answer
+pub told_answer : (told : Effects) (f : Facts) (a : Agreement) (answer : answers.ProposalStep) → propose f ≡ told_by f a answer
     → then_effects (then_effects told (lines_only (promise_lines f a.promised))) (due_answer f answer) ≡ then_effects told (propose f)
 told_answer told f a answer is =
     told_twice told (lines_only (promise_lines f a.promised)) (due_answer f answer) ∙ ap (λ (e : rules.Effects). then_effects told e) (sym is)

@@ -7,8 +7,8 @@ use Rattle.cluster_types.specs.declared.member.Member.{Member}
 use Rattle.cluster_types.specs.Partitions.{partition_count}
 use Rattle.clustering.specs.Agreeing.{Agreeing}
 use Rattle.clustering.specs.Answers.{tick_answer}
-use Rattle.clustering.specs.declared.steps.Proposal.{Proposal}
-use Rattle.clustering.specs.declared.steps.Proposal.TheVariants as proposal
+use Rattle.clustering.specs.declared.steps.ProposalStep.{ProposalStep}
+use Rattle.clustering.specs.declared.steps.ProposalStep.TheVariants as proposal
 use Rattle.heartbeat.specs.Adjacent.{Adjacent}
 use Rattle.node_rules.specs.Agreement.{ticking}
 use Rattle.node_rules.specs.ByParts.{batches_due}
@@ -34,7 +34,7 @@ agreed f hearing agree entered =
     (option_map (λ v. v.value) entered)
 
 -- a tick of the neighbours leads to that agreement and says that of the proposal
-pub record IsProposed (f : Facts) (agree : Agreeing) (answer : Proposal) : Type 0 where
+pub record IsProposed (f : Facts) (agree : Agreeing) (answer : ProposalStep) : Type 0 where
   pub agreement : agree.agreement ≡ ticking f.me f.agreement (neighbours f) (is_candidate f)
   pub answered : answer ≡ tick_answer f.me f.agreement (neighbours f) (is_candidate f)
 
@@ -45,7 +45,7 @@ pub record HasEntered (f : Facts) (key : ClusterKey) (members : List Member)
   pub view : ForSome entered (λ v. IsEntered f key members v.value)
 
 -- a view is entered exactly where the proposal says so
-abbrev pub EntersBy : Facts → Proposal → Option (Box View) → Type 0
+abbrev pub EntersBy : Facts → ProposalStep → Option (Box View) → Type 0
 EntersBy f (proposal.Enter key members) entered = HasEntered f key members entered
 EntersBy f (proposal.Send key members to) entered = entered ≡ None
 EntersBy f proposal.Nothing entered = entered ≡ None

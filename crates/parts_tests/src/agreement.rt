@@ -4,7 +4,7 @@ ghost use Rattle.cluster_types.specs.Members.{ids_of};
 ghost use Rattle.wire_messages.specs.Keys.{IsKeyField};
 
 use cluster_types::{ClusterKey, Members, NodeId};
-use clustering::{AcceptStep, Agree, CommitStep, Proposal, RefuseStep, Vote};
+use clustering::{AcceptStep, Agree, CommitStep, ProposalStep, RefuseStep, Vote};
 use std::process::Abort;
 use std::test::Fail;
 
@@ -34,7 +34,7 @@ fn the_greater_of_two_nodes_proposes_a_view_that_both_enter_once(
     let (one, two) = (node(&rt, 1), node(&rt, 2));
     let first = Agree::restart(two, ClusterKey::NONE, ClusterKey::NONE);
     let (first, alone) = first.on_tick(members(&rt, &[two], two), true);
-    let enter = Proposal::Enter {
+    let enter = ProposalStep::Enter {
         key: key(&rt, 1, 2),
         members: members(&rt, &[two], two),
     };
@@ -49,7 +49,7 @@ fn the_greater_of_two_nodes_proposes_a_view_that_both_enter_once(
     let both = members(&rt, &[two, one], two);
     let entered = key(&rt, 2, 2);
     let (first, proposal) = first.on_tick(both, true);
-    let Proposal::Send { key, members, to } = proposal else {
+    let ProposalStep::Send { key, members, to } = proposal else {
         return Err(Fail::from("nothing is sent"));
     };
     assert_eq!(rt; key, entered);
@@ -96,7 +96,7 @@ fn a_refusal_stops_the_proposal_and_its_key_is_seen(rt: HostRuntime) -> Result<(
     let (agree, step) = agree.on_refuse(first, key(&rt, 2, 1));
     assert_eq!(rt; step, RefuseStep::Stale);
     let (_, proposal) = agree.copy().on_tick(both, false);
-    assert_eq!(rt; proposal, Proposal::Nothing);
+    assert_eq!(rt; proposal, ProposalStep::Nothing);
     let (agree, _) = agree.saw(first).on_tick(both, true);
     assert_eq!(rt; agree.promised(), key(&rt, 4, 2));
     Ok(())

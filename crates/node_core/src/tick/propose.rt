@@ -11,7 +11,7 @@ ghost use Rattle.node_steps.specs.Ticks.{EntersBy, IsProposed};
 
 use crate::node::Node;
 use cluster_types::{ClusterKey, NoMemory};
-use clustering::{Agree, Proposal};
+use clustering::{Agree, ProposalStep};
 use journal_lines::Line;
 use node_steps::{Effects, tell_proposal};
 use node_view::View;
@@ -24,7 +24,7 @@ impl Node {
         &mut self,
         alloc: Global,
         agree: &Agree,
-        proposal: &Proposal,
+        proposal: &ProposalStep,
         out: &mut Effects,
     ) -> Result<Option<Box<View>>, NoMemory>
         requires { IsProposed (after_ages self.old.now) agree.now proposal.now }
@@ -36,12 +36,12 @@ impl Node {
         let _ = &self.me;
         self.tell_promise(agree.promised(), out)?;
         match proposal {
-            Proposal::Nothing => Ok(None),
-            Proposal::Send { key, members, to } => {
+            ProposalStep::Nothing => Ok(None),
+            ProposalStep::Send { key, members, to } => {
                 tell_proposal(alloc, *key, members, to.as_slice(), out)?;
                 Ok(None)
             }
-            Proposal::Enter { key, members } => {
+            ProposalStep::Enter { key, members } => {
                 Ok(Some(self.plan_entering(alloc, *key, members, out)?))
             }
         }

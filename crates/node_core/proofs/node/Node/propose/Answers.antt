@@ -2,7 +2,7 @@ use Rattle.std.proofs.Common.{◌≡◌, ℕ, List, Some, refl, sym, ap, ap₂, 
 use Rattle.std.specs.Global.{Box}
 use Rattle.cluster_types.specs.declared.cluster_key.ClusterKey.{ClusterKey}
 use Rattle.cluster_types.specs.declared.member.Member.{Member}
-use Rattle.clustering.specs.declared.steps.Proposal.{Proposal}
+use Rattle.clustering.specs.declared.steps.ProposalStep.{ProposalStep}
 use Rattle.wire_messages.specs.declared.message.Message.TheVariants as message
 use Rattle.node_rules.specs.Agreement.{Agreement, enters_alone, next_key, still_proposing, ticking}
 use Rattle.node_rules.specs.Effects.{lines_only, sends_only, to_each}
@@ -52,7 +52,7 @@ returns-in-Nothing-clause-effects c =
     let told : Effects = then_effects c.args.out.now (lines_only (promise_lines g a.promised)) in
     let promised : c.tell_promise.new.out ≡ told = c.in_ok-tell_promise.ensures ∙ ap (λ (k : ClusterKey). then_effects c.args.out.now (lines_only (promise_lines g k))) c.promised.ensures.value in
     promised ∙ sym (told_nothing told)
-    ∙ ap (λ (x : Proposal). then_effects told (due_answer g x)) (sym c.in-Nothing.is)
+    ∙ ap (λ (x : ProposalStep). then_effects told (due_answer g x)) (sym c.in-Nothing.is)
     ∙ told_answer c.args.out.now g a c.args.proposal.now (proposed_as g a c.args.proposal.now (still_twice f.agreement (neighbours g)) c.requires.agreement c.requires.answered)
 
 pub returns-in_ok-tell_proposal-in-Send-clause-effects : goal.returns-in_ok-tell_proposal-in-Send-clause-effects
@@ -65,7 +65,7 @@ returns-in_ok-tell_proposal-in-Send-clause-effects c =
     c.in_ok-tell_proposal-in-Send.ensures
     ∙ told_each c.tell_promise.new.out c.as_slice.result.now (message.Propose c.in-Send.key c.in-Send.members)
     ∙ ap₂ (λ (o : Effects) (ns : List ℕ). then_effects o (sends_only (to_each ns (message.Propose c.in-Send.key c.in-Send.members)))) promised c.as_slice.ensures.same
-    ∙ ap (λ (x : Proposal). then_effects told (due_answer g x)) (sym c.in-Send.is)
+    ∙ ap (λ (x : ProposalStep). then_effects told (due_answer g x)) (sym c.in-Send.is)
     ∙ told_answer c.args.out.now g a c.args.proposal.now (proposed_as g a c.args.proposal.now (still_twice f.agreement (neighbours g)) c.requires.agreement c.requires.answered)
 
 pub returns-in_ok-plan_entering-in-Enter-clause-effects : goal.returns-in_ok-plan_entering-in-Enter-clause-effects
@@ -77,7 +77,7 @@ returns-in_ok-plan_entering-in-Enter-clause-effects c =
     let promised : c.tell_promise.new.out ≡ told = c.in_ok-tell_promise.ensures ∙ ap (λ (k : ClusterKey). then_effects c.args.out.now (lines_only (promise_lines g k))) c.promised.ensures.value in
     c.in_ok-plan_entering-in-Enter.ensures.lines
     ∙ ap (λ (o : Effects). then_effects o (lines_only (entering f c.in-Enter.key c.in-Enter.members))) promised
-    ∙ ap (λ (x : Proposal). then_effects told (due_answer g x)) (sym c.in-Enter.is)
+    ∙ ap (λ (x : ProposalStep). then_effects told (due_answer g x)) (sym c.in-Enter.is)
     ∙ told_answer c.args.out.now g a c.args.proposal.now (proposed_as g a c.args.proposal.now (still_twice f.agreement (neighbours g)) c.requires.agreement c.requires.answered)
 
 pub returns-in_ok-plan_entering-in-Enter-clause-view : goal.returns-in_ok-plan_entering-in-Enter-clause-view
@@ -90,4 +90,4 @@ returns-in_ok-plan_entering-in-Enter-clause-view c =
           subst (λ (x : Box View). IsEntered (after_ages f) c.in-Enter.key c.in-Enter.members x.value) same
           (entered_aged f c.in-Enter.key c.in-Enter.members entered.value c.in_ok-plan_entering-in-Enter.ensures.view);
     } in
-    subst (λ (x : Proposal). EntersBy (after_ages f) x (Some entered)) (sym c.in-Enter.is) h
+    subst (λ (x : ProposalStep). EntersBy (after_ages f) x (Some entered)) (sym c.in-Enter.is) h

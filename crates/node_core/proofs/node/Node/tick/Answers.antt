@@ -4,7 +4,7 @@ use Rattle.cluster_types.specs.declared.member.Member.{Member}
 use Rattle.cluster_types.specs.Members.{ids_of}
 use Rattle.cluster_types.specs.Partitions.{partition_count}
 use Rattle.clustering.specs.Agreeing.{Agreeing}
-use Rattle.clustering.specs.declared.steps.Proposal.{Proposal}
+use Rattle.clustering.specs.declared.steps.ProposalStep.{ProposalStep}
 use Rattle.heartbeat.specs.Adjacent.{Adjacent}
 use Rattle.journal_lines.specs.declared.line.Line.{Line}
 use Rattle.journal_lines.specs.declared.line.Line.TheVariants as line
@@ -95,7 +95,7 @@ plan_rest-requires-clause-counts c =
     (c.is_candidate-candidate.ensures ∙ candidate_so f c.ground-before.result hearing c.self.inside.agree.agreement seen heard)
     c.on_tick-agree.ensures.agree c.on_tick-agree.ensures.answer in
     let agree : Agreeing = c.on_tick-agree.result.0 in
-    let answer : Proposal = c.on_tick-agree.result.1 in
+    let answer : ProposalStep = c.on_tick-agree.result.1 in
     let entered : Option (Box View) = c.in_ok-entered.entered in
     let h : IsTicking f hearing agree answer entered = record {
       heard = heard;
@@ -125,7 +125,7 @@ plan_rest-requires-clause-view c =
     (c.is_candidate-candidate.ensures ∙ candidate_so f c.ground-before.result hearing c.self.inside.agree.agreement seen heard)
     c.on_tick-agree.ensures.agree c.on_tick-agree.ensures.answer in
     let agree : Agreeing = c.on_tick-agree.result.0 in
-    let answer : Proposal = c.on_tick-agree.result.1 in
+    let answer : ProposalStep = c.on_tick-agree.result.1 in
     let entered : Option (Box View) = c.in_ok-entered.entered in
     let h : IsTicking f hearing agree answer entered = record {
       heard = heard;
@@ -154,7 +154,7 @@ plan_rest-requires-clause-ranges c =
     (c.is_candidate-candidate.ensures ∙ candidate_so f c.ground-before.result hearing c.self.inside.agree.agreement seen heard)
     c.on_tick-agree.ensures.agree c.on_tick-agree.ensures.answer in
     let agree : Agreeing = c.on_tick-agree.result.0 in
-    let answer : Proposal = c.on_tick-agree.result.1 in
+    let answer : ProposalStep = c.on_tick-agree.result.1 in
     let entered : Option (Box View) = c.in_ok-entered.entered in
     let h : IsTicking f hearing agree answer entered = record {
       heard = heard;
@@ -183,7 +183,7 @@ plan-requires-clause-fits c =
     (c.is_candidate-candidate.ensures ∙ candidate_so f c.ground-before.result hearing c.self.inside.agree.agreement seen heard)
     c.on_tick-agree.ensures.agree c.on_tick-agree.ensures.answer in
     let agree : Agreeing = c.on_tick-agree.result.0 in
-    let answer : Proposal = c.on_tick-agree.result.1 in
+    let answer : ProposalStep = c.on_tick-agree.result.1 in
     let entered : Option (Box View) = c.in_ok-entered.entered in
     let h : IsTicking f hearing agree answer entered = record {
       heard = heard;
@@ -215,7 +215,7 @@ plan-requires-clause-ranges c =
     (c.is_candidate-candidate.ensures ∙ candidate_so f c.ground-before.result hearing c.self.inside.agree.agreement seen heard)
     c.on_tick-agree.ensures.agree c.on_tick-agree.ensures.answer in
     let agree : Agreeing = c.on_tick-agree.result.0 in
-    let answer : Proposal = c.on_tick-agree.result.1 in
+    let answer : ProposalStep = c.on_tick-agree.result.1 in
     let entered : Option (Box View) = c.in_ok-entered.entered in
     let h : IsTicking f hearing agree answer entered = record {
       heard = heard;
@@ -250,7 +250,7 @@ returns-clause-effects c =
     (c.is_candidate-candidate.ensures ∙ candidate_so f c.ground-before.result hearing c.self.inside.agree.agreement seen heard)
     c.on_tick-agree.ensures.agree c.on_tick-agree.ensures.answer in
     let agree : Agreeing = c.on_tick-agree.result.0 in
-    let answer : Proposal = c.on_tick-agree.result.1 in
+    let answer : ProposalStep = c.on_tick-agree.result.1 in
     let entered : Option (Box View) = c.in_ok-entered.entered in
     let h : IsTicking f hearing agree answer entered = record {
       heard = heard;
@@ -294,7 +294,7 @@ returns-clause-planned c =
     (c.is_candidate-candidate.ensures ∙ candidate_so f c.ground-before.result hearing c.self.inside.agree.agreement seen heard)
     c.on_tick-agree.ensures.agree c.on_tick-agree.ensures.answer in
     let agree : Agreeing = c.on_tick-agree.result.0 in
-    let answer : Proposal = c.on_tick-agree.result.1 in
+    let answer : ProposalStep = c.on_tick-agree.result.1 in
     let entered : Option (Box View) = c.in_ok-entered.entered in
     let h : IsTicking f hearing agree answer entered = record {
       heard = heard;
