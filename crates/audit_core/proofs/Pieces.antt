@@ -1,8 +1,8 @@
 -- Texts of lines, cut at their line feeds.
-use Rattle.std.proofs.Common.{◌≡◌, ℕ, zero, suc, ◌==◌, ◌<◌, ◌≤◌, ◌+◌, Bool, true, false, cond, ◌||◌, List, [], ◌∷◌, ◌++◌, length, take, drop, get_or, Option, Some, None, ◌⊎◌, inl, inr, refl, sym, ap, ap₂, subst, subst₂, ◌∙◌, arith, append_assoc, append-nil, length-append, length-take, get_or-take}
+use Rattle.std.proofs.Common.{◌≡◌, ℕ, ◌==◌, ◌<◌, ◌≤◌, ◌+◌, Bool, true, false, ◌||◌, List, [], ◌∷◌, ◌++◌, length, take, get_or, Option, Some, None, inl, inr, refl, sym, ap, ap₂, subst, subst₂, ◌∙◌, arith, append_assoc, append-nil, length-append, length-take, get_or-take}
 use Rattle.std.specs.Prelude.{All, Result, Ok, Err, IfSome, IfNone, IsErrOf, IsOkUnless}
 use denote.Ref.{Bor}
-use Rattle.std.specs.List.{list_any, slice_split, onto_first, position_or_len, before_first, after_first, join_with_byte}
+use Rattle.std.specs.List.{onto_first, position_or_len, after_first, join_with_byte}
 use Rattle.std.proofs.lemmas.Bool.{eqb-true, or_parts, or_right, true≢false}
 use Rattle.std.proofs.lemmas.List.{take_more, take-append-drop, append_cancel_left}
 use Rattle.std.proofs.lemmas.List.Concat.{flat_map-cons}
@@ -11,17 +11,17 @@ use Rattle.std.proofs.lemmas.List.Elements.{All-head, All-tail, All-push}
 use Rattle.std.proofs.lemmas.List.Folds.{list_any_none}
 use Rattle.std.proofs.lemmas.List.Splits.{join_with_byte-slice_split, slice_split-cons_no, slice_split-cons_yes}
 use Rattle.std.proofs.lemmas.List.Sums.{fails_before_first, passes_at_first}
-use Rattle.std.proofs.lemmas.Option.{none-some, same_Some}
+use Rattle.std.proofs.lemmas.Option.{none-some}
 use Rattle.journal_lines.specs.declared.line.Line.{Line}
 use Rattle.journal_lines.specs.Proper.{IsProper}
 use Rattle.journal_text.specs.Journals.{IsWithin}
 use Rattle.journal_text.specs.Text.{words, line_text, text}
 use Rattle.journal_reader.specs.Fields.{parts_of}
-use Rattle.journal_reader.specs.Reading.{parsed_line, only_line, read_line}
+use Rattle.journal_reader.specs.Reading.{only_line, read_line}
 use Rattle.journal_reader.proofs.LineLaws.{read_back, injective, journals_injective}
 use Rattle.audit_core.specs.declared.lines.TextFault.{TextFault}
 use Rattle.audit_core.specs.declared.lines.TextFault.TheVariants as fault
-use Rattle.audit_core.specs.Transcripts.{ReadsLine, IsTranscript, has_feed, IsCutAtFeed, IsCutAtFirst, HasNoLine, IsUnreadable, IsFirstFault}
+use Rattle.audit_core.specs.Transcripts.{ReadsLine, IsTranscript, has_feed, IsCutAtFeed, IsCutAtFirst, IsUnreadable, IsFirstFault}
 
 abbrev is_feed : ℕ → Bool
 is_feed b = b == 10

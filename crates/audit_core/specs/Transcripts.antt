@@ -6,7 +6,8 @@ use Rattle.journal_lines.specs.Proper.{IsProper}
 use Rattle.journal_text.specs.Journals.{IsWithin}
 use Rattle.journal_text.specs.Text.{line_text, text}
 
--- the bytes are the text of the lines, whose parts are in their ranges, and which pass no limit of journals
+-- the bytes are the text of the lines, whose parts are in their ranges, and which pass no limit of
+-- journals
 pub record IsTranscript (bytes : List ℕ) (lines : List Line) : Type 0 where
   pub text : text lines ≡ bytes
   pub proper : All IsProper lines
@@ -29,7 +30,8 @@ pub record IsCutAtFirst (bytes piece behind : List ℕ) : Type 0 where
   pub front : piece ≡ take (position_or_len (λ b. b == 10) bytes + 1) bytes
   pub back : behind ≡ after_first (λ b. b == 10) bytes
 
--- up to the first line feed the bytes are no line's text, or the line that they are passes a limit behind these lines
+-- up to the first line feed the bytes are no line's text, or the line that they are passes a limit
+-- behind these lines
 pub record HasNoLine (lines : List Line) (bytes : List ℕ) : Type 0 where
   pub piece : List ℕ
   pub behind : List ℕ
@@ -40,8 +42,8 @@ pub record HasNoLine (lines : List Line) (bytes : List ℕ) : Type 0 where
 abbrev pub IsUnreadable : List Line → List ℕ → Type 0
 IsUnreadable lines bytes = (has_feed bytes ≡ false) ⊎ HasNoLine lines bytes
 
--- the bytes begin with lines, and what follows them, at the line of this number, from 1, is the text of no line that can
--- follow them
+-- the bytes begin with lines, and what follows them, at the line of this number, from 1, is the
+-- text of no line that can follow them
 pub record IsFirstFault (bytes : List ℕ) (number : ℕ) : Type 0 where
   pub lines : List Line
   pub rest : List ℕ

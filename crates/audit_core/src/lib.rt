@@ -1,11 +1,25 @@
-//! Reads a transcript, wherever it comes from, into the journal whose text it is.
+//! Judges a journal, wherever it comes from: whether it keeps the laws that the journal of every
+//! run keeps.
 //!
-//! It replays nothing, and knows no script: `lines_of` looks at nothing but the bytes.
+//! `lines_of` reads a transcript, and `audit` goes over its lines once. It says of the first place
+//! at which the journal so far breaks a law how many lines that are, and which law it is, the first
+//! that is broken there. It doesn't replay anything: it knows no script, and looks at nothing but
+//! the lines.
 #![tactic(auto)]
 
+mod auditing;
+mod contents;
+mod empties;
+mod joins;
+mod judge;
 mod lines;
+mod losses;
+mod maps;
+mod shape;
+mod stamps;
+mod verdict;
+mod writes;
 
+pub use auditing::audit;
 pub use lines::{TextFault, lines_of};
-
-#[cfg(test)]
-mod tests;
+pub use verdict::{Law, Verdict};
