@@ -76,7 +76,7 @@ bad : (words : Words) (had left : Option (List ℕ)) (line : ℕ) (cause : _) �
 bad words had left line cause m =
     by_script words.generate had left m.bytes (status.BadScript line cause) m.read (ends_script m.bytes (Err (record { line = line; cause = cause })) (status.BadScript line cause) m.bad refl)
 
-too_long : (g : Option ℕ) (had left : Option (List ℕ)) → IfSome had (λ bytes. Overlong bytes left) → g ≡ None → EndsBy g had status.ScriptTooLong
+too_long : (g : Option ℕ) (had left : Option (List ℕ)) → IfSome had (λ bytes. Overlong script_limit bytes left) → g ≡ None → EndsBy g had status.ScriptTooLong
 too_long None None left o e = tt
 too_long None (Some bytes) left o e = ends_beyond bytes _ refl o.longer
 too_long (Some n) had left o e = absurd (no e)
@@ -94,6 +94,9 @@ decided words status.ReadFault j had left old new a b c d e r k p q = absurd (p 
 decided words status.WriteFault j had left old new a b c d e r k p q = absurd (q (k refl))
 decided words status.ScriptTooLong j had left old new a b c d e r k p q = inl (too_long words.generate had left e.1 e.2)
 decided words status.RunTooLong j had left old new a b c d e r k p q = inl (outgrown words had left j e.1)
+decided words status.TranscriptTooLong j had left old new a b c d e r k p q = absurd e
+decided words (status.BadTranscript line) j had left old new a b c d e r k p q = absurd e
+decided words (status.Refuted law line) j had left old new a b c d e r k p q = absurd e
 
 -- ---- how a run ended
 
@@ -103,7 +106,7 @@ refused_at_once words st j had left old s e = subst (λ (x : Status). Ended word
 pub read_failed : (words : Words) (st : Status) (j : List Line) (had left old : Option (List ℕ)) → st ≡ status.ReadFault → j ≡ [] → Ended words st j had left old old
 read_failed words st j had left old s e = subst (λ (x : Status). Ended words x j had left old old) (sym s) (record { empty = e; unwritten = refl })
 
-pub was_overlong : (words : Words) (st : Status) (j : List Line) (had left old : Option (List ℕ)) → words.generate ≡ None → st ≡ status.ScriptTooLong → j ≡ [] → IfSome had (λ bytes. Overlong bytes left)
+pub was_overlong : (words : Words) (st : Status) (j : List Line) (had left old : Option (List ℕ)) → words.generate ≡ None → st ≡ status.ScriptTooLong → j ≡ [] → IfSome had (λ bytes. Overlong script_limit bytes left)
     → Ended words st j had left old old
 was_overlong words st j had left old none s e long =
     subst (λ (x : Status). Ended words x j had left old old) (sym s) (record { empty = e; unwritten = refl }, long, none)
@@ -140,6 +143,9 @@ was_written words script (status.BadScript line cause) j kept had left old new b
 was_written words script status.ReadFault j kept had left old new bytes played within proper w same none read parsed = absurd w
 was_written words script status.ScriptTooLong j kept had left old new bytes played within proper w same none read parsed = absurd w
 was_written words script status.RunTooLong j kept had left old new bytes played within proper w same none read parsed = absurd w
+was_written words script status.TranscriptTooLong j kept had left old new bytes played within proper w same none read parsed = absurd w
+was_written words script (status.BadTranscript line) j kept had left old new bytes played within proper w same none read parsed = absurd w
+was_written words script (status.Refuted law line) j kept had left old new bytes played within proper w same none read parsed = absurd w
 
 pub no_read_fault : (st : Status) (old new : Option (List ℕ)) (bytes : List ℕ) → IsWritten st old new bytes → st ≡ status.ReadFault → ⊥
 no_read_fault st old new bytes w e = subst (λ (x : Status). IsWritten x old new bytes) e w

@@ -9,3 +9,5 @@ pub mod WordWalks
 pub mod WordLaws
 pub mod PlayLaws
 pub mod Endings
+pub mod AuditLaws
+pub mod AuditWords

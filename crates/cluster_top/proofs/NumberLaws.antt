@@ -1,5 +1,5 @@
 -- Numbers after `--generate`, as `parse` reads them.
-use Rattle.std.proofs.Common.{◌≡◌, ℕ, ◌&&◌, List, length, Err}
+use Rattle.std.proofs.Common.{ℕ, ◌&&◌, List, length, Err}
 use Rattle.std.specs.List.{list_all}
 use Rattle.std.specs.Prelude.{nat_lt, nat_le}
 use Rattle.std.specs.Str.Parse.{ParsesUnsigned}

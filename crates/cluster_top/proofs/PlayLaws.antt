@@ -16,7 +16,7 @@ use Rattle.cluster_rules.specs.Allowed.{is_playable}
 use Rattle.cluster_rules.specs.Begun.{AllBegun, IsBegun}
 use Rattle.cluster_rules.specs.FrontRuns.{AreFrontOf, IsFrontOf}
 use Rattle.cluster_rules.specs.Marks.{after_all}
-use Rattle.cluster_rules.specs.Opening.{declared_nodes, header_lines}
+use Rattle.cluster_rules.specs.Opening.{declared_nodes}
 use Rattle.cluster_rules.specs.Runs.{Plays, PlaysAll}
 use Rattle.cluster_rules.specs.Runs as runs
 use Rattle.cluster_rules.specs.Steps.{Played, Step, all_marks, then_played, marks_of}

@@ -101,12 +101,13 @@ behind : (xs ys : List ℕ) (n : ℕ) → length xs ≡ n → drop n (xs ++ ys) 
 behind [] ys n e = ap (λ m. drop m ys) (sym e)
 behind (x ∷ xs) ys n e = ap (λ m. drop m (x ∷ xs ++ ys)) (sym e) ∙ behind xs ys (length xs) refl
 
-pub gave_too_much : (old new : Option (List ℕ)) (bytes : List ℕ) → Gave old new bytes → length bytes ≡ 16777217 → IfSome old (λ all. Overlong all new)
-gave_too_much None new bytes g size = tt
-gave_too_much (Some all) new bytes g size =
+pub gave_too_much : (limit : ℕ) (old new : Option (List ℕ)) (bytes : List ℕ) → Gave old new bytes
+    → length bytes ≡ limit + 1 → IfSome old (λ all. Overlong limit all new)
+gave_too_much limit None new bytes g size = tt
+gave_too_much limit (Some all) new bytes g size =
     let counted : length all ≡ length bytes + length g.rest = ap length g.was ∙ length-append bytes g.rest in record {
       longer = omega arith;
-      read = g.now ∙ ap Some (sym (ap (drop 16777217) g.was ∙ behind bytes g.rest 16777217 size));
+      read = g.now ∙ ap Some (sym (ap (drop (limit + 1)) g.was ∙ behind bytes g.rest (limit + 1) size));
     }
 
 -- ---- one text and then another

@@ -15,6 +15,9 @@ code_of status.ReadFault = 4
 code_of status.WriteFault = 5
 code_of status.ScriptTooLong = 6
 code_of status.RunTooLong = 7
+code_of status.TranscriptTooLong = 8
+code_of (status.BadTranscript line) = 9
+code_of (status.Refuted law line) = 10
 
 -- what stands on standard error, without its line feed
 abbrev pub fault_of : Status → List ℕ
@@ -27,3 +30,7 @@ fault_of status.ReadFault = codes "read fault"
 fault_of status.WriteFault = codes "write fault"
 fault_of status.ScriptTooLong = codes "script too long"
 fault_of status.RunTooLong = codes "run too long"
+fault_of status.TranscriptTooLong = codes "transcript too long"
+fault_of (status.BadTranscript line) =
+    codes "line " ++ decimal line ++ codes ": not a transcript"
+fault_of (status.Refuted law line) = codes "refuted"

@@ -4,4 +4,5 @@ pub mod Generating
 pub mod Transcripts
 pub mod Playing
 pub mod Outcome
+pub mod Auditing
 pub mod Endings

@@ -1,4 +1,4 @@
--- How a run ends.
+-- How a run ends that replays a script.
 use Rattle.std.specs.Prelude.{◌≡◌, ℕ, ◌≤◌, nat_lt, ◌⊎◌, Bool, true, false, List, [], ◌++◌, length, Option, Some, None, IfSome, Result, Ok, Err}
 use Rattle.script_lang.specs.declared.fault.Cause.{Cause}
 use Rattle.script_lang.specs.declared.script.Script.{Script}
@@ -89,7 +89,7 @@ abbrev pub CutOff : Words → Option (List ℕ) → Option (List ℕ) → Option
     → Type 0
 CutOff words had left old new = (new ≡ old) ⊎ BrokeOff words had left old new
 
--- what each status says where the words ask for that: of the journal, of what the source had left and has left now, and
+-- what each status says where the words ask for such a replay: of the journal, of what the source had left and has left now, and
 -- of what the sink had taken and has taken now
 abbrev pub Ended : Words → Status → List Line → Option (List ℕ) → Option (List ℕ) → Option (List ℕ)
     → Option (List ℕ) → Type 0
@@ -104,9 +104,12 @@ Ended words status.ReadFault journal had left old new = Unplayed journal old new
 Ended words status.WriteFault journal had left old new =
     Replayed words had left journal × WroteFront old new (transcript words journal)
 Ended words status.ScriptTooLong journal had left old new =
-    Unplayed journal old new × IfSome had (λ bytes. Overlong bytes left) × (words.generate ≡ None)
+    Unplayed journal old new × IfSome had (λ bytes. Overlong script_limit bytes left) × (words.generate ≡ None)
 Ended words status.RunTooLong journal had left old new =
     (new ≡ old) × Outgrown words had left journal
+Ended words status.TranscriptTooLong journal had left old new = ⊥
+Ended words (status.BadTranscript line) journal had left old new = ⊥
+Ended words (status.Refuted law line) journal had left old new = ⊥
 
 -- wherever the run of a proper script that has this journal begins rounds of calm, they are in time
 abbrev pub CalmsAreInTime : List Line → Type 0

@@ -18,10 +18,14 @@ HadAll old new bytes = IfSome old (λ all. (all ≡ bytes) × (new ≡ Some []))
 abbrev pub script_limit : ℕ
 script_limit = 16777216
 
--- the source gave as much as a script has, and one byte more
-pub record Overlong (bytes : List ℕ) (left : Option (List ℕ)) : Type 0 where
-  pub longer : script_limit < length bytes
-  pub read : left ≡ Some (drop (script_limit + 1) bytes)
+-- the most bytes of a transcript that is audited
+abbrev pub transcript_limit : ℕ
+transcript_limit = 134217728
+
+-- the source gave as many bytes as the limit, and one byte more
+pub record Overlong (limit : ℕ) (bytes : List ℕ) (left : Option (List ℕ)) : Type 0 where
+  pub longer : limit < length bytes
+  pub read : left ≡ Some (drop (limit + 1) bytes)
 
 -- the sink took these bytes
 abbrev pub Wrote : Option (List ℕ) → Option (List ℕ) → List ℕ → Type 0

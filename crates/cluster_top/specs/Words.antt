@@ -31,7 +31,7 @@ IsNoNumber (Some text) = (n : ℕ) → ¬ IsNumber text n
 abbrev pub no_words : Words
 no_words = record { summary = false; generate = None }
 
--- what the words ask for: each is `--summary`, or `--generate` with a number as the next word or behind `=`, and
+-- which replay the words ask for: each is `--summary`, or `--generate` with a number as the next word or behind `=`, and
 -- neither stands twice
 pub data Asks : List (List ℕ) → Words → Type 0 where
   nothing : Asks [] no_words
@@ -44,9 +44,17 @@ pub data Asks : List (List ℕ) → Words → Type 0 where
       → w.generate ≡ None → IsNumber text n
       → Asks ((codes "--generate=" ++ text) ∷ ws) (record w { generate = Some n })
 
+abbrev pub AskNoReplay : List (List ℕ) → Type 0
+AskNoReplay ws = (w : Words) → ¬ Asks ws w
+
+-- the words ask for an audit: `--audit` with no word beside it
+abbrev pub AskAudit : List (List ℕ) → Type 0
+AskAudit ws = ws ≡ codes "--audit" ∷ []
+
 -- the words aren't those that the program takes
-abbrev pub AreBad : List (List ℕ) → Type 0
-AreBad ws = (w : Words) → ¬ Asks ws w
+pub record AreBad (ws : List (List ℕ)) : Type 0 where
+  pub no_replay : AskNoReplay ws
+  pub no_audit : ¬ AskAudit ws
 
 -- ---- how they are split
 
@@ -71,3 +79,7 @@ command_line =
 -- the word that ends options
 abbrev pub is_dashes : List ℕ → Bool
 is_dashes word = bytes_eq word (codes "--")
+
+-- the word that asks for an audit
+abbrev pub is_audit : List ℕ → Bool
+is_audit word = bytes_eq word (codes "--audit")

@@ -1,18 +1,15 @@
-//! Reads a script from its source.
-ghost use Rattle.std.specs.Prelude.{◌≡◌, ◌<◌, ◌≤◌, ◌+◌, [], length, vec_len, drop, Some, IfSome, IfOk, IsErrOf};
+//! Reads a source to its end.
+ghost use Rattle.std.specs.Prelude.{◌≡◌, ◌<◌, ◌≤◌, ◌+◌, ◌^◌, [], length, vec_len, drop, Some, IfSome, IfOk, IsErrOf};
 ghost use Rattle.byte_ends.specs.Faults.{Rose};
-ghost use Rattle.cluster_top.specs.Streams.{HadAll, Overlong, script_limit};
+ghost use Rattle.cluster_top.specs.Streams.{HadAll, Overlong};
 
 use byte_ends::{Pulled, Source};
 use std::alloc::{AllocError, Global};
 
-/// The most bytes that a script has.
-pub const SCRIPT_LIMIT: usize = 16_777_216;
-
 /// The most bytes of one pull.
 const PIECE: usize = 65_536;
 
-/// Why a script wasn't read.
+/// Why a source wasn't read.
 #[derive(Clone, Copy, Debug, PartialEq, Eq)]
 pub enum ReadFault {
     NoMemory,
@@ -31,22 +28,27 @@ impl From<AllocError> for ReadFault {
     }
 }
 
-/// Reads the source to its end, unless a byte more than a script has comes first.
-pub fn read_all<S: Source>(alloc: Global, source: &mut S) -> Result<Vec<u8>, ReadFault>
-    ensures limit { IfOk result (λ bytes. length bytes.items ≤ script_limit) }
+/// Reads the source to its end, unless a byte more than the limit comes first.
+pub fn read_all<S: Source>(
+    alloc: Global,
+    source: &mut S,
+    limit: usize,
+) -> Result<Vec<u8>, ReadFault>
+    requires { limit < 2 ^ 60 }
+    ensures within { IfOk result (λ bytes. length bytes.items ≤ limit) }
     ensures whole { IfOk result
         (λ bytes. HadAll (S.left source.old) (S.left source.new) bytes.items) }
 
     ensures fault { IsErrOf result ReadFault.Source
         → Rose (S.faults source.old) (S.faults source.new) }
     ensures too_long { IsErrOf result ReadFault.TooLong
-        → IfSome (S.left source.old) (λ bytes. Overlong bytes (S.left source.new)) }
+        → IfSome (S.left source.old) (λ bytes. Overlong limit bytes (S.left source.new)) }
     ensures never_falls { S.faults source.old ≤ S.faults source.new }
 {
     let mut bytes = Vec::new(alloc);
     let mut buffer = room_for_a_piece(alloc)?;
-    while bytes.len() <= SCRIPT_LIMIT {
-        let room = PIECE.min(SCRIPT_LIMIT + 1 - bytes.len());
+    while bytes.len() <= limit {
+        let room = PIECE.min(limit + 1 - bytes.len());
         let piece = &mut buffer[..room];
         match source.pull(piece) {
             Pulled::Got(count) => bytes.extend_from_slice(&piece[..count])?,

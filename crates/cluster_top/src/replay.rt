@@ -6,16 +6,18 @@ ghost use Rattle.journal_readings.specs.Claims.{NoLoss, ReadJoin, SettledJoin, E
 ghost use Rattle.script_lang.specs.Grammar.{script_of};
 ghost use Rattle.script_lang.specs.Proper.{IsProper};
 ghost use Rattle.world.specs.Claims.{HasClaims};
+ghost use Rattle.cluster_top.specs.Auditing.{AuditEnded, IsAuditDecided};
 ghost use Rattle.cluster_top.specs.Outcome.{CalmsAreInTime, Ended, HadScript, IsDecided, IsRefusal, IsWritten};
 ghost use Rattle.cluster_top.specs.Transcripts as transcripts;
-ghost use Rattle.cluster_top.specs.Words.{AreBad, Asks};
+ghost use Rattle.cluster_top.specs.Words.{AreBad, AskAudit, AskNoReplay, Asks};
 
+use crate::auditing::audit_source;
 use crate::generating::generated;
 use crate::play::play_script;
 use crate::reading::{ReadFault, read_all};
 use crate::status::Status;
 use crate::transcript::write_transcript;
-use crate::words::{Words, WordsFault, read_words};
+use crate::words::{Words, WordsFault, ask_for_audit, read_words};
 use crate::writing::WriteFault;
 use byte_ends::{Sink, Source};
 use journal_text::Journal;
@@ -23,72 +25,124 @@ use script_lang::{Script, ScriptFault, parse};
 use std::alloc::Global;
 use world::StepFault;
 
+/// The most bytes that a script has.
+const SCRIPT_LIMIT: usize = 16_777_216;
+
 /// How a run ended, and its journal.
 ///
-/// The journal is the run's where all was played, that before the first event that doesn't fit
-/// where the run is too long, and empty otherwise.
+/// The journal of a replay is the run's where all was played, that before the first event that
+/// doesn't fit where the run is too long, and empty otherwise. That of an audit is the one that was
+/// read, where the verdict on it was written, and empty otherwise.
 #[derive(Drop)]
 pub struct Outcome {
     pub status: Status,
     pub journal: Journal,
 }
 
-/// Replays the script that the source has left, and writes the transcript to the sink.
+/// Replays the script that the source has left, and writes the transcript to the sink; or audits
+/// the transcript that it has left, and writes the verdict.
 ///
 /// `words` are those after the program's name. With `--summary` the transcript's summary follows it.
 /// With `--generate NUMBER` the script is the generated one of that number, nothing is pulled from
-/// the source, and the summary alone is written.
+/// the source, and the summary alone is written. With `--audit`, and no word beside it, the verdict
+/// is `holds`, or `fails` with the law and the line.
 pub fn run<S: Source, K: Sink>(
     alloc: Global,
     words: &[String],
-    script: &mut S,
+    source: &mut S,
     out: &mut K,
 ) -> Outcome
-    // What each status says of the journal, the source and the sink.
+    // What each status of a replay says of the journal, the source and the sink, and what each status of an audit.
     ensures ended { (asked : Words) → Asks (map string_bytes words.now) asked
-        → Ended asked result.status result.journal.lines (S.left script.old) (S.left script.new)
+        → Ended asked result.status result.journal.lines (S.left source.old) (S.left source.new)
+        (K.taken out.old) (K.taken out.new) }
+    ensures audited { AskAudit (map string_bytes words.now)
+        → AuditEnded result.status result.journal.lines (S.left source.old) (S.left source.new)
         (K.taken out.old) (K.taken out.new) }
 
-    // What holds of the journal, however the run ended.
-    ensures no_loss { NoLoss result.journal.lines }
-    ensures read_join { ReadJoin result.journal.lines }
-    ensures settled_join { SettledJoin result.journal.lines }
-    ensures one_map { OneMap result.journal.lines }
-    ensures equal_classes { EqualClasses result.journal.lines }
-    ensures keys_rise { KeysRise result.journal.lines }
-    ensures calm_end { CalmEnd result.journal.lines }
-    ensures calms { CalmsAreInTime result.journal.lines }
+    // What holds of the journal, however the run ended, unless it is that of a transcript that was to be audited.
+    ensures no_loss { ¬ AskAudit (map string_bytes words.now) → NoLoss result.journal.lines }
+    ensures read_join { ¬ AskAudit (map string_bytes words.now) → ReadJoin result.journal.lines }
+    ensures settled_join { ¬ AskAudit (map string_bytes words.now)
+        → SettledJoin result.journal.lines }
+    ensures one_map { ¬ AskAudit (map string_bytes words.now) → OneMap result.journal.lines }
+    ensures equal_classes { ¬ AskAudit (map string_bytes words.now)
+        → EqualClasses result.journal.lines }
+    ensures keys_rise { ¬ AskAudit (map string_bytes words.now) → KeysRise result.journal.lines }
+    ensures calm_end { ¬ AskAudit (map string_bytes words.now) → CalmEnd result.journal.lines }
+    ensures calms { ¬ AskAudit (map string_bytes words.now)
+        → CalmsAreInTime result.journal.lines }
 
     // The cause of each status. Bad words are refused before anything is pulled or written, also for want of memory.
     ensures bad_words { result.status ≡ Status.BadWords → AreBad (map string_bytes words.now) }
     ensures refused { AreBad (map string_bytes words.now)
         → IsRefusal result.status × (result.journal.lines ≡ []) }
     ensures untouched { AreBad (map string_bytes words.now)
-        → (script.new ≡ script.old) × (out.new ≡ out.old) }
+        → (source.new ≡ source.old) × (out.new ≡ out.old) }
     ensures read_fault { result.status ≡ Status.ReadFault
-        → Rose (S.faults script.old) (S.faults script.new) }
+        → Rose (S.faults source.old) (S.faults source.new) }
     ensures write_fault { result.status ≡ Status.WriteFault
         → Rose (K.faults out.old) (K.faults out.new) }
 
     // Nothing is pulled where a number stands for the script.
     ensures unread { (asked : Words) → Asks (map string_bytes words.now) asked
-        → IsSome asked.generate → script.new ≡ script.old }
+        → IsSome asked.generate → source.new ≡ source.old }
 
     // Without a fault of either end, the words and the bytes decide how the run ends, unless memory is refused.
     ensures decided { (asked : Words) → Asks (map string_bytes words.now) asked
-        → ¬ Rose (S.faults script.old) (S.faults script.new)
+        → ¬ Rose (S.faults source.old) (S.faults source.new)
         → ¬ Rose (K.faults out.old) (K.faults out.new)
-        → IsDecided asked (S.left script.old) result.status }
+        → IsDecided asked (S.left source.old) result.status }
+    ensures audit_decided { AskAudit (map string_bytes words.now)
+        → ¬ Rose (S.faults source.old) (S.faults source.new)
+        → ¬ Rose (K.faults out.old) (K.faults out.new)
+        → IsAuditDecided (S.left source.old) result.status }
+{
+    if ask_for_audit(words) {
+        audit_source(alloc, source, out)
+    } else {
+        replay_asked(alloc, words, source, out)
+    }
+}
+
+/// Reads the words that ask for a replay, and does what they ask for.
+fn replay_asked<S: Source, K: Sink>(
+    alloc: Global,
+    words: &[String],
+    source: &mut S,
+    out: &mut K,
+) -> Outcome
+    ensures ended { (asked : Words) → Asks (map string_bytes words.now) asked
+        → Ended asked result.status result.journal.lines (S.left source.old) (S.left source.new)
+        (K.taken out.old) (K.taken out.new) }
+    ensures claims { HasClaims result.journal.lines }
+    ensures calms { CalmsAreInTime result.journal.lines }
+    ensures bad_words { result.status ≡ Status.BadWords
+        → AskNoReplay (map string_bytes words.now) }
+    ensures refused { AskNoReplay (map string_bytes words.now)
+        → IsRefusal result.status × (result.journal.lines ≡ []) }
+    ensures untouched { AskNoReplay (map string_bytes words.now)
+        → (source.new ≡ source.old) × (out.new ≡ out.old) }
+    ensures read_fault { result.status ≡ Status.ReadFault
+        → Rose (S.faults source.old) (S.faults source.new) }
+    ensures write_fault { result.status ≡ Status.WriteFault
+        → Rose (K.faults out.old) (K.faults out.new) }
+    ensures unread { (asked : Words) → Asks (map string_bytes words.now) asked
+        → IsSome asked.generate → source.new ≡ source.old }
+    ensures decided { (asked : Words) → Asks (map string_bytes words.now) asked
+        → ¬ Rose (S.faults source.old) (S.faults source.new)
+        → ¬ Rose (K.faults out.old) (K.faults out.new)
+        → IsDecided asked (S.left source.old) result.status }
 {
     match read_words(alloc, words) {
         Err(WordsFault::Bad) => unplayed(alloc, Status::BadWords),
         Err(WordsFault::NoMemory) => unplayed(alloc, Status::NoMemory),
-        Ok(words) => replay(alloc, words, script, out),
+        Ok(words) => replay(alloc, words, source, out),
     }
 }
 
-/// Nothing was played.
-fn unplayed(alloc: Global, status: Status) -> Outcome
+/// Nothing was played, and no transcript was judged.
+pub(crate) fn unplayed(alloc: Global, status: Status) -> Outcome
     ensures status { result.status ≡ status }
     ensures empty { result.journal.lines ≡ [] }
     ensures claims { HasClaims result.journal.lines }
@@ -135,7 +189,7 @@ fn replay_source<S: Source, K: Sink>(
     ensures write_fault { result.status ≡ Status.WriteFault
         → Rose (K.faults out.old) (K.faults out.new) }
 {
-    match read_all(alloc, source) {
+    match read_all(alloc, source, SCRIPT_LIMIT) {
         Err(ReadFault::NoMemory) => unplayed(alloc, Status::NoMemory),
         Err(ReadFault::Source) => unplayed(alloc, Status::ReadFault),
         Err(ReadFault::TooLong) => unplayed(alloc, Status::ScriptTooLong),

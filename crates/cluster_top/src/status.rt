@@ -2,6 +2,7 @@
 ghost use Rattle.std.specs.Prelude.{◌≡◌, IfOk, Some};
 ghost use Rattle.cluster_top.specs.Endings.{code_of, fault_of};
 
+use audit_core::Law;
 use cluster_types::{Bytes, NoMemory};
 use script_lang::Cause;
 use std::alloc::Global;
@@ -26,6 +27,14 @@ pub enum Status {
     ScriptTooLong,
     /// The journal would have more than 2,000,000 lines, or more than 536,870,912 bytes of text.
     RunTooLong,
+    /// The transcript that is to be audited has more than 134,217,728 bytes.
+    TranscriptTooLong,
+    /// The bytes that are to be audited are no transcript: the first line, counted from 1, at which
+    /// they cease to be one.
+    BadTranscript { line: u64 },
+    /// The transcript's first `line` lines break the law, and none before it in the laws' order;
+    /// fewer lines break none.
+    Refuted { law: Law, line: u64 },
 }
 
 /// What main writes on standard error, without the line feed.
@@ -42,11 +51,14 @@ impl fmt::Display for Status {
             Status::WriteFault => write!(f, "write fault"),
             Status::ScriptTooLong => write!(f, "script too long"),
             Status::RunTooLong => write!(f, "run too long"),
+            Status::TranscriptTooLong => write!(f, "transcript too long"),
+            Status::BadTranscript { line } => write!(f, "line {line}: not a transcript"),
+            Status::Refuted { .. } => write!(f, "refuted"),
         }
     }
 }
 
-/// The code with which the process ends: 0 to 7.
+/// The code with which the process ends: 0 to 10.
 pub fn code(status: &Status) -> u8
     ensures { result ≡ code_of status.now }
 {
@@ -59,6 +71,9 @@ pub fn code(status: &Status) -> u8
         Status::WriteFault => 5,
         Status::ScriptTooLong => 6,
         Status::RunTooLong => 7,
+        Status::TranscriptTooLong => 8,
+        Status::BadTranscript { .. } => 9,
+        Status::Refuted { .. } => 10,
     }
 }
 

@@ -1,15 +1,15 @@
 //! The words after the program's name.
-ghost use Rattle.std.specs.Prelude.{◌≡◌, ℕ, map, codes, string_bytes, IfOk, IfErr, IfSome, IsErrOf, IsNone};
+ghost use Rattle.std.specs.Prelude.{◌≡◌, ◌↔◌, ℕ, map, codes, string_bytes, IfOk, IfErr, IfSome, IsErrOf, IsNone, IsTrue};
 ghost use Rattle.std.specs.List.{list_all, list_any};
 ghost use Rattle.clap.specs.Words.{app_of, first_value, found_of, kind_of};
 ghost use Rattle.script_lang.specs.Values.{is_digit};
-ghost use Rattle.cluster_top.specs.Words.{Asks, AreBad, AreNumber, IsNoNumber, IsNumber, command_line, is_dashes};
+ghost use Rattle.cluster_top.specs.Words.{Asks, AskAudit, AskNoReplay, AreNumber, IsNoNumber, IsNumber, command_line, is_audit, is_dashes};
 
 use clap::error::ErrorKind;
 use clap::{Arg, ArgAction, ArgMatches, Command, Error};
 use std::alloc::{AllocError, Global};
 
-/// What is to be replayed and written.
+/// What is to be replayed, and what is to be written of it.
 #[derive(Clone, Copy, Debug, PartialEq, Eq)]
 pub struct Words {
     /// Whether the summary follows the transcript.
@@ -50,11 +50,25 @@ impl From<Error> for WordsFault {
     }
 }
 
-/// Reads the words: `--summary`, and `--generate` with a number as the next word or behind `=`, each
+/// Whether the words ask for an audit: `--audit`, and no word beside it. So it is no option of the
+/// command line, which takes those that stand beside one another.
+pub fn ask_for_audit(words: &[String]) -> bool
+    ensures { IsTrue result ↔ AskAudit (map string_bytes words.now) }
+{
+    words.len() == 1 && is_audit_word(&words[0])
+}
+
+fn is_audit_word(word: &String) -> bool
+    ensures { result ≡ is_audit (string_bytes word.now) }
+{
+    word.as_str() == "--audit"
+}
+
+/// Reads the words that ask for a replay: `--summary`, and `--generate` with a number as the next word or behind `=`, each
 /// at most once and in any order. The number is 1 to 20 digits below 2^64. `Bad` for all others.
 pub fn read_words(alloc: Global, words: &[String]) -> Result<Words, WordsFault>
     ensures asked { IfOk result (λ asked. Asks (map string_bytes words.now) asked) }
-    ensures bad { IsErrOf result WordsFault.Bad → AreBad (map string_bytes words.now) }
+    ensures bad { IsErrOf result WordsFault.Bad → AskNoReplay (map string_bytes words.now) }
 {
     if has_dashes(words) {
         return Err(WordsFault::Bad);

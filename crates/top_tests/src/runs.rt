@@ -13,7 +13,8 @@ put 1 #0000000000000000000000000000000000000000 hi
 get 1 #0000000000000000000000000000000000000000
 ";
 
-const TRANSCRIPT: &str = "node 1
+/// What the script writes.
+pub const TRANSCRIPT: &str = "node 1
 tick 1
 tick 1
 tick 1

@@ -1,4 +1,5 @@
 //! What the calls that take no streams give, against values from outside.
+use audit_core::Law;
 use cluster_top::{Status, code, fault_text, generated};
 use script_lang::Cause;
 use std::test::Fail;
@@ -27,6 +28,20 @@ fn each_status_has_its_code_and_text(rt: HostRuntime) -> Result<(), Fail> {
         (Status::WriteFault, 5, "write fault"),
         (Status::ScriptTooLong, 6, "script too long"),
         (Status::RunTooLong, 7, "run too long"),
+        (Status::TranscriptTooLong, 8, "transcript too long"),
+        (
+            Status::BadTranscript { line: 12 },
+            9,
+            "line 12: not a transcript",
+        ),
+        (
+            Status::Refuted {
+                law: Law::NoLoss,
+                line: 3,
+            },
+            10,
+            "refuted",
+        ),
     ] {
         assert_eq!(rt; code(&status), number);
         let text = fault_text(rt.alloc(), &status)?;

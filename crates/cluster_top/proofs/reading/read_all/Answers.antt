@@ -14,4 +14,4 @@ pub returns-in-End-clause-whole : goal.returns-in-End-clause-whole
 returns-in-End-clause-whole g c = gave_all _ _ _ _ _ c.loop-bytes.invariant.given c.in-End.ensures.bytes (omega (arith, c.pull.auto.into, length-take {A = ℕ}, c.deref_mut.ensures.len, c.loop-bytes.invariant.room))
 
 pub returns-clause-too_long : goal.returns-clause-too_long
-returns-clause-too_long g c = λ _. gave_too_much _ _ _ c.loop-bytes.invariant.given (omega (arith, c.loop-bytes.bytes.ok))
+returns-clause-too_long g c = λ _. gave_too_much _ _ _ _ c.loop-bytes.invariant.given (omega (arith, c.loop-bytes.bytes.ok))

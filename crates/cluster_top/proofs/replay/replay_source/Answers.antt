@@ -8,4 +8,4 @@ returns-in-Err-NoMemory-clause-ended g c =
 pub returns-in-Ok-clause-ended : goal.returns-in-Ok-clause-ended
 returns-in-Ok-clause-ended g c =
     c.replay_bytes.ensures.ended (g.S.Source.left c.args.source.now) (g.S.Source.left c.read_all.new.source)
-    (from_source c.args.words (g.S.Source.left c.args.source.now) (g.S.Source.left c.read_all.new.source) c.in-Ok.bytes.items _ c.requires c.in-Ok.ensures.whole c.in-Ok.ensures.limit c.as_slice.ensures.value)
+    (from_source c.args.words (g.S.Source.left c.args.source.now) (g.S.Source.left c.read_all.new.source) c.in-Ok.bytes.items _ c.requires c.in-Ok.ensures.whole c.in-Ok.ensures.within c.as_slice.ensures.value)
