@@ -1,8 +1,10 @@
+pub mod BoolFacts
 pub mod ClusterKeyLaws
 pub mod DistinctLaws
 pub mod FilledLaws
 pub mod GroupLaws
 pub mod MemberLaws
+pub mod OrRows
 pub mod RowLaws
 pub mod RowPairs
 pub mod RowPlaces

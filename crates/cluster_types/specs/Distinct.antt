@@ -1,5 +1,10 @@
 -- Lists of ids: in which no id stands twice, and in which each id is below those before it.
-use Rattle.std.specs.Prelude.{◌≢◌, ◌==◌, ℕ, ◌<◌, ◌≤◌, ◌-◌, List, length, slice_index, take, filter, not, AllPairs, Contains}
+use Rattle.std.specs.Prelude.{◌≢◌, ◌==◌, ℕ, ◌<◌, ◌≤◌, ◌-◌, Bool, List, length, slice_index, take, filter, not, AllPairs, Contains}
+use Rattle.std.specs.List.{list_any}
+
+-- whether the number is one of those
+abbrev pub contains : List ℕ → ℕ → Bool
+contains ns n = list_any (λ m. m == n) ns
 
 -- no id stands twice
 pub record AreDistinct (ids : List ℕ) : Type 0 where

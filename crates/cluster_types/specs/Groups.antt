@@ -1,7 +1,7 @@
 -- The groups of a divided network, each a list of ids.
 use Rattle.std.specs.Prelude.{◌==◌, ℕ, ◌<◌, ◌≤◌, List, length, position, Bool, false, not, Option, Some, None, All}
-use Rattle.std.specs.List.{list_any, concat}
-use Rattle.cluster_types.specs.Distinct.{AreDistinct}
+use Rattle.std.specs.List.{concat}
+use Rattle.cluster_types.specs.Distinct.{AreDistinct, contains}
 
 -- 1 to 16 lists with at most 16 ids in all, none empty, and no id twice
 pub record AreGroups (groups : List (List ℕ)) : Type 0 where
@@ -13,7 +13,7 @@ pub record AreGroups (groups : List (List ℕ)) : Type 0 where
 
 -- the place of the group in which the node stands
 abbrev pub group_of : List (List ℕ) → ℕ → Option ℕ
-group_of groups n = position (λ ids. list_any (λ m. m == n) ids) groups
+group_of groups n = position (λ ids. contains ids n) groups
 
 -- whether both places are there, and they aren't the same
 abbrev pub differ : Option ℕ → Option ℕ → Bool

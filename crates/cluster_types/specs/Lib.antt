@@ -1,4 +1,6 @@
+pub mod Changed
 pub mod ClusterKeys
+pub mod Copies
 pub mod Distinct
 pub mod Endpoints
 pub mod Filled
@@ -7,6 +9,7 @@ pub mod Members
 pub mod MembersEqual
 pub mod NodeLists
 pub mod Partitions
+pub mod Ranges
 pub mod RowBytes
 pub mod Rows
 pub mod StateRows

@@ -4,23 +4,23 @@
 //! `Digest`. Short lists are copied; `Bytes`, `DigestList`, `IdList` and `StateRow` take memory.
 #![tactic(auto)]
 
-pub mod boxed_groups;
-pub mod bytes;
-pub mod cluster_key;
-pub mod copy_state;
-pub mod digest;
-pub mod digest_list;
-pub mod groups;
-pub mod id_list;
-pub mod map_view;
-pub mod member;
-pub mod member_list;
-pub mod members;
-pub mod node_id;
-pub mod node_list;
-pub mod partition;
-pub mod row;
-pub mod state_row;
+mod boxed_groups;
+mod bytes;
+mod cluster_key;
+mod copy_state;
+mod digest;
+mod digest_list;
+mod groups;
+mod id_list;
+mod map_view;
+mod member;
+mod member_list;
+mod members;
+mod node_id;
+mod node_list;
+mod partition;
+mod row;
+mod state_row;
 
 pub use boxed_groups::BoxedGroups;
 pub use bytes::Bytes;
@@ -36,7 +36,7 @@ pub use member_list::MemberList;
 pub use members::{Members, MembersFault};
 pub use node_id::NodeId;
 pub use node_list::{ListFault, NodeList};
-pub use partition::{PartitionId, partition_of};
+pub use partition::{PARTITIONS, PartitionId, partition_of};
 pub use row::Row4096;
 pub use state_row::StateRow;
 pub use std::alloc::AllocError as NoMemory;

@@ -6,7 +6,7 @@ ghost use Rattle.std.specs.Cmp.{partial_equiv_from_equiv, bool_eq_equiv};
 ghost use Rattle.std.specs.Cmp.Lexicographic.{pointwise};
 ghost use Rattle.std.proofs.lemmas.Cmp.{lists_equiv};
 ghost use Rattle.cluster_types.specs.RowBytes.{AreRowBytes, bits_of, byte_bit, bytes_of};
-ghost use Rattle.cluster_types.specs.Rows.{bit, IsClear, IsClearFrom, IsNextSet};
+ghost use Rattle.cluster_types.specs.Rows.{bit, IsClear, IsClearFrom, IsNextSet, or_rows};
 
 use crate::partition::{PARTITIONS, PartitionId};
 use std::marker::Model;
@@ -85,6 +85,7 @@ impl Row4096 {
 
     /// Sets besides each bit that the other row has.
     pub fn or(&mut self, other: &Row4096)
+        ensures row { self.new ≡ or_rows self.old other.now }
         ensures each { (p : ℕ) → bit self.new p ≡ (bit self.old p || bit other.now p) }
         ensures size { length self.new ≡ 4096 }
     {

@@ -1,6 +1,6 @@
 pub mod Action
+pub mod Contents
 pub mod Join
 pub mod Next
 pub mod Order
-pub mod Records
 pub mod ValueFault

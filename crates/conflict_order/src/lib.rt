@@ -1,12 +1,12 @@
 //! The versions of a record, how they compare, and which of two remains.
 #![tactic(auto)]
 
-pub mod best_version;
+mod best_version;
 pub mod laws;
-pub mod policy;
-pub mod value;
-pub mod version;
-pub mod want;
+mod policy;
+mod value;
+mod version;
+mod want;
 
 pub use best_version::BestVersion;
 pub use policy::Policy;
