@@ -2,11 +2,11 @@
 //! of its faults.
 #![tactic(auto)]
 
-pub mod memory;
-pub mod sink;
-pub mod source;
-pub mod standard;
-pub mod sure;
+mod memory;
+mod sink;
+mod source;
+mod standard;
+mod sure;
 
 pub use memory::{MemSink, MemSource};
 pub use sink::{Pushed, Sink};

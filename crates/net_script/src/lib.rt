@@ -2,7 +2,7 @@
 //! can't reach one another.
 #![tactic(auto)]
 
-pub mod net;
+mod net;
 mod slots;
 
 pub use net::{FLIGHT_LIMIT, Flying, Net, Posted};

@@ -8,6 +8,7 @@ use Rattle.cluster_types.specs.declared.member.Role.{Role}
 use Rattle.cluster_types.specs.Distinct.{AreDistinct, without}
 use Rattle.cluster_types.proofs.DistinctLaws.{distinct_without}
 use Rattle.cluster_types.specs.Members.{ids_of, plain_role}
+use Rattle.cluster_types.proofs.BoolFacts.{same_truth}
 use Rattle.partition_lists.specs.declared.ranks.Rank.{Rank}
 use Rattle.partition_lists.specs.Hashes.{place}
 use Rattle.partition_lists.specs.Ranks.{standing_cmp, is_ahead_in_rack, is_repeat, rank_of, is_smaller}
@@ -77,12 +78,6 @@ ahead_before members p gone m h =
     let witness = any_has (λ first. is_ahead_in_rack p first m) (members_without members gone) h in
     let before = stayed members gone witness.0 witness.1 in
     has_any (λ first. is_ahead_in_rack p first m) members witness.0 before.0 witness.2
-
-same_truth : (a b : Bool) → (a ≡ true → b ≡ true) → (b ≡ true → a ≡ true) → a ≡ b
-same_truth true true there back = refl
-same_truth true false there back = sym (there refl)
-same_truth false true there back = back refl
-same_truth false false there back = refl
 
 rank_same : (members : List Member) (p gone : ℕ) (m : Member) → OthersAhead members p gone m → rank_of (members_without members gone) p m ≡ rank_of members p m
 rank_same members p gone m others = ap (λ (b : Bool). record { quiesced = m.role.quiesced; repeats_rack = b; place = place m.id p; id = m.id }) (go m.role.quiesced refl (m.role.rack == 0) refl)

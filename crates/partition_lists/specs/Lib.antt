@@ -1,6 +1,7 @@
 pub mod Acting
 pub mod Candidates
 pub mod Classes
+pub mod Counts
 pub mod Hashes
 pub mod Leaving
 pub mod Lists

@@ -1,7 +1,7 @@
 -- The list of a partition, and its replicas.
-use Rattle.std.specs.Prelude.{◌≡◌, ◌==◌, ℕ, Bool, List, [], ◌∷◌, length, map, take, count_by, slice_get, Some, All, if◌then◌else◌}
-use Rattle.std.specs.List.{list_any}
+use Rattle.std.specs.Prelude.{◌≡◌, ℕ, Bool, List, [], ◌∷◌, length, map, take, count_by, slice_get, Some, All, if◌then◌else◌}
 use Rattle.cluster_types.specs.declared.member.Member.{Member}
+use Rattle.cluster_types.specs.Distinct.{contains}
 use Rattle.partition_lists.specs.declared.ranks.Rank.{Rank}
 use Rattle.partition_lists.specs.Ranks.{rank_of, is_smaller}
 
@@ -40,4 +40,4 @@ replicas ids factor = take factor ids
 
 -- whether the node is a replica of the partition
 abbrev pub is_replica_of : ℕ → List Member → ℕ → ℕ → Bool
-is_replica_of n members p factor = list_any (λ m. m == n) (replicas (list members p) factor)
+is_replica_of n members p factor = contains (replicas (list members p) factor) n

@@ -6,11 +6,11 @@
 //! first nodes of the list, as many as the factor says, are the partition's replicas.
 #![tactic(auto)]
 
-pub mod hashes;
+mod hashes;
 pub mod laws;
-pub mod lists;
-pub mod ranks;
-pub mod view_lists;
+mod lists;
+mod ranks;
+mod view_lists;
 
 pub use hashes::{fnv1a, one_at_a_time, place};
 pub use lists::{is_replica, list, replicas};

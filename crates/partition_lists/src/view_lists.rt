@@ -8,8 +8,7 @@ ghost use Rattle.partition_lists.specs.Lists.{list, is_replica_of};
 ghost use Rattle.partition_lists.specs.ViewLists.{lists_from};
 
 use crate::ranks::Ranks;
-use cluster_types::partition::PARTITIONS;
-use cluster_types::{Members, NoMemory, NodeId, NodeList, PartitionId};
+use cluster_types::{Members, NoMemory, NodeId, NodeList, PARTITIONS, PartitionId};
 use std::alloc::Global;
 use std::marker::Model;
 
