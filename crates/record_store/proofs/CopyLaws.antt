@@ -14,10 +14,11 @@ use Rattle.std.proofs.lemmas.List.{length-set, get_or-set_same, get_or-set_other
 use lib.Dec.{T}
 use Rattle.conflict_order.specs.declared.policy.Policy.{Policy}
 use Rattle.conflict_order.specs.declared.version.Version.{Version}
+use Rattle.conflict_order.specs.Contents.{Content, joined}
 use Rattle.conflict_order.specs.Order.{is_newer}
 use Rattle.conflict_order.proofs.JoinLaws.{kept_newer, kept_not_newer}
+use Rattle.cluster_types.specs.Copies.{is_of, digests_of, without_copy}
 use Rattle.cluster_types.specs.Partitions.{partition_count, partition_of}
-use Rattle.record_store.specs.Store.{Records, is_of, digests_of, without_copy, joined}
 use Rattle.record_store.specs.Copies.{Entries, all_entries, versions_of, IsCopy, AreCopies}
 
 abbrev pub digest_cmp : List ℕ → List ℕ → Ordering
@@ -174,17 +175,17 @@ versions_new cs h = ap (λ (es : Entries). from_entries es) (none cs h)
     none [] g = refl
     none (es ∷ bs) g = ap (λ fs. fs ++ all_entries bs) (g 0 es (omega arith)) ∙ none bs (λ j z lower. g (suc j) z (omega (arith, lower)))
 
-same_by : (b : Bool) (m : Records) (d q : List ℕ) (v : Version) → (b ≡ true → q ≡ d) → Some v ≡ get m d → cond b (Some v) (get m q) ≡ get m q
+same_by : (b : Bool) (m : Content) (d q : List ℕ) (v : Version) → (b ≡ true → q ≡ d) → Some v ≡ get m d → cond b (Some v) (get m q) ≡ get m q
 same_by true m d q v same is = is ∙ sym (ap (get m) (same refl))
 same_by false m d q v same is = refl
 
 -- records that take what they hold stay
-insert_same : (m : Records) (d : List ℕ) (v : Version) → Some v ≡ get m d → insert m d v ≡ m
+insert_same : (m : Content) (d : List ℕ) (v : Version) → Some v ≡ get m d → insert m d v ≡ m
 insert_same m d v is =
     same_map total same_digest _ _ (λ q. get-insert total m d v q ∙ same_by (eq_by_cmp digest_cmp q d) m d q v (λ e. same_digest q d (equal_is _ e)) is)
 
-pub joined_newer : (by : Policy) (m : Records) (d : List ℕ) (v : Version) → is_newer by v (get m d) ≡ true → insert m d v ≡ joined by m d v
+pub joined_newer : (by : Policy) (m : Content) (d : List ℕ) (v : Version) → is_newer by v (get m d) ≡ true → insert m d v ≡ joined by m d v
 joined_newer by m d v newer = ap (insert m d) (sym (kept_newer by (get m d) v newer))
 
-pub joined_kept : (by : Policy) (m : Records) (d : List ℕ) (v : Version) → is_newer by v (get m d) ≡ false → m ≡ joined by m d v
+pub joined_kept : (by : Policy) (m : Content) (d : List ℕ) (v : Version) → is_newer by v (get m d) ≡ false → m ≡ joined by m d v
 joined_kept by m d v older = sym (insert_same m d _ (kept_not_newer by (get m d) v older))

@@ -4,9 +4,10 @@ use Rattle.std.proofs.lemmas.Bool.Decides.{eqb_tells}
 use Rattle.std.proofs.lemmas.List.{length-map, get_or-map, get_or-set_same, get_or-set_other, map-set, set-get_or}
 use Rattle.std.proofs.lemmas.List.Sums.{sum_by-append, count_by_more_yes, count_by_more_no}
 use Rattle.conflict_order.specs.declared.version.Version.{Version}
+use Rattle.cluster_types.specs.Copies.{is_of}
 use Rattle.cluster_types.specs.Partitions.{partition_count, partition_of}
 use Rattle.sorted_chain.specs.Chain.{Chain}
-use Rattle.record_store.specs.Store.{is_of, room_at, HasRoom, KeepsRoom, UsesRoom}
+use Rattle.record_store.specs.Store.{room_at, HasRoom, KeepsRoom, UsesRoom}
 use Rattle.record_store.specs.Copies.{rooms_of}
 
 count_first : (p : ℕ) (d : List ℕ) (ds : List (List ℕ)) → count_by (is_of p) (d ∷ ds) ≡ (0 + cond (is_of p d) 1 0) + count_by (is_of p) ds

@@ -3,6 +3,7 @@ use Rattle.std.proofs.Common.{◌≡◌, ℕ, ◌<◌, ◌≤◌, ◌+◌, ◌-�
 use Rattle.std.specs.FinMap.{find, put, get, insert, empty}
 use Rattle.std.proofs.lemmas.List.{length-map, get_or-map, map-set}
 use Rattle.conflict_order.specs.declared.version.Version.{Version}
+use Rattle.cluster_types.specs.Copies.{digests_of, without_copy}
 use Rattle.cluster_types.specs.Partitions.{partition_count, partition_of}
 use Rattle.sorted_chain.specs.Chain.{Chain}
 use Rattle.sorted_chain.specs.Chain as chain
@@ -10,7 +11,7 @@ use Rattle.conflict_order.specs.declared.policy.Policy.{Policy}
 use Rattle.conflict_order.specs.Order.{is_newer}
 use Rattle.std.specs.Ordering.{is_lt}
 use Rattle.record_store.specs.declared.joined.Joined.TheVariants.{Newer, Kept}
-use Rattle.record_store.specs.Store.{digests_of, without_copy, digests_above, answer}
+use Rattle.record_store.specs.Store.{digests_above, answer}
 use Rattle.record_store.specs.Copies.{Entries, copies_of, versions_of, IsCopy, AreCopies}
 use Rattle.record_store.proofs.CopyLaws.{digest_cmp, get_versions, digests_of_copy, copies_set, is_copy_empty, is_copy_put, versions_clear, versions_put, versions_new}
 

@@ -10,7 +10,9 @@ use Rattle.std.proofs.lemmas.List.{length-take, get_or-take}
 use Rattle.std.proofs.lemmas.List.Kept.{AllPairs-cons, AllPairs-filter}
 use lib.Dec.{T}
 use Rattle.conflict_order.specs.declared.version.Version.{Version}
-use Rattle.record_store.specs.Store.{Records, is_of, digests_of, digests_above}
+use Rattle.conflict_order.specs.Contents.{Content}
+use Rattle.cluster_types.specs.Copies.{is_of, digests_of}
+use Rattle.record_store.specs.Store.{digests_above}
 use Rattle.record_store.specs.Copies.{Entries}
 use Rattle.record_store.proofs.CopyLaws.{digest_cmp, same_digest}
 
@@ -40,7 +42,7 @@ entries_rise : (es : Entries) → T (is_sorted digest_cmp es) → Rising (map (�
 entries_rise [] h = λ j k z lower inside. absurd (omega arith)
 entries_rise (e ∷ es) h = AllPairs-cons (λ d f. digest_cmp d f ≡ Less) e.0 (map (λ e. e.0) es) (all_above e.0 es (first _ _ h)) (entries_rise es (second _ _ h))
 
-pub digests_rise : (versions : Records) (p : ℕ) → Rising (digests_of versions p)
+pub digests_rise : (versions : Content) (p : ℕ) → Rising (digests_of versions p)
 digests_rise versions p = entries_rise (entries (retain_keys versions (is_of p))) (entries_sorted (retain_keys versions (is_of p)))
 
 above_rises : (after : Option (List ℕ)) (ds : List (List ℕ)) → Rising ds
@@ -56,11 +58,11 @@ taken_rises n ds h j k z lower inside =
     (h j k z lower (omega (arith, within))))
 
 -- what a walk gives rises
-pub walk_rises : (versions : Records) (p : ℕ) (after : Option (List ℕ)) (max : ℕ) → Rising (take max (digests_above after (digests_of versions p)))
+pub walk_rises : (versions : Content) (p : ℕ) (after : Option (List ℕ)) (max : ℕ) → Rising (take max (digests_above after (digests_of versions p)))
 walk_rises versions p after max = taken_rises max (digests_above after (digests_of versions p)) (above_rises after (digests_of versions p) (digests_rise versions p))
 
 -- the digests of a partition are those of its digests that are held
-pub digests_are_held : (versions : Records) (p : ℕ) (q : List ℕ) → list_any (eq_by_cmp digest_cmp q) (digests_of versions p) ≡ (is_of p q && is_some (get versions q))
+pub digests_are_held : (versions : Content) (p : ℕ) (q : List ℕ) → list_any (eq_by_cmp digest_cmp q) (digests_of versions p) ≡ (is_of p q && is_some (get versions q))
 digests_are_held versions p q =
     sym (contains_key-keys (retain_keys versions (is_of p)) q)
     ∙ ap is_some (get-retain_keys versions (is_of p) q (λ x tied. ap (is_of p) (sym (same_digest q x tied))))

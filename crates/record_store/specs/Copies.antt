@@ -5,10 +5,9 @@ use Rattle.std.specs.Cmp.Lexicographic.{slice_cmp}
 use Rattle.std.specs.FinMap as finite
 use Rattle.std.specs.FinMap.{find, is_sorted}
 use Rattle.conflict_order.specs.declared.version.Version.{Version}
-use Rattle.conflict_order.specs.Records.{Record}
+use Rattle.conflict_order.specs.Contents.{Content, Record}
 use Rattle.cluster_types.specs.Partitions.{partition_count, partition_of}
 use Rattle.sorted_chain.specs.Chain.{Chain}
-use Rattle.record_store.specs.Store.{Records}
 
 abbrev pub Entries : Type 0
 Entries = List Record
@@ -27,7 +26,7 @@ all_entries [] = []
 all_entries (es ∷ copies) = es ++ all_entries copies
 
 -- what the lists hold together
-abbrev pub versions_of : List Entries → Records
+abbrev pub versions_of : List Entries → Content
 versions_of copies = finite.from_entries (all_entries copies)
 
 -- the digests rise, and each is the partition's

@@ -4,9 +4,9 @@
 //! order of the digests, and where a copy was whole once, a stamp that says under which key.
 #![tactic(auto)]
 
-pub mod joined;
-pub mod stamp;
-pub mod store;
+mod joined;
+mod stamp;
+mod store;
 
 pub use cluster_types::NoMemory;
 pub use joined::Joined;

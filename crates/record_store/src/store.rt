@@ -2,18 +2,20 @@
 ghost use Rattle.std.specs.Prelude.{◌≡◌, ◌==◌, if◌then◌else◌, ℕ, ◌+◌, ◌∷◌, ◌<◌, ◌≤◌, [], take, map, None, All, IsOk, IsSome, IfOk, OnOk, OnErr, length, slice_index};
 ghost use Rattle.std.specs.Option.{option_copied};
 ghost use Rattle.std.specs.FinMap as finite;
+ghost use Rattle.cluster_types.specs.Copies.{digests_of, state_of_copy, state_with, without_copy};
 ghost use Rattle.cluster_types.specs.Partitions.{partition_count, partition_of};
 ghost use Rattle.cluster_types.specs.StateRows.{state_of};
 ghost use Rattle.conflict_order.specs.declared.policy.Policy.TheVariants.{Time};
+ghost use Rattle.conflict_order.specs.Contents.{joined};
 ghost use Rattle.record_store.specs.Copies.{copies_of, rooms_of};
 ghost use Rattle.record_store.specs.StampList.{shown_stamp};
-ghost use Rattle.record_store.specs.Store.{IsNewStore, HoldsTheSame, HasRoom, KeepsRoom, UsesRoom, room_at, copy_state_at, state_with, digests_of, digests_above, without_copy, joined, answer};
+ghost use Rattle.record_store.specs.Store.{IsNewStore, HoldsTheSame, HasRoom, KeepsRoom, UsesRoom, room_at, digests_above, answer};
 
 use crate::joined::Joined;
 use crate::stamp::Stamp;
-use cluster_types::partition::PARTITIONS;
 use cluster_types::{
-    ClusterKey, CopyState, Digest, DigestList, NoMemory, PartitionId, StateRow, partition_of,
+    ClusterKey, CopyState, Digest, DigestList, NoMemory, PARTITIONS, PartitionId, StateRow,
+    partition_of,
 };
 use conflict_order::{Policy, Version};
 use sorted_chain::{Iter, SortedChain};
@@ -33,13 +35,15 @@ impl Model for RecordStore {
     ghost use Rattle.std.specs.Coded.{codes};
     ghost use Rattle.conflict_order.specs.contracts.policy.Policy as policy;
     ghost use Rattle.cluster_types.specs.Partitions.{partition_count};
-    ghost use Rattle.record_store.specs.Store.{StoreWithRoom, records_code, stamps_code};
+    ghost use Rattle.conflict_order.specs.Contents.{content_code};
+    ghost use Rattle.cluster_types.specs.Copies.{stamps_code};
+    ghost use Rattle.record_store.specs.Store.{StoreWithRoom};
     ghost use Rattle.record_store.specs.Copies.{copies_of, rooms_of, versions_of, AreCopies};
     ghost use Rattle.record_store.specs.StampList.{stamps_of};
 
     ghost Value = { StoreWithRoom };
 
-    ghost coded = { Prim.hlevel (codes, records_code, stamps_code, policy.the_row.coded) };
+    ghost coded = { Prim.hlevel (codes, content_code, stamps_code, policy.the_row.coded) };
 
     ghost view = { λ s.
         record {
@@ -81,7 +85,7 @@ impl RecordStore {
 
     /// The state of the partition's copy: empty while it has no record, also where it has a stamp.
     pub fn state(&self, p: PartitionId) -> CopyState
-        ensures { result ≡ copy_state_at self.now p }
+        ensures { result ≡ state_of_copy self.now.versions self.now.stamps p }
     {
         let place = place_of(p);
         copy_state(&self.copies[place], self.stamps[place])
@@ -97,7 +101,8 @@ impl RecordStore {
     /// The states of all copies.
     pub fn row(&self, alloc: Global) -> Result<StateRow, NoMemory>
         ensures { IfOk result
-            (λ row. (p : ℕ) → p < partition_count → state_of row p ≡ copy_state_at self.now p) }
+            (λ row. (p : ℕ) → p < partition_count
+            → state_of row p ≡ state_of_copy self.now.versions self.now.stamps p) }
     {
         let mut row = StateRow::new(alloc);
         for number in 0..PARTITIONS {

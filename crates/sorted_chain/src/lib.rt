@@ -4,10 +4,11 @@
 //! It is a chain of nodes, each in a box of its own, that leads from each key to the next.
 #![tactic(auto)]
 
-pub mod boxes;
-pub mod chain;
-pub mod iter;
-pub mod linked_list;
+mod boxes;
+mod chain;
+mod iter;
+mod key;
+mod linked_list;
 
 pub use chain::{PutFault, SortedChain};
 pub use iter::Iter;

@@ -5,6 +5,7 @@ ghost use Rattle.std.specs.Box.{box_allocator};
 ghost use Rattle.sorted_chain.specs.Nodes.{IsLinked};
 
 use crate::boxes::{Boxes, Place, RawBox};
+use crate::key::key_order;
 use std::alloc::Global;
 use std::cmp::Ordering;
 
@@ -95,7 +96,7 @@ impl<V> LinkedList<V> {
             return self.seek_from(k, self.front());
         };
         let node = self.node(here.index, here.at);
-        match k.cmp(&node.key) {
+        match key_order(k, &node.key) {
             Ordering::Less => self.seek_from(k, self.front()),
             Ordering::Equal => Ok(here),
             Ordering::Greater => {
@@ -128,7 +129,7 @@ impl<V> LinkedList<V> {
         } = from;
         while let Some(place) = at {
             let next = self.node(index, place);
-            match k.cmp(&next.key) {
+            match key_order(k, &next.key) {
                 Ordering::Less => return Err(Gap { index, before, at }),
                 Ordering::Equal => return Ok(Here { index, at: place }),
                 Ordering::Greater => {

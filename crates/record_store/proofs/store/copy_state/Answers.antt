@@ -1,6 +1,6 @@
 use Rattle.std.proofs.Common.{ap, ◌∙◌, map, sym}
 use Rattle.std.proofs.lemmas.Bool.{false≢true}
-use Rattle.record_store.specs.Store.{state_with}
+use Rattle.cluster_types.specs.Copies.{state_with}
 use Rattle.record_store.specs.StampList.{shown_stamp}
 use Rattle.record_store.proofs.RowLaws.{part_state, whole_state}
 use Rattle.record_store.proofs.store.copy_state.Goals as goal

@@ -1,6 +1,7 @@
 use Rattle.std.proofs.Common.{◌≡◌, ◌≤◌, ◌<◌, ◌+◌, ℕ, List, take, set, get_or, count_by, refl, subst, sym, ◌∙◌, arith, length-set}
 use Rattle.cluster_types.specs.Partitions.{partition_count}
-use Rattle.record_store.specs.Store.{is_of, room_at}
+use Rattle.cluster_types.specs.Copies.{is_of}
+use Rattle.record_store.specs.Store.{room_at}
 use Rattle.record_store.specs.Copies.{rooms_of}
 use Rattle.record_store.proofs.RoomLaws.{keeps_refl, keeps_trans, counts_more, room_more}
 use Rattle.record_store.proofs.store.reserve_each.Goals as goal

@@ -1,7 +1,8 @@
 use Rattle.std.proofs.Common.{◌≡◌, ℕ, ◌<◌, length, take, slice_index, count_by}
 use Rattle.cluster_types.specs.Partitions.{partition_count}
 use Rattle.record_store.specs.Copies.{copies_of, rooms_of}
-use Rattle.record_store.specs.Store.{is_of, HasRoom, KeepsRoom}
+use Rattle.cluster_types.specs.Copies.{is_of}
+use Rattle.record_store.specs.Store.{HasRoom, KeepsRoom}
 use Rattle.record_store.proofs.store.reserve_each.Given as goal
 
 abbrev pub invariant-loop-d : goal.invariant-loop-d

@@ -1,6 +1,7 @@
 use Rattle.std.proofs.Common.{◌≡◌, None, slice_set, ap, ◌∙◌, arith, length-set}
 use Rattle.std.specs.FinMap.{remove}
-use Rattle.record_store.specs.Store.{StoreWithRoom, without_copy}
+use Rattle.cluster_types.specs.Copies.{without_copy}
+use Rattle.record_store.specs.Store.{StoreWithRoom}
 use Rattle.record_store.specs.Copies.{copies_of, rooms_of, versions_of}
 use Rattle.record_store.specs.StampList.{stamps_of}
 use Rattle.record_store.proofs.RoomLaws.{same_rooms}

@@ -1,7 +1,8 @@
 use Rattle.std.proofs.Common.{ℕ, ap, ◌∙◌, arith}
 use Rattle.std.specs.FinMap.{insert}
 use Rattle.cluster_types.specs.declared.cluster_key.ClusterKey.{ClusterKey}
-use Rattle.record_store.specs.Store.{StoreWithRoom, Stamps}
+use Rattle.cluster_types.specs.Copies.{Stamps}
+use Rattle.record_store.specs.Store.{StoreWithRoom}
 use Rattle.record_store.specs.Copies.{copies_of, rooms_of, versions_of}
 use Rattle.record_store.specs.StampList.{stamps_of}
 use Rattle.record_store.proofs.StampLaws.{stamps_set}

@@ -1,5 +1,6 @@
 use Rattle.std.proofs.Common.{sym, ap, ◌∙◌, arith}
-use Rattle.record_store.specs.Store.{StoreWithRoom, state_with, copy_state_at, digests_of}
+use Rattle.cluster_types.specs.Copies.{state_with, state_of_copy, digests_of}
+use Rattle.record_store.specs.Store.{StoreWithRoom}
 use Rattle.record_store.specs.Copies.{copies_of, rooms_of, versions_of}
 use Rattle.record_store.specs.StampList.{shown_stamp, stamps_of}
 use Rattle.record_store.proofs.StampLaws.{get_stamps}
@@ -18,5 +19,5 @@ returns c =
     c.copy_state.ensures
     ∙ ap (λ ds. state_with ds (shown_stamp s)) (sym (digests_held cs c.self.invariant.0 place within x c.index.ensures))
     ∙ ap (state_with (digests_of seen.versions place)) (ap shown_stamp c.index-2.ensures ∙ sym (get_stamps ss place s (omega (arith, within, c.self.invariant.1))))
-    ∙ ap (copy_state_at seen) c.place_of-place.ensures.same
-    ∙ ap (λ (store : StoreWithRoom). copy_state_at store c.args.p) c.self.view_is
+    ∙ ap (state_of_copy seen.versions seen.stamps) c.place_of-place.ensures.same
+    ∙ ap (λ (store : StoreWithRoom). state_of_copy store.versions store.stamps c.args.p) c.self.view_is

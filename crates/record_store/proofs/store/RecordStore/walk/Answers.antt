@@ -2,7 +2,8 @@ use Rattle.std.proofs.Common.{ℕ, List, Option, Some, None, Bor, take, ap, sym,
 use Rattle.std.proofs.lemmas.Result.{IfOk-weaker}
 use Rattle.std.specs.Option.{option_copied}
 use Rattle.sorted_chain.specs.Chain as chain
-use Rattle.record_store.specs.Store.{StoreWithRoom, digests_above, digests_of}
+use Rattle.cluster_types.specs.Copies.{digests_of}
+use Rattle.record_store.specs.Store.{StoreWithRoom, digests_above}
 use Rattle.record_store.specs.Copies.{copies_of, versions_of}
 use Rattle.record_store.proofs.StoreLaws.{walked}
 use Rattle.record_store.proofs.store.RecordStore.walk.Goals as goal

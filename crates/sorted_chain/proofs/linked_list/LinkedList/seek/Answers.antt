@@ -13,7 +13,7 @@ seek_from-requires-in-Greater-clause-from g c =
     let within : i < length b.items = slice_get_within b.items i n c.node-node.ensures.node in
     record {
       within = omega (arith, within);
-      passed = passed_all b.items c.requires.full i n c.node-node.ensures.node c.args.k.now c.requires.ascending (sym c.cmp.ensures ∙ c.in-Greater.is);
+      passed = passed_all b.items c.requires.full i n c.node-node.ensures.node c.args.k.now c.requires.ascending (sym c.key_order.ensures ∙ c.in-Greater.is);
       before_is = rw add-one (sym lies);
       at_is = c.node-node.ensures.next;
     }
@@ -23,6 +23,6 @@ returns-in-Equal g c =
     let b = c.args.self.now.boxes in
     let n = c.node-node.result.now in
     record {
-      here = here_at b.items c.requires.full c.in-Some.here.index n c.node-node.ensures.node c.args.k.now (sym c.cmp.ensures ∙ c.in-Equal.is);
+      here = here_at b.items c.requires.full c.in-Some.here.index n c.node-node.ensures.node c.args.k.now (sym c.key_order.ensures ∙ c.in-Equal.is);
       at_is = subst (LiesIn b.places) c.in-Some.is c.requires.last;
     }

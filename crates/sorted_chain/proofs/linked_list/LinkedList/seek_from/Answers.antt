@@ -12,7 +12,7 @@ returns-in-Less g c =
     let b = c.args.self.now.boxes in
     let n = c.node-next.result.now in
     record {
-      gap = gap_at b.items c.requires.full c.loop-at.index n c.node-next.ensures.node c.args.k.now c.requires.ascending (sym c.cmp.ensures ∙ c.in-Less.is) c.loop-at.invariant.passed;
+      gap = gap_at b.items c.requires.full c.loop-at.index n c.node-next.ensures.node c.args.k.now c.requires.ascending (sym c.key_order.ensures ∙ c.in-Less.is) c.loop-at.invariant.passed;
       before_is = c.loop-at.invariant.before_is;
       at_is = sym c.in-Some.is ∙ c.loop-at.invariant.at_is;
     }
@@ -22,7 +22,7 @@ returns-in-Equal g c =
     let b = c.args.self.now.boxes in
     let n = c.node-next.result.now in
     record {
-      here = here_at b.items c.requires.full c.loop-at.index n c.node-next.ensures.node c.args.k.now (sym c.cmp.ensures ∙ c.in-Equal.is);
+      here = here_at b.items c.requires.full c.loop-at.index n c.node-next.ensures.node c.args.k.now (sym c.key_order.ensures ∙ c.in-Equal.is);
       at_is = sym c.loop-at.invariant.at_is ∙ c.in-Some.is;
     }
 
@@ -41,7 +41,7 @@ loop-at-preserved g c =
       at_is = c.node-next.ensures.next;
       before_is = rw add-one (sym c.in-Some.is ∙ c.loop-at.invariant.at_is);
       within = omega (arith, within);
-      passed = passed_at b.items c.requires.full c.loop-at.index n c.node-next.ensures.node c.args.k.now (sym c.cmp.ensures ∙ c.in-Greater.is) c.loop-at.invariant.passed;
+      passed = passed_at b.items c.requires.full c.loop-at.index n c.node-next.ensures.node c.args.k.now (sym c.key_order.ensures ∙ c.in-Greater.is) c.loop-at.invariant.passed;
     }
 
 pub returns : goal.returns
