@@ -1,8 +1,8 @@
 -- The lines that a run can have: each part keeps its range.
-use Rattle.std.specs.Prelude.{ℕ, ◌<◌, ◌≤◌, ◌^◌, ◌⊎◌, ◌≡◌, true, false, List, Option, Some, None, All}
+use Rattle.std.specs.Prelude.{ℕ, ◌<◌, ◌≤◌, ◌^◌, ◌⊎◌, ◌≡◌, true, false, List, All}
 use Rattle.cluster_types.specs.Groups.{AreGroups}
 use Rattle.cluster_types.specs.Members.{AreDistinctMembers}
-use Rattle.cluster_types.specs.Partitions.{partition_count}
+pub use Rattle.cluster_types.specs.Ranges.{IsByte, IsLong, IsPartition, IsRack}
 use Rattle.cluster_types.specs.declared.cluster_key.ClusterKey.{ClusterKey}
 use Rattle.cluster_types.specs.declared.member.Member.{Member}
 use Rattle.wire_messages.specs.Keys.{IsKeyField}
@@ -15,23 +15,9 @@ use Rattle.journal_lines.specs.declared.refusal.Refusal.TheVariants as refusal
 use Rattle.journal_lines.specs.declared.line.Line.{Line}
 use Rattle.journal_lines.specs.declared.line.Line.TheVariants as line
 
-abbrev pub IsByte : ℕ → Type 0
-IsByte n = n < 2 ^ 8
-
--- the number of a message, a time or a count
-abbrev pub IsLong : ℕ → Type 0
-IsLong n = n < 2 ^ 64
-
 -- a node's id, or 0 for the client
 abbrev pub IsEndpoint : ℕ → Type 0
 IsEndpoint n = n < 2 ^ 16
-
-abbrev pub IsPartition : ℕ → Type 0
-IsPartition p = p < partition_count
-
-abbrev pub IsRack : Option ℕ → Type 0
-IsRack None = Unit {0}
-IsRack (Some rack) = IsByte rack
 
 -- groups of nodes that have ids
 pub record AreIdGroups (groups : List (List ℕ)) : Type 0 where

@@ -1,8 +1,8 @@
 //! The lines of a journal, and the ranges that their parts keep.
 #![tactic(auto)]
 
-pub mod line;
-pub mod refusal;
+mod line;
+mod refusal;
 
 pub use line::Line;
 pub use refusal::Refusal;

@@ -1,9 +1,8 @@
 -- What every command that was read keeps.
-use Rattle.std.proofs.Common.{◌≡◌, ℕ, ◌<◌, ◌≤◌, ◌^◌, Bool, true, false, cond, ◌==◌, List, [], ◌∷◌, length, Result, Ok, Err, refl, sym, ap, ◌∙◌, arith, subst, ◌++◌, inl, inr, get_or}
+use Rattle.std.proofs.Common.{◌≡◌, ℕ, ◌<◌, ◌≤◌, ◌^◌, Bool, true, false, cond, ◌==◌, List, [], ◌∷◌, length, Result, Ok, Err, refl, sym, ap, ◌∙◌, arith, subst, ◌++◌}
 use Rattle.std.specs.Prelude.{All, Contains}
 use Rattle.std.specs.List.{list_any, before_first, after_first}
-use Rattle.std.proofs.lemmas.Bool.{leb-true, cases_lt}
-use Rattle.std.proofs.lemmas.List.{get_or_past}
+use Rattle.std.proofs.lemmas.Bool.{leb-true}
 use Rattle.hex.specs.Hex.{IsBytes, decode_sized}
 use Rattle.hex.proofs.HexLemmas.{decode_sized-ok, decode_sized-twice, decode_of-ok}
 use Rattle.digest_ripemd.specs.Digests.{digest_of}
@@ -19,9 +18,10 @@ use Rattle.script_lang.specs.declared.words.CommandWord.TheVariants as kind
 use Rattle.script_lang.specs.Counts as count
 use Rattle.script_lang.specs.Forms as form
 use Rattle.script_lang.specs.Outcomes.{and_then, map_ok, or_cause}
-use Rattle.script_lang.specs.Proper.{IsNode, IsDigest, IsAnyValue, IsProperCommand, NamesNodesOf}
+use Rattle.script_lang.specs.Proper.{IsId, IsDigest, IsValue, IsProperCommand, NamesNodesOf}
 use Rattle.script_lang.specs.Values as value
 use Rattle.script_lang.specs.WordsOf.{word_of_command}
+use Rattle.script_lang.proofs.AllBytes.{all_from_bytes}
 use Rattle.script_lang.proofs.Groups.{ok_inside, from_map, from_then}
 use Rattle.script_lang.proofs.GroupRanges.{groups_kept}
 use Rattle.script_lang.proofs.Ranges.{if_ok, number_fits, partition_fits, partition_above, declared_is}
@@ -44,19 +44,12 @@ written_is digits digest e =
     let twice = decode_sized-ok digits 20 digest read in
     let told = decode_of-ok digits digest (sym (decode_sized-twice digits 20 twice) ∙ read) in
     let size = told.2 in
-    record { size = omega (arith, twice, size); bytes = told.3 }
-
--- what holds of each element holds past the end too
-pub bytes_from_all : (xs : List ℕ) → All (λ byte. byte < 256) xs → IsBytes xs
-bytes_from_all xs all = λ i. elim (cases_lt i (length xs)) [
-  | inl below ↦ all i 0 below
-  | inr past ↦ let none : get_or xs i 0 ≡ 0 = get_or_past xs i 0 past in omega (arith, none)
-]
+    record { size = omega (arith, twice, size); each = all_from_bytes digest told.3 }
 
 made_is : (set_name key : List ℕ) → IsDigest (digest_of set_name key)
 made_is set_name key = record {
   size = length-ripemd160 (set_name ++ 3 ∷ key);
-  bytes = bytes_from_all (digest_of set_name key) (bytes-ripemd160 (set_name ++ 3 ∷ key));
+  each = bytes-ripemd160 (set_name ++ 3 ∷ key);
 }
 
 named_by : (t : Bool) (a b : List ℕ) → IsDigest a → IsDigest b → IsDigest (cond t a b)
@@ -74,10 +67,10 @@ key_is : (text digest : List ℕ) → value.digest text ≡ Ok digest → IsDige
 key_is [] digest e = subst IsDigest (ok_inside (value.named_digest []) digest (Ok (value.named_digest [])) refl e) (named_is [])
 key_is (b ∷ bytes) digest e = key_by (b == 35) bytes (b ∷ bytes) digest e
 
-value_is : (text bytes : List ℕ) → IsBytes text → value.value text ≡ Ok bytes → IsAnyValue bytes
+value_is : (text bytes : List ℕ) → IsBytes text → value.value text ≡ Ok bytes → IsValue bytes
 value_is text bytes all e =
     let told = if_ok _ text bytes TooLongValue e in
-    subst IsAnyValue told.1 (record { limit = leb-true _ _ told.0; bytes = all })
+    subst IsValue told.1 (record { limit = leb-true _ _ told.0; each = all_from_bytes text all })
 
 -- ---- the fields are bytes
 
@@ -100,39 +93,39 @@ third_of (x ∷ y ∷ z ∷ u ∷ more) a b d all e = cc
 
 -- ---- fields that several forms have
 
-at_node_is : (before : Before) (fields : List (List ℕ)) (id : ℕ) → form.at_node before fields ≡ Ok id → IsNode id × Contains before.nodes id
+at_node_is : (before : Before) (fields : List (List ℕ)) (id : ℕ) → form.at_node before fields ≡ Ok id → IsId id × Contains before.nodes id
 at_node_is before fields id e =
     let f = from_then (count.one fields) (λ field. value.declared_node before field) id e in
     declared_is before f.0 id f.2
 
-node_and_key_is : (before : Before) (fields : List (List ℕ)) (p : ℕ × List ℕ) → form.node_and_key before fields ≡ Ok p → IsNode p.0 × Contains before.nodes p.0 × IsDigest p.1
+node_and_key_is : (before : Before) (fields : List (List ℕ)) (p : ℕ × List ℕ) → form.node_and_key before fields ≡ Ok p → IsId p.0 × Contains before.nodes p.0 × IsDigest p.1
 node_and_key_is before fields p e =
     let f = from_then (count.two fields) (λ parts. and_then (value.declared_node before parts.0) (λ id. map_ok (λ digest. (id, digest)) (value.digest parts.1))) p e in
     let n = from_then (value.declared_node before f.0.0) (λ id. map_ok (λ digest. (id, digest)) (value.digest f.0.1)) p f.2 in
     let m = from_map (λ digest. (n.0, digest)) (value.digest f.0.1) p n.2 in
     let node = declared_is before f.0.0 n.0 n.1 in
-    subst (λ (q : ℕ × List ℕ). IsNode q.0 × Contains before.nodes q.0 × IsDigest q.1) (sym m.2) (node.0, node.1, key_is f.0.1 m.0 m.1)
+    subst (λ (q : ℕ × List ℕ). IsId q.0 × Contains before.nodes q.0 × IsDigest q.1) (sym m.2) (node.0, node.1, key_is f.0.1 m.0 m.1)
 
 node_key_and_value_is : (before : Before) (fields : List (List ℕ)) (p : ℕ × List ℕ × List ℕ) → All IsBytes fields → form.node_key_and_value before fields ≡ Ok p
-    → IsNode p.0 × Contains before.nodes p.0 × IsDigest p.1 × IsAnyValue p.2
+    → IsId p.0 × Contains before.nodes p.0 × IsDigest p.1 × IsValue p.2
 node_key_and_value_is before fields p all e =
     let f = from_then (count.three fields) (λ parts. and_then (value.declared_node before parts.0) (λ id. and_then (value.digest parts.1) (λ digest. map_ok (λ bytes. (id, digest, bytes)) (value.value parts.2)))) p e in
     let n = from_then (value.declared_node before f.0.0) (λ id. and_then (value.digest f.0.1) (λ digest. map_ok (λ bytes. (id, digest, bytes)) (value.value f.0.2))) p f.2 in
     let d = from_then (value.digest f.0.1) (λ digest. map_ok (λ bytes. (n.0, digest, bytes)) (value.value f.0.2)) p n.2 in
     let m = from_map (λ bytes. (n.0, d.0, bytes)) (value.value f.0.2) p d.2 in
     let node = declared_is before f.0.0 n.0 n.1 in
-    subst (λ (q : ℕ × List ℕ × List ℕ). IsNode q.0 × Contains before.nodes q.0 × IsDigest q.1 × IsAnyValue q.2) (sym m.2)
+    subst (λ (q : ℕ × List ℕ × List ℕ). IsId q.0 × Contains before.nodes q.0 × IsDigest q.1 × IsValue q.2) (sym m.2)
     (node.0, node.1, key_is f.0.1 d.0 d.1, value_is f.0.2 m.0 (third_of fields f.0.0 f.0.1 f.0.2 all f.1) m.1)
 
 one_key_is : (fields : List (List ℕ)) (digest : List ℕ) → form.key fields ≡ Ok digest → IsDigest digest
 one_key_is fields digest e = let f = from_then (count.one fields) value.digest digest e in key_is f.0 digest f.2
 
-key_and_value_is : (fields : List (List ℕ)) (p : List ℕ × List ℕ) → All IsBytes fields → form.key_and_value fields ≡ Ok p → IsDigest p.0 × IsAnyValue p.1
+key_and_value_is : (fields : List (List ℕ)) (p : List ℕ × List ℕ) → All IsBytes fields → form.key_and_value fields ≡ Ok p → IsDigest p.0 × IsValue p.1
 key_and_value_is fields p all e =
     let f = from_then (count.two fields) (λ parts. and_then (value.digest parts.0) (λ digest. map_ok (λ bytes. (digest, bytes)) (value.value parts.1))) p e in
     let d = from_then (value.digest f.0.0) (λ digest. map_ok (λ bytes. (digest, bytes)) (value.value f.0.1)) p f.2 in
     let m = from_map (λ bytes. (d.0, bytes)) (value.value f.0.1) p d.2 in
-    subst (λ (q : List ℕ × List ℕ). IsDigest q.0 × IsAnyValue q.1) (sym m.2) (key_is f.0.0 d.0 d.1, value_is f.0.1 m.0 (second_of fields f.0.0 f.0.1 all f.1) m.1)
+    subst (λ (q : List ℕ × List ℕ). IsDigest q.0 × IsValue q.1) (sym m.2) (key_is f.0.0 d.0 d.1, value_is f.0.1 m.0 (second_of fields f.0.0 f.0.1 all f.1) m.1)
 
 one_number_is : (fields : List (List ℕ)) (n : ℕ) → form.number fields ≡ Ok n → n < 2 ^ 64
 one_number_is fields n e = let f = from_then (count.one fields) value.number n e in number_fits f.0 n f.2

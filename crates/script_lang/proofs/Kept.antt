@@ -3,11 +3,11 @@ use Rattle.std.proofs.Common.{◌≡◌, ℕ, ◌+◌, ◌-◌, ◌<◌, Bool, t
 use Rattle.std.specs.Prelude.{All}
 use Rattle.std.specs.List.{slice_split, onto_first}
 use Rattle.std.proofs.lemmas.Bool.{ltb-false}
-use Rattle.std.proofs.lemmas.Grind.{flat_map-append}
 use Rattle.std.proofs.lemmas.List.{append-nil, get_or_default}
-use Rattle.std.proofs.lemmas.List.Elements.{All-nil, All-cons, All-append, All-take, All-filter, All-weaker}
+use Rattle.std.proofs.lemmas.List.Elements.{filter_map-append, All-nil, All-cons, All-append, All-take, All-filter, All-weaker}
 use Rattle.hex.specs.Hex.{IsBytes}
 use Rattle.cluster_types.specs.NodeLists.{IsNodeList}
+use Rattle.cluster_types.specs.Ranges.{AreBytes}
 use Rattle.cluster_types.proofs.DistinctLaws.{none_distinct, distinct_push}
 use Rattle.script_lang.specs.declared.fault.Cause.{Cause}
 use Rattle.script_lang.specs.declared.lines.Line.{Line}
@@ -16,21 +16,19 @@ use Rattle.script_lang.specs.declared.script.Command.{Command}
 use Rattle.script_lang.specs.declared.script.HeaderLine.{HeaderLine}
 use Rattle.script_lang.specs.declared.script.HeaderLine.TheVariants as header
 use Rattle.script_lang.specs.declared.script.Script.{Script}
-use Rattle.script_lang.specs.Before.{MayDeclare, before_next, declared_by, nodes_of}
+use Rattle.script_lang.specs.Before.{MayDeclare, before_next, nodes_of, node_in}
 use Rattle.script_lang.specs.Grammar.{Fault, script_after, empty_script, line_of, script_from, script_of, with_line}
 use Rattle.script_lang.specs.Layout.{ended, ends_in_return, line_fields, is_blank, is_some_text, lines_of, without_return}
 use Rattle.script_lang.specs.Proper.{IsProper, IsProperCommand, IsProperHeaderLine, IsServed, NamesNodesOf}
 use Rattle.script_lang.specs.Words.{is_command_served}
 use Rattle.script_lang.specs.WordsOf.{word_of_command}
-use Rattle.script_lang.proofs.CommandRanges.{bytes_from_all, good}
+use Rattle.script_lang.proofs.AllBytes.{bytes_from_all}
+use Rattle.script_lang.proofs.CommandRanges.{good}
 use Rattle.script_lang.proofs.Groups.{from_map}
 use Rattle.script_lang.proofs.Ranges.{contained}
 use Rattle.script_lang.proofs.Said.{IsHeader, IsRead, said}
 
 -- ---- bytes
-
-abbrev AreBytes : List ℕ → Type 0
-AreBytes xs = All (λ byte. byte < 256) xs
 
 first_of : {A : Type 0} (P : A → Type 0) (x : A) (xs : List A) → All P (x ∷ xs) → P x
 first_of P x xs all = all 0 x (omega arith)
@@ -82,10 +80,10 @@ no_commands : (commands : List Command) → nat_lt 0 (length commands) ≡ false
 no_commands [] e = refl
 no_commands (c ∷ commands) e = let high = ltb-false _ _ e in absurd (omega (arith, high))
 
-nodes_more : (lines : List HeaderLine) (h : HeaderLine) → nodes_of (lines ++ h ∷ []) ≡ nodes_of lines ++ declared_by h
-nodes_more lines h = flat_map-append declared_by lines (h ∷ []) ∙ ap (λ x. nodes_of lines ++ x) (append-nil (declared_by h))
+nodes_more : (lines : List HeaderLine) (h : HeaderLine) → nodes_of (lines ++ h ∷ []) ≡ nodes_of lines ++ nodes_of (h ∷ [])
+nodes_more lines h = filter_map-append node_in lines (h ∷ [])
 
-declared_more : (nodes : List ℕ) (h : HeaderLine) → IsNodeList nodes → MayDeclare nodes h → IsNodeList (nodes ++ declared_by h)
+declared_more : (nodes : List ℕ) (h : HeaderLine) → IsNodeList nodes → MayDeclare nodes h → IsNodeList (nodes ++ nodes_of (h ∷ []))
 declared_more nodes (header.Script version) n m = subst IsNodeList (sym (append-nil nodes)) n
 declared_more nodes (header.Factor factor) n m = subst IsNodeList (sym (append-nil nodes)) n
 declared_more nodes (header.Node node rack) n m =

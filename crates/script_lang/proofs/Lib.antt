@@ -1,3 +1,4 @@
+mod AllBytes
 mod CommandRanges
 pub mod Digits
 mod Grouped

@@ -14,7 +14,7 @@ use Rattle.script_lang.specs.declared.words.HeaderWord.TheVariants as word
 use Rattle.script_lang.specs.Counts as count
 use Rattle.script_lang.specs.Forms as form
 use Rattle.script_lang.specs.Outcomes.{and_then, map_ok, ok_if}
-use Rattle.script_lang.specs.Proper.{IsNode, IsRack, IsProperHeaderLine}
+use Rattle.script_lang.specs.Proper.{IsId, IsRack, IsProperHeaderLine}
 use Rattle.script_lang.specs.Before.{MayDeclare}
 use Rattle.script_lang.specs.Values as value
 use Rattle.script_lang.proofs.Groups.{ok_inside, from_map, from_then}
@@ -47,7 +47,7 @@ partition_above from text n e =
     let told = if_ok (nat_le from t.0) t.0 n BadNumber t.2 in
     subst (λ (k : ℕ). (k < partition_count) × (from ≤ k)) told.1 (partition_fits text t.0 t.1, leb-true _ _ told.0)
 
-pub node_is : (text : List ℕ) (n : ℕ) → value.node text ≡ Ok n → IsNode n
+pub node_is : (text : List ℕ) (n : ℕ) → value.node text ≡ Ok n → IsId n
 node_is text n e = let range = within 1 65535 text n e in let low = range.0 in let high = range.1 in record { positive = omega arith; fits = omega arith }
 
 among_by : (id n : ℕ) (ids : List ℕ) (t : Bool) → (n == id) ≡ t → (value.is_one_of id ids ≡ true → Contains ids id) → (t || value.is_one_of id ids) ≡ true → Contains (n ∷ ids) id
@@ -58,21 +58,21 @@ pub among : (id : ℕ) (ids : List ℕ) → value.is_one_of id ids ≡ true → 
 among id [] h = cc
 among id (n ∷ ids) h = among_by id n ids (n == id) refl (among id ids) h
 
-pub declared_is : (before : Before) (text : List ℕ) (n : ℕ) → value.declared_node before text ≡ Ok n → IsNode n × Contains before.nodes n
+pub declared_is : (before : Before) (text : List ℕ) (n : ℕ) → value.declared_node before text ≡ Ok n → IsId n × Contains before.nodes n
 declared_is before text n e =
     let t = from_then (value.node text) (λ id. ok_if (value.is_one_of id before.nodes) id UnknownNode) n e in
     let told = if_ok (value.is_one_of t.0 before.nodes) t.0 n UnknownNode t.2 in
-    subst (λ (k : ℕ). IsNode k × Contains before.nodes k) told.1 (node_is text t.0 t.1, among t.0 before.nodes told.0)
+    subst (λ (k : ℕ). IsId k × Contains before.nodes k) told.1 (node_is text t.0 t.1, among t.0 before.nodes told.0)
 
 if_fresh : (t : Bool) (x y : ℕ) (q : Bool) → cond t (Err RepeatedNode) (ok_if q x TooManyNodes) ≡ Ok y → (t ≡ false) × (q ≡ true) × (x ≡ y)
 if_fresh true x y q e = cc
 if_fresh false x y q e = let told = if_ok q x y TooManyNodes e in (refl, told.0, told.1)
 
-pub new_is : (before : Before) (text : List ℕ) (n : ℕ) → value.new_node before text ≡ Ok n → IsNode n × (value.is_one_of n before.nodes ≡ false) × (length before.nodes < 16)
+pub new_is : (before : Before) (text : List ℕ) (n : ℕ) → value.new_node before text ≡ Ok n → IsId n × (value.is_one_of n before.nodes ≡ false) × (length before.nodes < 16)
 new_is before text n e =
     let t = from_then (value.node text) (λ id. cond (value.is_one_of id before.nodes) (Err RepeatedNode) (ok_if (nat_lt (length before.nodes) 16) id TooManyNodes)) n e in
     let told = if_fresh (value.is_one_of t.0 before.nodes) t.0 n (nat_lt (length before.nodes) 16) t.2 in
-    subst (λ (k : ℕ). IsNode k × (value.is_one_of k before.nodes ≡ false) × (length before.nodes < 16)) told.2 (node_is text t.0 t.1, told.0, ltb-true _ _ told.1)
+    subst (λ (k : ℕ). IsId k × (value.is_one_of k before.nodes ≡ false) × (length before.nodes < 16)) told.2 (node_is text t.0 t.1, told.0, ltb-true _ _ told.1)
 
 pub contained : (id : ℕ) (ids : List ℕ) → Contains ids id → value.is_one_of id ids ≡ true
 contained id [] (k, below, same) = absurd (omega arith)

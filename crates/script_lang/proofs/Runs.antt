@@ -6,6 +6,7 @@ use Rattle.std.proofs.lemmas.List.Folds.{length-prefix_len}
 use Rattle.std.proofs.lemmas.List.Quantifiers.{position-Some}
 use Rattle.std.proofs.lemmas.List.Sums.{prefix_len-le-length}
 use Rattle.std.specs.List.{slice_split, position, position_or_len, onto_first}
+use Rattle.cluster_types.proofs.BoolFacts.{not_true}
 use Rattle.script_lang.specs.Layout.{is_blank, is_some_text, line_fields}
 
 -- ---- spaces and tabs at the front
@@ -87,10 +88,6 @@ first_run (x ∷ xs) some first =
     ap (filter is_some_text) r.parts
     ∙ ap (λ t. cond t (take n (x ∷ xs) ∷ filter is_some_text r.more) (filter is_some_text r.more)) full
     ∙ ap (λ m. take n (x ∷ xs) ∷ m) r.rest
-
-not_true : (t : Bool) → not t ≡ true → t ≡ false
-not_true true e = cc
-not_true false e = refl
 
 starts : (rest : List ℕ) (start : ℕ) → position (λ b. not (is_blank b)) rest ≡ Some start → is_blank (get_or (drop start rest) 0 0) ≡ false
 starts rest start s =

@@ -1,12 +1,11 @@
 -- A spelling is read back.
 use Rattle.std.proofs.Common.{◌≡◌, ℕ, ◌+◌, ◌<◌, ◌≤◌, ◌^◌, ◌⊎◌, inl, inr, Bool, true, false, cond, not, ◌&&◌, ◌||◌, nat_le, nat_lt, List, [], ◌∷◌, ◌++◌, map, length, Option, Some, None, Result, Ok, Err, refl, sym, ap, subst, ◌∙◌, arith, ◌==◌, append_assoc, true≢false}
 use Rattle.std.specs.Prelude.{All, Contains, codes}
-use Rattle.std.specs.List.{flat_map, join_with_byte}
+use Rattle.std.specs.List.{flat_map, join_with_byte, cons_option}
 use Rattle.std.specs.Fmt.{decimal}
 use Rattle.std.proofs.lemmas.Bool.{eq-eqb, le-leb, lt-ltb, and_from}
 use Rattle.std.proofs.lemmas.List.{append-nil}
-use Rattle.std.proofs.lemmas.List.Concat.{flat_map-cons}
-use Rattle.std.proofs.lemmas.List.Elements.{All-nil, All-cons, All-append, All-head, All-tail}
+use Rattle.std.proofs.lemmas.List.Elements.{All-nil, All-cons, All-head, All-tail}
 use Rattle.conflict_order.specs.declared.policy.Policy.{Policy}
 use Rattle.conflict_order.specs.declared.policy.Policy.TheVariants.{Time, Generation}
 use Rattle.cluster_types.specs.Partitions.{partition_count}
@@ -26,12 +25,12 @@ use Rattle.script_lang.specs.declared.words.HeaderWord.{HeaderWord}
 use Rattle.script_lang.specs.declared.words.HeaderWord.TheVariants as header_word
 use Rattle.script_lang.specs.declared.words.CommandWord.{CommandWord}
 use Rattle.script_lang.specs.declared.words.CommandWord.TheVariants as command_word
-use Rattle.script_lang.specs.Before.{before_next, declared_by, nodes_of}
+use Rattle.script_lang.specs.Before.{before_next, nodes_of, node_in}
 use Rattle.script_lang.specs.Forms as form
 use Rattle.script_lang.specs.Grammar.{Fault, known_word, line_of, line_of_word, script_from, script_of, word_standing, with_line}
 use Rattle.script_lang.specs.Layout.{lines_of, is_comment}
 use Rattle.script_lang.specs.Outcomes.{and_then, map_ok, ok_if}
-use Rattle.script_lang.specs.Proper.{IsNode, IsDigest, IsAnyValue, IsProper, IsProperCommand, IsProperHeaderLine, IsServed, IsInOrder, IsOfVersion, MayFollow, MayAllFollow, NamesNodesOf}
+use Rattle.script_lang.specs.Proper.{IsId, IsDigest, IsValue, IsProper, IsProperCommand, IsProperHeaderLine, IsServed, IsInOrder, IsOfVersion, MayFollow, MayAllFollow, NamesNodesOf}
 use Rattle.script_lang.specs.Spelling.{HasWrittenValue, IsSpelled, command_fields, group_fields, header_fields, key, policy_name, script_text}
 use Rattle.script_lang.specs.Spelling as spell
 use Rattle.script_lang.specs.Values as value
@@ -44,13 +43,13 @@ use Rattle.script_lang.proofs.Written.{AreClean, IsClean, fields_back, joined_te
 
 -- ---- fields
 
-new_back : (before : Before) (n : ℕ) → IsNode n → value.is_one_of n before.nodes ≡ false → length before.nodes < 16 → value.new_node before (decimal n) ≡ Ok n
+new_back : (before : Before) (n : ℕ) → IsId n → value.is_one_of n before.nodes ≡ false → length before.nodes < 16 → value.new_node before (decimal n) ≡ Ok n
 new_back before n i fresh few =
     ap (λ r. and_then r (λ id. cond (value.is_one_of id before.nodes) (Err RepeatedNode) (ok_if (nat_lt (length before.nodes) 16) id TooManyNodes))) (node_back n i)
     ∙ ap (λ t. cond t (Err RepeatedNode) (ok_if (nat_lt (length before.nodes) 16) n TooManyNodes)) fresh
     ∙ ap (λ t. ok_if t n TooManyNodes) (lt-ltb _ _ few)
 
-value_back : (bytes : List ℕ) → IsAnyValue bytes → value.value bytes ≡ Ok bytes
+value_back : (bytes : List ℕ) → IsValue bytes → value.value bytes ≡ Ok bytes
 value_back bytes v = ap (λ t. ok_if t bytes TooLongValue) (le-leb _ _ v.limit)
 
 partition_back : (p : ℕ) → p < partition_count → value.partition (decimal p) ≡ Ok p
@@ -89,13 +88,13 @@ factor_back f above below =
     ap (λ r. and_then r (λ n. ok_if (nat_le 1 n && nat_le n 4) n BadFactor)) (number_back f (omega (arith, below)))
     ∙ ap (λ t. ok_if t f BadFactor) (and_from _ _ (le-leb _ _ above) (le-leb _ _ below))
 
-plain_back : (before : Before) (n : ℕ) → IsNode n → value.is_one_of n before.nodes ≡ false → length before.nodes < 16 → form.plain_node before (decimal n ∷ []) ≡ Ok (header.Node n None)
+plain_back : (before : Before) (n : ℕ) → IsId n → value.is_one_of n before.nodes ≡ false → length before.nodes < 16 → form.plain_node before (decimal n ∷ []) ≡ Ok (header.Node n None)
 plain_back before n i fresh few = ap (map_ok (λ id. header.Node id None)) (new_back before n i fresh few)
 
-bare_back : (before : Before) (n : ℕ) → IsNode n → value.is_one_of n before.nodes ≡ false → length before.nodes < 16 → form.racked_node before (decimal n ∷ []) ≡ Ok (header.Node n None)
+bare_back : (before : Before) (n : ℕ) → IsId n → value.is_one_of n before.nodes ≡ false → length before.nodes < 16 → form.racked_node before (decimal n ∷ []) ≡ Ok (header.Node n None)
 bare_back before n i fresh few = ap (λ r. and_then r (λ id. map_ok (λ rack. header.Node id rack) (Ok None))) (new_back before n i fresh few)
 
-racked_back : (before : Before) (n r : ℕ) → IsNode n → r < 256 → value.is_one_of n before.nodes ≡ false → length before.nodes < 16 → form.racked_node before (decimal n ∷ decimal r ∷ []) ≡ Ok (header.Node n (Some r))
+racked_back : (before : Before) (n r : ℕ) → IsId n → r < 256 → value.is_one_of n before.nodes ≡ false → length before.nodes < 16 → form.racked_node before (decimal n ∷ decimal r ∷ []) ≡ Ok (header.Node n (Some r))
 racked_back before n r i fits fresh few =
     ap (λ x. and_then x (λ id. map_ok (λ rack. header.Node id rack) (map_ok Some (value.rack (decimal r))))) (new_back before n i fresh few)
     ∙ ap (λ x. map_ok (λ rack. header.Node n rack) (map_ok Some x)) (within_back 0 255 r (omega arith) (omega (arith, fits)) (omega (arith, fits)))
@@ -153,7 +152,7 @@ header_back before (header.Policy by) first p m =
 
 -- a command is read back where its nodes are declared and its word is served
 pub record IsDue (before : Before) (c : Command) : Type 0 where
-  pub nodes : (n : ℕ) → Contains before.nodes n → IsNode n
+  pub nodes : (n : ℕ) → Contains before.nodes n → IsId n
   pub ranges : IsProperCommand c
   pub named : NamesNodesOf before.nodes c
   pub served : is_command_served (word_of_command c) (length before.nodes) ≡ true
@@ -166,17 +165,17 @@ said_command : (before : Before) (first : List ℕ) (rest : List (List ℕ)) (w 
 said_command before first rest w c clean spoken served word e =
     said_back before first rest (kind.Command w) (line.Command c) clean spoken (ap (word_standing before) word ∙ command_stands before w served) (ap (map_ok (λ x. line.Command x)) e)
 
-clock_back : (before : Before) (n t : ℕ) → IsNode n → Contains before.nodes n → t < 2 ^ 64 → form.clock before (decimal n ∷ decimal t ∷ []) ≡ Ok (command.Clock n t)
+clock_back : (before : Before) (n t : ℕ) → IsId n → Contains before.nodes n → t < 2 ^ 64 → form.clock before (decimal n ∷ decimal t ∷ []) ≡ Ok (command.Clock n t)
 clock_back before n t i c fits =
     ap (λ r. and_then r (λ id. map_ok (λ time. command.Clock id time) (value.number (decimal t)))) (declared_back before n i c)
     ∙ ap (map_ok (λ time. command.Clock n time)) (number_back t fits)
 
-node_and_key_back : (before : Before) (n : ℕ) (d : List ℕ) → IsNode n → Contains before.nodes n → IsDigest d → form.node_and_key before (decimal n ∷ key d ∷ []) ≡ Ok (n, d)
+node_and_key_back : (before : Before) (n : ℕ) (d : List ℕ) → IsId n → Contains before.nodes n → IsDigest d → form.node_and_key before (decimal n ∷ key d ∷ []) ≡ Ok (n, d)
 node_and_key_back before n d i c k =
     ap (λ r. and_then r (λ id. map_ok (λ digest. (id, digest)) (value.digest (key d)))) (declared_back before n i c)
     ∙ ap (map_ok (λ digest. (n, digest))) (key_back d k)
 
-node_key_and_value_back : (before : Before) (n : ℕ) (d v : List ℕ) → IsNode n → Contains before.nodes n → IsDigest d → IsAnyValue v
+node_key_and_value_back : (before : Before) (n : ℕ) (d v : List ℕ) → IsId n → Contains before.nodes n → IsDigest d → IsValue v
     → form.node_key_and_value before (decimal n ∷ key d ∷ v ∷ []) ≡ Ok (n, d, v)
 node_key_and_value_back before n d v i c k a =
     ap (λ r. and_then r (λ id. and_then (value.digest (key d)) (λ digest. map_ok (λ bytes. (id, digest, bytes)) (value.value v)))) (declared_back before n i c)
@@ -193,14 +192,14 @@ partition_from_back from to rises fits =
     ap (λ r. and_then r (λ n. ok_if (nat_le from n) n BadNumber)) (partition_back to fits)
     ∙ ap (λ t. ok_if t to BadNumber) (le-leb _ _ rises)
 
-map_back : (before : Before) (n from to : ℕ) → IsNode n → Contains before.nodes n → to < partition_count → from ≤ to
+map_back : (before : Before) (n from to : ℕ) → IsId n → Contains before.nodes n → to < partition_count → from ≤ to
     → form.map before (decimal n ∷ decimal from ∷ decimal to ∷ []) ≡ Ok (command.Map n from to)
 map_back before n from to i c fits rises =
     ap (λ r. and_then r (λ id. and_then (value.partition (decimal from)) (λ first. map_ok (λ last. command.Map id first last) (value.partition_from first (decimal to))))) (declared_back before n i c)
     ∙ ap (λ r. and_then r (λ first. map_ok (λ last. command.Map n first last) (value.partition_from first (decimal to)))) (partition_back from (omega (arith, fits, rises)))
     ∙ ap (map_ok (λ last. command.Map n from last)) (partition_from_back from to rises fits)
 
-key_and_value_back : (d v : List ℕ) → IsDigest d → IsAnyValue v → form.key_and_value (key d ∷ v ∷ []) ≡ Ok (d, v)
+key_and_value_back : (d v : List ℕ) → IsDigest d → IsValue v → form.key_and_value (key d ∷ v ∷ []) ≡ Ok (d, v)
 key_and_value_back d v k a =
     ap (λ r. and_then r (λ digest. map_ok (λ bytes. (digest, bytes)) (value.value v))) (key_back d k)
     ∙ ap (map_ok (λ bytes. (d, bytes))) (value_back v a)
@@ -376,22 +375,20 @@ commands_back number header done (c ∷ commands) due =
     ∙ ap (λ (cs : List Command). Ok (record { header = header; commands = cs })) (append_assoc done (c ∷ []) commands)
 
 -- each node that a proper header declares is one
-declared_nodes : (lines : List HeaderLine) → All IsProperHeaderLine lines → All IsNode (nodes_of lines)
-declared_nodes [] proper = All-nil IsNode
-declared_nodes (h ∷ lines) proper =
-    subst (All IsNode) (sym (flat_map-cons declared_by h lines))
-    (All-append IsNode (declared_by h) (nodes_of lines) (declared_node h (All-head IsProperHeaderLine h lines proper)) (declared_nodes lines (All-tail IsProperHeaderLine h lines proper)))
+declared_nodes : (lines : List HeaderLine) → All IsProperHeaderLine lines → All IsId (nodes_of lines)
+declared_nodes [] proper = All-nil IsId
+declared_nodes (h ∷ lines) proper = go h (All-head IsProperHeaderLine h lines proper) (declared_nodes lines (All-tail IsProperHeaderLine h lines proper))
   where
-    declared_node : (l : HeaderLine) → IsProperHeaderLine l → All IsNode (declared_by l)
-    declared_node (header.Script version) p = All-nil IsNode
-    declared_node (header.Factor factor) p = All-nil IsNode
-    declared_node (header.Node node rack) p = All-cons IsNode node [] p.0 (All-nil IsNode)
-    declared_node (header.Policy policy) p = All-nil IsNode
+    go : (l : HeaderLine) → IsProperHeaderLine l → All IsId (nodes_of lines) → All IsId (cons_option (node_in l) (nodes_of lines))
+    go (header.Node node rack) p rest = All-cons IsId node (nodes_of lines) p.0 rest
+    go (header.Script version) p rest = rest
+    go (header.Factor factor) p rest = rest
+    go (header.Policy policy) p rest = rest
 
-contained_node : (nodes : List ℕ) → All IsNode nodes → (n : ℕ) → Contains nodes n → IsNode n
-contained_node nodes all n (k, below, same) = subst IsNode same (all k n below)
+contained_node : (nodes : List ℕ) → All IsId nodes → (n : ℕ) → Contains nodes n → IsId n
+contained_node nodes all n (k, below, same) = subst IsId same (all k n below)
 
-all_due : (before : Before) (commands : List Command) → ((n : ℕ) → Contains before.nodes n → IsNode n) → All IsProperCommand commands → All (NamesNodesOf before.nodes) commands
+all_due : (before : Before) (commands : List Command) → ((n : ℕ) → Contains before.nodes n → IsId n) → All IsProperCommand commands → All (NamesNodesOf before.nodes) commands
     → All (λ c. is_command_served (word_of_command c) (length before.nodes) ≡ true) commands → All (IsOfVersion before.version) commands → All HasWrittenValue commands → All (IsDue before) commands
 all_due before commands nodes ranges named served versions written = λ k d below. record {
   nodes = nodes;

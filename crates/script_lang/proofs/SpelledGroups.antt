@@ -15,7 +15,7 @@ use Rattle.script_lang.specs.declared.fault.Cause.TheVariants.{BadGroups}
 use Rattle.script_lang.specs.declared.script.Command.TheVariants.{Groups}
 use Rattle.script_lang.specs.Forms.{are_whole, group_ids, groups, is_bar}
 use Rattle.script_lang.specs.Outcomes.{and_then, map_ok, ok_if}
-use Rattle.script_lang.specs.Proper.{HaveNodes, IsNode}
+use Rattle.script_lang.specs.Proper.{HaveNodes, IsId}
 use Rattle.script_lang.specs.Spelling.{group_fields}
 use Rattle.script_lang.proofs.Grouped.{distinct_test, is_some}
 use Rattle.script_lang.proofs.Groups.{at_bar, at_id, onto}
@@ -24,7 +24,7 @@ use Rattle.script_lang.proofs.Written.{AreClean, IsClean, number_is_clean, word_
 
 -- an id that is declared
 record IsDeclared (before : Before) (id : ℕ) : Type 0 where
-  node : IsNode id
+  node : IsId id
   among : Contains before.nodes id
 
 -- ---- fields
@@ -99,14 +99,14 @@ made before [] gs some read whole = absurd (omega arith)
 made before (field ∷ fields) gs some read whole =
     ap (λ r. and_then r (λ lists. ok_if (are_whole before.nodes lists) (Groups lists) BadGroups)) read ∙ ap (λ t. ok_if t (Groups gs) BadGroups) whole
 
-all_declared : (before : Before) (ids : List ℕ) → ((n : ℕ) → Contains before.nodes n → IsNode n) → All (Contains before.nodes) ids → All (IsDeclared before) ids
+all_declared : (before : Before) (ids : List ℕ) → ((n : ℕ) → Contains before.nodes n → IsId n) → All (Contains before.nodes) ids → All (IsDeclared before) ids
 all_declared before ids nodes all = All-weaker (Contains before.nodes) (IsDeclared before) (λ id among. record { node = nodes id among; among = among }) ids all
 
-pub groups_clean : (before : Before) (gs : List (List ℕ)) → ((n : ℕ) → Contains before.nodes n → IsNode n) → HaveNodes gs before.nodes → AreClean (codes "groups" ∷ group_fields gs)
+pub groups_clean : (before : Before) (gs : List (List ℕ)) → ((n : ℕ) → Contains before.nodes n → IsId n) → HaveNodes gs before.nodes → AreClean (codes "groups" ∷ group_fields gs)
 groups_clean before gs nodes h =
     all_clean (codes "groups") (group_fields gs) (word_is_clean (codes "groups") refl refl) (fields_clean before gs (all_declared before (concat gs) nodes h.among))
 
-pub groups_back : (before : Before) (gs : List (List ℕ)) → ((n : ℕ) → Contains before.nodes n → IsNode n) → AreGroups gs → HaveNodes gs before.nodes → groups before (group_fields gs) ≡ Ok (Groups gs)
+pub groups_back : (before : Before) (gs : List (List ℕ)) → ((n : ℕ) → Contains before.nodes n → IsId n) → AreGroups gs → HaveNodes gs before.nodes → groups before (group_fields gs) ≡ Ok (Groups gs)
 groups_back before gs nodes g h =
     made before (group_fields gs) gs (some_fields gs g.some g.none_empty)
     (ids_of_fields before gs g.some (all_declared before (concat gs) nodes h.among))

@@ -20,6 +20,7 @@ use Rattle.script_lang.specs.Outcomes.{or_cause, ok_if}
 use Rattle.script_lang.specs.Proper.{IsDigest}
 use Rattle.script_lang.specs.Spelling.{IsPart, IsWritten, key, line}
 use Rattle.script_lang.specs.Values as value
+use Rattle.script_lang.proofs.AllBytes.{bytes_from_all}
 use Rattle.script_lang.proofs.Whole.{after_feed}
 
 -- ---- clean fields
@@ -125,10 +126,10 @@ hex_visible (b ∷ bytes) h =
 
 pub key_is_clean : (digest : List ℕ) → IsDigest digest → IsClean (key digest)
 key_is_clean digest d =
-    visible_is_clean (key digest) (omega arith) (All-cons IsVisible 35 (encode_lower digest) (record { above = omega arith; below = omega arith }) (hex_visible digest d.bytes))
+    visible_is_clean (key digest) (omega arith) (All-cons IsVisible 35 (encode_lower digest) (record { above = omega arith; below = omega arith }) (hex_visible digest (bytes_from_all digest d.each)))
 
 pub key_back : (digest : List ℕ) → IsDigest digest → value.digest (key digest) ≡ Ok digest
-key_back digest d = ap (or_cause BadDigest) (decode_sized-encode_lower digest 20 d.size d.bytes)
+key_back digest d = ap (or_cause BadDigest) (decode_sized-encode_lower digest 20 d.size (bytes_from_all digest d.each))
 
 -- ---- fields of a line
 

@@ -7,6 +7,7 @@ use Rattle.hex.specs.Hex.{decode_sized}
 use Rattle.cluster_types.specs.Partitions.{partition_count}
 use Rattle.conflict_order.specs.declared.policy.Policy.{Policy}
 use Rattle.conflict_order.specs.declared.policy.Policy.TheVariants.{Time, Generation}
+use Rattle.cluster_types.specs.Distinct.{contains}
 use Rattle.digest_ripemd.specs.Digests.{digest_of}
 use Rattle.script_lang.specs.declared.before.Before.{Before}
 use Rattle.script_lang.specs.declared.fault.Cause.{Cause}
@@ -59,7 +60,7 @@ abbrev pub node : List ℕ → Result ℕ Cause
 node text = number_within 1 65535 text
 
 abbrev pub is_one_of : ℕ → List ℕ → Bool
-is_one_of id ids = list_any (λ n. n == id) ids
+is_one_of id ids = contains ids id
 
 -- a node that is declared
 abbrev pub declared_node : Before → List ℕ → Result ℕ Cause

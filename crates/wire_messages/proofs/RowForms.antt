@@ -6,6 +6,7 @@ use Rattle.std.proofs.lemmas.Bool.{and_left, le-ltb, lt-ltb, ne_eqb, eq-eqb, cas
 use Rattle.std.proofs.lemmas.List.FromFn.{length-map-range_with_len, get_or-map-range_with_len, fill_by_all}
 use Rattle.cluster_types.specs.Rows.{bit, IsClear}
 use Rattle.cluster_types.specs.RowBytes.{bit_number, row_byte, bytes_of, byte_bit, bits_of}
+use Rattle.cluster_types.proofs.BoolFacts.{or_none as or_false}
 use Rattle.wire_messages.specs.Rows.{row_at, IsRow}
 use Rattle.wire_messages.proofs.Forms.{IsBytes, Small, IsForm, field_form}
 
@@ -155,10 +156,6 @@ row_form = field_form IsRow bytes_of 512 (λ b. Some (bits_of b))
     (λ row p. field_small row)
 
 -- ---- a row is read bit by bit
-
-or_false : (b : Bool) → (b || false) ≡ b
-or_false true = refl
-or_false false = refl
 
 pub no_bits : (row : List Bool) (bytes : List ℕ) → IsClear row → (q : ℕ) → bit row q ≡ (nat_lt q 0 && byte_bit bytes q)
 no_bits row bytes h q = h.clear q ∙ sym (and_left (nat_lt q 0) (byte_bit bytes q) (le-ltb q 0 (omega arith)))

@@ -6,6 +6,7 @@ use Rattle.cluster_types.specs.declared.member.Member.{Member}
 use Rattle.cluster_types.specs.declared.member.Role.{Role}
 use Rattle.cluster_types.specs.Distinct.{IsDescending}
 use Rattle.cluster_types.specs.Members.{AreMembers, plain_member}
+pub use Rattle.cluster_types.specs.Ranges.{IsId}
 use Rattle.wire_messages.specs.declared.fault.FieldFault.{FieldFault}
 use Rattle.wire_messages.specs.declared.before.Before.{Before}
 use Rattle.wire_messages.specs.Fields.{◌>>=◌, field, items_at}
@@ -27,10 +28,6 @@ id_below_at before bytes = number_at w16 (λ n. nat_lt 0 n && is_below before n)
 
 unfoldable pub id_at : List ℕ → Result (ℕ × List ℕ) FieldFault
 id_at bytes = number_at w16 positive bytes
-
-pub record IsId (id : ℕ) : Type 0 where
-  pub positive : 0 < id
-  pub fits : id < 2 ^ 16
 
 -- the same as an item of a list
 abbrev pub falling_id_at : Option ℕ → ℕ → List ℕ → Result (ℕ × List ℕ) FieldFault

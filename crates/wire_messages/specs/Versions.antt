@@ -5,16 +5,13 @@ use Rattle.std.specs.Ordering.{nat_cmp, is_lt}
 use Rattle.std.specs.Cmp.Lexicographic.{slice_cmp}
 use Rattle.std.specs.Int.{w32, w64}
 use Rattle.conflict_order.specs.declared.version.Version.{Version}
-use Rattle.conflict_order.specs.Records.{Record}
+use Rattle.conflict_order.specs.Contents.{Record}
 use Rattle.conflict_order.specs.declared.version.Body.{Body}
 use Rattle.conflict_order.specs.declared.version.Body.TheVariants.{Tombstone, Value}
+pub use Rattle.cluster_types.specs.Ranges.{AreBytes, IsDigest, IsValue}
 use Rattle.wire_messages.specs.declared.fault.FieldFault.{FieldFault}
 use Rattle.wire_messages.specs.Fields.{◌>>=◌, if_allowed, field, items_at}
 use Rattle.wire_messages.specs.Numbers.{every, between, positive, number_field, number_at, byte_field, byte_at}
-
--- bytes are numbers below 256
-abbrev pub AreBytes : List ℕ → Type 0
-AreBytes bytes = All (λ b. b < 256) bytes
 
 -- so many bytes of any values
 unfoldable pub bytes_at : ℕ → List ℕ → Result (List ℕ × List ℕ) FieldFault
@@ -32,10 +29,6 @@ is_above (Some before) digest = is_lt (slice_cmp nat_cmp before digest)
 
 unfoldable pub digest_above_at : Option (List ℕ) → List ℕ → Result (List ℕ × List ℕ) FieldFault
 digest_above_at before bytes = field 20 (if_allowed (is_above before)) bytes
-
-pub record IsDigest (digest : List ℕ) : Type 0 where
-  pub size : length digest ≡ 20
-  pub each : AreBytes digest
 
 -- a digest or none: 0, or 1 and the digest
 unfoldable pub option_digest_field : Option (List ℕ) → List ℕ
@@ -66,10 +59,6 @@ unfoldable pub value_at : List ℕ → Result (List ℕ × List ℕ) FieldFault
 value_at bytes = do
   count ← byte_at (between 0 128) bytes
   bytes_at count.0 count.1
-
-pub record IsValue (bytes : List ℕ) : Type 0 where
-  pub limit : length bytes ≤ 128
-  pub each : AreBytes bytes
 
 -- 0 for a tombstone, or 1 and the value
 unfoldable pub body_field : Body → List ℕ

@@ -2,14 +2,14 @@
 //! are read as.
 #![tactic(auto)]
 
-pub mod before;
-pub mod boxed;
-pub mod fault;
+mod before;
+mod boxed;
+mod fault;
 pub mod laws;
-pub mod message;
-pub mod records;
-pub mod reply;
-pub mod scan;
+mod message;
+mod records;
+mod reply;
+mod scan;
 
 pub use before::Before;
 pub use boxed::{BoxedIds, BoxedRow};

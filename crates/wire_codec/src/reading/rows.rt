@@ -11,8 +11,7 @@ ghost use Rattle.wire_codec.specs.Reading.{Reads, Fills};
 ghost use Rattle.wire_messages.specs.Rows.{is_above, row_at, state_at, entry_at, with_entry, state_row_at};
 
 use crate::reading::{ReadFault, Reader, bad, short};
-use cluster_types::partition::PARTITIONS;
-use cluster_types::{CopyState, NodeId, PartitionId, Row4096, StateRow};
+use cluster_types::{CopyState, NodeId, PARTITIONS, PartitionId, Row4096, StateRow};
 use std::alloc::Global;
 use wire_messages::{BoxedIds, BoxedRow};
 
