@@ -3,7 +3,7 @@ use crate::lines::LINES;
 use cluster_types::{ClusterKey, Digest, Member, MemberList, NodeId, PartitionId, Role};
 use conflict_order::{Action, Policy};
 use journal_reader::read;
-use journal_text::{Journal, Line, LineList, LineText, copy_line, text, text_len};
+use journal_text::{Journal, Line, LineList, LineText, TextBuffer, copy_line, text, text_len};
 use std::alloc::Global;
 use std::mem::size_of;
 use std::process::Abort;
@@ -122,6 +122,22 @@ fn copies(rt: &impl Abort, alloc: Global, expected: &str) -> Result<(), Fail> {
     assert_eq!(rt; text_len(&line), expected.len(), "{expected:?}");
     let copy = copy_line(alloc, &line)?;
     assert_eq!(rt; text(alloc, &copy)?.as_slice(), expected.as_bytes());
+    Ok(())
+}
+
+#[test]
+fn lines_stand_in_a_buffer_one_behind_another(rt: HostRuntime) -> Result<(), Fail> {
+    let alloc = rt.alloc();
+    let mut buffer = TextBuffer::new(alloc);
+    let mut whole = Vec::new(alloc);
+    for expected in LINES {
+        let line = read(alloc, expected.as_bytes())?.ok_or("no line")?;
+        buffer.push(&line)?;
+        whole.extend_from_slice(expected.as_bytes())?;
+    }
+    assert_eq!(rt; buffer.as_slice(), whole.as_slice());
+    buffer.clear();
+    assert_eq!(rt; buffer.len(), 0);
     Ok(())
 }
 

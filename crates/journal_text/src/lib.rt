@@ -10,6 +10,7 @@ mod lengths;
 mod line_copy;
 mod line_length;
 mod line_list;
+mod text_buffer;
 mod words;
 mod writing;
 
@@ -19,4 +20,5 @@ pub use journal_lines::{Line, Refusal};
 pub use line_copy::copy_line;
 pub use line_length::text_len;
 pub use line_list::LineList;
+pub use text_buffer::TextBuffer;
 pub use writing::{LineText, text};

@@ -8,13 +8,12 @@ use crate::line_length::text_len;
 use cluster_types::NoMemory;
 use journal_lines::Line;
 use std::alloc::Global;
-use std::collections::VecDeque;
 use std::marker::Model;
 
 /// Lines in the order in which they were pushed. The first ones can be taken out again.
 #[derive(Drop)]
 pub struct LineList {
-    lines: VecDeque<Line>,
+    lines: Vec<Line>,
     /// How many bytes the text of the lines has, or the greatest number where it has more.
     bytes: usize,
 }
@@ -37,7 +36,7 @@ impl LineList {
         ensures { result ≡ [] }
     {
         LineList {
-            lines: VecDeque::new(alloc),
+            lines: Vec::new(alloc),
             bytes: 0,
         }
     }
@@ -48,7 +47,7 @@ impl LineList {
         ensures err { OnErr result (self.new ≡ self.old) }
     {
         let bytes = self.bytes.saturating_add(text_len(&line));
-        self.lines.push_back(line)?;
+        self.lines.push(line)?;
         self.bytes = bytes;
         Ok(())
     }
@@ -59,7 +58,7 @@ impl LineList {
         ensures err { OnErr result (self.new ≡ self.old) }
     {
         let bytes = self.bytes.saturating_add(text_len(&line));
-        self.lines.push_front(line)?;
+        self.lines.insert(0, line)?;
         self.bytes = bytes;
         Ok(())
     }
@@ -68,9 +67,9 @@ impl LineList {
     pub fn copy(&self, alloc: Global) -> Result<LineList, NoMemory>
         ensures { IfOk result (λ l. l ≡ self.now) }
     {
-        let mut lines = VecDeque::new(alloc);
-        for i in 0..self.lines.len() {
-            lines.push_back(copy_line(alloc, &self.lines[i])?)?;
+        let mut lines = Vec::with_capacity(alloc, self.lines.len())?;
+        for line in &self.lines {
+            lines.push(copy_line(alloc, line)?)?;
         }
         let bytes = self.bytes;
         Ok(LineList { lines, bytes })
@@ -81,7 +80,10 @@ impl LineList {
         ensures first { result ≡ slice_get self.old 0 }
         ensures rest { self.new ≡ drop 1 self.old }
     {
-        let line = self.lines.pop_front()?;
+        if self.lines.is_empty() {
+            return None;
+        }
+        let line = self.lines.remove(0);
         self.bytes = if self.bytes < usize::MAX {
             self.bytes - text_len(&line)
         } else {
@@ -97,7 +99,7 @@ impl LineList {
         ensures room { vec_capacity into.old ≤ vec_capacity into.new }
         ensures none_left { self.new ≡ [] }
     {
-        move_lines(&mut self.lines, into);
+        let _ = into.append(&mut self.lines);
         self.bytes = 0;
     }
 
@@ -130,35 +132,13 @@ impl LineList {
     }
 }
 
-/// Moves the lines to the end of others, which have room for them.
-fn move_lines(left: &mut VecDeque<Line>, into: &mut Vec<Line>)
-    requires { vec_len into.old + length left.old.items ≤ vec_capacity into.old }
-    ensures lines { into.new.items ≡ into.old.items ++ left.old.items }
-    ensures room { vec_capacity into.old ≤ vec_capacity into.new }
-    ensures none_left { left.new.items ≡ [] }
-{
-    while let Some(line) = left.pop_front() {
-        push_in_room(into, line);
-    }
-}
-
-/// Adds a line at the end, for which there is room.
-fn push_in_room(into: &mut Vec<Line>, line: Line)
-    requires { vec_len into.old < vec_capacity into.old }
-    ensures lines { into.new.items ≡ into.old.items ++ line ∷ [] }
-    ensures count { vec_len into.new ≡ vec_len into.old + 1 }
-    ensures room { vec_capacity into.old ≤ vec_capacity into.new }
-{
-    let _ = into.push(line);
-}
-
 /// How many bytes the text of the lines has, or the greatest number where it has more.
-fn measured(lines: &VecDeque<Line>) -> usize
-    ensures { result ≡ min (length (text lines.now.items)) (2 ^ 64 - 1) }
+fn measured(lines: &[Line]) -> usize
+    ensures { result ≡ min (length (text lines.now)) (2 ^ 64 - 1) }
 {
     let mut bytes = 0usize;
-    for i in 0..lines.len() {
-        bytes = bytes.saturating_add(text_len(&lines[i]));
+    for line in lines {
+        bytes = bytes.saturating_add(text_len(line));
     }
     bytes
 }

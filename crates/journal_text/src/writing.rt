@@ -3,7 +3,7 @@ ghost use Rattle.std.specs.Prelude.{◌≡◌, IfOk, Some, codes};
 ghost use Rattle.std.specs.Fmt.{DisplaysOnOk, option_append};
 ghost use Rattle.std.specs.List.{flat_map};
 ghost use Rattle.journal_text.specs.FieldTexts.{spaced_text};
-ghost use Rattle.journal_text.specs.Text.{words, line_text, message_text};
+ghost use Rattle.journal_text.specs.Text.{words, line_text};
 
 use crate::digits::Digits;
 use crate::fields::{Field, fields_of};
@@ -82,57 +82,8 @@ impl fmt::Display for LineText<'_> {
 
     #[tactic(auto, using(crate::proofs::Joins::words_written))]
     fn fmt<W: fmt::Write>(&self, f: &mut fmt::Formatter<W>) -> fmt::Result {
-        // Most lines of a long run are of messages. Their fields need no list.
-        match self.0 {
-            Line::Sent {
-                message,
-                from,
-                to,
-                bytes,
-            } => {
-                let text = MessageText {
-                    word: "sent",
-                    message: *message,
-                    from: *from,
-                    to: *to,
-                };
-                text.fmt(f)?;
-                write_spaced(f, &Digits(bytes.as_slice()))
-            }
-            Line::Deliver { message, from, to } => {
-                let text = MessageText {
-                    word: "deliver",
-                    message: *message,
-                    from: *from,
-                    to: *to,
-                };
-                text.fmt(f)
-            }
-            _ => {
-                let fields = fields_of(self.0);
-                FieldsText(&fields).fmt(f)
-            }
-        }
-    }
-}
-
-/// A word, the number of a message and its two ends.
-#[derive(Clone, Copy)]
-struct MessageText {
-    word: &'static str,
-    message: u64,
-    from: u16,
-    to: u16,
-}
-
-impl fmt::Display for MessageText {
-    ghost output = { λ m. Some (message_text m.word.now m.message m.from m.to) };
-
-    fn fmt<W: fmt::Write>(&self, f: &mut fmt::Formatter<W>) -> fmt::Result {
-        f.write_str(self.word)?;
-        write_spaced(f, &self.message)?;
-        write_spaced(f, &self.from)?;
-        write_spaced(f, &self.to)
+        let fields = fields_of(self.0);
+        FieldsText(&fields).fmt(f)
     }
 }
 
