@@ -3,6 +3,8 @@ use Rattle.std.proofs.Common.{◌≡◌, ℕ, zero, suc, ◌==◌, Bool, true, f
 use Rattle.std.proofs.lemmas.Bool.Decides.{nat_tests}
 use Rattle.std.specs.Prelude.{map, filter, nat_lt, option_and_then}
 use Rattle.std.specs.List.{list_all}
+use Rattle.std.proofs.lemmas.Bool.{or_right as or_true}
+use Rattle.cluster_types.proofs.BoolFacts.{and_left, and_right}
 use Rattle.partition_lists.specs.Lists.{in_order, put_in_order}
 use Rattle.wire_messages.specs.declared.message.Message.{Message}
 use Rattle.wire_messages.specs.declared.message.Message.TheVariants as message
@@ -16,7 +18,7 @@ use Rattle.cluster_rules.specs.declared.event.Event.{Event}
 use Rattle.cluster_rules.specs.declared.event.Event.TheVariants as event
 use Rattle.cluster_rules.specs.Allowed.{may_come, AreAllowed, is_playable}
 use Rattle.journal_readings.specs.Lines.{has_node}
-use Rattle.cluster_rules.specs.Marks.{Mark, Begins, Writes, event_begun, after_line, after_all, came, came_to, came_to_client, sent_by}
+use Rattle.cluster_rules.specs.Marks.{Mark, Begins, Writes, event_begun, after_line, after_all, came, came_to_client, sent_by, came_to_node}
 use Rattle.journal_readings.specs.Messages.{Arrival, arrived, arrived_cut}
 use Rattle.cluster_rules.specs.Network.{posting_at, posting}
 use Rattle.cluster_rules.specs.Runs.{ComesToCalm, calming, Plays, PlaysAll}
@@ -35,7 +37,7 @@ came_nodes w (Some x) = go (x.to == client)
     at_client (message.MapTable t) = refl
     at_client m = refl
 
-    go : (b : Bool) → (came_to w x b).nodes ≡ w.nodes
+    go : (b : Bool) → (if b then came_to_client w x.message else came_to_node w x).nodes ≡ w.nodes
     go true = at_client x.message
     go false = refl
 
@@ -64,10 +66,6 @@ stay n w x h = ap (λ (v : World). v.nodes) (sym h.leads) ∙ nodes_stay (all_ma
 abbrev AreAmong : List ℕ → List ℕ → Type 0
 AreAmong ns [] = Unit {0}
 AreAmong ns (m ∷ ms) = (has_node ns m ≡ true) × AreAmong ns ms
-
-or_true : (a b : Bool) → b ≡ true → (a || b) ≡ true
-or_true true b e = refl
-or_true false b e = e
 
 one_more : (n : ℕ) (ns ms : List ℕ) → AreAmong ns ms → AreAmong (n ∷ ns) ms
 one_more n ns [] h = tt
@@ -177,14 +175,6 @@ command_allowed n w command.Flow x e h = by_same n w x (flow n w) h (flow_allowe
 command_allowed n w command.Round x e h = by_same n w x (round n w) h (round_allowed n w)
 command_allowed n w command.Calm x e h = by_same n w x (calming n h.number w) h.played (calming_allowed n h.number w h.reached)
 command_allowed n w c x e h = by_event n w _ x (and_true _ e) h
-
-and_left : (a b : Bool) → (a && b) ≡ true → a ≡ true
-and_left true b e = refl
-and_left false b e = e
-
-and_right : (a b : Bool) → (a && b) ≡ true → b ≡ true
-and_right true b e = e
-and_right false b e = cc
 
 commands_allowed_in : (n : ℕ) (ns : List ℕ) (cs : List Command) (w : World) (x : Played) → w.nodes ≡ ns → list_all (is_playable ns) cs ≡ true → PlaysAll n w cs x → AreAllowed n w x.steps
 commands_allowed_in n ns [] w x same e h = by_same n w x _ h tt

@@ -1,6 +1,7 @@
 -- Fronts of runs: whole runs and those that were begun are some, and their steps are allowed.
-use Rattle.std.proofs.Common.{◌≡◌, ℕ, Bool, true, false, ◌&&◌, List, [], ◌∷◌, ◌++◌, inl, inr, refl, sym, ap, subst, ◌∙◌}
+use Rattle.std.proofs.Common.{◌≡◌, ℕ, true, List, [], ◌∷◌, ◌++◌, inl, inr, refl, sym, ap, subst, ◌∙◌}
 use Rattle.std.specs.List.{list_all}
+use Rattle.cluster_types.proofs.BoolFacts.{and_left, and_right}
 use Rattle.script_lang.specs.declared.script.Command.{Command}
 use Rattle.script_lang.specs.declared.script.Command.TheVariants as command
 use Rattle.script_lang.specs.declared.script.Script.{Script}
@@ -50,14 +51,6 @@ may_allowed : (n : ℕ) (w : World) (c : Command) (x : Played) → is_playable w
 may_allowed n w command.Calm x e (inl h) = command_allowed n w command.Calm x e h
 may_allowed n w command.Calm x e (inr h) = by_same n w x (rounds n h.number w) h.played (rounds_allowed n h.number w)
 may_allowed n w c x e h = command_allowed n w c x e h
-
-and_left : (a b : Bool) → (a && b) ≡ true → a ≡ true
-and_left true b e = refl
-and_left false b e = e
-
-and_right : (a b : Bool) → (a && b) ≡ true → b ≡ true
-and_right true b e = e
-and_right false b e = cc
 
 fronts_allowed_in : (n : ℕ) (ns : List ℕ) (cs : List Command) (w : World) (taken : List Step) → w.nodes ≡ ns → list_all (is_playable ns) cs ≡ true → AreFrontOf n w cs taken → AreAllowed n w taken
 fronts_allowed_in n ns [] w taken same e h = subst (λ ss. AreAllowed n w ss) (sym h) tt

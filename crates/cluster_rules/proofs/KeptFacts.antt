@@ -1,7 +1,7 @@
 -- What of a node's facts goes line by line: messages that come or are sent leave it as it is.
 use Rattle.std.proofs.Common.{◌≡◌, ℕ, ◌==◌, Bool, true, false, cond, not, List, [], ◌∷◌, Option, Some, None, refl, ap, ◌∙◌, arith}
 use Rattle.std.proofs.lemmas.Bool.Decides.{nat_tests}
-use Rattle.std.specs.Prelude.{fold, option_and_then}
+use Rattle.std.specs.Prelude.{fold, option_and_then, if◌then◌else◌}
 use Rattle.std.specs.FinMap as finite
 use Rattle.conflict_order.specs.declared.policy.Policy.{Policy}
 use Rattle.conflict_order.specs.declared.version.Version.{Version}
@@ -13,15 +13,16 @@ use Rattle.wire_messages.specs.declared.message.Message.TheVariants as message
 use Rattle.wire_messages.specs.Decoding.{message_of}
 use Rattle.journal_lines.specs.declared.line.Line.{Line}
 use Rattle.journal_lines.specs.declared.line.Line.TheVariants as line
+use Rattle.partition_lists.specs.Classes.{is_that}
 use Rattle.node_rules.specs.Agreement as agreement
-use Rattle.node_rules.specs.Agreement.{Agreement, Proposal}
+use Rattle.node_rules.specs.Agreement.{Agreement, Proposal, accepted_by}
 use Rattle.node_rules.specs.Copies.{Content, Row, joined, is_of}
 use Rattle.node_rules.specs.Exchange.{View}
 use Rattle.node_rules.specs.Facts.{Facts, list_at}
 use Rattle.node_rules.specs.Notes as notes
 use Rattle.node_rules.specs.Notes.{note, reached, sent, in_view}
 use Rattle.node_rules.specs.Messages.{client}
-use Rattle.cluster_rules.specs.Marks.{Mark, Begins, Writes, after_line, after_all, by_node, came, came_to, came_to_client, sent_by, lines_among}
+use Rattle.cluster_rules.specs.Marks.{Mark, Begins, Writes, node_of_line, after_line, after_all, by_node, came, came_to_client, sent_by, lines_among, came_to_node}
 use Rattle.journal_readings.specs.Messages.{Arrival, arrived, arrived_cut}
 use Rattle.cluster_rules.specs.Network.{posting_at, posting}
 use Rattle.cluster_rules.specs.World.{World, changed_at, new_if}
@@ -66,26 +67,7 @@ own_step k _ = k
 
 -- whether the line is one of the node that counts in its facts
 abbrev pub is_own : ℕ → Line → Bool
-is_own n (line.Tick m) = m == n
-is_own n (line.Stop m) = m == n
-is_own n (line.Start m) = m == n
-is_own n (line.Quiesce m) = m == n
-is_own n (line.Unquiesce m) = m == n
-is_own n (line.Promise m k) = m == n
-is_own n (line.Enter m k ms) = m == n
-is_own n (line.Exchanged m k) = m == n
-is_own n (line.Opened m k t d a) = m == n
-is_own n (line.Value m k t d v) = m == n
-is_own n (line.Apply m k t d v) = m == n
-is_own n (line.Done m k t) = m == n
-is_own n (line.Aborted m k t) = m == n
-is_own n (line.Doubt m k t) = m == n
-is_own n (line.Merge m k d v) = m == n
-is_own n (line.Handed m k p) = m == n
-is_own n (line.Settled m k p) = m == n
-is_own n (line.Learn m k p) = m == n
-is_own n (line.Drop m k p) = m == n
-is_own n _ = false
+is_own n l = is_that (node_of_line l) n
 
 -- what a line of any node makes of it
 abbrev pub kept_step : ℕ → Kept → Line → Kept
@@ -107,15 +89,15 @@ record SameKeys (a b : Agreement) : Type 0 where
 with_agreement : (f : Facts) (a : Agreement) → SameKeys a f.agreement → kept_of (record f { agreement = a }) ≡ kept_of f
 with_agreement f a h = ap (λ p. record (kept_of f) { promised = p; last = a.last }) h.promised ∙ ap (λ l. record (kept_of f) { last = l }) h.last
 
-accepting_same : (a : Agreement) (from : ℕ) (b : Bool) → SameKeys (agreement.accepting_if a from b) a
+accepting_same : (a : Agreement) (from : ℕ) (b : Bool) → SameKeys (if b then record a { proposal = accepted_by a.proposal from } else a) a
 accepting_same a from true = record { promised = refl; last = refl }
 accepting_same a from false = record { promised = refl; last = refl }
 
-refused_same : (a : Agreement) (key : ClusterKey) (b : Bool) → SameKeys (agreement.seeing (agreement.refused_if a b) key) a
+refused_same : (a : Agreement) (key : ClusterKey) (b : Bool) → SameKeys (agreement.seeing (if b then record a { proposal = None } else a) key) a
 refused_same a key true = record { promised = refl; last = refl }
 refused_same a key false = record { promised = refl; last = refl }
 
-proposed_same : (a : Agreement) (p : Proposal) (b : Bool) → SameKeys (agreement.proposed_if a p b) a
+proposed_same : (a : Agreement) (p : Proposal) (b : Bool) → SameKeys (if b then a else record a { proposal = Some p }) a
 proposed_same a p true = record { promised = refl; last = refl }
 proposed_same a p false = record { promised = refl; last = refl }
 
@@ -183,7 +165,7 @@ came_same : (w : World) (x : Option Arrival) (n : ℕ) → kept_of ((came w x).f
 came_same w None n = refl
 came_same w (Some x) n = go (x.to == client)
   where
-    go : (b : Bool) → kept_of ((came_to w x b).facts n) ≡ kept_of (w.facts n)
+    go : (b : Bool) → kept_of ((if b then came_to_client w x.message else came_to_node w x).facts n) ≡ kept_of (w.facts n)
     go true = client_same w x.message n
     go false = one_same w.facts x.to (reached (w.facts x.to) x.from x.message) n (reached_kept (w.facts x.to) x.from x.message)
 

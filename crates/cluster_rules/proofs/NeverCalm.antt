@@ -1,6 +1,7 @@
 -- A world that is never calm: a bound of the rounds after which calm comes says nothing of it.
-use Rattle.std.proofs.Common.{◌≡◌, ℕ, zero, suc, Bool, true, false, refl, ap, ◌∙◌}
+use Rattle.std.proofs.Common.{◌≡◌, ℕ, zero, suc, false, refl, ap, ◌∙◌}
 use Rattle.std.specs.List.{list_any}
+use Rattle.cluster_types.proofs.BoolFacts.{not_both}
 use Rattle.cluster_rules.specs.Calm.{is_calm_of}
 use Rattle.cluster_rules.specs.CalmBound.{CalmIsReached, ComesInTime, IsWithinCalm, is_full_line, is_full_round}
 use Rattle.cluster_rules.specs.Runs.{ComesToCalm}
@@ -10,10 +11,6 @@ use Rattle.cluster_rules.specs.WorldExamples.{unticked}
 use Rattle.cluster_rules.proofs.CalmBounds.{comes_in_time}
 use Rattle.cluster_rules.proofs.Walk.{walking}
 use Rattle.cluster_rules.proofs.WorldComputing.{world_computing}
-
-not_both : (b : Bool) → b ≡ true → b ≡ false → ⊥
-not_both true e i = cc
-not_both false e i = cc
 
 -- nobody ticks and nothing is in flight, so each round leaves it as it is
 stays : (k : ℕ) → (rounds 0 k unticked).world ≡ unticked

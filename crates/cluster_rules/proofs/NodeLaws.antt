@@ -1,6 +1,6 @@
 -- The marks of a node's step make of its facts what the node's own rules make of them.
 use Rattle.std.proofs.Common.{◌≡◌, ◌==◌, ℕ, ◌+◌, ◌<◌, ◌≤◌, Bool, true, false, List, [], ◌∷◌, ◌++◌, All, length, Option, Some, refl, sym, ap, ap₂, subst, ◌∙◌, arith, length-append}
-use Rattle.std.specs.Prelude.{map}
+use Rattle.std.specs.Prelude.{map, if◌then◌else◌}
 use Rattle.std.proofs.lemmas.Bool.Decides.{nat_tests}
 use Rattle.std.proofs.lemmas.List.Elements.{All-nil, All-cons, All-head, All-tail}
 use Rattle.conflict_order.specs.declared.want.Want.{Want}
@@ -16,12 +16,12 @@ use Rattle.node_rules.specs.Notes.{note, noted, sent, all_sent}
 use Rattle.node_rules.specs.Steps.{after_tick}
 use Rattle.node_rules.specs.Tick.{due_tick}
 use Rattle.cluster_rules.specs.declared.event.Event.TheVariants as event
-use Rattle.cluster_rules.specs.DueEvents.{full_unless, one_more_if, sent_lines, written}
+use Rattle.cluster_rules.specs.DueEvents.{sent_lines, written}
 use Rattle.cluster_rules.specs.Marks.{Writes, after_line, after_all, event_begun, by_node, sent_by}
 use Rattle.journal_readings.specs.Messages.{Posting}
 use Rattle.cluster_rules.specs.Network.{Network, posting, landed, has_place}
 use Rattle.cluster_rules.specs.World.{World, changed_at, new_if}
-use Rattle.cluster_rules.specs.NodeSteps.{IsOf, AreOf, AreRead, IsNumbered, Moves, full_in, sent_in, all_sent_in, after_step}
+use Rattle.cluster_rules.specs.NodeSteps.{IsOf, AreOf, AreRead, IsNumbered, Moves, sent_in, all_sent_in, after_step}
 
 -- the last number is taken out again
 without_new : (last i : ℕ) (ids : List ℕ) → last < i → All (λ j. j ≤ last) ids → without (ids ++ i ∷ []) i ≡ ids
@@ -49,8 +49,8 @@ moved : (w : World) (n : ℕ) (new : Facts) (net : Network) → Moves n new net 
 moved w n new net = record { here = at_itself w.facts n new; elsewhere = λ m d. at_another w.facts n new m d; network = refl; nodes = refl; clocks = refl; tables = refl; want = refl }
 
 -- one after the other
-then : (u v w : World) (n : ℕ) (new : Facts) (net net' : Network) (f : Facts) → Moves n f net u v → Moves n new net' v w → Moves n new net' u w
-then u v w n new net net' f h k = record {
+onward : (u v w : World) (n : ℕ) (new : Facts) (net net' : Network) (f : Facts) → Moves n f net u v → Moves n new net' v w → Moves n new net' u w
+onward u v w n new net net' f h k = record {
   here = k.here;
   elsewhere = λ m d. k.elsewhere m d ∙ h.elsewhere m d;
   network = k.network;
@@ -101,7 +101,7 @@ lines_told w n (l ∷ ls) h =
     let one : Moves n (note w.want (w.facts n) l) w.network w v = told w n l h.0 in
     let more : Moves n (noted v.want (v.facts n) ls) v.network v (after_all v (map Writes ls)) = lines_told v n ls h.1 in
     let facts : noted v.want (v.facts n) ls ≡ noted w.want (note w.want (w.facts n) l) ls = ap₂ (λ (q : Option Want) f. noted q f ls) one.want one.here in
-    then w v (after_all v (map Writes ls)) n _ w.network w.network _ one
+    onward w v (after_all v (map Writes ls)) n _ w.network w.network _ one
     (subst (λ f. Moves n f w.network v (after_all v (map Writes ls))) facts (subst (λ net. Moves n (noted v.want (v.facts n) ls) net v (after_all v (map Writes ls))) one.network more))
 
 -- ---- messages
@@ -112,8 +112,8 @@ after_both w (x ∷ xs) ys = after_both (after_line w x) xs ys
 
 -- one message, and where it has no place the line that says so
 one_told : (w : World) (n : ℕ) (m : ℕ × Message) (b : Bool) (i : ℕ) (ls : List Line) → message_of (spelling m.1) ≡ Some m.1
-    → Moves n (sent (w.facts n) m.0 m.1) (full_in (posting w.network i (record { from = n; to = m.0; bytes = spelling m.1 })) i b) w
-    (after_all w (map Writes (line.Sent i n m.0 (spelling m.1) ∷ full_unless i b)))
+    → Moves n (sent (w.facts n) m.0 m.1) (if b then posting w.network i (record { from = n; to = m.0; bytes = spelling m.1 }) else landed (posting w.network i (record { from = n; to = m.0; bytes = spelling m.1 })) i) w
+    (after_all w (map Writes (line.Sent i n m.0 (spelling m.1) ∷ (if b then [] else line.Full i ∷ []))))
 one_told w n m true i ls read =
     let p : Posting = record { from = n; to = m.0; bytes = spelling m.1 } in
     subst (λ (o : Option Message). Moves n (sent (w.facts n) m.0 m.1) (posting w.network i p) w (sent_by (record w { network = posting w.network i p }) n m.0 o)) (sym read)
@@ -136,10 +136,10 @@ last_too a (j ∷ js) i h l = All-cons (λ j. j ≤ a) j (js ++ i ∷ []) (All-h
 -- how many are in flight then, and all stay numbered
 pub record Counts (net : Network) (b : Bool) (new : Network) : Type 0 where
   pub sent : length new.sent ≡ length net.sent + 1
-  pub flying : length new.flying ≡ one_more_if (length net.flying) b
+  pub flying : length new.flying ≡ (if b then (length net.flying) + 1 else length net.flying)
   pub numbered : IsNumbered new
 
-counted : (net : Network) (p : Posting) (b : Bool) → IsNumbered net → Counts net b (full_in (posting net (length net.sent + 1) p) (length net.sent + 1) b)
+counted : (net : Network) (p : Posting) (b : Bool) → IsNumbered net → Counts net b (if b then posting net (length net.sent + 1) p else landed (posting net (length net.sent + 1) p) (length net.sent + 1))
 counted net p true h =
     let more : length (net.sent ++ p ∷ []) ≡ length net.sent + 1 = length-append net.sent (p ∷ []) in
     let low : All (λ j. j ≤ length (net.sent ++ p ∷ [])) net.flying = weaker (length net.sent) (length (net.sent ++ p ∷ [])) net.flying (omega (arith, more)) h.upto in
@@ -164,8 +164,8 @@ sends_told w n (m ∷ ms) h k =
     let b : Bool = has_place (length w.network.flying) in
     let i : ℕ = length w.network.sent + 1 in
     let p : Posting = record { from = n; to = m.0; bytes = spelling m.1 } in
-    let first : List Line = line.Sent i n m.0 (spelling m.1) ∷ full_unless i b in
-    let rest : List Line = sent_lines n i (one_more_if (length w.network.flying) b) ms in
+    let first : List Line = line.Sent i n m.0 (spelling m.1) ∷ (if b then [] else line.Full i ∷ []) in
+    let rest : List Line = sent_lines n i (if b then (length w.network.flying) + 1 else length w.network.flying) ms in
     let v : World = after_all w (map Writes first) in
     let one : Moves n (sent (w.facts n) m.0 m.1) (sent_in w.network p) w v = one_told w n m b i [] h.0 in
     let count : Counts w.network b (sent_in w.network p) = counted w.network p b k in
@@ -180,7 +180,7 @@ sends_told w n (m ∷ ms) h k =
     (subst (λ ls. Moves n (all_sent (v.facts n) ms) (all_sent_in v.network n ms) v (after_all v (map Writes ls))) lines more)) in
     subst (λ u. Moves n (all_sent (sent (w.facts n) m.0 m.1) ms) (all_sent_in (sent_in w.network p) n ms) w u)
     (sym (after_both w first rest))
-    (then w v end n _ _ _ _ one next)
+    (onward w v end n _ _ _ _ one next)
 
 -- ---- a node's step
 
@@ -201,7 +201,7 @@ node_step w n e own read k =
     (subst (λ net. Moves n (all_sent (v.facts n) e.sends) (all_sent_in net n e.sends) v end) one.network more) in
     subst (λ u. Moves n (all_sent (noted w.want (w.facts n) e.lines) e.sends) (all_sent_in w.network n e.sends) w u)
     (sym (after_both w e.lines (sent_lines n (length w.network.sent) (length w.network.flying) e.sends)))
-    (then w v end n _ _ _ _ one next)
+    (onward w v end n _ _ _ _ one next)
 
 -- a tick
 pub tick_step : (w : World) (n : ℕ) → AreOf n (due_tick (w.facts n)).lines → AreRead (due_tick (w.facts n)).sends → IsNumbered w.network

@@ -1,5 +1,5 @@
 -- The lines of what a node does are its own.
-use Rattle.std.proofs.Common.{◌≡◌, ℕ, zero, suc, ◌+◌, Bool, true, false, List, [], ◌∷◌, ◌++◌, Option, Some, None, map, refl, subst, ◌∙◌}
+use Rattle.std.proofs.Common.{◌≡◌, ℕ, zero, suc, ◌+◌, Bool, true, false, List, [], ◌∷◌, ◌++◌, Option, Some, None, map, refl, subst, ◌∙◌, if◌then◌else◌, ◌&&◌}
 use Rattle.conflict_order.specs.declared.version.Version.{Version}
 use Rattle.conflict_order.specs.declared.want.Want.{Want}
 use Rattle.conflict_order.specs.declared.want.Want.TheVariants as want
@@ -12,20 +12,32 @@ use Rattle.journal_lines.specs.declared.refusal.Refusal.{Refusal}
 use Rattle.wire_messages.specs.declared.message.Message.{Message}
 use Rattle.wire_messages.specs.declared.message.Message.TheVariants as message
 use Rattle.node_rules.specs.Agreement as agreement
-use Rattle.node_rules.specs.Agreement.{Proposal}
-use Rattle.node_rules.specs.Entering.{ending, exchanging, closing, entering}
+use Rattle.node_rules.specs.Agreement.{Proposal, next_key}
+use Rattle.node_rules.specs.Entering.{ending, closing, entering}
 use Rattle.node_rules.specs.Facts.{Facts, view_key, list_at}
 use Rattle.node_rules.specs.Messages as due
 use Rattle.node_rules.specs.Messages.{due_message_of}
 use Rattle.node_rules.specs.Notes.{note, noted, neighbours, opening_transaction, reached, in_view}
-use Rattle.node_rules.specs.Requests.{due_request, due_stop, due_start, asking, request_refusal, request_if, stop_if, start_if}
-use Rattle.node_rules.specs.Resolving.{resolving_want, done_if}
-use Rattle.node_rules.specs.Settling.{hand, settle, learn, drop, lines_then, settling_at, settling_from, settling_if}
+use Rattle.node_rules.specs.Requests.{due_request, due_stop, due_start, asking, request_refusal, request_if}
+use Rattle.node_rules.specs.Resolving.{resolving_want, resolving}
+use Rattle.node_rules.specs.Settling.{hand, settle, learn, drop, lines_then, settling_at, settling_from}
 use Rattle.node_rules.specs.Tick as tick
-use Rattle.node_rules.specs.Tick.{Part, parts_in_order, tick_of}
-use Rattle.node_rules.specs.Transactions.{Transaction, Write, answered, is_last_awaited}
+use Rattle.node_rules.specs.Tick.{Part, parts_in_order, tick_of, parts, progress_message, proposal_effects, state}
+use Rattle.node_rules.specs.Transactions.{Transaction, Write, answered, is_last_awaited, transaction}
 use Rattle.node_rules.specs.Tables.{only_if}
 use Rattle.cluster_rules.specs.NodeSteps.{IsOf, AreOf}
+use Rattle.cluster_types.specs.Endpoints.{client}
+use Rattle.node_rules.specs.BatchMessages.{merging, merging_all}
+use Rattle.node_rules.specs.Batches.{has_number, out_to}
+use Rattle.node_rules.specs.ClientMessages.{map_table}
+use Rattle.node_rules.specs.Effects.{lines_and_sends, lines_only, nothing, sends_only, to_each, to_one}
+use Rattle.node_rules.specs.RowMessages.{finishes}
+use Rattle.node_rules.specs.StaleMessages.{spent, stale}
+use Rattle.node_rules.specs.Standing.{knows_all_settled, others}
+use Rattle.node_rules.specs.TransactionMessages.{ack_of, answer_of}
+use Rattle.node_rules.specs.VoteMessages.{commit_effects}
+use Rattle.std.specs.FinMap as finite
+use Rattle.cluster_types.specs.ClusterKeys as keys
 
 note_me : (q : Option Want) (f : Facts) (l : Line) → (note q f l).me ≡ f.me
 note_me q f (line.Tick n) = refl
@@ -75,7 +87,7 @@ closing_own : (n : ℕ) (key : ClusterKey) (ts : List Transaction) → AreOf n (
 closing_own n key [] = tt
 closing_own n key (t ∷ ts) = (ending_own n key t.number t.applied, closing_own n key ts)
 
-exchanging_own : (n : ℕ) (key : ClusterKey) (b : Bool) → AreOf n (exchanging n key b)
+exchanging_own : (n : ℕ) (key : ClusterKey) (b : Bool) → AreOf n (only_if (line.Exchanged n key) b)
 exchanging_own n key true = (refl, tt)
 exchanging_own n key false = tt
 
@@ -91,7 +103,7 @@ propose_own f = go f.agreement.proposal
     deep [] = (refl, entering_own f (agreement.next_key f.me f.agreement) (neighbours f))
     deep (n ∷ ns) = (refl, tt)
 
-    new : (b : Bool) → AreOf f.me (tick.propose_new f b).lines
+    new : (b : Bool) → AreOf f.me (if b then proposal_effects f (next_key f.me f.agreement) (neighbours f) (agreement.others_among f.me (neighbours f)) else nothing).lines
     new true = deep (agreement.others_among f.me (neighbours f))
     new false = tt
 
@@ -111,11 +123,11 @@ settling_from_own zero p f = tt
 settling_from_own (suc n) p f =
     then_own f (settling_at (list_at f p) p f) (settling_from n (p + 1)) (settling_at_own (list_at f p) p f) (λ g. settling_from_own n (p + 1) g)
 
-settling_own : (n : ℕ) (f : Facts) (b : Bool) → AreOf f.me (settling_if n f b)
+settling_own : (n : ℕ) (f : Facts) (b : Bool) → AreOf f.me (if b then settling_from n 0 f else [])
 settling_own n f true = settling_from_own n 0 f
 settling_own n f false = tt
 
-progress_own : (n : ℕ) (f : Facts) (b : Bool) → AreOf f.me (tick.progress_if n f b).lines
+progress_own : (n : ℕ) (f : Facts) (b : Bool) → AreOf f.me (if b then sends_only (to_each (others f) (progress_message n f true)) else nothing).lines
 progress_own n f true = tt
 progress_own n f false = tt
 
@@ -130,7 +142,7 @@ in_order_own (part ∷ parts) h f = then_own f (part f).lines (λ g. (parts_in_o
 pub tick_own : (n : ℕ) (f : Facts) → AreOf f.me (tick_of n f).lines
 tick_own n f = go f.up
   where
-    go : (b : Bool) → AreOf f.me (tick.tick_if n f b).lines
+    go : (b : Bool) → AreOf f.me (if b then parts_in_order (parts n) f else lines_only (line.Down f.me ∷ [])).lines
     go true =
         in_order_own (tick.parts n)
         (λ g. (refl, tt), (λ g. tt, (propose_own, (λ g. tt, (λ g. tt, (λ g. tt, (λ g. settling_own n g g.exchange.exchanged, (λ g. progress_own n g _, tt))))))))
@@ -139,11 +151,11 @@ tick_own n f = go f.up
 
 -- ---- messages
 
-voting_own : (f : Facts) (from : ℕ) (key : ClusterKey) (b : Bool) → AreOf f.me (due.vote_effects f from key b).lines
+voting_own : (f : Facts) (from : ℕ) (key : ClusterKey) (b : Bool) → AreOf f.me (if b then sends_only (to_one from (message.Refuse key f.agreement.promised)) else lines_and_sends (only_if (line.Promise f.me key) (keys.key_lt f.agreement.promised key)) (to_one from (message.Accept key))).lines
 voting_own f from key true = tt
 voting_own f from key false = one_if f.me _ _ refl
 
-committing_own : (f : Facts) (p : Proposal) (b : Bool) → AreOf f.me (due.commit_effects f p b).lines
+committing_own : (f : Facts) (p : Proposal) (b : Bool) → AreOf f.me (if b then commit_effects f p else nothing).lines
 committing_own f p true = entering_own f p.key p.members
 committing_own f p false = tt
 
@@ -152,19 +164,19 @@ counting_own f from key (Some p) true = committing_own f p _
 counting_own f from key (Some p) false = (tt, tt)
 counting_own f from key None b = (tt, tt)
 
-stale_own : (f : Facts) (b : Bool) → AreOf f.me (due.unless_stale f b).lines
+stale_own : (f : Facts) (b : Bool) → AreOf f.me (if b then nothing else stale f).lines
 stale_own f true = tt
 stale_own f false = (tt, tt)
 
-spent_own : (f : Facts) (b : Bool) → AreOf f.me (due.unless_spent f b).lines
+spent_own : (f : Facts) (b : Bool) → AreOf f.me (if b then nothing else spent f).lines
 spent_own f true = tt
 spent_own f false = (tt, tt)
 
-commit_own : (f : Facts) (key : ClusterKey) (ms : List Member) (b : Bool) → AreOf f.me (due.entry_effects_if f key ms b).lines
+commit_own : (f : Facts) (key : ClusterKey) (ms : List Member) (b : Bool) → AreOf f.me (if b then lines_only (entering f key ms) else stale f).lines
 commit_own f key ms true = entering_own f key ms
 commit_own f key ms false = (tt, tt)
 
-state_own : (f now : Facts) (from : ℕ) (wants b : Bool) → AreOf f.me (due.state_came f now from wants b).lines
+state_own : (f now : Facts) (from : ℕ) (wants b : Bool) → AreOf f.me (if b then lines_and_sends (only_if (line.Exchanged f.me (view_key f)) (finishes f now)) (if wants then to_one from (state f false) else []) else stale f).lines
 state_own f now from wants true = one_if f.me _ _ refl
 state_own f now from wants false = (tt, tt)
 
@@ -172,18 +184,18 @@ merging_own : (f : Facts) (rs : List (List ℕ × Version)) → AreOf f.me (due.
 merging_own f [] = tt
 merging_own f (r ∷ rs) = then_own f (due.merging f r.0 r.1) (λ g. due.merging_all g rs) (one_if f.me _ _ refl) (λ g. merging_own g rs)
 
-progressed_own : (n : ℕ) (f now : Facts) (from : ℕ) (wants b : Bool) → AreOf f.me (due.progress_effects_if n f now from wants b).lines
+progressed_own : (n : ℕ) (f now : Facts) (from : ℕ) (wants b : Bool) → AreOf f.me (if b then (if wants && knows_all_settled now n 0 then sends_only (to_one from (progress_message n now false)) else nothing) else stale f).lines
 progressed_own n f now from wants true = go _
   where
-    go : (c : Bool) → AreOf f.me (due.answer_progress n now from c).lines
+    go : (c : Bool) → AreOf f.me (if c then sends_only (to_one from (progress_message n now false)) else nothing).lines
     go true = tt
     go false = tt
 progressed_own n f now from wants false = (tt, tt)
 
-acked_own : (f : Facts) (from number : ℕ) (b : Bool) → AreOf f.me (due.repl_ack_came f from number b).lines
+acked_own : (f : Facts) (from number : ℕ) (b : Bool) → AreOf f.me (if b then ack_of f from (transaction f.transactions number) else stale f).lines
 acked_own f from number true = go _
   where
-    deep : (t : Transaction) (c : Bool) → AreOf f.me (due.done_by f t from c).lines
+    deep : (t : Transaction) (c : Bool) → AreOf f.me (if c then lines_only (only_if (line.Done f.me (view_key f) t.number) (is_last_awaited t from)) else spent f).lines
     deep t true = one_if f.me _ _ refl
     deep t false = (tt, tt)
 
@@ -192,7 +204,7 @@ acked_own f from number true = go _
     go (Some t) = deep t _
 acked_own f from number false = (tt, tt)
 
-done_own : (f : Facts) (number : ℕ) (b : Bool) → AreOf f.me (done_if f number b)
+done_own : (f : Facts) (number : ℕ) (b : Bool) → AreOf f.me (only_if (line.Done f.me (view_key f) number) b)
 done_own f number true = (refl, tt)
 done_own f number false = tt
 
@@ -201,14 +213,14 @@ resolving_own f clock l t want.Get = (refl, tt)
 resolving_own f clock l t (want.Put bytes) = (refl, done_own f t.number _)
 resolving_own f clock l t want.Del = (refl, done_own f t.number _)
 
-answered_own : (f : Facts) (clock from number : ℕ) (v : Option Version) (b : Bool) → AreOf f.me (due.answer_effects_if f clock from number v b).lines
+answered_own : (f : Facts) (clock from number : ℕ) (v : Option Version) (b : Bool) → AreOf f.me (if b then answer_of f clock from v (transaction f.transactions number) else stale f).lines
 answered_own f clock from number v true = go _
   where
-    last : (t : Transaction) (c : Bool) → AreOf f.me (due.resolving_if f clock t c).lines
+    last : (t : Transaction) (c : Bool) → AreOf f.me (if c then resolving f clock (list_at f (partition_of t.digest)) t else nothing).lines
     last t true = resolving_own f clock _ t t.want
     last t false = tt
 
-    deep : (t : Transaction) (c : Bool) → AreOf f.me (due.answered_by f clock t from v c).lines
+    deep : (t : Transaction) (c : Bool) → AreOf f.me (if c then (if is_last_awaited t from then resolving f clock (list_at f (partition_of (answered f.store.by from v t).digest)) (answered f.store.by from v t) else nothing) else spent f).lines
     deep t true = last (answered f.store.by from v t) (is_last_awaited t from)
     deep t false = (tt, tt)
 
@@ -226,30 +238,30 @@ message_own n f clock from (message.Commit key ms) = commit_own f key ms _
 message_own n f clock from (message.State key wants row) = state_own f (reached f from (message.State key wants row)) from wants (in_view f key)
 message_own n f clock from (message.Batch b) = go _
   where
-    go : (c : Bool) → AreOf f.me (due.batch_came f from b c).lines
+    go : (c : Bool) → AreOf f.me (if c then lines_and_sends (merging_all f b.records) (to_one from (message.BatchAck b.key b.number)) else stale f).lines
     go true = merging_own f b.records
     go false = (tt, tt)
 message_own n f clock from (message.BatchAck key number) = go _
   where
-    go : (c : Bool) → AreOf f.me (due.batch_ack_came f from number c).lines
+    go : (c : Bool) → AreOf f.me (if c then (if has_number (out_to f.batches from) number then nothing else spent f) else stale f).lines
     go true = spent_own f _
     go false = (tt, tt)
 message_own n f clock from (message.Progress key wants done handed settled) = progressed_own n f (reached f from (message.Progress key wants done handed settled)) from wants (in_view f key)
 message_own n f clock from (message.Repl key t nth d v) = go _
   where
-    go : (c : Bool) → AreOf f.me (due.repl_came f from key t d v c).lines
+    go : (c : Bool) → AreOf f.me (if c then lines_and_sends (merging f d v) (to_one from (message.ReplAck key t)) else stale f).lines
     go true = one_if f.me _ _ refl
     go false = (tt, tt)
 message_own n f clock from (message.ReplAck key t) = acked_own f from t _
 message_own n f clock from (message.Ask key t d) = go _
   where
-    go : (c : Bool) → AreOf f.me (due.ask_came f from key t d c).lines
+    go : (c : Bool) → AreOf f.me (if c then sends_only (to_one from (message.Answer key t (finite.get f.store.content d))) else stale f).lines
     go true = tt
     go false = (tt, tt)
 message_own n f clock from (message.Answer key t v) = answered_own f clock from t v _
 message_own n f clock from message.MapAsk = go _
   where
-    go : (c : Bool) → AreOf f.me (due.table_if f c).lines
+    go : (c : Bool) → AreOf f.me (if c then sends_only (to_one client (message.MapTable (map_table f))) else nothing).lines
     go true = tt
     go false = tt
 message_own n f clock from _ = (tt, tt)
@@ -273,13 +285,13 @@ request_own f clock d w = go (request_refusal f (list_at f (partition_of d)) d)
 pub stop_own : (f : Facts) → AreOf f.me (due_stop f).lines
 stop_own f = go f.up
   where
-    go : (b : Bool) → AreOf f.me (stop_if f b).lines
+    go : (b : Bool) → AreOf f.me (if b then lines_only (closing f ++ line.Stop f.me ∷ []) else lines_only (line.Down f.me ∷ [])).lines
     go true = are_append f.me (closing f) _ (closing_own f.me (view_key f) f.transactions.running) (refl, tt)
     go false = (tt, tt)
 
 pub start_own : (f : Facts) → AreOf f.me (due_start f).lines
 start_own f = go f.up
   where
-    go : (b : Bool) → AreOf f.me (start_if f b).lines
+    go : (b : Bool) → AreOf f.me (if b then lines_only (line.Up f.me ∷ []) else lines_only (line.Start f.me ∷ [])).lines
     go true = (tt, tt)
     go false = (refl, tt)

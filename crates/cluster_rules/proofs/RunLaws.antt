@@ -1,6 +1,7 @@
 -- A script has one run, whose steps are due and lead to the world after it.
-use Rattle.std.proofs.Common.{◌≡◌, ℕ, ◌<◌, ◌⊎◌, inl, inr, Bool, true, false, List, [], ◌∷◌, ◌++◌, sym, ap, subst, ◌∙◌}
+use Rattle.std.proofs.Common.{◌≡◌, ℕ, ◌<◌, ◌⊎◌, inl, inr, List, [], ◌∷◌, ◌++◌, sym, ap, subst, ◌∙◌}
 use Rattle.std.proofs.lemmas.Bool.{cases_order}
+use Rattle.cluster_types.proofs.BoolFacts.{not_both as both}
 use Rattle.script_lang.specs.declared.script.Command.{Command}
 use Rattle.script_lang.specs.declared.script.Command.TheVariants as command
 use Rattle.script_lang.specs.declared.script.Script.{Script}
@@ -16,9 +17,6 @@ use Rattle.cluster_rules.proofs.MarkLaws.{Follows, joined, nothing, one, flow_fo
 
 agree : {A : Type 0} (x y z : A) → x ≡ z → y ≡ z → x ≡ y
 agree x y z h i = h ∙ sym i
-
-both : (b : Bool) → b ≡ true → b ≡ false → ⊥
-both b h i = cc
 
 one_number : (n : ℕ) (w : World) (k l : ℕ) → ComesToCalm n w k → ComesToCalm n w l → k ≡ l
 one_number n w k l a b = by_order (cases_order k l)

@@ -4,11 +4,11 @@ use Rattle.std.proofs.lemmas.Bool.Decides.{nat_tests}
 use Rattle.std.proofs.lemmas.Cmp.{nat_list_cmp_total}
 use Rattle.std.proofs.lemmas.List.Elements.{filter_map-append}
 use Rattle.std.proofs.lemmas.List.Sums.{fold-append}
-use Rattle.std.specs.Prelude.{fold, filter_map, unwrap_or, option_and_then, slice_get, slice_index_or, length, AllPairs}
+use Rattle.std.specs.Prelude.{fold, filter_map, unwrap_or, option_and_then, slice_get, slice_index_or, length, AllPairs, bytes_eq, if◌then◌else◌}
 use Rattle.std.specs.List.{cons_option}
 use Rattle.std.specs.FinMap as finite
 use Rattle.std.specs.Cmp.Lexicographic.{slice_cmp}
-use Rattle.std.specs.Ordering.{nat_cmp}
+use Rattle.std.specs.Ordering.{nat_cmp, eq_by_cmp}
 use Rattle.conflict_order.specs.declared.policy.Policy.{Policy}
 use Rattle.conflict_order.specs.declared.policy.Policy.TheVariants.{Time}
 use Rattle.conflict_order.specs.declared.version.Version.{Version}
@@ -18,6 +18,7 @@ use Rattle.cluster_types.specs.declared.member.Role.{Role}
 use Rattle.cluster_types.specs.Distinct.{AreDistinct}
 use Rattle.cluster_types.specs.Members.{plain_role}
 use Rattle.cluster_types.specs.Partitions.{partition_of}
+use Rattle.cluster_types.proofs.BoolFacts.{and_left, and_right, neither_left as or_left, neither_right as or_right}
 use Rattle.script_lang.specs.declared.script.HeaderLine.TheVariants as header
 use Rattle.journal_lines.specs.declared.line.Line.{Line}
 use Rattle.journal_lines.specs.declared.line.Line.TheVariants as line
@@ -31,17 +32,17 @@ use Rattle.node_rules.specs.Messages.{client}
 use Rattle.cluster_rules.specs.declared.event.Event.{Event}
 use Rattle.cluster_rules.specs.declared.event.Event.TheVariants as event
 use Rattle.journal_readings.specs.Contents.{content, content_step, joined_if}
-use Rattle.journal_readings.specs.Lines.{same_digest, has_node}
-use Rattle.cluster_rules.specs.Marks.{Mark, Begins, Writes, event_begun, after_line, after_all, came, came_to, came_to_client, sent_by, lines_among}
+use Rattle.journal_readings.specs.Lines.{has_node}
+use Rattle.cluster_rules.specs.Marks.{Mark, Begins, Writes, event_begun, after_line, after_all, came, came_to_client, sent_by, lines_among, came_to_node}
 use Rattle.journal_readings.specs.Messages.{Arrival, arrived, arrived_cut}
 use Rattle.cluster_rules.specs.Network.{posting_at, posting}
 use Rattle.cluster_rules.specs.Opening as opening
-use Rattle.cluster_rules.specs.Opening.{Header, journal_header_line, header_lines, declared_policy, declared_factor, declared_nodes, declared_role, rack_in, rack_if}
+use Rattle.cluster_rules.specs.Opening.{Header, journal_header_line, header_lines, declared_policy, declared_factor, declared_nodes, declared_role, rack_in}
 use Rattle.journal_readings.specs.Settings.{policy_of, policy_step, factor_of, factor_step, nodes, declared_in, clock_of, clock_step, is_node_up, up_step, groups_of, groups_step, present_role, role_step}
 use Rattle.journal_readings.specs.Shape.{is_header, AreBehind}
 use Rattle.journal_readings.specs.Views.{promised_key, promise_step, last_key, last_step, view, view_step, some_key}
 use Rattle.cluster_rules.specs.World.{World, opened}
-use Rattle.journal_readings.proofs.CopyLaws.{same_digest_is, same_digest_itself}
+use Rattle.journal_readings.proofs.CopyLaws.{ordered_itself, ordered_same, same_digest_is, same_digest_itself}
 use Rattle.wire_messages.proofs.ItemForms.{later_pairs}
 use Rattle.cluster_rules.proofs.KeptFacts.{num_same, Kept, kept_of, own_step, is_own, kept_step, marks_kept}
 
@@ -112,16 +113,17 @@ up_agrees h ms n e = ap (λ b. fold (up_step n) b (lines_among ms)) (sym e) ∙ 
 num_sym : (n m : ℕ) → (n == m) ≡ (m == n)
 num_sym n m = grind (arith, nat_tests)
 
-digest_sym : (d e : List ℕ) → same_digest d e ≡ same_digest e d
-digest_sym d e = go (same_digest d e) (same_digest e d) refl refl
+-- a store's test of digests answers as a reading's
+digest_tests : (d e : List ℕ) → eq_by_cmp (slice_cmp nat_cmp) d e ≡ bytes_eq e d
+digest_tests d e = go (eq_by_cmp (slice_cmp nat_cmp) d e) (bytes_eq e d) refl refl
   where
-    from : same_digest d e ≡ true → same_digest e d ≡ true
-    from i = ap (λ x. same_digest e x) (same_digest_is d e i) ∙ same_digest_itself e
+    from : eq_by_cmp (slice_cmp nat_cmp) d e ≡ true → bytes_eq e d ≡ true
+    from i = ap (λ x. bytes_eq e x) (ordered_same d e i) ∙ same_digest_itself e
 
-    back : same_digest e d ≡ true → same_digest d e ≡ true
-    back i = ap (λ x. same_digest d x) (same_digest_is e d i) ∙ same_digest_itself d
+    back : bytes_eq e d ≡ true → eq_by_cmp (slice_cmp nat_cmp) d e ≡ true
+    back i = ap (λ x. eq_by_cmp (slice_cmp nat_cmp) d x) (same_digest_is e d i) ∙ ordered_itself d
 
-    go : (a b : Bool) → same_digest d e ≡ a → same_digest e d ≡ b → same_digest d e ≡ same_digest e d
+    go : (a b : Bool) → eq_by_cmp (slice_cmp nat_cmp) d e ≡ a → bytes_eq e d ≡ b → eq_by_cmp (slice_cmp nat_cmp) d e ≡ bytes_eq e d
     go true b i j = i ∙ sym (from i)
     go false true i j = back j ∙ sym j
     go false false i j = i ∙ sym j
@@ -142,17 +144,17 @@ joins_if : (b : Bool) (by : Policy) (held : Option Version) (v : Version) → co
 joins_if true by held v = kept_joins by held v
 joins_if false by held v = refl
 
-at_same : (by : Policy) (c : Content) (d e : List ℕ) (v : Version) (b : Bool) → same_digest e d ≡ b
+at_same : (by : Policy) (c : Content) (d e : List ℕ) (v : Version) (b : Bool) → bytes_eq e d ≡ b
     → cond b (Some (kept by (finite.get c e) v)) (finite.get c d) ≡ cond b (Some (kept by (finite.get c d) v)) (finite.get c d)
 at_same by c d e v true i = ap (λ x. Some (kept by (finite.get c x) v)) (same_digest_is e d i)
 at_same by c d e v false i = refl
 
-joined_goes : (by : Policy) (c : Content) (d e : List ℕ) (v : Version) → finite.get (joined by c e v) d ≡ joined_if (same_digest e d) by (finite.get c d) v
+joined_goes : (by : Policy) (c : Content) (d e : List ℕ) (v : Version) → finite.get (joined by c e v) d ≡ joined_if (bytes_eq e d) by (finite.get c d) v
 joined_goes by c d e v =
     finite.get-insert nat_list_cmp_total c e (kept by (finite.get c e) v) d
-    ∙ ap (λ b. cond b (Some (kept by (finite.get c e) v)) (finite.get c d)) (digest_sym d e)
-    ∙ at_same by c d e v (same_digest e d) refl
-    ∙ joins_if (same_digest e d) by (finite.get c d) v
+    ∙ ap (λ b. cond b (Some (kept by (finite.get c e) v)) (finite.get c d)) (digest_tests d e)
+    ∙ at_same by c d e v (bytes_eq e d) refl
+    ∙ joins_if (bytes_eq e d) by (finite.get c d) v
 
 joined_own : (a b : Bool) (by : Policy) (held : Option Version) (v : Version) → cond a (joined_if b by held v) held ≡ joined_if (a && b) by held v
 joined_own true b by held v = refl
@@ -173,14 +175,14 @@ drop_goes c d p =
 
 -- a line of the node by which a version comes
 comes : (n m : ℕ) (d e : List ℕ) (v : Version) (k : Kept)
-    → held_of d (cond (m == n) (record k { content = joined k.by k.content e v }) k) ≡ (k.by, joined_if ((m == n) && same_digest e d) k.by (finite.get k.content d) v)
+    → held_of d (cond (m == n) (record k { content = joined k.by k.content e v }) k) ≡ (k.by, joined_if ((m == n) && bytes_eq e d) k.by (finite.get k.content d) v)
 comes n m d e v k =
-    changes (held_of d) (m == n) (record k { content = joined k.by k.content e v }) k (k.by, joined_if (same_digest e d) k.by (finite.get k.content d) v)
+    changes (held_of d) (m == n) (record k { content = joined k.by k.content e v }) k (k.by, joined_if (bytes_eq e d) k.by (finite.get k.content d) v)
     (ap (λ o. (k.by, o)) (joined_goes k.by k.content d e v))
     ∙ inside (m == n)
-    ∙ ap (λ o. (k.by, o)) (joined_own (m == n) (same_digest e d) k.by (finite.get k.content d) v)
+    ∙ ap (λ o. (k.by, o)) (joined_own (m == n) (bytes_eq e d) k.by (finite.get k.content d) v)
   where
-    inside : (b : Bool) → cond b (k.by, joined_if (same_digest e d) k.by (finite.get k.content d) v) (held_of d k) ≡ (k.by, cond b (joined_if (same_digest e d) k.by (finite.get k.content d) v) (finite.get k.content d))
+    inside : (b : Bool) → cond b (k.by, joined_if (bytes_eq e d) k.by (finite.get k.content d) v) (held_of d k) ≡ (k.by, cond b (joined_if (bytes_eq e d) k.by (finite.get k.content d) v) (finite.get k.content d))
     inside true = refl
     inside false = refl
 
@@ -233,7 +235,7 @@ came_clocks w (Some x) = go (x.to == client)
     at_client (message.MapTable t) = refl
     at_client m = refl
 
-    go : (b : Bool) → (came_to w x b).clocks ≡ w.clocks
+    go : (b : Bool) → (if b then came_to_client w x.message else came_to_node w x).clocks ≡ w.clocks
     go true = at_client x.message
     go false = refl
 
@@ -275,7 +277,7 @@ came_network w (Some x) = go (x.to == client)
     at_client (message.MapTable t) = refl
     at_client m = refl
 
-    go : (b : Bool) → (came_to w x b).network ≡ w.network
+    go : (b : Bool) → (if b then came_to_client w x.message else came_to_node w x).network ≡ w.network
     go true = at_client x.message
     go false = refl
 
@@ -310,22 +312,6 @@ groups_from first [] groups = refl
 groups_from first (l ∷ ls) groups = groups_from first ls (groups_step groups l) ∙ ap (λ gs. fold groups_in gs ls) (groups_or groups first l)
 
 -- ---- the header
-
-and_left : (a b : Bool) → (a && b) ≡ true → a ≡ true
-and_left true b e = refl
-and_left false b e = e
-
-and_right : (a b : Bool) → (a && b) ≡ true → b ≡ true
-and_right true b e = e
-and_right false b e = cc
-
-or_left : (a b : Bool) → (a || b) ≡ false → a ≡ false
-or_left false b e = refl
-or_left true b e = e
-
-or_right : (a b : Bool) → (a || b) ≡ false → b ≡ false
-or_right false b e = e
-or_right true b e = cc
 
 -- a reading that other lines leave
 behind : {A : Type 0} (step : A → Line → A) → ((a : A) (l : Line) → not (is_header l) ≡ true → step a l ≡ a) → (ls : List Line) → AreBehind ls → (a : A) → fold step a ls ≡ a
@@ -440,7 +426,7 @@ undeclared_rack (header.Policy by ∷ h) n e = undeclared_rack h n e
 undeclared_rack (header.Script version ∷ h) n e = undeclared_rack h n e
 undeclared_rack (header.Factor factor ∷ h) n e = undeclared_rack h n e
 undeclared_rack (header.Node m rack ∷ h) n e =
-    ap (λ b. cons_option (rack_if rack b) (filter_map (rack_in n) h)) (or_left (m == n) _ e) ∙ undeclared_rack h n (or_right (m == n) _ e)
+    ap (λ b. cons_option (if b then rack else None) (filter_map (rack_in n) h)) (or_left (m == n) _ e) ∙ undeclared_rack h n (or_right (m == n) _ e)
 
 not_among : (n : ℕ) (ns : List ℕ) → ((j : ℕ) (d : ℕ) → j < length ns → n ≢ slice_index_or ns j d) → has_node ns n ≡ false
 not_among n [] h = refl
@@ -468,7 +454,7 @@ role_declared (header.Node m rack ∷ h) n e = go (m == n) refl (role_declared h
     here (Some r) = refl
 
     go : (b : Bool) → (m == n) ≡ b → fold (role_step n) plain_role (header_lines h) ≡ declared_role h n
-        → fold (role_step n) (cond b (record plain_role { rack = unwrap_or rack 0 }) plain_role) (header_lines h) ≡ role_of_rack (unwrap_or (slice_get (cons_option (rack_if rack b) (filter_map (rack_in n) h)) 0) 0)
+        → fold (role_step n) (cond b (record plain_role { rack = unwrap_or rack 0 }) plain_role) (header_lines h) ≡ role_of_rack (unwrap_or (slice_get (cons_option (if b then rack else None) (filter_map (rack_in n) h)) 0) 0)
     go true same rest =
         undeclared_role h n (absent (num_same m n same)) (record plain_role { rack = unwrap_or rack 0 })
         ∙ here rack

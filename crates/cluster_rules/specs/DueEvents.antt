@@ -1,5 +1,5 @@
 -- The lines that are due of an event. The number of partitions is an argument of what a tick and a Progress walk over.
-use Rattle.std.specs.Prelude.{ℕ, ◌+◌, ◌==◌, ◌&&◌, ◌||◌, nat_lt, Bool, true, false, not, List, [], ◌∷◌, ◌++◌, length, Option, Some, None}
+use Rattle.std.specs.Prelude.{ℕ, ◌+◌, ◌==◌, ◌&&◌, ◌||◌, nat_lt, Bool, not, List, [], ◌∷◌, ◌++◌, length, Option, Some, None, if◌then◌else◌}
 use Rattle.conflict_order.specs.declared.want.Want.{Want}
 use Rattle.conflict_order.specs.declared.want.Want.TheVariants as want
 use Rattle.cluster_types.specs.Partitions.{partition_count, partition_of}
@@ -24,22 +24,14 @@ use Rattle.cluster_rules.specs.World.{World, is_up, members_now}
 
 -- ---- effects as lines
 
--- the line that says that a message has no place in flight
-abbrev pub full_unless : ℕ → Bool → List Line
-full_unless i true = []
-full_unless i false = line.Full i ∷ []
-
-abbrev pub one_more_if : ℕ → Bool → ℕ
-one_more_if flying true = flying + 1
-one_more_if flying false = flying
-
--- the lines of messages that an endpoint sends, where so many were sent before and so many are in flight
+-- the lines of messages that an endpoint sends, where so many were sent before and so many are in
+-- flight: `full` follows one that finds no place there
 abbrev pub sent_lines : ℕ → ℕ → ℕ → List (ℕ × Message) → List Line
 sent_lines from sent flying [] = []
 sent_lines from sent flying (m ∷ ms) =
     line.Sent (sent + 1) from m.0 (spelling m.1)
-    ∷ (full_unless (sent + 1) (has_place flying)
-    ++ sent_lines from (sent + 1) (one_more_if flying (has_place flying)) ms)
+    ∷ ((if has_place flying then [] else line.Full (sent + 1) ∷ [])
+    ++ sent_lines from (sent + 1) (if has_place flying then flying + 1 else flying) ms)
 
 -- the lines of what an endpoint does: first its own, and then those of its messages
 abbrev pub written : Network → ℕ → Effects → List Line
@@ -67,39 +59,27 @@ abbrev pub due_at_client : Message → List Line
 due_at_client (message.MapTable t) = line.Table t.key ∷ []
 due_at_client _ = line.Stale client ∷ []
 
--- a message arrives, where the test says whether at the client
-abbrev pub due_at_end : ℕ → World → Network → Posting → Message → Bool → List Line
-due_at_end n w net p m true = due_at_client m
-due_at_end n w net p m false =
-    written net p.to (due_message_of n (w.facts p.to) (w.clocks p.to) p.from m)
-
--- what arrives, if it is a message
+-- what arrives, if it is a message: at the client or at a node
 abbrev pub due_arrival : ℕ → World → Network → Posting → Option Message → List Line
 due_arrival n w net p None = []
-due_arrival n w net p (Some m) = due_at_end n w net p m (p.to == client)
+due_arrival n w net p (Some m) =
+    if p.to == client
+    then due_at_client m
+    else written net p.to (due_message_of n (w.facts p.to) (w.clocks p.to) p.from m)
 
 -- a message arrives whole, where this network is left behind it
 abbrev pub arriving : ℕ → World → Network → Posting → List Line
 arriving n w net p = due_arrival n w net p (message_of p.bytes)
 
--- it arrives cut, where the test says whether it is short
-abbrev pub arriving_cut : ℕ → World → Network → Posting → Bool → List Line
-arriving_cut n w net p true = line.Short p.to ∷ []
-arriving_cut n w net p false = arriving n w net p
-
 -- whether a delivery is blocked: the ends are nodes of different groups, or the receiver is a stopped node
 abbrev pub is_blocked : World → Posting → Bool
 is_blocked w p = are_apart w.network p.from p.to || (not (p.to == client) && not (is_up w p.to))
 
--- those lines, where the test says whether the message is blocked
-abbrev pub unless_blocked : ℕ → (Posting → List Line) → Posting → Bool → List Line
-unless_blocked i lines p true = line.Blocked i ∷ []
-unless_blocked i lines p false = lines p
-
--- the lines of a delivery of the message in flight, if there is one of that number
+-- the lines of a delivery of the message in flight, if there is one of that number, and it isn't
+-- blocked
 abbrev pub delivery : World → ℕ → (Posting → List Line) → Option Posting → List Line
 delivery w i lines None = line.NoMessage i ∷ []
-delivery w i lines (Some p) = unless_blocked i lines p (is_blocked w p)
+delivery w i lines (Some p) = if is_blocked w p then line.Blocked i ∷ [] else lines p
 
 -- a delivery takes the message out of flight
 abbrev pub due_deliver : ℕ → World → ℕ → List Line
@@ -117,7 +97,9 @@ abbrev pub due_cut : ℕ → World → ℕ → ℕ → List Line
 due_cut n w i size =
     delivery w i
     (λ p. line.Cut i p.from p.to size
-    ∷ arriving_cut n w (landed w.network i) p (nat_lt size (length p.bytes)))
+    ∷ (if nat_lt size (length p.bytes)
+    then line.Short p.to ∷ []
+    else arriving n w (landed w.network i) p))
     (flying_at w.network i)
 
 -- the message, if there is one in flight, is lost

@@ -1,5 +1,5 @@
 -- What happens to a world, mark by mark: each step begins with its event, and then come its lines.
-use Rattle.std.specs.Prelude.{ℕ, ◌==◌, Bool, true, false, List, [], ◌∷◌, ◌++◌, filter_map, Option, Some, None, option_and_then}
+use Rattle.std.specs.Prelude.{ℕ, ◌==◌, Bool, true, false, List, [], ◌∷◌, ◌++◌, filter_map, Option, Some, None, option_and_then, is_some, if◌then◌else◌}
 use Rattle.conflict_order.specs.declared.want.Want.{Want}
 use Rattle.conflict_order.specs.declared.want.Want.TheVariants as want
 use Rattle.wire_messages.specs.declared.message.Message.{Message}
@@ -47,9 +47,37 @@ event_begun w e = record w { network = taken_by w.network e; event = Some e; wan
 
 -- ---- a line of a node
 
+-- the node in whose facts the line counts, if any
+abbrev pub node_of_line : Line → Option ℕ
+node_of_line (line.Tick n) = Some n
+node_of_line (line.Stop n) = Some n
+node_of_line (line.Start n) = Some n
+node_of_line (line.Quiesce n) = Some n
+node_of_line (line.Unquiesce n) = Some n
+node_of_line (line.Promise n k) = Some n
+node_of_line (line.Enter n k ms) = Some n
+node_of_line (line.Exchanged n k) = Some n
+node_of_line (line.Opened n k t d a) = Some n
+node_of_line (line.Value n k t d v) = Some n
+node_of_line (line.Apply n k t d v) = Some n
+node_of_line (line.Done n k t) = Some n
+node_of_line (line.Aborted n k t) = Some n
+node_of_line (line.Doubt n k t) = Some n
+node_of_line (line.Merge n k d v) = Some n
+node_of_line (line.Handed n k p) = Some n
+node_of_line (line.Settled n k p) = Some n
+node_of_line (line.Learn n k p) = Some n
+node_of_line (line.Drop n k p) = Some n
+node_of_line _ = None
+
 -- the line counts in that node's facts
 abbrev pub by_node : World → ℕ → Line → World
 by_node w n l = with_facts w n (note w.want (w.facts n) l)
+
+-- the line counts in the facts of the node, if there is one
+abbrev pub by_node_of : World → Option ℕ → Line → World
+by_node_of w None l = w
+by_node_of w (Some n) l = by_node w n l
 
 -- ---- a message arrives
 
@@ -62,15 +90,11 @@ came_to_client w _ = w
 abbrev pub came_to_node : World → Arrival → World
 came_to_node w x = with_facts w x.to (reached (w.facts x.to) x.from x.message)
 
--- a message arrives, where the test says whether at the client
-abbrev pub came_to : World → Arrival → Bool → World
-came_to w x true = came_to_client w x.message
-came_to w x false = came_to_node w x
-
--- what arrives, if anything: bytes that are no message reach nobody
+-- what arrives, if anything, at the client or at a node: bytes that are no message reach nobody
 abbrev pub came : World → Option Arrival → World
 came w None = w
-came w (Some x) = came_to w x (x.to == client)
+came w (Some x) =
+    if x.to == client then came_to_client w x.message else came_to_node w x
 
 -- ---- a message is sent
 
@@ -86,7 +110,7 @@ posted_by w i p =
 
 -- ---- a line
 
--- what a line adds. One of another word adds nothing
+-- what a line adds. One of another word that is no node's adds nothing
 abbrev pub after_line : World → Line → World
 after_line w (line.Clock n time) = record w { clocks = changed_at w.clocks n time }
 after_line w (line.Groups groups) = record w { network = record w.network { groups = groups } }
@@ -96,26 +120,7 @@ after_line w (line.Cut i a b size) =
     came w (option_and_then (arrived_cut b size) (posting_at w.network i))
 after_line w (line.Sent i a b bytes) = posted_by w i (record { from = a; to = b; bytes = bytes })
 after_line w (line.Full i) = record w { network = landed w.network i }
-after_line w (line.Tick n) = by_node w n (line.Tick n)
-after_line w (line.Stop n) = by_node w n (line.Stop n)
-after_line w (line.Start n) = by_node w n (line.Start n)
-after_line w (line.Quiesce n) = by_node w n (line.Quiesce n)
-after_line w (line.Unquiesce n) = by_node w n (line.Unquiesce n)
-after_line w (line.Promise n k) = by_node w n (line.Promise n k)
-after_line w (line.Enter n k ms) = by_node w n (line.Enter n k ms)
-after_line w (line.Exchanged n k) = by_node w n (line.Exchanged n k)
-after_line w (line.Opened n k t d a) = by_node w n (line.Opened n k t d a)
-after_line w (line.Value n k t d v) = by_node w n (line.Value n k t d v)
-after_line w (line.Apply n k t d v) = by_node w n (line.Apply n k t d v)
-after_line w (line.Done n k t) = by_node w n (line.Done n k t)
-after_line w (line.Aborted n k t) = by_node w n (line.Aborted n k t)
-after_line w (line.Doubt n k t) = by_node w n (line.Doubt n k t)
-after_line w (line.Merge n k d v) = by_node w n (line.Merge n k d v)
-after_line w (line.Handed n k p) = by_node w n (line.Handed n k p)
-after_line w (line.Settled n k p) = by_node w n (line.Settled n k p)
-after_line w (line.Learn n k p) = by_node w n (line.Learn n k p)
-after_line w (line.Drop n k p) = by_node w n (line.Drop n k p)
-after_line w _ = w
+after_line w l = by_node_of w (node_of_line l) l
 
 -- whether a line of that word may add something
 abbrev pub adds : Line → Bool
@@ -126,26 +131,7 @@ adds (line.Repeat i a b) = true
 adds (line.Cut i a b size) = true
 adds (line.Sent i a b bytes) = true
 adds (line.Full i) = true
-adds (line.Tick n) = true
-adds (line.Stop n) = true
-adds (line.Start n) = true
-adds (line.Quiesce n) = true
-adds (line.Unquiesce n) = true
-adds (line.Promise n k) = true
-adds (line.Enter n k ms) = true
-adds (line.Exchanged n k) = true
-adds (line.Opened n k t d a) = true
-adds (line.Value n k t d v) = true
-adds (line.Apply n k t d v) = true
-adds (line.Done n k t) = true
-adds (line.Aborted n k t) = true
-adds (line.Doubt n k t) = true
-adds (line.Merge n k d v) = true
-adds (line.Handed n k p) = true
-adds (line.Settled n k p) = true
-adds (line.Learn n k p) = true
-adds (line.Drop n k p) = true
-adds _ = false
+adds l = is_some (node_of_line l)
 
 -- ---- marks
 

@@ -1,5 +1,5 @@
 -- The network: the messages that were sent, those that are in flight, and the groups of nodes.
-use Rattle.std.specs.Prelude.{ℕ, ◌-◌, nat_lt, Bool, true, false, List, [], ◌∷◌, ◌++◌, Option, None, slice_get}
+use Rattle.std.specs.Prelude.{ℕ, ◌-◌, nat_lt, Bool, List, [], ◌∷◌, ◌++◌, Option, None, slice_get, if◌then◌else◌}
 use Rattle.cluster_types.specs.Distinct.{without}
 use Rattle.cluster_types.specs.Endpoints.{stand_apart}
 pub use Rattle.cluster_types.specs.Endpoints.{flight_limit, has_place}
@@ -20,27 +20,17 @@ silent nodes = record { sent = []; flying = []; groups = nodes ∷ [] }
 
 -- ---- messages by their numbers
 
--- messages are numbered from 1
-abbrev pub posting_if : Network → ℕ → Bool → Option Posting
-posting_if net i true = slice_get net.sent (i - 1)
-posting_if net i false = None
-
--- the message of that number, if it was sent
+-- the message of that number, if it was sent: they are numbered from 1
 abbrev pub posting_at : Network → ℕ → Option Posting
-posting_at net i = posting_if net i (nat_lt 0 i)
+posting_at net i = if nat_lt 0 i then slice_get net.sent (i - 1) else None
 
 -- whether the message of that number is in flight
 abbrev pub is_flying : Network → ℕ → Bool
 is_flying net i = has_node net.flying i
 
--- the message where the test says that it is in flight
-abbrev pub flying_if : Network → ℕ → Bool → Option Posting
-flying_if net i true = posting_at net i
-flying_if net i false = None
-
 -- the message of that number, if it is in flight
 abbrev pub flying_at : Network → ℕ → Option Posting
-flying_at net i = flying_if net i (is_flying net i)
+flying_at net i = if is_flying net i then posting_at net i else None
 
 -- ---- what happens to them
 

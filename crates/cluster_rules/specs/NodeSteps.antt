@@ -1,5 +1,5 @@
 -- What the marks of a node's step make of a world.
-use Rattle.std.specs.Prelude.{◌≡◌, ℕ, ◌+◌, ◌≤◌, Bool, true, false, List, [], ◌∷◌, length, Some, All}
+use Rattle.std.specs.Prelude.{◌≡◌, ℕ, ◌+◌, ◌≤◌, List, [], ◌∷◌, length, Option, Some, None, All, if◌then◌else◌}
 use Rattle.cluster_types.specs.Partitions.{partition_count}
 use Rattle.wire_messages.specs.declared.message.Message.{Message}
 use Rattle.wire_messages.specs.Decoding.{message_of}
@@ -9,11 +9,16 @@ use Rattle.journal_lines.specs.declared.line.Line.TheVariants as line
 use Rattle.node_rules.specs.Facts.{Facts}
 use Rattle.cluster_rules.specs.declared.event.Event.{Event}
 use Rattle.cluster_rules.specs.DueEvents.{due_of}
-use Rattle.cluster_rules.specs.Marks.{after_all}
+use Rattle.cluster_rules.specs.Marks.{node_of_line, after_all}
 use Rattle.journal_readings.specs.Messages.{Posting}
 use Rattle.cluster_rules.specs.Network.{Network, posting, landed, has_place}
 use Rattle.cluster_rules.specs.Steps.{Step, marks_of}
 use Rattle.cluster_rules.specs.World.{World}
+
+-- there is none, or it is that node
+abbrev pub IsNoOther : ℕ → Option ℕ → Type 0
+IsNoOther n None = Unit {0}
+IsNoOther n (Some m) = m ≡ n
 
 -- the line is one of that node, or adds nothing
 abbrev pub IsOf : ℕ → Line → Type 0
@@ -24,26 +29,7 @@ IsOf n (line.Repeat i a b) = ⊥
 IsOf n (line.Cut i a b size) = ⊥
 IsOf n (line.Sent i a b bytes) = ⊥
 IsOf n (line.Full i) = ⊥
-IsOf n (line.Tick m) = m ≡ n
-IsOf n (line.Stop m) = m ≡ n
-IsOf n (line.Start m) = m ≡ n
-IsOf n (line.Quiesce m) = m ≡ n
-IsOf n (line.Unquiesce m) = m ≡ n
-IsOf n (line.Promise m k) = m ≡ n
-IsOf n (line.Enter m k ms) = m ≡ n
-IsOf n (line.Exchanged m k) = m ≡ n
-IsOf n (line.Opened m k t d a) = m ≡ n
-IsOf n (line.Value m k t d v) = m ≡ n
-IsOf n (line.Apply m k t d v) = m ≡ n
-IsOf n (line.Done m k t) = m ≡ n
-IsOf n (line.Aborted m k t) = m ≡ n
-IsOf n (line.Doubt m k t) = m ≡ n
-IsOf n (line.Merge m k d v) = m ≡ n
-IsOf n (line.Handed m k p) = m ≡ n
-IsOf n (line.Settled m k p) = m ≡ n
-IsOf n (line.Learn m k p) = m ≡ n
-IsOf n (line.Drop m k p) = m ≡ n
-IsOf n _ = Unit {0}
+IsOf n l = IsNoOther n (node_of_line l)
 
 abbrev pub AreOf : ℕ → List Line → Type 0
 AreOf n [] = Unit {0}
@@ -70,16 +56,12 @@ pub record Moves (n : ℕ) (new : Facts) (net : Network) (w v : World) : Type 0 
 
 -- ---- what is sent
 
--- the network without the message, where the test says that it had no place
-abbrev pub full_in : Network → ℕ → Bool → Network
-full_in net i true = net
-full_in net i false = landed net i
-
--- the network after a message was sent
+-- the network after a message was sent, which is in flight where it had a place
 abbrev pub sent_in : Network → Posting → Network
 sent_in net p =
-    full_in (posting net (length net.sent + 1) p) (length net.sent + 1)
-    (has_place (length net.flying))
+    if has_place (length net.flying)
+    then posting net (length net.sent + 1) p
+    else landed (posting net (length net.sent + 1) p) (length net.sent + 1)
 
 -- the network after an endpoint sent these
 abbrev pub all_sent_in : Network → ℕ → List (ℕ × Message) → Network

@@ -1,11 +1,12 @@
 -- What the header of a script declares, and its lines in the journal.
-use Rattle.std.specs.Prelude.{ℕ, ◌==◌, Bool, true, false, List, fold, filter_map, map, Option, Some, None, unwrap_or, slice_get}
+use Rattle.std.specs.Prelude.{ℕ, ◌==◌, false, List, fold, filter_map, map, Option, None, unwrap_or, slice_get, if◌then◌else◌}
 use Rattle.conflict_order.specs.declared.policy.Policy.{Policy}
 use Rattle.conflict_order.specs.declared.policy.Policy.TheVariants.{Time}
 use Rattle.cluster_types.specs.declared.member.Role.{Role}
 use Rattle.cluster_types.specs.Distinct.{without}
 use Rattle.script_lang.specs.declared.script.HeaderLine.{HeaderLine}
 use Rattle.script_lang.specs.declared.script.HeaderLine.TheVariants as header
+pub use Rattle.script_lang.specs.Before.{node_in, nodes_of as declared_nodes}
 use Rattle.journal_lines.specs.declared.line.Line.{Line}
 use Rattle.journal_lines.specs.declared.line.Line.TheVariants as line
 
@@ -29,20 +30,9 @@ header_policy_step by _ = by
 abbrev pub declared_policy : Header → Policy
 declared_policy h = fold header_policy_step Time h
 
-abbrev pub node_in : HeaderLine → Option ℕ
-node_in (header.Node n rack) = Some n
-node_in _ = None
-
--- the declared nodes, in the order of their lines
-abbrev pub declared_nodes : Header → List ℕ
-declared_nodes h = filter_map node_in h
-
-abbrev pub rack_if : Option ℕ → Bool → Option ℕ
-rack_if rack true = rack
-rack_if rack false = None
-
+-- the rack that the line names for the node
 abbrev pub rack_in : ℕ → HeaderLine → Option ℕ
-rack_in n (header.Node m rack) = rack_if rack (m == n)
+rack_in n (header.Node m rack) = if m == n then rack else None
 rack_in n _ = None
 
 -- the role in which the node begins: with the rack that its line names, or rack 0, and not quiesced

@@ -1,7 +1,8 @@
 -- The world of a run: the nodes, the network and the client.
-use Rattle.std.specs.Prelude.{ℕ, ◌==◌, nat_lt, Bool, true, false, List, [], map, filter, Option, None}
+use Rattle.std.specs.Prelude.{ℕ, nat_lt, Bool, if◌then◌else◌, List, [], map, filter, Option, None}
 use Rattle.conflict_order.specs.declared.want.Want.{Want}
 use Rattle.cluster_types.specs.declared.member.Member.{Member}
+pub use Rattle.cluster_types.specs.Changed.{at_number as changed_at}
 use Rattle.partition_lists.specs.Lists.{in_order}
 use Rattle.node_rules.specs.Facts.{Facts, fresh}
 use Rattle.cluster_rules.specs.declared.event.Event.{Event}
@@ -12,13 +13,10 @@ use Rattle.cluster_rules.specs.Opening.{Header, declared_factor, declared_policy
 
 -- ---- a value for each number
 
+-- the new value where the test holds, and otherwise that of the function: so a function with another value at one
+-- number is read (`changed_at`)
 abbrev pub new_if : {A : Type 0} → A → (ℕ → A) → ℕ → Bool → A
-new_if new f m true = new
-new_if new f m false = f m
-
--- the function with another value at one number
-abbrev pub changed_at : {A : Type 0} → (ℕ → A) → ℕ → A → ℕ → A
-changed_at f n new m = new_if new f m (n == m)
+new_if new f m b = if b then new else f m
 
 -- ---- the world
 

@@ -1,6 +1,7 @@
 -- What holds along a journal holds at each of its lines.
-use Rattle.std.proofs.Common.{◌≡◌, ℕ, zero, suc, Bool, true, false, ◌&&◌, List, [], ◌∷◌, ◌++◌, Option, Some, None, refl, sym, ap, subst, ◌∙◌, append_assoc, append-nil}
+use Rattle.std.proofs.Common.{◌≡◌, ℕ, zero, suc, Bool, true, false, ◌&&◌, List, [], ◌∷◌, ◌++◌, Option, Some, None, sym, ap, subst, ◌∙◌, append_assoc, append-nil}
 use Rattle.std.specs.Prelude.{take, slice_get, is_some, unwrap_or, IsTrue}
+use Rattle.std.proofs.lemmas.Bool.{and_parts as and_true}
 use Rattle.journal_lines.specs.declared.line.Line.{Line}
 use Rattle.journal_lines.specs.declared.line.Line.TheVariants as line
 use Rattle.journal_readings.specs.Claims.{OneMap, ShowsMap}
@@ -31,10 +32,6 @@ each_from P before (x ∷ j) h (suc i) l e = subst (λ (b : List Line). P b l) (
 
 pub each : (P : List Line → Line → Type 0) (j : List Line) → AllAlong P [] j → (i : ℕ) (l : Line) → slice_get j i ≡ Some l → P (take i j) l
 each P j h i l e = each_from P [] j h i l e
-
-and_true : (a b : Bool) → (a && b) ≡ true → (a ≡ true) × (b ≡ true)
-and_true true b e = (refl, e)
-and_true false b e = (cc, cc)
 
 tested : (test : List Line → Line → Bool) (before j : List Line) → all_along test before j ≡ true → AllAlong (λ b l. IsTrue (test b l)) before j
 tested test before [] e = tt

@@ -1,9 +1,10 @@
 -- A node has a record of a partition exactly where it holds something of one, and the state of its copy says so.
 use Rattle.std.proofs.Common.{◌≡◌, ℕ, Bool, true, false, cond, ◌&&◌, ◌||◌, ◌==◌, List, [], ◌∷◌, Option, Some, None, not, ◌⊎◌, ◌↔◌, inl, inr, refl, sym, ap, ◌∙◌, eq-eqb, option_map}
-use Rattle.std.specs.Prelude.{fold, is_some}
-use Rattle.std.proofs.lemmas.Bool.{eqb-true}
-use Rattle.std.specs.Ordering.{nat_cmp, is_eq, ordering_reverse}
+use Rattle.std.specs.Prelude.{fold, is_some, bytes_eq}
+use Rattle.std.proofs.lemmas.Bool.{eqb-true, and_parts as and_true}
+use Rattle.std.specs.Ordering.{nat_cmp, is_eq, eq_by_cmp, ordering_reverse}
 use Rattle.std.proofs.lemmas.Cmp.{nat_list_cmp_total}
+use Rattle.std.proofs.lemmas.Slice.Eq.{bytes_eq-Decides}
 use Rattle.std.specs.declared.cmp.Ordering.{Ordering}
 use Rattle.std.specs.declared.cmp.Ordering.TheVariants.{Less, Equal, Greater}
 use Rattle.std.specs.Cmp.Lexicographic.{slice_cmp}
@@ -16,7 +17,8 @@ use Rattle.journal_lines.specs.declared.line.Line.{Line}
 use Rattle.journal_lines.specs.declared.line.Line.TheVariants as line
 use Rattle.cluster_types.specs.declared.cluster_key.ClusterKey.{ClusterKey}
 use Rattle.cluster_types.specs.declared.copy_state.CopyState.TheVariants.{Empty}
-use Rattle.journal_readings.specs.Lines.{same_digest, lines_before, is_enter}
+use Rattle.cluster_types.proofs.BoolFacts.{or_cases as or_true}
+use Rattle.journal_readings.specs.Lines.{lines_before, is_enter}
 use Rattle.journal_readings.specs.Contents.{content, content_step, holds_any, copy_step, joined_if}
 use Rattle.journal_readings.specs.Stamps.{stamp, entered_empty, is_empty_at_entry}
 use Rattle.journal_readings.specs.Rows.{row, copy_state, stamped, is_empty_row}
@@ -31,16 +33,22 @@ equal_is Greater e = cc
 digests_apart : IsAntisymmetric (slice_cmp nat_cmp)
 digests_apart = slice_cmp-IsAntisymmetric nat_cmp-IsAntisymmetric
 
-pub same_digest_is : (d e : List ℕ) → same_digest d e ≡ true → d ≡ e
-same_digest_is d e same = digests_apart d e (equal_is _ same)
+pub ordered_same : (d e : List ℕ) → eq_by_cmp (slice_cmp nat_cmp) d e ≡ true → d ≡ e
+ordered_same d e same = digests_apart d e (equal_is _ same)
+
+pub same_digest_is : (d e : List ℕ) → bytes_eq d e ≡ true → d ≡ e
+same_digest_is d e same = (bytes_eq-Decides d e).0 same
 
 self_equal : (r : Ordering) → r ≡ ordering_reverse r → is_eq r ≡ true
 self_equal Less e = cc
 self_equal Equal e = refl
 self_equal Greater e = cc
 
-pub same_digest_itself : (d : List ℕ) → same_digest d d ≡ true
-same_digest_itself d = self_equal _ (nat_list_cmp_total.antisymm d d)
+pub ordered_itself : (d : List ℕ) → eq_by_cmp (slice_cmp nat_cmp) d d ≡ true
+ordered_itself d = self_equal _ (nat_list_cmp_total.antisymm d d)
+
+pub same_digest_itself : (d : List ℕ) → bytes_eq d d ≡ true
+same_digest_itself d = (bytes_eq-Decides d d).1 refl
 
 -- ---- what a version that comes makes of the two
 
@@ -62,36 +70,28 @@ or_false : (a b : Bool) → (a || b) ≡ false → (a ≡ false) × (b ≡ false
 or_false true b e = (e, cc)
 or_false false b e = (refl, e)
 
-or_true : (a b : Bool) → (a || b) ≡ true → (a ≡ true) ⊎ (b ≡ true)
-or_true true b e = inl refl
-or_true false b e = inr e
-
-and_true : (a b : Bool) → (a && b) ≡ true → (a ≡ true) × (b ≡ true)
-and_true true b e = (refl, e)
-and_true false b e = (cc, cc)
-
 -- a version of the record e comes to the node m
 came : (by : Policy) (n p m : ℕ) (e : List ℕ) (v : Version) (holds : Bool) (held : List ℕ → Option Version) → Tells p holds held
-    → Tells p (holds || ((m == n) && (partition_of e == p))) (λ d. joined_if ((m == n) && same_digest e d) by (held d) v)
+    → Tells p (holds || ((m == n) && (partition_of e == p))) (λ d. joined_if ((m == n) && bytes_eq e d) by (held d) v)
 came by n p m e v holds held h = record { empty = empty; some = λ t. some (or_true holds _ t) }
   where
-    misses : (d : List ℕ) → partition_of d ≡ p → ((m == n) && (partition_of e == p)) ≡ false → (b : Bool) → ((m == n) && same_digest e d) ≡ b → b ≡ false
+    misses : (d : List ℕ) → partition_of d ≡ p → ((m == n) && (partition_of e == p)) ≡ false → (b : Bool) → ((m == n) && bytes_eq e d) ≡ b → b ≡ false
     misses d q differs false i = refl
     misses d q differs true i =
-        let y : ((m == n) ≡ true) × (same_digest e d ≡ true) = and_true _ _ i in
+        let y : ((m == n) ≡ true) × (bytes_eq e d ≡ true) = and_true _ _ i in
         let z : (partition_of e == p) ≡ true = eq-eqb _ _ (ap partition_of (same_digest_is e d y.1) ∙ q) in
         sym (ap (λ (b : Bool). b && (partition_of e == p)) y.0 ∙ z) ∙ differs
 
-    empty : (holds || ((m == n) && (partition_of e == p))) ≡ false → (d : List ℕ) → partition_of d ≡ p → joined_if ((m == n) && same_digest e d) by (held d) v ≡ None
+    empty : (holds || ((m == n) && (partition_of e == p))) ≡ false → (d : List ℕ) → partition_of d ≡ p → joined_if ((m == n) && bytes_eq e d) by (held d) v ≡ None
     empty t d q =
         let y : (holds ≡ false) × (((m == n) && (partition_of e == p)) ≡ false) = or_false holds _ t in
         ap (λ (b : Bool). joined_if b by (held d) v) (misses d q y.1 _ refl) ∙ h.empty y.0 d q
 
-    some : (holds ≡ true) ⊎ (((m == n) && (partition_of e == p)) ≡ true) → (d : List ℕ) × (partition_of d ≡ p) × (is_some (joined_if ((m == n) && same_digest e d) by (held d) v) ≡ true)
+    some : (holds ≡ true) ⊎ (((m == n) && (partition_of e == p)) ≡ true) → (d : List ℕ) × (partition_of d ≡ p) × (is_some (joined_if ((m == n) && bytes_eq e d) by (held d) v) ≡ true)
     some (inl t) = let x : (d : List ℕ) × (partition_of d ≡ p) × (is_some (held d) ≡ true) = h.some t in (x.0, x.1, joined-some _ by (held x.0) v x.2)
     some (inr t) =
         let y : ((m == n) ≡ true) × ((partition_of e == p) ≡ true) = and_true _ _ t in
-        let z : ((m == n) && same_digest e e) ≡ true = ap (λ (b : Bool). b && same_digest e e) y.0 ∙ same_digest_itself e in
+        let z : ((m == n) && bytes_eq e e) ≡ true = ap (λ (b : Bool). b && bytes_eq e e) y.0 ∙ same_digest_itself e in
         (e, eqb-true _ _ y.1, ap (λ (b : Bool). is_some (joined_if b by (held e) v)) z ∙ join_with-some by (held e) v)
 
 -- the node m drops its copy of the partition q

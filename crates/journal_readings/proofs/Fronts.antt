@@ -5,10 +5,12 @@ use Rattle.std.specs.List.{list_any, list_all}
 use Rattle.std.proofs.lemmas.Bool.{eqb-true}
 use Rattle.cluster_types.specs.declared.cluster_key.ClusterKey.{ClusterKey}
 use Rattle.cluster_types.specs.ClusterKeys as keys
+use Rattle.cluster_types.proofs.BoolFacts.{neither_left as or_left, neither_right as or_right, not_both as true_false}
 use Rattle.journal_lines.specs.declared.line.Line.{Line}
 use Rattle.journal_lines.specs.declared.line.Line.TheVariants as line
 use Rattle.journal_readings.specs.Lines.{same_key, has_node}
 use Rattle.journal_readings.specs.Views.{promised_key, promise_step, last_key, last_step, view, view_step, members}
+pub use Rattle.cluster_types.proofs.BoolFacts.{and_left, and_right}
 
 -- ---- fronts
 
@@ -38,29 +40,9 @@ where_true false A h e = cc
 
 -- ---- tests
 
-or_left : (a b : Bool) → (a || b) ≡ false → a ≡ false
-or_left false b e = refl
-or_left true b e = e
-
-or_right : (a b : Bool) → (a || b) ≡ false → b ≡ false
-or_right false b e = e
-or_right true b e = cc
-
 or_both : (a b : Bool) → a ≡ false → b ≡ false → (a || b) ≡ false
 or_both false b e f = f
 or_both true b e f = e
-
-pub and_left : (a b : Bool) → (a && b) ≡ true → a ≡ true
-and_left true b e = refl
-and_left false b e = e
-
-pub and_right : (a b : Bool) → (a && b) ≡ true → b ≡ true
-and_right true b e = e
-and_right false b e = cc
-
-true_false : (b : Bool) → b ≡ true → b ≡ false → ⊥
-true_false true e f = cc
-true_false false e f = cc
 
 -- ---- a few nodes and keys
 

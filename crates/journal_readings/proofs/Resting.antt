@@ -2,7 +2,7 @@
 use Rattle.std.proofs.Common.{◌≡◌, ℕ, zero, suc, ◌<◌, ◌==◌, Bool, true, false, ◌&&◌, ◌||◌, not, cond, List, [], ◌∷◌, Some, None, map, ◌⊎◌, inl, inr, refl, sym, ap, subst, ◌∙◌, eq-eqb, arith}
 use Rattle.std.specs.Prelude.{slice_index_or, take, length, Contains}
 use Rattle.std.specs.List.{list_any, list_all}
-use Rattle.std.proofs.lemmas.Bool.{eqb-true}
+use Rattle.std.proofs.lemmas.Bool.{eqb-true, or_right as or_true}
 use Rattle.conflict_order.specs.declared.policy.Policy.TheVariants.{Time}
 use Rattle.cluster_types.specs.Members.{plain_member}
 use Rattle.cluster_types.specs.Partitions.{partition_of}
@@ -82,10 +82,6 @@ entered_empty p apart = two (not (holds_any 2 p _)) (not (holds_any 1 p _)) (ap 
     two true true e f = refl
     two true false e f = f
     two false b e f = e
-
-or_true : (a b : Bool) → b ≡ true → (a || b) ≡ true
-or_true true b e = refl
-or_true false b e = e
 
 settled_last : is_settled (key 4 2) 4095 settled ≡ true
 unfolding computing

@@ -1,6 +1,6 @@
 -- A record that no line writes is held nowhere, and is in no view.
 use Rattle.std.proofs.Common.{◌≡◌, ℕ, zero, suc, ◌==◌, Bool, true, false, ◌&&◌, ◌||◌, cond, List, [], ◌∷◌, Option, Some, None, option_map, ◌⊎◌, inl, inr, refl, ap, subst, ◌∙◌}
-use Rattle.std.specs.Prelude.{fold, map, take, option_and_then}
+use Rattle.std.specs.Prelude.{fold, map, take, option_and_then, bytes_eq}
 use Rattle.std.specs.List.{list_any, list_all}
 use Rattle.conflict_order.specs.declared.policy.Policy.{Policy}
 use Rattle.conflict_order.specs.declared.version.Version.{Version}
@@ -8,9 +8,10 @@ use Rattle.conflict_order.specs.Join.{join}
 use Rattle.cluster_types.specs.declared.cluster_key.ClusterKey.{ClusterKey}
 use Rattle.cluster_types.specs.declared.member.Member.{Member}
 use Rattle.cluster_types.specs.Partitions.{partition_of}
+use Rattle.cluster_types.proofs.BoolFacts.{neither_left as or_left, neither_right as or_right, and_left, and_right}
 use Rattle.journal_lines.specs.declared.line.Line.{Line}
 use Rattle.journal_lines.specs.declared.line.Line.TheVariants as line
-use Rattle.journal_readings.specs.Lines.{same_key, same_digest, lines_before, is_enter}
+use Rattle.journal_readings.specs.Lines.{same_key, lines_before, is_enter}
 use Rattle.journal_readings.specs.Contents.{content, content_step, applied, applied_step, join_all, joined_if}
 use Rattle.journal_readings.specs.Entries.{entry, applied_in, applied_in_step, fold_of}
 use Rattle.journal_readings.specs.Views.{members}
@@ -19,14 +20,14 @@ use Rattle.journal_readings.proofs.AlongLaws.{no_some, some_same}
 
 -- whether the line brings a version of the record
 abbrev pub writes : List ℕ → Line → Bool
-writes d (line.Apply m k t e v) = same_digest e d
-writes d (line.Merge m k e v) = same_digest e d
+writes d (line.Apply m k t e v) = bytes_eq e d
+writes d (line.Merge m k e v) = bytes_eq e d
 writes d _ = false
 
 -- whether the line brings a version of no other record
 abbrev pub writes_only : List ℕ → Line → Bool
-writes_only d (line.Apply m k t e v) = same_digest e d
-writes_only d (line.Merge m k e v) = same_digest e d
+writes_only d (line.Apply m k t e v) = bytes_eq e d
+writes_only d (line.Merge m k e v) = bytes_eq e d
 writes_only d _ = true
 
 -- no line brings a version of the record
@@ -35,25 +36,9 @@ IsUnwritten d ls = list_any (writes d) ls ≡ false
 
 -- ---- tests
 
-or_left : (a b : Bool) → (a || b) ≡ false → a ≡ false
-or_left false b e = refl
-or_left true b e = e
-
-or_right : (a b : Bool) → (a || b) ≡ false → b ≡ false
-or_right false b e = e
-or_right true b e = cc
-
 or_both : (a b : Bool) → a ≡ false → b ≡ false → (a || b) ≡ false
 or_both false b e f = f
 or_both true b e f = e
-
-and_left : (a b : Bool) → (a && b) ≡ true → a ≡ true
-and_left true b e = refl
-and_left false b e = e
-
-and_right : (a b : Bool) → (a && b) ≡ true → b ≡ true
-and_right true b e = e
-and_right false b e = cc
 
 never : (a b : Bool) → b ≡ false → (a && b) ≡ false
 never true b e = e
@@ -141,18 +126,18 @@ fold_of-none by k d ls e =
 
 -- ---- a journal that writes one record alone
 
-others-unwritten : (e d : List ℕ) (ls : List Line) → list_all (writes_only e) ls ≡ true → same_digest e d ≡ false → IsUnwritten d ls
+others-unwritten : (e d : List ℕ) (ls : List Line) → list_all (writes_only e) ls ≡ true → bytes_eq e d ≡ false → IsUnwritten d ls
 others-unwritten e d [] all differ = refl
 others-unwritten e d (l ∷ ls) all differ = or_both (writes d l) _ (here l (and_left (writes_only e l) _ all)) (others-unwritten e d ls (and_right (writes_only e l) _ all) differ)
   where
     here : (x : Line) → writes_only e x ≡ true → writes d x ≡ false
-    here (line.Apply m k t f v) h = ap (λ (g : List ℕ). same_digest g d) (same_digest_is f e h) ∙ differ
-    here (line.Merge m k f v) h = ap (λ (g : List ℕ). same_digest g d) (same_digest_is f e h) ∙ differ
+    here (line.Apply m k t f v) h = ap (λ (g : List ℕ). bytes_eq g d) (same_digest_is f e h) ∙ differ
+    here (line.Merge m k f v) h = ap (λ (g : List ℕ). bytes_eq g d) (same_digest_is f e h) ∙ differ
     here x h = refl
 
 pub written_or_not : (e : List ℕ) (ls : List Line) → list_all (writes_only e) ls ≡ true → (d : List ℕ) → (e ≡ d) ⊎ IsUnwritten d ls
-written_or_not e ls all d = go (same_digest e d) refl
+written_or_not e ls all d = go (bytes_eq e d) refl
   where
-    go : (b : Bool) → same_digest e d ≡ b → (e ≡ d) ⊎ IsUnwritten d ls
+    go : (b : Bool) → bytes_eq e d ≡ b → (e ≡ d) ⊎ IsUnwritten d ls
     go true i = inl (same_digest_is e d i)
     go false i = inr (others-unwritten e d ls all i)

@@ -1,12 +1,11 @@
 -- What a node holds of a record, and what was ever written of it.
-use Rattle.std.specs.Prelude.{ℕ, ◌==◌, Bool, true, false, ◌&&◌, ◌||◌, if◌then◌else◌, List, [], ◌∷◌, fold, Option, Some, None}
+use Rattle.std.specs.Prelude.{ℕ, ◌==◌, Bool, true, false, ◌&&◌, ◌||◌, if◌then◌else◌, List, [], ◌∷◌, fold, Option, Some, None, bytes_eq}
 use Rattle.conflict_order.specs.declared.policy.Policy.{Policy}
 use Rattle.conflict_order.specs.declared.version.Version.{Version}
 use Rattle.conflict_order.specs.Join.{join}
 use Rattle.cluster_types.specs.Partitions.{partition_of}
 use Rattle.journal_lines.specs.declared.line.Line.{Line}
 use Rattle.journal_lines.specs.declared.line.Line.TheVariants as line
-use Rattle.journal_readings.specs.Lines.{same_digest}
 
 -- the join of versions, nothing where there is none
 abbrev pub join_all : Policy → List (Option Version) → Option Version
@@ -21,8 +20,8 @@ joined_if false by held v = held
 -- ---- what a node holds of a record
 
 abbrev pub content_step : Policy → ℕ → List ℕ → Option Version → Line → Option Version
-content_step by n d held (line.Apply m k t e v) = joined_if ((m == n) && same_digest e d) by held v
-content_step by n d held (line.Merge m k e v) = joined_if ((m == n) && same_digest e d) by held v
+content_step by n d held (line.Apply m k t e v) = joined_if ((m == n) && bytes_eq e d) by held v
+content_step by n d held (line.Merge m k e v) = joined_if ((m == n) && bytes_eq e d) by held v
 content_step by n d held (line.Drop m k p) =
     if (m == n) && (p == partition_of d) then None else held
 content_step by n d held _ = held
@@ -47,7 +46,7 @@ holds_any n p lines = fold (copy_step n p) false lines
 -- ---- what was ever written of a record
 
 abbrev pub applied_step : Policy → List ℕ → Option Version → Line → Option Version
-applied_step by d held (line.Apply m k t e v) = joined_if (same_digest e d) by held v
+applied_step by d held (line.Apply m k t e v) = joined_if (bytes_eq e d) by held v
 applied_step by d held _ = held
 
 -- the join of all versions that were applied

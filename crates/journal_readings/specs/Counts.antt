@@ -3,6 +3,7 @@ use Rattle.std.specs.Prelude.{ℕ, ◌==◌, Bool, false, ◌&&◌, not, if◌th
 use Rattle.std.specs.List.{list_any, list_all, range_with_len}
 use Rattle.cluster_types.specs.declared.cluster_key.ClusterKey.{ClusterKey}
 use Rattle.cluster_types.specs.Partitions.{partition_of}
+use Rattle.cluster_types.specs.Distinct.{contains}
 use Rattle.wire_messages.specs.declared.message.Message.{Message}
 use Rattle.wire_messages.specs.declared.message.Message.TheVariants as message
 use Rattle.journal_lines.specs.declared.line.Line.{Line}
@@ -12,13 +13,10 @@ use Rattle.journal_readings.specs.Lines.{same_key, is_enter, lines_after, fold_a
 use Rattle.journal_readings.specs.Views.{is_in_view, master}
 use Rattle.journal_readings.specs.Messages.{arrival_between}
 
-abbrev pub contains_number : List ℕ → ℕ → Bool
-contains_number numbers x = list_any (λ y. y == x) numbers
-
 -- the numbers with one more, each once
 abbrev pub with_new_number : Option ℕ → List ℕ → List ℕ
 with_new_number None numbers = numbers
-with_new_number (Some x) numbers = if contains_number numbers x then numbers else (x ∷ numbers)
+with_new_number (Some x) numbers = if contains numbers x then numbers else (x ∷ numbers)
 
 -- ---- which writes the copy has had
 
@@ -70,7 +68,7 @@ has_foreign k n p lines = list_any (is_foreign k n p) (lines_after (is_enter k n
 
 -- whether the numbers, each once, are those from 1 to their count
 abbrev pub has_no_gap : List ℕ → Bool
-has_no_gap numbers = list_all (contains_number numbers) (range_with_len 1 (length numbers))
+has_no_gap numbers = list_all (contains numbers) (range_with_len 1 (length numbers))
 
 -- how many of the list master's writes in the view the node has had, where they are the first ones without a
 -- gap and no other view's version came to the partition since the node entered the view

@@ -1,12 +1,12 @@
 -- What a view's members held as they entered, and what was written in it.
-use Rattle.std.specs.Prelude.{ℕ, ◌&&◌, List, map, fold, Option, None, option_and_then}
+use Rattle.std.specs.Prelude.{ℕ, ◌&&◌, List, map, fold, Option, None, option_and_then, bytes_eq}
 use Rattle.conflict_order.specs.declared.policy.Policy.{Policy}
 use Rattle.conflict_order.specs.declared.version.Version.{Version}
 use Rattle.conflict_order.specs.Join.{join}
 use Rattle.cluster_types.specs.declared.cluster_key.ClusterKey.{ClusterKey}
 use Rattle.journal_lines.specs.declared.line.Line.{Line}
 use Rattle.journal_lines.specs.declared.line.Line.TheVariants as line
-use Rattle.journal_readings.specs.Lines.{same_key, same_digest, is_enter, lines_before}
+use Rattle.journal_readings.specs.Lines.{same_key, is_enter, lines_before}
 use Rattle.journal_readings.specs.Contents.{content, join_all, joined_if}
 use Rattle.journal_readings.specs.Views.{members}
 
@@ -21,7 +21,7 @@ joined_entries by k d lines = join_all by (map (λ m. entry by k m.id d lines) (
 
 abbrev pub applied_in_step : Policy → ClusterKey → List ℕ → Option Version → Line → Option Version
 applied_in_step by k d held (line.Apply m l t e v) =
-    joined_if (same_key l k && same_digest e d) by held v
+    joined_if (same_key l k && bytes_eq e d) by held v
 applied_in_step by k d held _ = held
 
 -- the join of the versions that were applied under the view's key

@@ -1,19 +1,10 @@
 -- Places in a journal: which line stands there, and which lines stand before and after it.
 use Rattle.std.specs.Prelude.{ℕ, ◌==◌, Bool, false, ◌&&◌, if◌then◌else◌, List, [], ◌∷◌, ◌++◌, Option, Some, None, option_map}
-use Rattle.std.specs.List.{list_any}
-use Rattle.std.specs.Ordering.{nat_cmp, eq_by_cmp}
-use Rattle.std.specs.Cmp.Lexicographic.{slice_cmp}
 use Rattle.cluster_types.specs.declared.cluster_key.ClusterKey.{ClusterKey}
 pub use Rattle.cluster_types.specs.ClusterKeys.{same_key}
+pub use Rattle.cluster_types.specs.Distinct.{contains as has_node}
 use Rattle.journal_lines.specs.declared.line.Line.{Line}
 use Rattle.journal_lines.specs.declared.line.Line.TheVariants as line
-
-abbrev pub same_digest : List ℕ → List ℕ → Bool
-same_digest d e = eq_by_cmp (slice_cmp nat_cmp) d e
-
--- whether the node is one of these
-abbrev pub has_node : List ℕ → ℕ → Bool
-has_node ids n = list_any (λ m. m == n) ids
 
 -- ---- before and after a line
 

@@ -1,5 +1,5 @@
 -- What a member still has to hand on to another, and the batch that is out.
-use Rattle.std.specs.Prelude.{ℕ, ◌==◌, Bool, false, ◌&&◌, ◌||◌, not, if◌then◌else◌, List, [], filter_map, Option, Some, None, is_some, option_and_then}
+use Rattle.std.specs.Prelude.{ℕ, ◌==◌, Bool, false, ◌&&◌, ◌||◌, not, if◌then◌else◌, List, [], filter_map, Option, Some, None, is_some, option_and_then, bytes_eq}
 use Rattle.std.specs.List.{list_any, last_or}
 use Rattle.conflict_order.specs.declared.policy.Policy.{Policy}
 use Rattle.cluster_types.specs.declared.cluster_key.ClusterKey.{ClusterKey}
@@ -8,7 +8,7 @@ use Rattle.wire_messages.specs.declared.message.Message.{Message}
 use Rattle.wire_messages.specs.declared.message.Message.TheVariants as message
 use Rattle.wire_messages.specs.declared.message.Batch.{Batch}
 use Rattle.journal_lines.specs.declared.line.Line.{Line}
-use Rattle.journal_readings.specs.Lines.{same_key, same_digest, is_exchanged, lines_before, fold_along}
+use Rattle.journal_readings.specs.Lines.{same_key, is_exchanged, lines_before, fold_along}
 use Rattle.journal_readings.specs.Contents.{content}
 use Rattle.journal_readings.specs.Views.{is_in_view, is_replica}
 use Rattle.journal_readings.specs.Messages.{sent_between, arrival_between}
@@ -25,7 +25,7 @@ abbrev pub sent_batches : ClusterKey → ℕ → ℕ → List Line → List Batc
 sent_batches k n r lines = filter_map (batch_in k) (sent_between n r lines)
 
 abbrev pub has_record : List ℕ → Batch → Bool
-has_record d b = list_any (λ x. same_digest x.0 d) b.records
+has_record d b = list_any (λ x. bytes_eq x.0 d) b.records
 
 -- ---- which of them are acknowledged
 

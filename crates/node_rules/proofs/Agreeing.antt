@@ -1,38 +1,33 @@
 -- What a message and a stop make of the agreement, by the rules of agreement alone.
-use Rattle.std.proofs.Common.{◌≡◌, ℕ, ◌<◌, ◌==◌, Bool, true, false, ◌&&◌, List, [], ◌∷◌, Option, Some, None, map, refl, sym, ap, ◌∙◌, arith}
+use Rattle.std.proofs.Common.{◌≡◌, ℕ, ◌<◌, ◌==◌, Bool, true, false, ◌&&◌, List, [], ◌∷◌, Option, Some, None, map, refl, sym, ap, ◌∙◌, arith, if◌then◌else◌, ◌++◌}
 use Rattle.std.proofs.lemmas.Bool.{eqb-true}
 use Rattle.std.proofs.lemmas.Bool.Decides.{nat_tests}
 use Rattle.cluster_types.specs.declared.cluster_key.ClusterKey.{ClusterKey}
 use Rattle.cluster_types.specs.declared.member.Member.{Member}
 use Rattle.cluster_types.specs.ClusterKeys.{key_lt}
 use Rattle.cluster_types.proofs.ClusterKeyLaws.{key_lt_decides}
+use Rattle.cluster_types.proofs.BoolFacts.{and_left, and_right}
 use Rattle.journal_lines.specs.declared.line.Line.TheVariants as line
 use Rattle.wire_messages.specs.declared.message.Message.TheVariants as message
 use Rattle.node_rules.specs.Agreement as agreement
-use Rattle.node_rules.specs.Agreement.{Agreement, Proposal, proposes, proposal_of, without_missing}
+use Rattle.node_rules.specs.Agreement.{Agreement, Proposal, proposes, proposal_of, without_missing, agreement_entered, promising}
 use Rattle.node_rules.specs.Copies.{is_nil}
-use Rattle.node_rules.specs.Effects.{to_each}
-use Rattle.node_rules.specs.Entering.{ending, exchanging, closing, entering}
+use Rattle.node_rules.specs.Effects.{to_each, lines_and_sends, lines_only, nothing, sends_only, to_one}
+use Rattle.node_rules.specs.Entering.{ending, closing, entering}
 use Rattle.node_rules.specs.Exchange.{is_single}
 use Rattle.node_rules.specs.Facts.{Facts, view_key}
 use Rattle.node_rules.specs.Keys.{same_key}
 use Rattle.node_rules.specs.Messages as due
 use Rattle.node_rules.specs.Notes.{note, noted, all_sent, reached}
-use Rattle.node_rules.specs.Requests.{stop_if}
 use Rattle.node_rules.specs.Steps.{facts_after, after_message, after_stop}
 use Rattle.node_rules.specs.Transactions.{Transaction, Write}
 use Rattle.node_rules.proofs.NoteLaws.{noted-append}
 use Rattle.node_rules.specs.Tables.{only_if}
+use Rattle.node_rules.specs.StaleMessages.{stale}
+use Rattle.node_rules.specs.VoteMessages.{commit_effects}
+use Rattle.cluster_types.specs.ClusterKeys as keys
 
 -- ---- keys
-
-and_left : (a b : Bool) → (a && b) ≡ true → a ≡ true
-and_left true b e = refl
-and_left false b e = e
-
-and_right : (a b : Bool) → (a && b) ≡ true → b ≡ true
-and_right true b e = e
-and_right false b e = cc
 
 same_key_is : (k l : ClusterKey) → same_key k l ≡ true → k ≡ l
 same_key_is k l e i = record {
@@ -67,13 +62,13 @@ closing_keeps g me key [] = refl
 closing_keeps g me key (t ∷ ts) = closing_keeps (note None g (ending me key t.number t.applied)) me key ts ∙ ending_keeps g me key t.number t.applied
 
 enter_agrees : (g : Facts) (me : ℕ) (key : ClusterKey) (ms : List Member) (b : Bool)
-    → (noted None g (line.Enter me key ms ∷ exchanging me key b)).agreement ≡ agreement.agreement_entered g.agreement key
+    → (noted None g (line.Enter me key ms ∷ only_if (line.Exchanged me key) b)).agreement ≡ agreement.agreement_entered g.agreement key
 enter_agrees g me key ms true = refl
 enter_agrees g me key ms false = refl
 
 pub entering_agrees : (f g : Facts) (key : ClusterKey) (ms : List Member) → (noted None g (entering f key ms)).agreement ≡ agreement.agreement_entered g.agreement key
 entering_agrees f g key ms =
-    ap (λ (h : Facts). h.agreement) (noted-append None g (closing f) (line.Enter f.me key ms ∷ exchanging f.me key (is_single ms)))
+    ap (λ (h : Facts). h.agreement) (noted-append None g (closing f) (line.Enter f.me key ms ∷ only_if (line.Exchanged f.me key) (is_single ms)))
     ∙ enter_agrees (noted None g (closing f)) f.me key ms (is_single ms)
     ∙ ap (λ (a : Agreement). agreement.agreement_entered a key) (closing_keeps g f.me (view_key f) f.transactions.running)
 
@@ -84,12 +79,12 @@ commits_keep g (n ∷ ns) key ms = commits_keep g ns key ms
 -- ---- messages
 
 voted : (f : Facts) (from : ℕ) (key : ClusterKey) (b : Bool) → key_lt key f.agreement.promised ≡ b
-    → (facts_after None f (due.vote_effects f from key b)).agreement
+    → (facts_after None f (if b then sends_only (to_one from (message.Refuse key f.agreement.promised)) else lines_and_sends (only_if (line.Promise f.me key) (keys.key_lt f.agreement.promised key)) (to_one from (message.Accept key)))).agreement
     ≡ agreement.voting f.agreement key
-voted f from key true e = sym (ap (agreement.promising_if f.agreement key) (not_above key f.agreement.promised e))
+voted f from key true e = sym (ap (λ (holds : Bool). if holds then promising f.agreement key else f.agreement) (not_above key f.agreement.promised e))
 voted f from key false e = go (key_lt f.agreement.promised key)
   where
-    go : (b : Bool) → (noted None f (only_if (line.Promise f.me key) b)).agreement ≡ agreement.promising_if f.agreement key b
+    go : (b : Bool) → (noted None f (only_if (line.Promise f.me key) b)).agreement ≡ (if b then promising f.agreement key else f.agreement)
     go true = refl
     go false = refl
 
@@ -98,8 +93,8 @@ pub propose_agrees : (f : Facts) (clock from : ℕ) (key : ClusterKey) (ms : Lis
 propose_agrees f clock from key ms = voted f from key (key_lt key f.agreement.promised) refl
 
 committed : (f g : Facts) (p : Proposal) (key : ClusterKey) (b : Bool) → p.key ≡ key
-    → (facts_after None g (due.commit_effects f p b)).agreement
-    ≡ agreement.entering_if g.agreement key b
+    → (facts_after None g (if b then commit_effects f p else nothing)).agreement
+    ≡ (if b then agreement_entered g.agreement key else g.agreement)
 committed f g p key false same = refl
 committed f g p key true same =
     ap (λ (h : Facts). h.agreement) (commits_keep (noted None g (entering f p.key p.members)) (agreement.others_among f.me p.members) p.key p.members)
@@ -107,7 +102,7 @@ committed f g p key true same =
     ∙ ap (λ (k : ClusterKey). agreement.agreement_entered g.agreement k) same
 
 counted : (f g : Facts) (from : ℕ) (key : ClusterKey) (o : Option Proposal) (b : Bool) → proposes o key ≡ b
-    → (facts_after None g (due.accept_effects f from key o b)).agreement ≡ agreement.entering_if g.agreement key (b && agreement.is_accepted_with o from)
+    → (facts_after None g (due.accept_effects f from key o b)).agreement ≡ (if b && agreement.is_accepted_with o from then agreement_entered g.agreement key else g.agreement)
 counted f g from key None true e = cc
 counted f g from key None false e = refl
 counted f g from key (Some p) false e = refl
@@ -121,7 +116,7 @@ pub refuse_agrees : (f : Facts) (clock from : ℕ) (key promised : ClusterKey)
     → (after_message f clock from (message.Refuse key promised)).agreement ≡ agreement.refusing f.agreement key promised
 refuse_agrees f clock from key promised = go (proposes f.agreement.proposal key)
   where
-    go : (b : Bool) → (facts_after None (reached f from (message.Refuse key promised)) (due.unless_stale f b)).agreement ≡ agreement.refusing f.agreement key promised
+    go : (b : Bool) → (facts_after None (reached f from (message.Refuse key promised)) (if b then nothing else stale f)).agreement ≡ agreement.refusing f.agreement key promised
     go true = refl
     go false = refl
 
@@ -129,13 +124,13 @@ pub commit_agrees : (f : Facts) (clock from : ℕ) (key : ClusterKey) (ms : List
     → (after_message f clock from (message.Commit key ms)).agreement ≡ agreement.committing f.me f.agreement key ms
 commit_agrees f clock from key ms = go (agreement.may_enter f.me f.agreement key ms)
   where
-    go : (b : Bool) → (facts_after None f (due.entry_effects_if f key ms b)).agreement ≡ agreement.entering_if f.agreement key b
+    go : (b : Bool) → (facts_after None f (if b then lines_only (entering f key ms) else stale f)).agreement ≡ (if b then agreement_entered f.agreement key else f.agreement)
     go true = entering_agrees f f key ms
     go false = refl
 
 -- ---- a stop
 
-stop_agrees_if : (f : Facts) (b : Bool) → b ≡ true → (facts_after None f (stop_if f b)).agreement ≡ agreement.stopping f.agreement
+stop_agrees_if : (f : Facts) (b : Bool) → b ≡ true → (facts_after None f (if b then lines_only (closing f ++ line.Stop f.me ∷ []) else lines_only (line.Down f.me ∷ []))).agreement ≡ agreement.stopping f.agreement
 stop_agrees_if f false e = cc
 stop_agrees_if f true e =
     ap (λ (h : Facts). h.agreement) (noted-append None f (closing f) (line.Stop f.me ∷ []))

@@ -35,7 +35,7 @@ kept_empty p = map.same_map nat_list_cmp_total same _ _ (λ q.
     ∙ either_none (p q) _ None (map.get-empty (slice_cmp nat_cmp) q) refl
     ∙ sym (map.get-empty (slice_cmp nat_cmp) q))
 
-pub no_digests_of : (p : ℕ) → digests_of map.empty p ≡ []
+pub no_digests_of : (p : ℕ) → digests_of {A = Version} map.empty p ≡ []
 no_digests_of p = ap (λ m. map.keys m) (kept_empty (is_of p)) ∙ no_digests
 
 pub empty_row : (by : Policy) (n p : ℕ) → row_from (empty_store by) n p ≡ []

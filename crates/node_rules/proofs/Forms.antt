@@ -4,12 +4,13 @@ use Rattle.cluster_types.specs.declared.cluster_key.ClusterKey.{ClusterKey}
 use Rattle.node_rules.specs.Batches.{done_row}
 use Rattle.node_rules.specs.Copies.{Stamps}
 use Rattle.node_rules.specs.Facts.{Facts, list_at}
-use Rattle.node_rules.specs.Messages.{moved_from}
-use Rattle.node_rules.specs.Notes.{stamped_from, stamped_at, count_in}
+use Rattle.node_rules.specs.Notes.{stamped_at, count_in}
 use Rattle.node_rules.specs.Stamps.{stamped_by}
 use Rattle.node_rules.specs.Standing.{knows_settled, knows_all_settled, has_nothing_to_learn_or_drop, is_to_learn, is_to_drop, is_done, has_moved, is_all_empty, is_own_replica}
 use Rattle.node_rules.specs.Tables.{all_from, bits_from}
 use Rattle.node_rules.specs.Tick.{done_from}
+use Rattle.node_rules.specs.ViewNotes.{stamped_from}
+use Rattle.node_rules.specs.ClientMessages.{moved_from}
 
 pub settled_by : (f : Facts) (n p : ℕ) → knows_all_settled f n p ≡ all_from (knows_settled f) n p
 unfolding knows_all_settled all_from

@@ -1,5 +1,5 @@
 -- What happens to a node that is alone.
-use Rattle.std.proofs.Common.{◌≡◌, ℕ, zero, suc, ◌+◌, true, not, ◌&&◌, ◌||◌, List, [], ◌∷◌, ◌++◌, Option, Some, None, refl, ap, ap₂, ◌∙◌}
+use Rattle.std.proofs.Common.{◌≡◌, ℕ, zero, suc, ◌+◌, true, not, ◌&&◌, ◌||◌, List, [], ◌∷◌, ◌++◌, Option, Some, None, refl, ap, ap₂, ◌∙◌, if◌then◌else◌}
 use Rattle.std.specs.Ordering.{nat_cmp}
 use Rattle.std.specs.Cmp.Lexicographic.{slice_cmp}
 use Rattle.std.specs.FinMap as finite
@@ -18,15 +18,15 @@ use Rattle.journal_lines.specs.declared.line.Line.{Line}
 use Rattle.journal_lines.specs.declared.line.Line.TheVariants as line
 use Rattle.node_rules.specs.Bits.{clear_row}
 use Rattle.node_rules.specs.Copies.{Row, joined, row_from, empty_store, holds_of}
-use Rattle.node_rules.specs.Effects.{Effects, nothing, lines_only, followed_by}
+use Rattle.node_rules.specs.Effects.{Effects, nothing, lines_only, followed_by, sends_only, to_each}
 use Rattle.node_rules.specs.Examples.{key, lone, itself, ticked_twice, in_its_view, zeros, hi, first_hi, having_hi}
 use Rattle.node_rules.specs.Facts.{Facts, list_at}
 use Rattle.node_rules.specs.Notes.{note, noted, entered}
 use Rattle.node_rules.specs.Requests.{due_request}
 use Rattle.node_rules.specs.Settling.{hand, settle, learn, drop, lines_then, settling_at, settling_from}
-use Rattle.node_rules.specs.Standing.{knows_settled, knows_all_settled, is_own_replica, is_done}
+use Rattle.node_rules.specs.Standing.{knows_settled, knows_all_settled, is_own_replica, is_done, others}
 use Rattle.node_rules.specs.Steps.{facts_after, after_tick}
-use Rattle.node_rules.specs.Tick.{Part, parts_in_order, rows, transactions, batches, settlings, progress, progress_if, due_tick}
+use Rattle.node_rules.specs.Tick.{Part, parts_in_order, rows, transactions, batches, settlings, progress, due_tick, progress_message}
 use Rattle.node_rules.proofs.Empty.{empty_row, clear_bit}
 use Rattle.node_rules.specs.Tables.{only_if}
 
@@ -85,7 +85,7 @@ is_settled : (p : ℕ) → knows_settled alone p ≡ true
 is_settled p = ap (λ b. b || true) (clear_bit p)
 
 no_progress : progress partition_count alone ≡ nothing
-no_progress = ap (λ b. progress_if partition_count alone (true && not b)) (all_from alone is_settled partition_count 0)
+no_progress = ap (λ b. (if true && not b then sends_only (to_each (others alone) (progress_message partition_count alone true)) else nothing)) (all_from alone is_settled partition_count 0)
 
 -- what a tick does after the view is entered, part by part
 abbrev from_progress : List Part

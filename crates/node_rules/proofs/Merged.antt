@@ -1,10 +1,11 @@
 -- What a batch merges is what is newer in it than what is held.
-use Rattle.std.proofs.Common.{◌≡◌, Bool, true, false, List, [], ◌∷◌, ◌++◌, None, map, refl, ap}
+use Rattle.std.proofs.Common.{◌≡◌, Bool, true, false, List, [], ◌∷◌, ◌++◌, None, map, refl, ap, if◌then◌else◌}
 use Rattle.node_rules.specs.Facts.{Facts, view_key}
-use Rattle.node_rules.specs.Merging.{Record, is_newer_than_held, content_joined_if, newer_records, joined_all, store_merged_all}
+use Rattle.node_rules.specs.Merging.{Record, is_newer_than_held, newer_records, joined_all, store_merged_all}
 use Rattle.node_rules.specs.Messages.{merging_all, merge_line}
 use Rattle.node_rules.specs.Notes.{note, noted}
 use Rattle.node_rules.specs.Tables.{only_if}
+use Rattle.node_rules.specs.Copies.{joined}
 
 -- the facts of which a batch's lines are due
 record Merges (f : Facts) (rs : List Record) : Type 0 where
@@ -18,11 +19,11 @@ with_record f r b = noted None f (only_if (merge_line f.me (view_key f) r) b)
 
 record MergesFirst (f : Facts) (r : Record) (rs : List Record) (b : Bool) : Type 0 where
   lines : (only_if (merge_line f.me (view_key f) r) b ++ merging_all (with_record f r b) rs)
-      ≡ map (merge_line f.me (view_key f)) (only_if r b ++ newer_records f.store.by (content_joined_if f.store.by f.store.content r b) rs)
+      ≡ map (merge_line f.me (view_key f)) (only_if r b ++ newer_records f.store.by (if b then joined f.store.by f.store.content r.0 r.1 else f.store.content) rs)
   content : (noted None f (only_if (merge_line f.me (view_key f) r) b ++ merging_all (with_record f r b) rs)).store.content
-      ≡ joined_all f.store.by f.store.content (only_if r b ++ newer_records f.store.by (content_joined_if f.store.by f.store.content r b) rs)
+      ≡ joined_all f.store.by f.store.content (only_if r b ++ newer_records f.store.by (if b then joined f.store.by f.store.content r.0 r.1 else f.store.content) rs)
   facts : noted None f (only_if (merge_line f.me (view_key f) r) b ++ merging_all (with_record f r b) rs)
-      ≡ record f { store = store_merged_all f.store (view_key f) (only_if r b ++ newer_records f.store.by (content_joined_if f.store.by f.store.content r b) rs) }
+      ≡ record f { store = store_merged_all f.store (view_key f) (only_if r b ++ newer_records f.store.by (if b then joined f.store.by f.store.content r.0 r.1 else f.store.content) rs) }
 
 first : (f : Facts) (r : Record) (rs : List Record) → ((g : Facts) → Merges g rs) → (b : Bool) → MergesFirst f r rs b
 first f r rs rest true =

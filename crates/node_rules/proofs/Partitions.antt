@@ -1,5 +1,5 @@
 -- What is told of many partitions, against what holds of each.
-use Rattle.std.proofs.Common.{◌≡◌, ◌≢◌, ◌↔◌, ℕ, zero, suc, ◌+◌, ◌<◌, ◌≤◌, Bool, true, false, not, ◌&&◌, ◌||◌, List, ◌∷◌, length, All, AllPairs, refl, sym, ap, subst, ◌∙◌, arith, inl, inr}
+use Rattle.std.proofs.Common.{◌≡◌, ◌≢◌, ◌↔◌, ℕ, zero, suc, ◌+◌, ◌<◌, ◌≤◌, Bool, true, false, not, ◌||◌, List, ◌∷◌, length, All, AllPairs, refl, sym, ap, subst, ◌∙◌, arith, inl, inr}
 use Rattle.std.proofs.lemmas.Bool.{false≢true}
 use Rattle.std.proofs.lemmas.Bool.Decides.{eqb_tells}
 use Rattle.cluster_types.specs.declared.copy_state.CopyState.{CopyState}
@@ -7,6 +7,7 @@ use Rattle.cluster_types.specs.declared.copy_state.CopyState.TheVariants.{Empty,
 use Rattle.cluster_types.specs.Partitions.{partition_count}
 use Rattle.cluster_types.specs.Rows.{bit}
 use Rattle.cluster_types.specs.StateRows.{IsStateRow, state_of}
+use Rattle.cluster_types.proofs.BoolFacts.{and_left as left, and_right as right, and_both as both, not_true as none_owed}
 use Rattle.node_rules.specs.Copies.{Row, Store, store_state, with_state, row_from}
 use Rattle.node_rules.specs.Facts.{Facts, list_at}
 use Rattle.node_rules.specs.Map.{is_empty}
@@ -123,18 +124,6 @@ done_length f (suc n) p = let rest : length (done_from f n (p + 1)) ≡ n = done
 
 -- ---- what is known of all
 
-left : (a b : Bool) → (a && b) ≡ true → a ≡ true
-left true b e = refl
-left false b e = e
-
-right : (a b : Bool) → (a && b) ≡ true → b ≡ true
-right true b e = e
-right false b e = absurd (false≢true e)
-
-both : (a b : Bool) → a ≡ true → b ≡ true → (a && b) ≡ true
-both true b x y = y
-both false b x y = x
-
 known_at : (f : Facts) (n p i : ℕ) → knows_all_settled f n p ≡ true → i < n → knows_settled f (p + i) ≡ true
 unfolding knows_all_settled
 known_at f zero p i all lower = absurd (omega (arith, lower))
@@ -162,10 +151,6 @@ settled_tells f n = (λ all p lower. ap (knows_settled f) (sym (zero_plus p)) �
 -- whether something of the partition is to be learnt or dropped
 abbrev is_owed : Facts → ℕ → Bool
 is_owed f p = is_to_learn f (list_at f p) p || is_to_drop f (list_at f p) p
-
-none_owed : (b : Bool) → not b ≡ true → b ≡ false
-none_owed true e = cc
-none_owed false e = refl
 
 owed_at : (f : Facts) (n p i : ℕ) → has_nothing_to_learn_or_drop f n p ≡ true → i < n → is_owed f (p + i) ≡ false
 unfolding has_nothing_to_learn_or_drop

@@ -11,6 +11,7 @@ use Rattle.std.proofs.lemmas.Cmp.{nat_list_cmp_total}
 use Rattle.cluster_types.specs.declared.cluster_key.ClusterKey.{ClusterKey}
 use Rattle.cluster_types.specs.Partitions.{partition_count}
 use Rattle.cluster_types.specs.Rows.{bit}
+use Rattle.cluster_types.proofs.BoolFacts.{or_none as or_false}
 use Rattle.journal_lines.specs.declared.line.Line.TheVariants as line
 use Rattle.node_rules.specs.Copies.{Content, is_of, is_nil}
 use Rattle.node_rules.specs.Facts.{Facts, view_key, list_at}
@@ -61,10 +62,6 @@ settle_after f l p true e =
     let none : (here f l p).master ≡ false = no_master (here f l p).acting (here f l p).master _ e in
     rw none refl
 settle_after f l p false e = refl
-
-or_false : (b : Bool) → (b || false) ≡ b
-or_false true = refl
-or_false false = refl
 
 settled_now : (f : Facts) (p : ℕ) (a b : Bool) → HasRows f → p < partition_count → bit (settled_if (handed_if f p a) p b).bits.settled p ≡ (bit f.bits.settled p || b)
 settled_now f p true true h within = bit_here f.bits.settled p h.settled within ∙ sym (or-true _)

@@ -1,6 +1,6 @@
 -- What a tick makes of the facts, by its parts.
 use Rattle.std.proofs.Common.{◌≡◌, ℕ, Bool, true, false, ◌&&◌, List, [], ◌∷◌, ◌++◌, Option, Some, None, refl, sym, ap, ◌∙◌}
-use Rattle.std.specs.Prelude.{filter_map, flat_map, fold, option_map, is_none}
+use Rattle.std.specs.Prelude.{filter_map, flat_map, fold, option_map, is_none, if◌then◌else◌}
 use Rattle.std.specs.List.{cons_option}
 use Rattle.cluster_types.specs.declared.cluster_key.ClusterKey.{ClusterKey}
 use Rattle.cluster_types.specs.declared.member.Member.{Member}
@@ -11,11 +11,11 @@ use Rattle.wire_messages.specs.declared.message.Batch.{Batch}
 use Rattle.wire_messages.specs.declared.message.Message.{Message}
 use Rattle.wire_messages.specs.declared.message.Message.TheVariants as message
 use Rattle.node_rules.specs.Agreement as agreement
-use Rattle.node_rules.specs.Agreement.{Agreement, Proposal, enters_alone, proposes_anew}
+use Rattle.node_rules.specs.Agreement.{Agreement, Proposal, enters_alone, proposes_anew, next_key}
 use Rattle.node_rules.specs.Batches.{Target, next_batch, sending}
 use Rattle.node_rules.specs.ByParts.{entered_alone, batches_due, sending_all, proposed_facts, settled_facts}
 use Rattle.node_rules.specs.Copies.{is_nil}
-use Rattle.node_rules.specs.Effects.{to_each}
+use Rattle.node_rules.specs.Effects.{to_each, lines_only, nothing, sends_only}
 use Rattle.node_rules.specs.Facts.{Facts, view_key}
 use Rattle.node_rules.specs.Hearing.{heard_ids}
 use Rattle.node_rules.specs.Notes.{note, noted, sent, all_sent, neighbours, after_ages}
@@ -24,7 +24,7 @@ use Rattle.node_rules.specs.Settling.{settling_due}
 use Rattle.node_rules.specs.Standing.{others}
 use Rattle.node_rules.specs.Steps.{facts_after, after_tick}
 use Rattle.node_rules.specs.Tick as tick
-use Rattle.node_rules.specs.Tick.{is_candidate, propose}
+use Rattle.node_rules.specs.Tick.{is_candidate, propose, parts, parts_in_order, progress_message, proposal_effects}
 use Rattle.node_rules.specs.Transactions.{Transaction, Write}
 use Rattle.node_rules.proofs.NoteLaws.{noted-append, all_sent-append}
 use Rattle.node_rules.proofs.PartLaws.{entering_is}
@@ -56,11 +56,11 @@ all_again_nothing : (f : Facts) (ts : List Transaction) → Adds_nothing (flat_m
 all_again_nothing f [] = tt
 all_again_nothing f (t ∷ ts) = nothing-append _ _ (again_nothing f t t.applied) (all_again_nothing f ts)
 
-progress_nothing : (n : ℕ) (f : Facts) (b : Bool) → Adds_nothing (tick.progress_if n f b).sends
+progress_nothing : (n : ℕ) (f : Facts) (b : Bool) → Adds_nothing (if b then sends_only (to_each (others f) (progress_message n f true)) else nothing).sends
 progress_nothing n f true = each_nothing (others f) (tick.progress_message n f true) (λ g m. refl)
 progress_nothing n f false = tt
 
-progress_lines : (n : ℕ) (f : Facts) (b : Bool) → (tick.progress_if n f b).lines ≡ []
+progress_lines : (n : ℕ) (f : Facts) (b : Bool) → (if b then sends_only (to_each (others f) (progress_message n f true)) else nothing).lines ≡ []
 progress_lines n f true = refl
 progress_lines n f false = refl
 
@@ -80,7 +80,7 @@ proposed_sends g f None = go (is_candidate g && agreement.has_round g.agreement)
     deep key set [] = refl
     deep key set (n ∷ ns) = proposes_alone (n ∷ ns) key set f
 
-    go : (b : Bool) → all_sent f (tick.propose_new g b).sends ≡ record f { agreement = (all_sent f (tick.propose_new g b).sends).agreement }
+    go : (b : Bool) → all_sent f (if b then proposal_effects g (next_key g.me g.agreement) (neighbours g) (agreement.others_among g.me (neighbours g)) else nothing).sends ≡ record f { agreement = (all_sent f (if b then proposal_effects g (next_key g.me g.agreement) (neighbours g) (agreement.others_among g.me (neighbours g)) else nothing).sends).agreement }
     go true = deep (agreement.next_key g.me g.agreement) (neighbours g) (agreement.others_among g.me (neighbours g))
     go false = refl
 
@@ -157,7 +157,7 @@ pub up_is : (f : Facts) → f.up ≡ true
       batches = sending_all (settled_facts partition_count f).batches (batches_due (view_key (proposed_facts f)) (proposed_facts f).store.content (proposed_facts f).batches);
     }
 up_is f up =
-    let whole : after_tick f ≡ facts_after None f (tick.parts_in_order (tick.parts partition_count) f) = ap (λ (b : Bool). facts_after None f (tick.tick_if partition_count f b)) up in
+    let whole : after_tick f ≡ facts_after None f (tick.parts_in_order (tick.parts partition_count) f) = ap (λ (b : Bool). facts_after None f (if b then parts_in_order (parts partition_count) f else lines_only (line.Down f.me ∷ []))) up in
     let parts = whole ∙ parts_are partition_count f in
     let agrees : (all_sent (settled_facts partition_count f) (propose (after_ages f)).sends).agreement ≡ agreement.ticking f.me f.agreement (neighbours (after_ages f)) (is_candidate (after_ages f)) =
     sym (ap (λ (g : Facts). g.agreement) parts) ∙ tick_agrees f up in
@@ -168,7 +168,7 @@ up_is f up =
     }) agrees
 
 pub down_is : (f : Facts) → f.up ≡ false → after_tick f ≡ f
-down_is f down = ap (λ (b : Bool). facts_after None f (tick.tick_if partition_count f b)) down
+down_is f down = ap (λ (b : Bool). facts_after None f (if b then parts_in_order (parts partition_count) f else lines_only (line.Down f.me ∷ []))) down
 
 -- ---- the proposal
 
@@ -188,7 +188,7 @@ pub among_others_is : (f : Facts) → enters_alone f.me f.agreement (neighbours 
 among_others_is f e = go f.agreement.proposal e
   where
     deep : (b : Bool) → (b && is_nil (agreement.others_among f.me (neighbours f))) ≡ false
-        → noted None f (tick.propose_new f b).lines ≡ record f { agreement = (noted None f (tick.propose_new f b).lines).agreement }
+        → noted None f (if b then proposal_effects f (next_key f.me f.agreement) (neighbours f) (agreement.others_among f.me (neighbours f)) else nothing).lines ≡ record f { agreement = (noted None f (if b then proposal_effects f (next_key f.me f.agreement) (neighbours f) (agreement.others_among f.me (neighbours f)) else nothing).lines).agreement }
     deep true e = proposed_to f (agreement.next_key f.me f.agreement) (neighbours f) (agreement.others_among f.me (neighbours f)) e
     deep false e = refl
 
@@ -202,7 +202,7 @@ pub alone_is : (f : Facts) → enters_alone f.me f.agreement (neighbours f) (is_
 alone_is f e = go f.agreement.proposal e
   where
     deep : (b : Bool) → (b && is_nil (agreement.others_among f.me (neighbours f))) ≡ true
-        → noted None f (tick.propose_new f b).lines ≡ entered_alone f (agreement.next_key f.me f.agreement) (neighbours f)
+        → noted None f (if b then proposal_effects f (next_key f.me f.agreement) (neighbours f) (agreement.others_among f.me (neighbours f)) else nothing).lines ≡ entered_alone f (agreement.next_key f.me f.agreement) (neighbours f)
     deep true e = alone_to f (agreement.next_key f.me f.agreement) (neighbours f) (agreement.others_among f.me (neighbours f)) e
     deep false e = cc
 

@@ -1,6 +1,6 @@
 -- What a tick makes of the agreement, by the rules of agreement alone.
 use Rattle.std.proofs.Common.{◌≡◌, ℕ, zero, suc, ◌+◌, Bool, true, false, ◌&&◌, List, [], ◌∷◌, ◌++◌, Option, Some, None, refl, sym, ap, subst, ◌∙◌}
-use Rattle.std.specs.Prelude.{filter_map, flat_map, is_none}
+use Rattle.std.specs.Prelude.{filter_map, flat_map, is_none, if◌then◌else◌}
 use Rattle.std.specs.List.{cons_option}
 use Rattle.cluster_types.specs.declared.cluster_key.ClusterKey.{ClusterKey}
 use Rattle.cluster_types.specs.declared.member.Member.{Member}
@@ -11,18 +11,18 @@ use Rattle.wire_messages.specs.declared.message.Batch.{Batch}
 use Rattle.wire_messages.specs.declared.message.Message.{Message}
 use Rattle.wire_messages.specs.declared.message.Message.TheVariants as message
 use Rattle.node_rules.specs.Agreement as agreement
-use Rattle.node_rules.specs.Agreement.{Agreement, Proposal, proposes, proposal_of}
+use Rattle.node_rules.specs.Agreement.{Agreement, Proposal, proposes, proposal_of, next_key, others_among, proposing_to}
 use Rattle.node_rules.specs.Batches.{Target, next_batch}
-use Rattle.node_rules.specs.Effects.{Effects, to_each}
+use Rattle.node_rules.specs.Effects.{Effects, to_each, lines_only, nothing, sends_only}
 use Rattle.node_rules.specs.Facts.{Facts, view_key, list_at}
 use Rattle.node_rules.specs.Hearing.{heard_ids}
 use Rattle.node_rules.specs.Notes.{note, noted, sent, all_sent, neighbours, after_ages}
 use Rattle.node_rules.specs.Resolving.{repl}
-use Rattle.node_rules.specs.Settling.{hand, settle, learn, drop, lines_then, settling_at, settling_from, settling_if}
+use Rattle.node_rules.specs.Settling.{hand, settle, learn, drop, lines_then, settling_at, settling_from}
 use Rattle.node_rules.specs.Standing.{others}
 use Rattle.node_rules.specs.Steps.{facts_after, after_tick}
 use Rattle.node_rules.specs.Tick as tick
-use Rattle.node_rules.specs.Tick.{Part, parts_in_order, is_candidate}
+use Rattle.node_rules.specs.Tick.{Part, parts_in_order, is_candidate, parts, progress_message, proposal_effects}
 use Rattle.node_rules.specs.Transactions.{Transaction, Write}
 use Rattle.node_rules.proofs.Agreeing.{same_itself, entering_agrees}
 use Rattle.node_rules.proofs.NoteLaws.{noted-append, all_sent-append}
@@ -150,7 +150,7 @@ settling_from-quiet (suc n) p f =
     quiet_lines-append (settling_at (list_at f p) p f) (settling_from n (p + 1) (noted None f (settling_at (list_at f p) p f)))
     (settling_at-quiet (list_at f p) p f) (settling_from-quiet n (p + 1) (noted None f (settling_at (list_at f p) p f)))
 
-settling_if-quiet : (n : ℕ) (f : Facts) (b : Bool) → QuietLines (settling_if n f b)
+settling_if-quiet : (n : ℕ) (f : Facts) (b : Bool) → QuietLines (if b then settling_from n 0 f else [])
 settling_if-quiet n f true = settling_from-quiet n 0 f
 settling_if-quiet n f false = tt
 
@@ -161,7 +161,7 @@ progresses-quiet : (ns : List ℕ) (n : ℕ) (f : Facts) → QuietSends (to_each
 progresses-quiet [] n f = tt
 progresses-quiet (m ∷ ns) n f = (itself, progresses-quiet ns n f)
 
-progress_if-quiet : (n : ℕ) (f : Facts) (b : Bool) → IsQuiet (tick.progress_if n f b)
+progress_if-quiet : (n : ℕ) (f : Facts) (b : Bool) → IsQuiet (if b then sends_only (to_each (others f) (progress_message n f true)) else nothing)
 progress_if-quiet n f true = record { lines = tt; sends = progresses-quiet (others f) n f }
 progress_if-quiet n f false = record { lines = tt; sends = tt }
 
@@ -174,7 +174,7 @@ rest-quiet n f = in_order-quiet (from_rows n) (rows-quiet, (transactions-quiet, 
 -- ---- the proposal
 
 abbrev asks_for : Agreement → ℕ → List Member → Bool → Agreement
-asks_for a me set candidate = agreement.proposing_if me a set (agreement.proposes_anew a candidate)
+asks_for a me set candidate = (if agreement.proposes_anew a candidate then proposing_to me a (next_key me a) set (others_among me set) else a)
 
 -- to propose again what is proposed changes nothing
 standing : (k : Facts) (p : Proposal) (ns : List ℕ) → k.agreement.proposal ≡ Some p → (all_sent k (to_each ns (message.Propose p.key p.members))).agreement ≡ k.agreement
@@ -182,14 +182,14 @@ standing k p [] e = refl
 standing k p (n ∷ ns) e = standing (sent k n (message.Propose p.key p.members)) p ns (ap (λ (a : Agreement). a.proposal) stays ∙ e) ∙ stays
   where
     stays : (sent k n (message.Propose p.key p.members)).agreement ≡ k.agreement
-    stays = ap (agreement.proposed_if k.agreement (proposal_of k.me p.key p.members)) (ap (λ (o : Option Proposal). proposes o p.key) e ∙ same_itself p.key)
+    stays = ap (λ (holds : Bool). if holds then k.agreement else record k.agreement { proposal = Some (proposal_of k.me p.key p.members) }) (ap (λ (o : Option Proposal). proposes o p.key) e ∙ same_itself p.key)
 
 -- the agreement once a view was proposed to the others has the proposal to them
 newly_proposed : (a : Agreement) (me : ℕ) (key : ClusterKey) (set : List Member) → a.proposal ≡ None
     → (agreement.proposing (agreement.promising a key) me key set).proposal ≡ Some (proposal_of me key set)
 newly_proposed a me key set e =
-    ap (λ (o : Option Proposal). (agreement.proposed_if (agreement.promising a key) (proposal_of me key set) (proposes o key)).proposal)
-    (ap (λ (o : Option Proposal). agreement.kept_if (proposes o key) o) e)
+    ap (λ (o : Option Proposal). (if proposes o key then agreement.promising a key else record (agreement.promising a key) { proposal = Some (proposal_of me key set) }).proposal)
+    (ap (λ (o : Option Proposal). (if proposes o key then o else None)) e)
 
 -- a new proposal is sent to these
 asked_anew : (f k : Facts) (key : ClusterKey) (set : List Member) (ns : List ℕ) → f.agreement.proposal ≡ None
@@ -201,13 +201,13 @@ asked_anew f k key set (n ∷ ns) e h = standing (sent k n (message.Propose key 
     first : (sent k n (message.Propose key set)).agreement ≡ agreement.proposing (agreement.promising f.agreement key) f.me key set
     first = ap (λ (a : Agreement). agreement.proposing a k.me key set) h.agreement ∙ ap (λ (me : ℕ). agreement.proposing (agreement.promising f.agreement key) me key set) h.me
 
-proposed_new : (f k : Facts) (b : Bool) → f.agreement.proposal ≡ None → Keeps (noted None f (tick.propose_new f b).lines) k
-    → (all_sent k (tick.propose_new f b).sends).agreement ≡ agreement.proposing_if f.me f.agreement (neighbours f) b
+proposed_new : (f k : Facts) (b : Bool) → f.agreement.proposal ≡ None → Keeps (noted None f (if b then proposal_effects f (next_key f.me f.agreement) (neighbours f) (agreement.others_among f.me (neighbours f)) else nothing).lines) k
+    → (all_sent k (if b then proposal_effects f (next_key f.me f.agreement) (neighbours f) (agreement.others_among f.me (neighbours f)) else nothing).sends).agreement ≡ (if b then proposing_to f.me f.agreement (next_key f.me f.agreement) (neighbours f) (others_among f.me (neighbours f)) else f.agreement)
 proposed_new f k true e h = asked_anew f k (agreement.next_key f.me f.agreement) (neighbours f) (agreement.others_among f.me (neighbours f)) e h
 proposed_new f k false e h = h.agreement
 
 proposed : (f k : Facts) (o : Option Proposal) → f.agreement.proposal ≡ o → Keeps (noted None f (tick.propose_with f o).lines) k
-    → (all_sent k (tick.propose_with f o).sends).agreement ≡ agreement.proposing_if f.me f.agreement (neighbours f) (is_none o && (is_candidate f && agreement.has_round f.agreement))
+    → (all_sent k (tick.propose_with f o).sends).agreement ≡ (if is_none o && (is_candidate f && agreement.has_round f.agreement) then proposing_to f.me f.agreement (next_key f.me f.agreement) (neighbours f) (others_among f.me (neighbours f)) else f.agreement)
 proposed f k (Some p) e h = standing k p p.missing (ap (λ (a : Agreement). a.proposal) h.agreement ∙ e) ∙ h.agreement
 proposed f k None e h = proposed_new f k (is_candidate f && agreement.has_round f.agreement) e h
 
@@ -221,12 +221,12 @@ sent_anew f key set (n ∷ ns) same e =
     ∙ sym (ap tick.proposal_sends (newly_proposed f.agreement f.me key set e))
 
 sent_new : (f : Facts) (b : Bool) → f.agreement.proposal ≡ None
-    → (tick.propose_new f b).sends ≡ tick.proposal_sends (agreement.proposing_if f.me f.agreement (neighbours f) b).proposal
+    → (if b then proposal_effects f (next_key f.me f.agreement) (neighbours f) (agreement.others_among f.me (neighbours f)) else nothing).sends ≡ tick.proposal_sends (if b then proposing_to f.me f.agreement (next_key f.me f.agreement) (neighbours f) (others_among f.me (neighbours f)) else f.agreement).proposal
 sent_new f true e = sent_anew f (agreement.next_key f.me f.agreement) (neighbours f) (agreement.others_among f.me (neighbours f)) refl e
 sent_new f false e = sym (ap tick.proposal_sends e)
 
 sent_with : (f : Facts) (o : Option Proposal) → f.agreement.proposal ≡ o
-    → (tick.propose_with f o).sends ≡ tick.proposal_sends (agreement.proposing_if f.me f.agreement (neighbours f) (is_none o && (is_candidate f && agreement.has_round f.agreement))).proposal
+    → (tick.propose_with f o).sends ≡ tick.proposal_sends (if is_none o && (is_candidate f && agreement.has_round f.agreement) then proposing_to f.me f.agreement (next_key f.me f.agreement) (neighbours f) (others_among f.me (neighbours f)) else f.agreement).proposal
 sent_with f (Some p) e = sym (ap tick.proposal_sends e)
 sent_with f None e = sent_new f (is_candidate f && agreement.has_round f.agreement) e
 
@@ -261,4 +261,4 @@ tick_when_up : (n : ℕ) (f : Facts) → (facts_after None f (parts_in_order (ti
 tick_when_up n f = ticked n (after_ages f)
 
 pub tick_agrees : (f : Facts) → f.up ≡ true → (after_tick f).agreement ≡ agreement.ticking f.me f.agreement (neighbours (after_ages f)) (is_candidate (after_ages f))
-tick_agrees f up = ap (λ (b : Bool). (facts_after None f (tick.tick_if partition_count f b)).agreement) up ∙ tick_when_up partition_count f
+tick_agrees f up = ap (λ (b : Bool). (facts_after None f (if b then parts_in_order (parts partition_count) f else lines_only (line.Down f.me ∷ []))).agreement) up ∙ tick_when_up partition_count f

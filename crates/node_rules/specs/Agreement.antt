@@ -1,5 +1,5 @@
 -- The agreement on the next view: what was promised, what was entered, and what is proposed.
-use Rattle.std.specs.Prelude.{ℕ, ◌+◌, ◌^◌, ◌&&◌, max, nat_lt, Bool, true, false, List, [], ◌∷◌, Option, Some, None, is_none}
+use Rattle.std.specs.Prelude.{ℕ, ◌+◌, ◌^◌, ◌&&◌, max, nat_lt, Bool, true, false, List, [], ◌∷◌, Option, Some, None, is_none, if◌then◌else◌}
 use Rattle.cluster_types.specs.declared.cluster_key.ClusterKey.{ClusterKey}
 use Rattle.cluster_types.specs.declared.member.Member.{Member}
 use Rattle.cluster_types.specs.ClusterKeys as keys
@@ -53,16 +53,11 @@ abbrev pub proposes : Option Proposal → ClusterKey → Bool
 proposes None key = false
 proposes (Some p) key = same_key p.key key
 
--- the proposal where the test holds, and else none
-abbrev pub kept_if : Bool → Option Proposal → Option Proposal
-kept_if true proposal = proposal
-kept_if false proposal = None
-
 -- the node promised that key: a proposal of another key is given up
 abbrev pub promising : Agreement → ClusterKey → Agreement
 promising a key = record a {
   promised = key;
-  proposal = kept_if (proposes a.proposal key) a.proposal;
+  proposal = if proposes a.proposal key then a.proposal else None;
 }
 
 -- the node entered the view of that key
@@ -86,32 +81,21 @@ abbrev pub accepted_by : Option Proposal → ℕ → Option Proposal
 accepted_by None from = None
 accepted_by (Some p) from = Some (without_missing p from)
 
--- the member accepts where the test holds
-abbrev pub accepting_if : Agreement → ℕ → Bool → Agreement
-accepting_if a from true = record a { proposal = accepted_by a.proposal from }
-accepting_if a from false = a
-
 -- an Accept of that key came from a member: it counts where the key is proposed
 abbrev pub accepting : Agreement → ℕ → ClusterKey → Agreement
-accepting a from key = accepting_if a from (proposes a.proposal key)
-
--- the proposal is given up where the test holds
-abbrev pub refused_if : Agreement → Bool → Agreement
-refused_if a true = record a { proposal = None }
-refused_if a false = a
+accepting a from key =
+    if proposes a.proposal key then record a { proposal = accepted_by a.proposal from } else a
 
 -- a Refuse of that key came: where the key is proposed, the proposal is given up
 abbrev pub refused : Agreement → ClusterKey → Agreement
-refused a key = refused_if a (proposes a.proposal key)
-
--- the proposal is taken where the test, that it stands already, fails
-abbrev pub proposed_if : Agreement → Proposal → Bool → Agreement
-proposed_if a p true = a
-proposed_if a p false = record a { proposal = Some p }
+refused a key = if proposes a.proposal key then record a { proposal = None } else a
 
 -- a Propose was sent: its view is proposed from the first one on
 abbrev pub proposing : Agreement → ℕ → ClusterKey → List Member → Agreement
-proposing a me key members = proposed_if a (proposal_of me key members) (proposes a.proposal key)
+proposing a me key members =
+    if proposes a.proposal key
+    then a
+    else record a { proposal = Some (proposal_of me key members) }
 
 -- the greatest round among the promised key and all keys that were seen since the start
 abbrev pub seen_round : Agreement → ℕ
@@ -132,7 +116,9 @@ proposes_set (Some p) set = same_members p.members set
 
 -- a tick at which the neighbours are these: a proposal of other members is given up
 abbrev pub still_proposing : Agreement → List Member → Agreement
-still_proposing a set = record a { proposal = kept_if (proposes_set a.proposal set) a.proposal }
+still_proposing a set = record a {
+  proposal = if proposes_set a.proposal set then a.proposal else None;
+}
 
 -- ---- what the messages and a tick do
 
@@ -140,30 +126,21 @@ still_proposing a set = record a { proposal = kept_if (proposes_set a.proposal s
 abbrev pub refuses : Agreement → ClusterKey → Bool
 refuses a key = key_lt key a.promised
 
--- the key is promised where the test holds
-abbrev pub promising_if : Agreement → ClusterKey → Bool → Agreement
-promising_if a key true = promising a key
-promising_if a key false = a
-
 -- a Propose of the key came: it is promised where it is above the promised one
 abbrev pub voting : Agreement → ClusterKey → Agreement
-voting a key = promising_if a key (key_lt a.promised key)
+voting a key = if key_lt a.promised key then promising a key else a
 
 -- whether every other member has accepted the proposal, that one counted
 abbrev pub is_accepted_with : Option Proposal → ℕ → Bool
 is_accepted_with None from = false
 is_accepted_with (Some p) from = is_nil (without_missing p from).missing
 
--- the view is entered where the test holds
-abbrev pub entering_if : Agreement → ClusterKey → Bool → Agreement
-entering_if a key true = agreement_entered a key
-entering_if a key false = a
-
 -- an Accept of that key came from a member: with the last one of a proposal its view is entered
 abbrev pub counting : Agreement → ℕ → ClusterKey → Agreement
 counting a from key =
-    entering_if (accepting a from key) key
-    (proposes a.proposal key && is_accepted_with a.proposal from)
+    if proposes a.proposal key && is_accepted_with a.proposal from
+    then agreement_entered (accepting a from key) key
+    else accepting a from key
 
 -- whether a committed view is entered: its key is the promised one and above the last, and the node is a member
 abbrev pub may_enter : ℕ → Agreement → ClusterKey → List Member → Bool
@@ -171,7 +148,7 @@ may_enter me a key members = same_key key a.promised && (key_lt a.last key && is
 
 -- a Commit came: its view is entered, or nothing changes
 abbrev pub committing : ℕ → Agreement → ClusterKey → List Member → Agreement
-committing me a key members = entering_if a key (may_enter me a key members)
+committing me a key members = if may_enter me a key members then agreement_entered a key else a
 
 -- a Refuse of that key came, with the key that its sender promised
 abbrev pub refusing : Agreement → ClusterKey → ClusterKey → Agreement
@@ -190,12 +167,13 @@ abbrev pub proposing_to : ℕ → Agreement → ClusterKey → List Member → L
 proposing_to me a key set [] = agreement_entered (promising a key) key
 proposing_to me a key set (n ∷ ns) = proposing (promising a key) me key set
 
--- a new proposal of these members where the test holds
-abbrev pub proposing_if : ℕ → Agreement → List Member → Bool → Agreement
-proposing_if me a set true = proposing_to me a (next_key me a) set (others_among me set)
-proposing_if me a set false = a
+-- a candidate proposes these members, where it proposes nothing and there is a round
+abbrev pub proposing_anew : ℕ → Agreement → List Member → Bool → Agreement
+proposing_anew me a set candidate =
+    if proposes_anew a candidate
+    then proposing_to me a (next_key me a) set (others_among me set)
+    else a
 
 -- a tick at which the neighbours are these, and the node is a candidate or not
 abbrev pub ticking : ℕ → Agreement → List Member → Bool → Agreement
-ticking me a set candidate =
-    proposing_if me (still_proposing a set) set (proposes_anew (still_proposing a set) candidate)
+ticking me a set candidate = proposing_anew me (still_proposing a set) set candidate

@@ -2,7 +2,8 @@
 use Rattle.std.specs.Prelude.{ℕ, ◌+◌, ◌==◌, ◌&&◌, Bool, false, not, if◌then◌else◌, List, [], ◌∷◌, Option, Some, None, find, filter, filter_map, map, option_map, option_and_then, take, bytes_eq}
 use Rattle.std.specs.List.{list_any}
 use Rattle.std.specs.FinMap as finite
-use Rattle.conflict_order.specs.Records.{Record}
+use Rattle.conflict_order.specs.Contents.{Record}
+pub use Rattle.conflict_order.specs.Contents.{is_among}
 use Rattle.cluster_types.specs.declared.cluster_key.ClusterKey.{ClusterKey}
 use Rattle.wire_messages.specs.declared.message.Batch.{Batch}
 use Rattle.node_rules.specs.Copies.{Content, digests, is_of}
@@ -99,10 +100,6 @@ next_batch key content t = batch_after key content t t.out
 -- the batch that is to be sent to the member, if any
 abbrev pub next_batch_to : ClusterKey → Content → Targets → ℕ → Option Batch
 next_batch_to key content targets n = option_and_then (next_batch key content) (target targets n)
-
--- whether the digest is one of the records'
-abbrev pub is_among : List Record → List ℕ → Bool
-is_among records d = list_any (λ r. bytes_eq r.0 d) records
 
 -- the batch was acknowledged: its digests are no longer pending, and none is out
 abbrev pub without_batch : Target → Batch → Target

@@ -1,8 +1,9 @@
 -- What a node knows of how far each partition has come in its view.
-use Rattle.std.specs.Prelude.{ℕ, ◌&&◌, ◌||◌, Bool, true, false, not, List, [], ◌∷◌, unwrap_or, replicate, slice_set}
+use Rattle.std.specs.Prelude.{ℕ, ◌&&◌, ◌||◌, Bool, true, false, not, List, [], unwrap_or, replicate, slice_set}
 use Rattle.std.specs.List.{list_all}
 use Rattle.cluster_types.specs.Partitions.{partition_count}
 use Rattle.cluster_types.specs.Rows.{bit}
+pub use Rattle.cluster_types.specs.Rows.{or_rows}
 use Rattle.node_rules.specs.Tables.{Table, at, table_with}
 
 -- bits of each partition, of the view alone
@@ -33,13 +34,6 @@ no_bits = record {
   own_settled = clear_row;
   learnt = clear_row;
 }
-
--- the row with each bit that either has
-abbrev pub or_rows : List Bool → List Bool → List Bool
-or_rows [] [] = []
-or_rows [] (b ∷ bs) = b ∷ bs
-or_rows (a ∷ rest) [] = a ∷ rest
-or_rows (a ∷ rest) (b ∷ bs) = (a || b) ∷ or_rows rest bs
 
 -- the row with the partition's bit
 abbrev pub with_bit : List Bool → ℕ → List Bool

@@ -1,40 +1,13 @@
 -- What a node's store holds: a version for each digest, and a stamp for each copy that was whole.
-use Rattle.std.specs.Prelude.{ℕ, zero, suc, ◌+◌, ◌==◌, Bool, not, List, [], ◌∷◌, Option, Some, None}
-use Rattle.std.specs.Coded.{Coded, coded_ℕ, coded×, coded_list}
-use Rattle.std.specs.Ordering.{nat_cmp}
-use Rattle.std.specs.Cmp.Lexicographic.{slice_cmp}
+use Rattle.std.specs.Prelude.{ℕ, zero, suc, ◌+◌, Bool, not, List, [], ◌∷◌}
 use Rattle.std.specs.FinMap as map
 use Rattle.conflict_order.specs.declared.policy.Policy.{Policy}
 use Rattle.conflict_order.specs.declared.version.Version.{Version}
-use Rattle.conflict_order.specs.contracts.version.Version as version
-use Rattle.conflict_order.specs.Join.{kept}
-use Rattle.cluster_types.specs.declared.cluster_key.ClusterKey.{ClusterKey}
-use Rattle.cluster_types.specs.contracts.cluster_key.ClusterKey as key
+pub use Rattle.conflict_order.specs.Contents.{Content, content_code, joined}
 use Rattle.cluster_types.specs.declared.copy_state.CopyState.{CopyState}
 use Rattle.cluster_types.specs.declared.copy_state.CopyState.TheVariants.{Empty, Part, Whole}
-use Rattle.cluster_types.specs.Partitions.{partition_of}
+pub use Rattle.cluster_types.specs.Copies.{Stamp, Stamps, stamps_code, is_of, digests_of, without_copy, state_with, state_of_copy}
 pub use Rattle.node_rules.specs.Tables.{is_nil}
-
--- a version for each digest that is held
-abbrev pub Content : Type 0
-Content = map.FinMap (slice_cmp nat_cmp) Version
-
--- the code of a content
-abbrev pub content_code : Coded Content
-content_code = map.code (coded_list coded_ℕ) version.the_row.coded
-
--- the key under which a copy last was whole, and how many writes of the list master of that key's
--- view it has had since that view began
-abbrev pub Stamp : Type 0
-Stamp = ClusterKey × ℕ
-
--- the stamps of those partitions whose copies have one
-abbrev pub Stamps : Type 0
-Stamps = map.FinMap nat_cmp Stamp
-
--- the code of stamps
-abbrev pub stamps_code : Coded Stamps
-stamps_code = map.code coded_ℕ (coded× key.the_row.coded coded_ℕ)
 
 -- the states of those copies that aren't empty, in rising order of their partitions
 abbrev pub Row : Type 0
@@ -51,21 +24,9 @@ pub record Store : Type 0 where
 abbrev pub empty_store : Policy → Store
 empty_store by = record { content = map.empty; stamps = map.empty; by = by }
 
--- whether the digest is the partition's
-abbrev pub is_of : ℕ → List ℕ → Bool
-is_of p digest = partition_of digest == p
-
 -- the digests that are held, in their order
 abbrev pub digests : Content → List (List ℕ)
 digests content = map.keys content
-
--- the digests that are held of a partition, in their order
-abbrev pub digests_of : Content → ℕ → List (List ℕ)
-digests_of content p = map.keys (map.retain_keys content (is_of p))
-
--- the content after a version came: at its digest stands the greater one
-abbrev pub joined : Policy → Content → List ℕ → Version → Content
-joined by content digest v = map.insert content digest (kept by (map.get content digest) v)
 
 -- the store after a version came
 abbrev pub storing : Store → List ℕ → Version → Store
@@ -74,7 +35,7 @@ storing s digest v = record s { content = joined s.by s.content digest v }
 -- the store without a partition's copy and its stamp
 abbrev pub dropping : Store → ℕ → Store
 dropping s p = record s {
-  content = map.retain_keys s.content (λ d. not (is_of p d));
+  content = without_copy s.content p;
   stamps = map.remove s.stamps p;
 }
 
@@ -86,16 +47,9 @@ stamping s p stamp = record s { stamps = map.insert s.stamps p stamp }
 abbrev pub holds_of : Content → ℕ → Bool
 holds_of content p = not (is_nil (digests_of content p))
 
--- the state of a copy of these digests with that stamp
-abbrev pub state_with : List (List ℕ) → Option Stamp → CopyState
-state_with [] stamp = Empty
-state_with (d ∷ ds) None = Part
-state_with (d ∷ ds) (Some stamp) = Whole stamp.0 stamp.1
-
--- the state of a partition's copy: Empty where it has no record, otherwise Whole with the stamp
--- where there is one, and otherwise Part
+-- the state of a partition's copy
 abbrev pub store_state : Store → ℕ → CopyState
-store_state s p = state_with (digests_of s.content p) (map.get s.stamps p)
+store_state s p = state_of_copy s.content s.stamps p
 
 -- a row's entries with the state of a lower partition before them
 abbrev pub with_state : ℕ → CopyState → Row → Row

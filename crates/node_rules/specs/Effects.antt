@@ -22,6 +22,10 @@ lines_only ls = record { lines = ls; sends = [] }
 abbrev pub sends_only : List (ℕ × Message) → Effects
 sends_only ms = record { lines = []; sends = ms }
 
+-- lines and messages
+abbrev pub lines_and_sends : List Line → List (ℕ × Message) → Effects
+lines_and_sends ls ms = record { lines = ls; sends = ms }
+
 -- a message to each of these nodes
 abbrev pub to_each : List ℕ → Message → List (ℕ × Message)
 to_each ns m = map (λ n. (n, m)) ns

@@ -1,5 +1,5 @@
 -- The view that a node has entered, and the rows of its members.
-use Rattle.std.specs.Prelude.{ℕ, ◌-◌, ◌==◌, take, Bool, true, false, List, [], ◌∷◌, ◌++◌, Option, Some, None, find, length}
+use Rattle.std.specs.Prelude.{ℕ, ◌-◌, ◌==◌, take, Bool, true, false, List, [], ◌∷◌, ◌++◌, Option, Some, None, find, length, if◌then◌else◌}
 use Rattle.std.specs.List.{list_any}
 use Rattle.cluster_types.specs.declared.cluster_key.ClusterKey.{ClusterKey}
 use Rattle.cluster_types.specs.declared.member.Member.{Member}
@@ -47,14 +47,10 @@ abbrev pub is_view : Option View → ClusterKey → Bool
 is_view None key = false
 is_view (Some v) key = same_key v.key key
 
--- the rows with one more, if the member's isn't there yet
-abbrev pub with_row_if : List MemberRow → ℕ → Row → Bool → List MemberRow
-with_row_if rows n row true = rows ++ record { node = n; row = row } ∷ []
-with_row_if rows n row false = rows
-
 -- the rows with the member's, unless that is there
 abbrev pub with_row : List MemberRow → ℕ → Row → List MemberRow
-with_row rows n row = with_row_if rows n row (lacks rows n)
+with_row rows n row =
+    if lacks rows n then rows ++ record { node = n; row = row } ∷ [] else rows
 
 -- the exchange is finished
 abbrev pub finished : Exchange → Exchange

@@ -1,9 +1,9 @@
 -- What records that come from another node make of what a node holds.
-use Rattle.std.specs.Prelude.{Bool, true, false, List, [], ◌∷◌, ◌++◌, fold}
+use Rattle.std.specs.Prelude.{Bool, List, [], ◌∷◌, ◌++◌, fold, if◌then◌else◌}
 use Rattle.std.specs.FinMap as finite
 use Rattle.conflict_order.specs.declared.policy.Policy.{Policy}
 use Rattle.conflict_order.specs.Order.{is_newer}
-pub use Rattle.conflict_order.specs.Records.{Record}
+pub use Rattle.conflict_order.specs.Contents.{Record}
 use Rattle.cluster_types.specs.declared.cluster_key.ClusterKey.{ClusterKey}
 use Rattle.cluster_types.specs.Partitions.{partition_of}
 use Rattle.node_rules.specs.Copies.{Content, Store, Stamps, joined}
@@ -14,17 +14,13 @@ use Rattle.node_rules.specs.Tables.{only_if}
 abbrev pub is_newer_than_held : Policy → Content → Record → Bool
 is_newer_than_held by content r = is_newer by r.1 (finite.get content r.0)
 
--- the content with the record where the test holds
-abbrev pub content_joined_if : Policy → Content → Record → Bool → Content
-content_joined_if by content r true = joined by content r.0 r.1
-content_joined_if by content r false = content
-
 -- those of the records that are newer than what is held as they are come to, in their order
 abbrev pub newer_records : Policy → Content → List Record → List Record
 newer_records by content [] = []
 newer_records by content (r ∷ rs) =
     only_if r (is_newer_than_held by content r)
-    ++ newer_records by (content_joined_if by content r (is_newer_than_held by content r)) rs
+    ++ newer_records by
+    (if is_newer_than_held by content r then joined by content r.0 r.1 else content) rs
 
 -- the content after these records came
 abbrev pub joined_all : Policy → Content → List Record → Content

@@ -1,5 +1,5 @@
 -- What is due of a node at a request, at a stop and at a start, and what it tells of its map.
-use Rattle.std.specs.Prelude.{ℕ, ◌+◌, Bool, true, false, List, [], ◌∷◌, ◌++◌, Option, Some, None, Result, Ok, Err}
+use Rattle.std.specs.Prelude.{ℕ, ◌+◌, Bool, true, false, List, [], ◌∷◌, ◌++◌, Option, Some, None, Result, Ok, Err, if◌then◌else◌}
 use Rattle.conflict_order.specs.declared.want.Want.{Want}
 use Rattle.conflict_order.specs.Action.{action_of}
 use Rattle.cluster_types.specs.declared.map_view.MapEntry.{MapEntry}
@@ -30,15 +30,10 @@ abbrev pub view_refusal : Facts → Option View → Option Refusal
 view_refusal f None = Some refusal.NoView
 view_refusal f (Some v) = exchange_refusal (first_missing f.exchange.rows v.members)
 
--- the refusal, where the test says whether the node is up
-abbrev pub up_refusal : Facts → Bool → Option Refusal
-up_refusal f true = view_refusal f f.exchange.view
-up_refusal f false = Some refusal.Down
-
 -- why the node has no map: it is stopped, it has no view, or it lacks a member's row, of which the
 -- first in member order is named
 abbrev pub map_refusal : Facts → Option Refusal
-map_refusal f = up_refusal f f.up
+map_refusal f = if f.up then view_refusal f f.exchange.view else Some refusal.Down
 
 -- the refusal where that transaction is open on the digest
 abbrev pub busy_refusal : Option Transaction → Option Refusal
@@ -102,20 +97,14 @@ due_request f clock digest w = request_at f clock (list_at f (partition_of diges
 
 -- ---- a stop and a start
 
--- a stop, where the test says whether the node is up
-abbrev pub stop_if : Facts → Bool → Effects
-stop_if f true = lines_only (closing f ++ line.Stop f.me ∷ [])
-stop_if f false = lines_only (line.Down f.me ∷ [])
-
 -- a stop closes all transactions; a stopped node stays so
 abbrev pub due_stop : Facts → Effects
-due_stop f = stop_if f f.up
-
--- a start, where the test says whether the node is up
-abbrev pub start_if : Facts → Bool → Effects
-start_if f true = lines_only (line.Up f.me ∷ [])
-start_if f false = lines_only (line.Start f.me ∷ [])
+due_stop f =
+    if f.up
+    then lines_only (closing f ++ line.Stop f.me ∷ [])
+    else lines_only (line.Down f.me ∷ [])
 
 -- a start; an up node stays so
 abbrev pub due_start : Facts → Effects
-due_start f = start_if f f.up
+due_start f =
+    if f.up then lines_only (line.Up f.me ∷ []) else lines_only (line.Start f.me ∷ [])

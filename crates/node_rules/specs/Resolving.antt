@@ -1,5 +1,5 @@
 -- What is due of a transaction whose best version is known.
-use Rattle.std.specs.Prelude.{ℕ, Bool, true, false, List, [], ◌∷◌}
+use Rattle.std.specs.Prelude.{ℕ, List, [], ◌∷◌}
 use Rattle.conflict_order.specs.declared.version.Version.{Version}
 use Rattle.conflict_order.specs.declared.version.Body.{Body}
 use Rattle.conflict_order.specs.declared.version.Body.TheVariants as body
@@ -7,7 +7,6 @@ use Rattle.conflict_order.specs.declared.want.Want.{Want}
 use Rattle.conflict_order.specs.declared.want.Want.TheVariants as want
 use Rattle.conflict_order.specs.Next.{next}
 use Rattle.cluster_types.specs.Partitions.{partition_of}
-use Rattle.journal_lines.specs.declared.line.Line.{Line}
 use Rattle.journal_lines.specs.declared.line.Line.TheVariants as line
 use Rattle.wire_messages.specs.declared.message.Message.{Message}
 use Rattle.wire_messages.specs.declared.message.Message.TheVariants as message
@@ -16,23 +15,19 @@ use Rattle.node_rules.specs.Facts.{Facts, view_key}
 use Rattle.node_rules.specs.Notes.{next_nth}
 use Rattle.node_rules.specs.Standing.{other_replicas}
 use Rattle.node_rules.specs.Transactions.{Transaction, Write}
-use Rattle.node_rules.specs.Tables.{is_nil}
-
--- a write is done at once where no other replica is to acknowledge it
-abbrev pub done_if : Facts → ℕ → Bool → List Line
-done_if f number true = line.Done f.me (view_key f) number ∷ []
-done_if f number false = []
+use Rattle.node_rules.specs.Tables.{is_nil, only_if}
 
 -- the message by which a transaction's write goes to a replica
 abbrev pub repl : Facts → Transaction → Write → Message
 repl f t w = message.Repl (view_key f) t.number w.nth t.digest w.version
 
--- the transaction writes this version: it is applied, and goes to each other replica in list order
+-- the transaction writes this version: it is applied, and goes to each other replica in list order;
+-- it is done at once where no other replica is to acknowledge it
 abbrev pub writing : Facts → List ℕ → Transaction → Version → Effects
 writing f l t v = record {
   lines =
       line.Apply f.me (view_key f) t.number t.digest v
-      ∷ done_if f t.number (is_nil (other_replicas f l));
+      ∷ only_if (line.Done f.me (view_key f) t.number) (is_nil (other_replicas f l));
   sends =
       to_each (other_replicas f l)
       (repl f t (record { version = v; nth = next_nth f (partition_of t.digest) }));

@@ -1,5 +1,5 @@
 -- Hand-over, settling, learning and dropping, partition by partition, whose list is an argument.
-use Rattle.std.specs.Prelude.{ℕ, zero, suc, ◌+◌, Bool, true, false, List, [], ◌++◌, None}
+use Rattle.std.specs.Prelude.{ℕ, zero, suc, ◌+◌, Bool, List, [], ◌++◌, None, if◌then◌else◌}
 use Rattle.journal_lines.specs.declared.line.Line.{Line}
 use Rattle.journal_lines.specs.declared.line.Line.TheVariants as line
 use Rattle.node_rules.specs.Bits as bits
@@ -58,11 +58,6 @@ settling_from (suc n) p f =
     settling_at (list_at f p) p f
     ++ settling_from n (p + 1) (noted None f (settling_at (list_at f p) p f))
 
--- the partitions from 0 on, where the test holds
-abbrev pub settling_if : ℕ → Facts → Bool → List Line
-settling_if n f true = settling_from n 0 f
-settling_if n f false = []
-
 -- the partitions from 0 on, once the exchange is finished
 abbrev pub settling_due : ℕ → Facts → List Line
-settling_due n f = settling_if n f f.exchange.exchanged
+settling_due n f = if f.exchange.exchanged then settling_from n 0 f else []

@@ -1,33 +1,13 @@
--- How many of the list master's writes a copy has had, by their numbers.
+-- What a node knows of the writes of its view, and what becomes of a store's stamps.
 pub use Rattle.partition_lists.specs.Classes.{no_class}
-use Rattle.std.specs.Prelude.{ℕ, zero, suc, ◌+◌, ◌==◌, nat_lt, Bool, true, false, if◌then◌else◌, List, [], ◌∷◌, length, Option, Some, None, unwrap_or, nat_eq}
-use Rattle.std.specs.Cmp.Lexicographic.{pointwise}
-use Rattle.std.specs.List.{range_with_len}
+pub use Rattle.partition_lists.specs.Counts.{Numbers, with_number, have_no_gap, count_of, recounted, spoiled}
+use Rattle.std.specs.Prelude.{ℕ, zero, suc, ◌+◌, Bool, true, false, List, [], Option, Some, None, unwrap_or}
 use Rattle.std.specs.FinMap as map
 use Rattle.conflict_order.specs.declared.version.Version.{Version}
 use Rattle.cluster_types.specs.declared.cluster_key.ClusterKey.{ClusterKey}
 use Rattle.cluster_types.specs.Partitions.{partition_of}
-use Rattle.node_rules.specs.Keys.{same_key}
 use Rattle.node_rules.specs.Tables.{Table, at, table_with}
 use Rattle.node_rules.specs.Copies.{Store, Stamp, Stamps, storing, stamping}
-
--- a set of numbers, as their list in strictly rising order
-abbrev pub Numbers : Type 0
-Numbers = List ℕ
-
--- the set with a number more
-abbrev pub with_number : Numbers → ℕ → Numbers
-with_number [] n = n ∷ []
-with_number (m ∷ ms) n =
-    if n == m then m ∷ ms else (if nat_lt n m then n ∷ m ∷ ms else (m ∷ with_number ms n))
-
--- whether the numbers are exactly those from 1 to how many there are
-abbrev pub have_no_gap : Numbers → Bool
-have_no_gap numbers = pointwise nat_eq numbers (range_with_len 1 (length numbers))
-
--- n where the numbers are exactly 1 to n, and otherwise `no_class`
-abbrev pub count_of : Numbers → ℕ
-count_of numbers = if have_no_gap numbers then length numbers else no_class
 
 -- what a node knows in its view of the writes on each partition
 pub record Writes : Type 0 where
@@ -63,14 +43,6 @@ hearing_write w p nth = record w {
 abbrev pub count_at : Writes → Bool → ℕ → ℕ
 count_at w true p = applies_at w p
 count_at w false p = count_of (numbers_at w p)
-
--- a stamp of the view's key has the count as it now is, and another one stays
-abbrev pub recounted : ClusterKey → ℕ → Stamp → Stamp
-recounted key count stamp = if same_key stamp.0 key then (key, count) else stamp
-
--- a record of another view's key came into a copy: it equals none that was whole under its stamp
-abbrev pub spoiled : ClusterKey → Stamp → Stamp
-spoiled key stamp = if same_key stamp.0 key then stamp else (stamp.0, no_class)
 
 -- the stamps with that one changed, where it is there
 abbrev pub changed_stamps : Stamps → ℕ → (Stamp → Stamp) → Option Stamp → Stamps

@@ -1,8 +1,8 @@
 -- Tables by a number, such as a node's or a partition's, and lists of numbers.
-use Rattle.std.specs.Prelude.{ℕ, zero, suc, ◌+◌, ◌==◌, ◌&&◌, Bool, true, false, List, [], ◌∷◌, Option}
-use Rattle.std.specs.List.{list_any}
+use Rattle.std.specs.Prelude.{ℕ, zero, suc, ◌+◌, ◌&&◌, Bool, true, false, List, [], ◌∷◌, Option}
 use Rattle.std.specs.Ordering.{nat_cmp}
 use Rattle.std.specs.FinMap.{find, put}
+pub use Rattle.cluster_types.specs.Distinct.{contains}
 
 -- entries in strictly rising order of their numbers
 abbrev pub Table : Type 0 → Type 0
@@ -20,10 +20,6 @@ table_with table n x = put nat_cmp n x table
 abbrev pub changed_if : {X : Type 0} → (X → X) → X → Bool → X
 changed_if change x true = change x
 changed_if change x false = x
-
--- whether the number is one of those
-abbrev pub contains : List ℕ → ℕ → Bool
-contains ns n = list_any (λ m. m == n) ns
 
 -- whether there are none
 abbrev pub is_nil : {X : Type 0} → List X → Bool

@@ -1,5 +1,5 @@
 -- What is due of a node at a tick, part by part. The number of partitions is an argument.
-use Rattle.std.specs.Prelude.{ℕ, zero, suc, ◌+◌, ◌==◌, ◌&&◌, ◌||◌, Bool, true, false, not, List, [], ◌∷◌, Option, Some, None, filter, filter_map, flat_map, unwrap_or}
+use Rattle.std.specs.Prelude.{ℕ, zero, suc, ◌+◌, ◌==◌, ◌&&◌, ◌||◌, Bool, true, false, not, List, [], ◌∷◌, Option, Some, None, filter, filter_map, flat_map, unwrap_or, if◌then◌else◌}
 use Rattle.cluster_types.specs.declared.cluster_key.ClusterKey.{ClusterKey}
 use Rattle.cluster_types.specs.declared.member.Member.{Member}
 use Rattle.cluster_types.specs.MembersEqual.{same_members}
@@ -79,17 +79,14 @@ proposal_effects f key set (n ∷ ns) = record {
   sends = to_each (n ∷ ns) (message.Propose key set);
 }
 
--- a new proposal where the test holds
-abbrev pub propose_new : Facts → Bool → Effects
-propose_new f true =
-    proposal_effects f (next_key f.me f.agreement) (neighbours f)
-    (agreement.others_among f.me (neighbours f))
-propose_new f false = nothing
-
 -- that proposal again, and without one a new one where the node is a candidate
 abbrev pub propose_with : Facts → Option Proposal → Effects
 propose_with f (Some p) = propose_again p
-propose_with f None = propose_new f (is_candidate f && has_round f.agreement)
+propose_with f None =
+    if is_candidate f && has_round f.agreement
+    then proposal_effects f (next_key f.me f.agreement) (neighbours f)
+    (agreement.others_among f.me (neighbours f))
+    else nothing
 
 -- the proposal again, or a candidate's new one, as long as there is a round for it
 abbrev pub propose : Part
@@ -153,15 +150,13 @@ abbrev pub progress_message : ℕ → Facts → Bool → Message
 progress_message n f wants =
     message.Progress (view_key f) wants (done_from f n 0) f.bits.handed f.bits.settled
 
--- a Progress to each other member where the test holds
-abbrev pub progress_if : ℕ → Facts → Bool → Effects
-progress_if n f true = sends_only (to_each (others f) (progress_message n f true))
-progress_if n f false = nothing
-
 -- after the exchange, as long as some partition isn't known settled, how far they have come, to each
 -- other member in member order
 abbrev pub progress : ℕ → Part
-progress n f = progress_if n f (f.exchange.exchanged && not (knows_all_settled f n 0))
+progress n f =
+    if f.exchange.exchanged && not (knows_all_settled f n 0)
+    then sends_only (to_each (others f) (progress_message n f true))
+    else nothing
 
 -- ---- the tick
 
@@ -173,14 +168,9 @@ tick f = lines_only (line.Tick f.me ∷ [])
 abbrev pub parts : ℕ → List Part
 parts n = tick ∷ beat ∷ propose ∷ rows ∷ transactions ∷ batches ∷ settlings n ∷ progress n ∷ []
 
--- a tick, where the test says whether the node is up
-abbrev pub tick_if : ℕ → Facts → Bool → Effects
-tick_if n f true = parts_in_order (parts n) f
-tick_if n f false = lines_only (line.Down f.me ∷ [])
-
--- a tick with so many partitions
+-- a tick with so many partitions; a stopped node stays so
 abbrev pub tick_of : ℕ → Facts → Effects
-tick_of n f = tick_if n f f.up
+tick_of n f = if f.up then parts_in_order (parts n) f else lines_only (line.Down f.me ∷ [])
 
 -- what is due of a tick
 abbrev pub due_tick : Facts → Effects

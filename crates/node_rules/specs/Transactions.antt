@@ -4,15 +4,11 @@ use Rattle.std.specs.List.{list_any}
 use Rattle.conflict_order.specs.declared.policy.Policy.{Policy}
 use Rattle.conflict_order.specs.declared.version.Version.{Version}
 use Rattle.conflict_order.specs.declared.want.Want.{Want}
+pub use Rattle.conflict_order.specs.Contents.{Write}
 use Rattle.conflict_order.specs.Join.{join}
 use Rattle.cluster_types.specs.Distinct.{without}
 use Rattle.node_rules.specs.Copies.{is_of}
 use Rattle.node_rules.specs.Tables.{changed_if, contains, is_nil}
-
--- the version that a transaction applied, and which of the node's writes in the view and partition it is
-pub record Write : Type 0 where
-  pub version : Version
-  pub nth : ℕ
 
 -- a request that was accepted and isn't closed
 pub record Transaction : Type 0 where

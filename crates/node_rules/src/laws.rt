@@ -27,8 +27,10 @@ ghost use Rattle.node_rules.specs.Examples.{key, lone, itself, ticked_twice, in_
 ghost use Rattle.node_rules.specs.Here.{Here, HasRows, IsAsleep, IsOver, part_lines, lines_here, lines_from, live_from};
 ghost use Rattle.node_rules.specs.Map.{acting_by_rows, all_empty};
 ghost use Rattle.node_rules.specs.Merging.{Record, newer_records, joined_all, store_merged_all};
-ghost use Rattle.node_rules.specs.Messages.{due_message, due_message_of, merging_all, merge_line, moved_from};
-ghost use Rattle.node_rules.specs.Notes.{note, noted, reached, neighbours, after_ages, stopped, marked, with_role, count_in, stamped_from};
+ghost use Rattle.node_rules.specs.Messages.{due_message, due_message_of, merging_all, merge_line};
+ghost use Rattle.node_rules.specs.ClientMessages.{moved_from};
+ghost use Rattle.node_rules.specs.Notes.{note, noted, reached, neighbours, after_ages, stopped, marked, with_role, count_in};
+ghost use Rattle.node_rules.specs.ViewNotes.{stamped_from};
 ghost use Rattle.node_rules.specs.Requests.{due_request, due_stop, request_refusal, request_at};
 ghost use Rattle.node_rules.specs.Settling.{settling_at, settling_from};
 ghost use Rattle.node_rules.specs.Stamps.{count_of, with_number, no_class, stamped_by};
@@ -333,8 +335,7 @@ pub fn agreement_goes_by_its_own_rules()
         (is_candidate (after_ages f)) }
     ensures proposal { (f : Facts)
         → (propose f).sends ≡ proposal_sends
-        (agreement.proposing_if f.me f.agreement (neighbours f)
-        (agreement.proposes_anew f.agreement (is_candidate f))).proposal }
+        (agreement.proposing_anew f.me f.agreement (neighbours f) (is_candidate f)).proposal }
     ensures heartbeat { (f : Facts) → (clock : ℕ) → (from : ℕ) → (view : ClusterKey)
         → (promised : ClusterKey) → (hears : List ℕ) → (role : Role)
         → (after_message f clock from (message.Heartbeat view promised hears role)).agreement

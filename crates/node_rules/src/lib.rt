@@ -6,9 +6,9 @@
 //! of a node share, and laws whose clauses are computed examples.
 #![tactic(auto)]
 
-pub mod beat;
+mod beat;
 pub mod laws;
-pub mod member_row;
+mod member_row;
 pub mod step_laws;
 
 pub use beat::Beat;

@@ -21,7 +21,7 @@ ghost use Rattle.node_rules.specs.Hearing.{beat_heard};
 ghost use Rattle.node_rules.specs.Map.{list_master};
 ghost use Rattle.node_rules.specs.Merging.{newer_records, store_merged_all};
 ghost use Rattle.node_rules.specs.Messages.{finishes, may_enter_view};
-ghost use Rattle.node_rules.specs.Notes.{noted, neighbours, after_ages, stopped, started, in_view, if_view, row_came, batch_acked, progress_came, write_counted_if, answer_came};
+ghost use Rattle.node_rules.specs.Notes.{noted, neighbours, after_ages, stopped, started, in_view, row_came, batch_acked, progress_came, write_counted_if, answer_came};
 ghost use Rattle.node_rules.specs.Requests.{request_refusal};
 ghost use Rattle.node_rules.specs.Steps.{after_tick, after_message, after_request, after_stop, after_start};
 ghost use Rattle.node_rules.specs.Tick.{is_candidate, propose};
@@ -68,14 +68,18 @@ pub fn messages_of_the_view_change_their_part()
     ensures state { (f : Facts) → (clock : ℕ) → (from : ℕ) → (k : ClusterKey) → (wants : Bool)
         → (row : Row)
         → after_message f clock from (message.State k wants row)
-        ≡ if_view (in_view f k) (exchanged_if (row_came f from row true) (view_key f)
-        (finishes f (row_came f from row true))) f }
+        ≡ (if in_view f k
+        then exchanged_if (row_came f from row true) (view_key f)
+        (finishes f (row_came f from row true))
+        else f) }
     ensures batch { (f : Facts) → (clock : ℕ) → (from : ℕ) → (b : Batch)
-        → after_message f clock from (message.Batch b) ≡ if_view (in_view f b.key)
-        (record f {
+        → after_message f clock from (message.Batch b)
+        ≡ (if in_view f b.key
+        then record f {
           store = store_merged_all f.store (view_key f)
               (newer_records f.store.by f.store.content b.records);
-        }) f }
+        }
+        else f) }
     ensures batch_ack { (f : Facts) → (clock : ℕ) → (from : ℕ) → (k : ClusterKey) → (number : ℕ)
         → after_message f clock from (message.BatchAck k number)
         ≡ batch_acked f from number (in_view f k) }
@@ -86,22 +90,28 @@ pub fn messages_of_the_view_change_their_part()
     ensures repl { (f : Facts) → (clock : ℕ) → (from : ℕ) → (k : ClusterKey) → (t : ℕ) → (nth : ℕ)
         → (digest : List ℕ) → (v : Version)
         → after_message f clock from (message.Repl k t nth digest v)
-        ≡ if_view (in_view f k) (merged_if (write_counted_if f k (list_at f (partition_of digest))
+        ≡ (if in_view f k
+        then merged_if (write_counted_if f k (list_at f (partition_of digest))
         (partition_of digest) nth (from == list_master (list_at f (partition_of digest))))
-        (view_key f) digest v (is_newer f.store.by v (finite.get f.store.content digest))) f }
+        (view_key f) digest v (is_newer f.store.by v (finite.get f.store.content digest))
+        else f) }
     ensures repl_ack { (f : Facts) → (clock : ℕ) → (from : ℕ) → (k : ClusterKey) → (t : ℕ)
-        → after_message f clock from (message.ReplAck k t) ≡ if_view (in_view f k)
-        (record f {
+        → after_message f clock from (message.ReplAck k t)
+        ≡ (if in_view f k
+        then record f {
           transactions = closing_if (acknowledging f.transactions from t) t
               (ends_by_ack (transaction f.transactions t) from);
-        }) f }
+        }
+        else f) }
     ensures ask { (f : Facts) → (clock : ℕ) → (from : ℕ) → (k : ClusterKey) → (t : ℕ)
         → (digest : List ℕ) → after_message f clock from (message.Ask k t digest) ≡ f }
     ensures answer { (f : Facts) → (clock : ℕ) → (from : ℕ) → (k : ClusterKey) → (t : ℕ)
         → (v : Option Version)
-        → after_message f clock from (message.Answer k t v) ≡ if_view (in_view f k)
-        (resolved_with (answer_came f from t v true) clock from v (transaction f.transactions t))
-        f }
+        → after_message f clock from (message.Answer k t v)
+        ≡ (if in_view f k
+        then resolved_with (answer_came f from t v true) clock from v
+        (transaction f.transactions t)
+        else f) }
     ensures map_ask { (f : Facts) → (clock : ℕ) → (from : ℕ)
         → after_message f clock from message.MapAsk ≡ f }
 {}
