@@ -1,6 +1,6 @@
 -- No version is lost, as one line more comes.
 use Rattle.std.proofs.Common.{◌≡◌, ℕ, ◌==◌, Bool, true, false, not, ◌&&◌, ◌||◌, cond, List, [], ◌∷◌, ◌++◌, Option, Some, None, ◌⊎◌, inl, inr, refl, sym, ap, ap₂, subst, subst₂, ◌∙◌}
-use Rattle.std.specs.Prelude.{take, map, filter, IsTrue}
+use Rattle.std.specs.Prelude.{take, map, filter, IsTrue, bytes_eq}
 use Rattle.std.proofs.lemmas.Bool.{cases_Bool, or_parts}
 use Rattle.conflict_order.specs.declared.policy.Policy.{Policy}
 use Rattle.conflict_order.specs.declared.version.Version.{Version}
@@ -9,7 +9,7 @@ use Rattle.conflict_order.proofs.JoinLaws.{join_right, join_of_AtMost, join_asso
 use Rattle.cluster_types.specs.Partitions.{partition_of}
 use Rattle.journal_lines.specs.declared.line.Line.{Line}
 use Rattle.journal_lines.specs.declared.line.Line.TheVariants as line
-use Rattle.journal_readings.specs.Lines.{same_digest, has_node}
+use Rattle.journal_readings.specs.Lines.{has_node}
 use Rattle.journal_readings.specs.Settings.{policy_of, nodes}
 use Rattle.journal_readings.specs.Contents.{content, applied, join_all, joined_if}
 use Rattle.journal_readings.specs.Claims.{NoLoss}
@@ -117,15 +117,15 @@ both_true false b e = refl
 
 -- a version of a record comes to a node
 brought : (by : Policy) (ns : List ℕ) (j : List Line) (l : Line) (m : ℕ) (e d : List ℕ) (v : Version) → has_node ns m ≡ true
-    → ((n : ℕ) → content by n d (j ++ l ∷ []) ≡ joined_if ((m == n) && same_digest e d) by (content by n d j) v) → same_digest e d ≡ true
+    → ((n : ℕ) → content by n d (j ++ l ∷ []) ≡ joined_if ((m == n) && bytes_eq e d) by (content by n d j) v) → bytes_eq e d ≡ true
     → join_all by (map (λ n. content by n d (j ++ l ∷ [])) ns) ≡ join by (join_all by (map (λ n. content by n d j) ns)) (Some v)
 brought by ns j l m e d v h c q =
-    ap (join_all by) (same_map (λ n. content by n d (j ++ l ∷ [])) (λ n. joined_if (m == n) by (content by n d j) v) (λ n. c n ∙ ap (λ (b : Bool). joined_if b by (content by n d j) v) (both_true (m == n) (same_digest e d) q)) ns)
+    ap (join_all by) (same_map (λ n. content by n d (j ++ l ∷ [])) (λ n. joined_if (m == n) by (content by n d j) v) (λ n. c n ∙ ap (λ (b : Bool). joined_if b by (content by n d j) v) (both_true (m == n) (bytes_eq e d) q)) ns)
     ∙ joined_at by (λ n. content by n d j) m v ns h
 
-unbrought : (by : Policy) (j : List Line) (l : Line) (m : ℕ) (e d : List ℕ) (v : Version) (n : ℕ) → content by n d (j ++ l ∷ []) ≡ joined_if ((m == n) && same_digest e d) by (content by n d j) v → same_digest e d ≡ false
+unbrought : (by : Policy) (j : List Line) (l : Line) (m : ℕ) (e d : List ℕ) (v : Version) (n : ℕ) → content by n d (j ++ l ∷ []) ≡ joined_if ((m == n) && bytes_eq e d) by (content by n d j) v → bytes_eq e d ≡ false
     → content by n d (j ++ l ∷ []) ≡ content by n d j
-unbrought by j l m e d v n c q = c ∙ ap (λ (b : Bool). joined_if b by (content by n d j) v) (both_false (m == n) (same_digest e d) q)
+unbrought by j l m e d v n c q = c ∙ ap (λ (b : Bool). joined_if b by (content by n d j) v) (both_false (m == n) (bytes_eq e d) q)
 
 -- all copies of the partition of the record but the node's are as they were
 left_over : (by : Policy) (ns : List ℕ) (j : List Line) (l : Line) (m p : ℕ) (d : List ℕ)
@@ -137,7 +137,7 @@ left_over by ns j l m p d c q =
 
 kept_last : (j : List Line) (l : Line) → names_declared j l ≡ true → ((d : List ℕ) → IsKept (policy_of j) (nodes j) j d) → LosesNothing j l → (d : List ℕ) → IsKept (policy_of j) (nodes j) (j ++ l ∷ []) d
 unfolding named_nodes
-kept_last j (line.Apply m k t e v) named h f d = go (same_digest e d) refl
+kept_last j (line.Apply m k t e v) named h f d = go (bytes_eq e d) refl
   where
     by : Policy
     by = policy_of j
@@ -145,11 +145,11 @@ kept_last j (line.Apply m k t e v) named h f d = go (same_digest e d) refl
     l : Line
     l = line.Apply m k t e v
 
-    go : (b : Bool) → same_digest e d ≡ b → IsKept by (nodes j) (j ++ l ∷ []) d
+    go : (b : Bool) → bytes_eq e d ≡ b → IsKept by (nodes j) (j ++ l ∷ []) d
     go true q = brought by (nodes j) j l m e d v (and_left (has_node (nodes j) m) true named) (λ n. content-more by n d j l) q
         ∙ (ap (λ (z : Option Version). join by z (Some v)) (h d) ∙ sym (applied-more by d j l ∙ ap (λ (b : Bool). joined_if b by (applied by d j) v) q))
     go false q = untouched by (nodes j) j l d (λ n. unbrought by j l m e d v n (content-more by n d j l) q) (applied-more by d j l ∙ ap (λ (b : Bool). joined_if b by (applied by d j) v) q) (h d)
-kept_last j (line.Merge m k e v) named h f d = go (same_digest e d) refl
+kept_last j (line.Merge m k e v) named h f d = go (bytes_eq e d) refl
   where
     by : Policy
     by = policy_of j
@@ -157,7 +157,7 @@ kept_last j (line.Merge m k e v) named h f d = go (same_digest e d) refl
     l : Line
     l = line.Merge m k e v
 
-    go : (b : Bool) → same_digest e d ≡ b → IsKept by (nodes j) (j ++ l ∷ []) d
+    go : (b : Bool) → bytes_eq e d ≡ b → IsKept by (nodes j) (j ++ l ∷ []) d
     go true q = brought by (nodes j) j l m e d v (and_left (has_node (nodes j) m) true named) (λ n. content-more by n d j l) q
         ∙ (ap (λ (z : Option Version). join by z (Some v)) (h d)
         ∙ (join_comm by (applied by d j) (Some v) ∙ (join_of_AtMost (subst (λ (x : List ℕ). AtMost by (Some v) (applied by x j)) (same_digest_is e d q) f) ∙ sym (applied-more by d j l))))

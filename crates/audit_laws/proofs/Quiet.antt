@@ -1,6 +1,6 @@
 -- What a line leaves as it was of a view and a record.
 use Rattle.std.proofs.Common.{◌≡◌, ℕ, ◌==◌, Bool, true, false, ◌&&◌, ◌||◌, cond, List, [], ◌∷◌, ◌++◌, Option, Some, None, option_map, refl, sym, ap, ap₂, ◌∙◌}
-use Rattle.std.specs.Prelude.{map, option_and_then}
+use Rattle.std.specs.Prelude.{map, option_and_then, bytes_eq}
 use Rattle.std.proofs.lemmas.Bool.{or_parts}
 use Rattle.std.proofs.lemmas.List.Folds.{list_any-append}
 use Rattle.std.proofs.Math.Bool.{or-false}
@@ -16,7 +16,7 @@ use Rattle.cluster_types.specs.ClusterKeys.{is_view_key}
 use Rattle.partition_lists.specs.Lists as lists
 use Rattle.journal_lines.specs.declared.line.Line.{Line}
 use Rattle.journal_lines.specs.declared.line.Line.TheVariants as line
-use Rattle.journal_readings.specs.Lines.{same_key, same_digest, lines_before, is_enter, is_exchanged, is_settled_line, is_done_line}
+use Rattle.journal_readings.specs.Lines.{same_key, lines_before, is_enter, is_exchanged, is_settled_line, is_done_line}
 use Rattle.journal_readings.specs.Contents.{content, content_step, join_all, joined_if}
 use Rattle.journal_readings.specs.Views.{view, view_step, some_key, is_in_view, members, master, first_of}
 use Rattle.journal_readings.specs.Entries.{entry, applied_in, applied_in_step, fold_of}
@@ -207,9 +207,9 @@ quiet j (line.Apply n l t e v) k d h = record {
   settles = refl;
   exchanges = refl;
   ends = λ u. refl;
-  applies = λ by x. unjoined (same_key l k && same_digest e d) by x v (turned (same_digest e d) (same_key l k) (is_in_view k n j) h);
+  applies = λ by x. unjoined (same_key l k && bytes_eq e d) by x v (turned (bytes_eq e d) (same_key l k) (is_in_view k n j) h);
   views = λ m o q. q;
-  contents = λ by r x q. unjoined ((n == r) && same_digest e d) by x v (apart j k n r (same_digest e d) (same_key l k) h q);
+  contents = λ by r x q. unjoined ((n == r) && bytes_eq e d) by x v (apart j k n r (bytes_eq e d) (same_key l k) h q);
 }
 quiet j (line.Merge n l e v) k d h = record {
   enters = refl;
@@ -218,7 +218,7 @@ quiet j (line.Merge n l e v) k d h = record {
   ends = λ u. refl;
   applies = λ by x. refl;
   views = λ m o q. q;
-  contents = λ by r x q. unjoined ((n == r) && same_digest e d) by x v (apart j k n r (same_digest e d) false h q);
+  contents = λ by r x q. unjoined ((n == r) && bytes_eq e d) by x v (apart j k n r (bytes_eq e d) false h q);
 }
 quiet j (line.Drop n l p) k d h = record {
   enters = refl;

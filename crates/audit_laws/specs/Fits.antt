@@ -1,5 +1,5 @@
 -- What each law asks of one line more, behind a journal that keeps the laws.
-use Rattle.std.specs.Prelude.{◌≡◌, ℕ, ◌==◌, ◌&&◌, ◌||◌, Bool, true, false, not, List, [], ◌∷◌, ◌++◌, map, filter, Option, Some, IsTrue}
+use Rattle.std.specs.Prelude.{◌≡◌, ℕ, ◌==◌, ◌&&◌, ◌||◌, Bool, true, false, not, List, [], ◌∷◌, ◌++◌, map, filter, Option, Some, IsTrue, bytes_eq}
 use Rattle.std.specs.List.{list_any}
 use Rattle.conflict_order.specs.declared.policy.Policy.{Policy}
 use Rattle.conflict_order.specs.declared.version.Version.{Version}
@@ -8,7 +8,7 @@ use Rattle.cluster_types.specs.declared.cluster_key.ClusterKey.{ClusterKey}
 use Rattle.cluster_types.specs.Partitions.{partition_of}
 use Rattle.journal_lines.specs.declared.line.Line.{Line}
 use Rattle.journal_lines.specs.declared.line.Line.TheVariants as line
-use Rattle.journal_readings.specs.Lines.{same_key, same_digest, has_node}
+use Rattle.journal_readings.specs.Lines.{same_key, has_node}
 use Rattle.journal_readings.specs.Settings.{policy_of, factor_of, nodes}
 use Rattle.journal_readings.specs.Contents.{content, applied, join_all}
 use Rattle.journal_readings.specs.Views.{view, is_in_view, members, master, is_replica}
@@ -67,8 +67,8 @@ LosesNothing j _ = Unit {0}
 -- which a replica is to hold it: it brings a version of the record, or takes it away; the list master settles the
 -- partition, finishes exchange or ends a write; or a member enters
 abbrev pub may_part : List Line → Line → ClusterKey → List ℕ → Bool
-may_part j (line.Apply n l t e v) k d = same_digest e d && (same_key l k || is_in_view k n j)
-may_part j (line.Merge n l e v) k d = same_digest e d && is_in_view k n j
+may_part j (line.Apply n l t e v) k d = bytes_eq e d && (same_key l k || is_in_view k n j)
+may_part j (line.Merge n l e v) k d = bytes_eq e d && is_in_view k n j
 may_part j (line.Drop n l p) k d = (p == partition_of d) && is_in_view k n j
 may_part j (line.Settled n l p) k d =
     (n == master k (partition_of d) j) && (same_key l k && (p == partition_of d))

@@ -1,6 +1,6 @@
 -- What messages and a tick make of the records that a node hands on.
 use Rattle.std.proofs.Common.{◌≡◌, ℕ, ◌==◌, ◌||◌, ◌&&◌, not, Bool, true, false, List, [], ◌∷◌, ◌++◌, map, Option, Some, None, refl, sym, ap, subst, ◌∙◌}
-use Rattle.std.specs.Prelude.{filter_map, flat_map, is_none}
+use Rattle.std.specs.Prelude.{filter_map, flat_map, is_none, if◌then◌else◌}
 use Rattle.std.specs.List.{cons_option}
 use Rattle.conflict_order.specs.declared.want.Want.{Want}
 use Rattle.conflict_order.specs.declared.version.Version.{Version}
@@ -13,21 +13,21 @@ use Rattle.wire_messages.specs.declared.message.Message.TheVariants as message
 use Rattle.journal_lines.specs.declared.line.Line.{Line}
 use Rattle.journal_lines.specs.declared.line.Line.TheVariants as line
 use Rattle.partition_lists.proofs.InOrderLaws.{equal}
-use Rattle.node_rules.specs.Agreement.{Proposal}
+use Rattle.node_rules.specs.Agreement.{Proposal, next_key}
 use Rattle.node_rules.specs.Batches.{Target, Targets, next_batch, sending}
 use Rattle.node_rules.specs.Copies.{Content, Row}
-use Rattle.node_rules.specs.Effects.{to_each}
+use Rattle.node_rules.specs.Effects.{to_each, lines_and_sends, lines_only, nothing, sends_only, to_one}
 use Rattle.node_rules.specs.Exchange.{View, first_missing, is_view}
 use Rattle.node_rules.specs.Facts.{Facts, list_at, members_of_view, view_key}
 use Rattle.node_rules.specs.Messages as due
 use Rattle.node_rules.specs.Messages.{due_message_of, finishes}
 use Rattle.node_rules.specs.Notes as notes
-use Rattle.node_rules.specs.Notes.{after_ages, all_sent, in_view, note, noted, reached, sent}
+use Rattle.node_rules.specs.Notes.{after_ages, all_sent, in_view, note, noted, reached, sent, neighbours}
 use Rattle.node_rules.specs.Resolving.{repl}
 use Rattle.node_rules.specs.Settling.{settling_due}
 use Rattle.node_rules.specs.Standing.{others}
 use Rattle.node_rules.specs.Tables.{changed_if, only_if}
-use Rattle.node_rules.specs.Tick.{batch_to, batches, beat, propose, propose_new, propose_with, progress, progress_if, rows, sends_again, state, tick_if, transactions}
+use Rattle.node_rules.specs.Tick.{batch_to, batches, beat, propose, propose_with, progress, rows, sends_again, state, transactions, parts, parts_in_order, progress_message, proposal_effects}
 use Rattle.node_rules.specs.Transactions.{Transaction, Write}
 use Rattle.journal_readings.specs.Lines.{has_node}
 use Rattle.node_rules.proofs.NoteLaws.{all_sent-append}
@@ -45,6 +45,8 @@ use Rattle.calm_laws.proofs.Sent.{asks, message_none}
 use Rattle.calm_laws.proofs.Taking.{free_agrees, rests_proposed}
 use Rattle.calm_laws.proofs.Ticking.{proposed, progressing, tick_facts, tick_list}
 use Rattle.calm_laws.proofs.Words.{Each, Ends, Words, is_state, message_words}
+use Rattle.node_rules.specs.StaleMessages.{stale}
+use Rattle.node_rules.specs.Agreement as agreement
 
 -- ---- messages
 
@@ -139,7 +141,7 @@ and_false true = refl
 and_false false = refl
 
 -- an exchange that is over doesn't end again
-no_end : (f : Facts) (from : ℕ) (row : Row) (wants b : Bool) → f.exchange.exchanged ≡ true → Each Leaves (due.state_came f (notes.row_came f from row b) from wants b).lines
+no_end : (f : Facts) (from : ℕ) (row : Row) (wants b : Bool) → f.exchange.exchanged ≡ true → Each Leaves (if b then lines_and_sends (only_if (line.Exchanged f.me (view_key f)) (finishes f (notes.row_came f from row b))) (if wants then to_one from (state f false) else []) else stale f).lines
 no_end f from row wants false e = (λ q g. refl, tt)
 no_end f from row wants true e =
     subst (λ (c : Bool). Each Leaves (only_if (line.Exchanged f.me (view_key f)) c)) (sym over) tt
@@ -176,7 +178,7 @@ transactions_not : (f : Facts) (ts : List Transaction) → NoneOf (λ k. k == 7)
 transactions_not f [] = tt
 transactions_not f (t ∷ ts) = none_append (λ k. k == 7) (sends_again f t t.applied) _ (again_not f t t.applied) (transactions_not f ts)
 
-progress_not : (n : ℕ) (f : Facts) (b : Bool) → NoneOf (λ k. k == 7) (progress_if n f b).sends
+progress_not : (n : ℕ) (f : Facts) (b : Bool) → NoneOf (λ k. k == 7) (if b then sends_only (to_each (others f) (progress_message n f true)) else nothing).sends
 progress_not n f true = each_not (others f) _ refl
 progress_not n f false = tt
 
@@ -282,8 +284,8 @@ rests_begins n c f up none e read once =
     let h3 : Facts = all_sent h2 r in
     let h4 : Facts = all_sent h3 t in
     let h5 : Facts = all_sent h4 o in
-    let plain : as_read (tick_list n f) ≡ tick_list n f = subst (λ (x : Bool). as_read (tick_if n f x).sends ≡ (tick_if n f x).sends) up read in
-    let nothing : p ≡ [] = ap (λ (o : Option Proposal). (propose_with g o).sends) none ∙ ap (λ (x : Bool). (propose_new g x).sends) e in
+    let plain : as_read (tick_list n f) ≡ tick_list n f = subst (λ (x : Bool). as_read (if x then parts_in_order (parts n) f else lines_only (line.Down f.me ∷ [])).sends ≡ (if x then parts_in_order (parts n) f else lines_only (line.Down f.me ∷ [])).sends) up read in
+    let nothing : p ≡ [] = ap (λ (o : Option Proposal). (propose_with g o).sends) none ∙ ap (λ (x : Bool). (if x then proposal_effects g (next_key g.me g.agreement) (neighbours g) (agreement.others_among g.me (neighbours g)) else nothing).sends) e in
     let begin : h4.batches ≡ f.batches =
     all_sent_leaves h3 t (transactions_not (proposed f) (proposed f).transactions.running)
     ∙ all_sent_leaves h2 r (each_not _ (state (proposed f) true) refl)

@@ -1,11 +1,11 @@
 -- What holds of every world along the events of a round holds of each node's facts whenever something comes to it.
-use Rattle.std.proofs.Common.{◌≡◌, ℕ, ◌==◌, Bool, true, false, List, [], ◌∷◌, ◌++◌, Option, Some, None, sym, ap, subst, ◌∙◌, length}
+use Rattle.std.proofs.Common.{◌≡◌, ℕ, ◌==◌, Bool, true, false, List, [], ◌∷◌, ◌++◌, Option, Some, None, sym, ap, subst, ◌∙◌, length, if◌then◌else◌}
 use Rattle.cluster_types.specs.Distinct.{without}
 use Rattle.node_rules.specs.Facts.{Facts}
 use Rattle.cluster_rules.specs.declared.event.Event.{Event}
 use Rattle.cluster_rules.specs.declared.event.Event.TheVariants as event
 use Rattle.journal_readings.specs.Messages.{Posting}
-use Rattle.cluster_rules.specs.Network.{flying_at, flying_if, posting_at}
+use Rattle.cluster_rules.specs.Network.{flying_at, posting_at}
 use Rattle.cluster_rules.specs.Steps.{play}
 use Rattle.cluster_rules.specs.World.{World}
 use Rattle.calm_laws.specs.Acts.{Input, served}
@@ -45,7 +45,7 @@ along n S m P gives [] w keep named ready clear s = gives w s
 along n S m P gives (event.Deliver i ∷ es) w keep named ready clear s =
     let u : World = (play n (event.Deliver i) w).world in
     let there : (p : Posting) × (posting_at w.network i ≡ Some p) = posting_there w.network i ready.1 ready.2 in
-    let flies : flying_at w.network i ≡ Some there.0 = ap (λ (b : Bool). flying_if w.network i b) ready.0 ∙ there.1 in
+    let flies : flying_at w.network i ≡ Some there.0 = ap (λ (b : Bool). (if b then posting_at w.network i else None)) ready.0 ∙ there.1 in
     let st0 : Stepped n w u (input_of w (Some there.0)) (without w.network.flying i) = step_deliver n w i there.0 named flies there.1 clear.0 in
     let st : Stepped n w u (input w (event.Deliver i)) (without w.network.flying i) = subst (λ (o : Option Posting). Stepped n w u (input_of w o) (without w.network.flying i)) (sym there.1) st0 in
     along_on n S m P gives w u (event.Deliver i) es (without w.network.flying i) st ready.3 s

@@ -1,6 +1,6 @@
 -- Each step makes of each node's facts what the node's rules make of them, or leaves them.
 use Rattle.std.proofs.Common.{◌≡◌, ℕ, ◌+◌, ◌-◌, ◌≤◌, ◌==◌, ◌||◌, ◌&&◌, not, nat_lt, nat_le, Bool, true, false, List, [], ◌∷◌, ◌++◌, map, All, length, Option, Some, None, refl, sym, ap, subst, ◌∙◌, arith}
-use Rattle.std.specs.Prelude.{option_and_then, option_map, if◌then◌else◌}
+use Rattle.std.specs.Prelude.{option_and_then, option_map, if◌then◌else◌, slice_get}
 use Rattle.std.specs.List.{list_all, range_with_len}
 use Rattle.std.proofs.lemmas.Bool.Decides.{nat_tests}
 use Rattle.std.proofs.lemmas.List.Elements.{All-nil, All-cons}
@@ -19,20 +19,20 @@ use Rattle.journal_lines.specs.declared.line.Line.TheVariants as line
 use Rattle.journal_lines.specs.declared.refusal.Refusal.{Refusal}
 use Rattle.partition_lists.proofs.InOrderLaws.{equal}
 use Rattle.node_rules.specs.Client.{node_for}
-use Rattle.node_rules.specs.Effects.{Effects}
+use Rattle.node_rules.specs.Effects.{Effects, lines_only}
 use Rattle.node_rules.specs.Facts.{Facts, list_at}
 use Rattle.node_rules.specs.Map.{entry_of}
-use Rattle.node_rules.specs.Messages.{due_message, client}
+use Rattle.node_rules.specs.Messages.{due_message, client, due_message_of}
 use Rattle.node_rules.specs.Notes.{all_sent, noted, reached}
-use Rattle.node_rules.specs.Requests.{due_request, due_start, due_stop, map_refusal, start_if, stop_if}
+use Rattle.node_rules.specs.Requests.{due_request, due_start, due_stop, map_refusal}
 use Rattle.node_rules.specs.Shows.{due_show, map_if, map_line}
-use Rattle.node_rules.specs.Tick.{due_tick, tick_if}
+use Rattle.node_rules.specs.Tick.{due_tick, parts, parts_in_order}
 use Rattle.journal_readings.specs.Messages.{Posting, arrived, arrived_cut}
 use Rattle.cluster_rules.specs.declared.event.Event.{Event}
 use Rattle.cluster_rules.specs.declared.event.Event.TheVariants as event
-use Rattle.cluster_rules.specs.DueEvents.{arriving, arriving_cut, delivery, due_arrival, due_at_client, due_at_end, due_at_named, is_blocked, losing, unless_blocked, written}
-use Rattle.cluster_rules.specs.Marks.{Writes, adds, after_all, after_line, event_begun, came, came_to, came_to_client, came_to_node, taken_by, want_in}
-use Rattle.cluster_rules.specs.Network.{Network, flying_at, flying_if, landed, posting_at, posting_if}
+use Rattle.cluster_rules.specs.DueEvents.{arriving, delivery, due_arrival, due_at_client, due_at_named, is_blocked, losing, written}
+use Rattle.cluster_rules.specs.Marks.{Writes, adds, after_all, after_line, event_begun, came, came_to_client, came_to_node, taken_by, want_in}
+use Rattle.cluster_rules.specs.Network.{Network, flying_at, landed, posting_at}
 use Rattle.cluster_rules.specs.NodeSteps.{AreOf, AreRead, IsNumbered, Moves, all_sent_in}
 use Rattle.cluster_rules.specs.Steps.{play}
 use Rattle.cluster_rules.specs.World.{World, is_up}
@@ -46,6 +46,7 @@ use Rattle.run_laws.specs.Worlds.{SendsAreRead}
 use Rattle.calm_laws.specs.Becoming.{Became, stayed, ticked, heard, asked, stopped, started, quiesced}
 use Rattle.calm_laws.specs.Flows.{InOrder, Named, AreGiven}
 use Rattle.calm_laws.proofs.Took.{at_itself, at_other}
+use Rattle.node_rules.specs.Entering.{closing}
 
 -- ---- one node acts
 
@@ -102,15 +103,15 @@ module _ (w : World) (named : Named w) (read : SendsAreRead w) (order : InOrder 
       subst (λ (net : Network). Moves a (all_sent (noted (want_in e) (w.facts a) x.lines) x.sends) (all_sent_in net a x.sends) (event_begun w e) (after_all (event_begun w e) (map Writes (written net a x)))) same
       (node_step (event_begun w e) a x own sends (subst IsNumbered (sym same) (numbered w order)))
 
-  tick_reads : (a : ℕ) (b : Bool) → (w.facts a).up ≡ b → AreRead (tick_if partition_count (w.facts a) b).sends
+  tick_reads : (a : ℕ) (b : Bool) → (w.facts a).up ≡ b → AreRead (if b then parts_in_order (parts partition_count) (w.facts a) else lines_only (line.Down (w.facts a).me ∷ [])).sends
   tick_reads a false e = tt
-  tick_reads a true e = subst (λ (b : Bool). AreRead (tick_if partition_count (w.facts a) b).sends) e (read.tick a e)
+  tick_reads a true e = subst (λ (b : Bool). AreRead (if b then parts_in_order (parts partition_count) (w.facts a) else lines_only (line.Down (w.facts a).me ∷ [])).sends) e (read.tick a e)
 
-  stop_reads : (f : Facts) (b : Bool) → AreRead (stop_if f b).sends
+  stop_reads : (f : Facts) (b : Bool) → AreRead (if b then lines_only (closing f ++ line.Stop f.me ∷ []) else lines_only (line.Down f.me ∷ [])).sends
   stop_reads f true = tt
   stop_reads f false = tt
 
-  start_reads : (f : Facts) (b : Bool) → AreRead (start_if f b).sends
+  start_reads : (f : Facts) (b : Bool) → AreRead (if b then lines_only (line.Up f.me ∷ []) else lines_only (line.Start f.me ∷ [])).sends
   start_reads f true = tt
   start_reads f false = tt
 
@@ -175,21 +176,21 @@ module _ (w : World) (named : Named w) (read : SendsAreRead w) (order : InOrder 
       up_there a b c h i = grind arith
 
       go : (b : Bool) → (p.to == client) ≡ b
-          → Became w e m ((after_all (came_to (event_begun w e) (record { from = p.from; to = p.to; message = x }) b) (map Writes (due_at_end partition_count w (taken_by w.network e) p x b))).facts m)
+          → Became w e m ((after_all (if b then came_to_client (event_begun w e) x else came_to_node (event_begun w e) (record { from = p.from; to = p.to; message = x })) (map Writes (if b then due_at_client x else written (taken_by w.network e) p.to (due_message_of partition_count (w.facts p.to) (w.clocks p.to) p.from x)))).facts m)
       go true c = at_client e (event_begun w e) x refl m
       go false c = of_message e i p x none numbers stands is (up_there _ (p.to == client) (is_up w p.to) free c) m
 
   landed_at : (i : ℕ) → posting_at (landed w.network i) i ≡ posting_at w.network i
   landed_at i = go (nat_lt 0 i)
     where
-      go : (b : Bool) → posting_if (landed w.network i) i b ≡ posting_if w.network i b
+      go : (b : Bool) → (if b then slice_get (landed w.network i).sent (i - 1) else None) ≡ (if b then slice_get w.network.sent (i - 1) else None)
       go true = refl
       go false = refl
 
   flying_stands : (i : ℕ) (p : Posting) → flying_at w.network i ≡ Some p → posting_at w.network i ≡ Some p
   flying_stands i p e = go (Rattle.cluster_rules.specs.Network.is_flying w.network i) e
     where
-      go : (b : Bool) → flying_if w.network i b ≡ Some p → posting_at w.network i ≡ Some p
+      go : (b : Bool) → (if b then posting_at w.network i else None) ≡ Some p → posting_at w.network i ≡ Some p
       go true h = h
       go false h = cc
 
@@ -200,7 +201,7 @@ module _ (w : World) (named : Named w) (read : SendsAreRead w) (order : InOrder 
   delivered e i lines m here None is = stayed refl
   delivered e i lines m here (Some p) is = go (is_blocked w p) refl
     where
-      go : (b : Bool) → is_blocked w p ≡ b → Became w e m ((after_all (event_begun w e) (map Writes (unless_blocked i lines p b))).facts m)
+      go : (b : Bool) → is_blocked w p ≡ b → Became w e m ((after_all (event_begun w e) (map Writes (if b then line.Blocked i ∷ [] else lines p))).facts m)
       go true c = stayed refl
       go false c = here p (flying_stands i p is) c
 
@@ -232,7 +233,7 @@ module _ (w : World) (named : Named w) (read : SendsAreRead w) (order : InOrder 
           (sym stands) (arrives (event.Repeat i) i p refl (numbered w order) stands free m (message_of p.bytes) refl)
 
   of_cut : (i size m : ℕ) → Became w (event.Cut i size) m ((play partition_count (event.Cut i size) w).world.facts m)
-  of_cut i size m = delivered (event.Cut i size) i (λ p. line.Cut i p.from p.to size ∷ arriving_cut partition_count w (landed w.network i) p (nat_lt size (length p.bytes))) m here (flying_at w.network i) refl
+  of_cut i size m = delivered (event.Cut i size) i (λ p. line.Cut i p.from p.to size ∷ (if nat_lt size (length p.bytes) then line.Short p.to ∷ [] else arriving partition_count w (landed w.network i) p)) m here (flying_at w.network i) refl
     where
       whole : (a b : ℕ) → nat_lt a b ≡ false → nat_le b a ≡ true
       whole a b e = grind (arith, nat_tests, e)
@@ -241,12 +242,12 @@ module _ (w : World) (named : Named w) (read : SendsAreRead w) (order : InOrder 
       short a b e = grind (arith, nat_tests, e)
 
       here : (p : Posting) → posting_at w.network i ≡ Some p → is_blocked w p ≡ false
-          → Became w (event.Cut i size) m ((after_all (event_begun w (event.Cut i size)) (map Writes (line.Cut i p.from p.to size ∷ arriving_cut partition_count w (landed w.network i) p (nat_lt size (length p.bytes))))).facts m)
+          → Became w (event.Cut i size) m ((after_all (event_begun w (event.Cut i size)) (map Writes (line.Cut i p.from p.to size ∷ (if nat_lt size (length p.bytes) then line.Short p.to ∷ [] else arriving partition_count w (landed w.network i) p)))).facts m)
       here p stands free =
-          subst (λ (o : Option Posting). Became w (event.Cut i size) m ((after_all (came (event_begun w (event.Cut i size)) (option_and_then (arrived_cut p.to size) o)) (map Writes (arriving_cut partition_count w (landed w.network i) p (nat_lt size (length p.bytes))))).facts m))
+          subst (λ (o : Option Posting). Became w (event.Cut i size) m ((after_all (came (event_begun w (event.Cut i size)) (option_and_then (arrived_cut p.to size) o)) (map Writes (if nat_lt size (length p.bytes) then line.Short p.to ∷ [] else arriving partition_count w (landed w.network i) p))).facts m))
           (sym (landed_at i ∙ stands)) (go (nat_lt size (length p.bytes)) refl)
         where
-          go : (b : Bool) → nat_lt size (length p.bytes) ≡ b → Became w (event.Cut i size) m ((after_all (came (event_begun w (event.Cut i size)) (arrived_cut p.to size p)) (map Writes (arriving_cut partition_count w (landed w.network i) p b))).facts m)
+          go : (b : Bool) → nat_lt size (length p.bytes) ≡ b → Became w (event.Cut i size) m ((after_all (came (event_begun w (event.Cut i size)) (arrived_cut p.to size p)) (map Writes (if b then line.Short p.to ∷ [] else arriving partition_count w (landed w.network i) p))).facts m)
           go true e =
               subst (λ (b : Bool). Became w (event.Cut i size) m ((after_all (came (event_begun w (event.Cut i size)) (if b then arrived p.to p else None)) (map Writes (line.Short p.to ∷ []))).facts m)) (sym (short size (length p.bytes) e)) (stayed refl)
           go false e =
@@ -259,7 +260,7 @@ module _ (w : World) (named : Named w) (read : SendsAreRead w) (order : InOrder 
   of_quiet e ls quiet m = stayed
       (ap (λ (u : World). u.facts m) (quiet_lines ls (event_begun w e) quiet))
 
-  of_mark : (e : Event) (a m : ℕ) (b : Bool) (v : World) → v.facts ≡ Rattle.cluster_rules.specs.World.changed_at w.facts a (Rattle.node_rules.specs.Notes.marked (w.facts a) b) → Became w e m (v.facts m)
+  of_mark : (e : Event) (a m : ℕ) (b : Bool) (v : World) → v.facts ≡ Rattle.cluster_types.specs.Changed.at_number w.facts a (Rattle.node_rules.specs.TickNotes.marked (w.facts a) b) → Became w e m (v.facts m)
   of_mark e a m b v is =
       one_acts w v e a m (quiesced b (ap (λ (f : ℕ → Facts). f a) is ∙ at_itself w.facts a _)) (λ x d. ap (λ (f : ℕ → Facts). f x) is ∙ at_other w.facts a _ x d)
 

@@ -1,5 +1,5 @@
 -- The ticks of a round that begins ready: nobody but the greatest proposes, and it proposes the group.
-use Rattle.std.proofs.Common.{◌≡◌, ℕ, ◌+◌, ◌≤◌, ◌==◌, ◌&&◌, Bool, true, false, List, [], ◌∷◌, Option, Some, None, refl, sym, ap, subst, ◌∙◌, ◌⊎◌, inl, inr, arith}
+use Rattle.std.proofs.Common.{◌≡◌, ℕ, ◌+◌, ◌≤◌, ◌==◌, ◌&&◌, Bool, true, false, List, [], ◌∷◌, Option, Some, None, refl, sym, ap, subst, ◌∙◌, ◌⊎◌, inl, inr, arith, if◌then◌else◌}
 use Rattle.cluster_types.specs.declared.cluster_key.ClusterKey.{ClusterKey}
 use Rattle.cluster_types.specs.declared.member.Member.{Member}
 use Rattle.cluster_types.specs.ClusterKeys.{IsBelow}
@@ -8,13 +8,13 @@ use Rattle.wire_messages.specs.declared.message.Message.TheVariants as message
 use Rattle.partition_lists.proofs.InOrderLaws.{equal}
 use Rattle.journal_readings.proofs.Fronts.{and_right}
 use Rattle.node_rules.specs.Agreement as agreement
-use Rattle.node_rules.specs.Agreement.{Agreement, Proposal, has_round, kept_if, next_key, others_among, proposes_set, seen_round}
+use Rattle.node_rules.specs.Agreement.{Agreement, Proposal, has_round, next_key, others_among, proposes_set, seen_round}
 use Rattle.node_rules.specs.Copies.{is_nil}
-use Rattle.node_rules.specs.Effects.{to_each}
+use Rattle.node_rules.specs.Effects.{to_each, nothing}
 use Rattle.node_rules.specs.Facts.{Facts}
 use Rattle.node_rules.specs.Hearing.{is_greatest, quiet_ticks}
 use Rattle.node_rules.specs.Notes.{after_ages, neighbours}
-use Rattle.node_rules.specs.Tick.{propose, propose_new, propose_with, proposal_effects, is_candidate, wants_view}
+use Rattle.node_rules.specs.Tick.{propose, propose_with, proposal_effects, is_candidate, wants_view}
 use Rattle.journal_readings.specs.Lines.{has_node}
 use Rattle.cluster_rules.specs.World.{World}
 use Rattle.cluster_rules.proofs.KeptFacts.{num_same}
@@ -50,7 +50,7 @@ below_round a n s le = omega (arith, le)
 -- ---- who proposes
 
 pub aged_none : (f : Facts) → f.agreement.proposal ≡ None → (after_ages f).agreement.proposal ≡ None
-aged_none f e = ap (λ (o : Option Proposal). kept_if (proposes_set o (neighbours (after_ages f))) o) e
+aged_none f e = ap (λ (o : Option Proposal). (if proposes_set o (neighbours (after_ages f)) then o else None)) e
 
 named_greatest : (f : Facts) (m : ℕ) (set : List Member) → f.me ≡ m → neighbours (after_ages f) ≡ set → is_greatest f.me (neighbours (after_ages f)) ≡ is_greatest m set
 named_greatest f m set me is = ap (λ (x : ℕ). is_greatest x (neighbours (after_ages f))) me ∙ ap (λ (ms : List Member). is_greatest m ms) is
@@ -133,13 +133,13 @@ leads_with g set s n ns is none ordered = subst (λ (o : Option Proposal). Leads
     below = below_round s.agreement.promised g (seen_round s.agreement) (omega arith)
 
     proposed : Option Proposal → Stance
-    proposed o = record s { agreement = agreement.proposing (record s.agreement { promised = k; proposal = kept_if (agreement.proposes o k) o }) g k set }
+    proposed o = record s { agreement = agreement.proposing (record s.agreement { promised = k; proposal = (if agreement.proposes o k then o else None) }) g k set }
 
 proposal_with : (g : ℕ) (set : List Member) (s : Stance) (n : ℕ) (ns : List ℕ) → s.agreement.proposal ≡ None
     → (proposes_to g s (next_key g s.agreement) set (n ∷ ns)).agreement.proposal ≡ Some (agreement.proposal_of g (next_key g s.agreement) set)
 proposal_with g set s n ns none =
     let k : ClusterKey = next_key g s.agreement in
-    ap (λ (o : Option Proposal). (agreement.proposing (record s.agreement { promised = k; proposal = kept_if (agreement.proposes o k) o }) g k set).proposal) none
+    ap (λ (o : Option Proposal). (agreement.proposing (record s.agreement { promised = k; proposal = (if agreement.proposes o k then o else None) }) g k set).proposal) none
 
 -- alone it is in the view at once
 pub record Alone (g : ℕ) (set : List Member) (k : ClusterKey) (s : Stance) : Type 0 where
@@ -161,8 +161,8 @@ leader_begins n ns gs g set w t r k e = go (others_among g set) refl
     here : has_node gs g ≡ true
     here = r.roll.lead
 
-    then : stance_of (t.facts g) ≡ proposes_to g s (key_next g w) set (others_among g set)
-    then = tick_stance n ns gs g set w t r k g here ∙ ap (λ (b : Bool). ticks g s set None b) e
+    onward : stance_of (t.facts g) ≡ proposes_to g s (key_next g w) set (others_among g set)
+    onward = tick_stance n ns gs g set w t r k g here ∙ ap (λ (b : Bool). ticks g s set None b) e
 
     none : s.agreement.proposal ≡ None
     none = aged_none (w.facts g) (r.none g here)
@@ -170,11 +170,11 @@ leader_begins n ns gs g set w t r k e = go (others_among g set) refl
     go : (os : List ℕ) → others_among g set ≡ os → Alone g set (key_next g w) (stance_of (t.facts g)) ⊎ Begins g set (key_next g w) (stance_of (t.facts g))
     go [] is = inl (record {
       alone = is;
-      inside = subst (λ (x : Stance). Inside (key_next g w) set x) (sym (then ∙ ap (λ (os : List ℕ). proposes_to g s (key_next g w) set os) is))
+      inside = subst (λ (x : Stance). Inside (key_next g w) set x) (sym (onward ∙ ap (λ (os : List ℕ). proposes_to g s (key_next g w) set os) is))
           (inside_entered (key_next g w) (key_next g w) set set (record s { agreement = agreement.promising s.agreement (key_next g w) }) refl refl refl);
     })
     go (x ∷ xs) is =
-        let now : stance_of (t.facts g) ≡ proposes_to g s (key_next g w) set (x ∷ xs) = then ∙ ap (λ (os : List ℕ). proposes_to g s (key_next g w) set os) is in
+        let now : stance_of (t.facts g) ≡ proposes_to g s (key_next g w) set (x ∷ xs) = onward ∙ ap (λ (os : List ℕ). proposes_to g s (key_next g w) set os) is in
         inr (record {
           leads = subst (λ (y : Stance). Leads (key_next g w) set y) (sym now) (leads_with g set s x xs is none (r.ordered g here));
           is = ap (λ (y : Stance). y.agreement.proposal) now ∙ proposal_with g set s x xs none;
@@ -197,7 +197,7 @@ leader_sends ns gs g set w r e =
     let h : Facts = after_ages (w.facts g) in
     let here : has_node gs g ≡ true = r.roll.lead in
     ap (λ (o : Option Proposal). (propose_with h o).sends) (aged_none (w.facts g) (r.none g here))
-    ∙ ap (λ (b : Bool). (propose_new h b).sends) e
+    ∙ ap (λ (b : Bool). (if b then proposal_effects h (next_key h.me h.agreement) (neighbours h) (agreement.others_among h.me (neighbours h)) else nothing).sends) e
     ∙ ap (λ (ms : List Member). (proposal_effects h (next_key h.me h.agreement) ms (others_among h.me ms)).sends) (r.sees g here)
     ∙ ap (λ (y : ℕ). (proposal_effects h (next_key y (w.facts g).agreement) set (others_among y set)).sends) (r.base.named g)
     ∙ sends_to h (key_next g w) set (others_among g set)
@@ -220,7 +220,7 @@ unfolding as_read
 proposed_only h set [] k r to x i = absurd i
 proposed_only h set (n ∷ ns) k r to x i = among_each (message.Propose k set) r (n ∷ ns) to x i
 
-pub nothing_asked : (h : Facts) (to : ℕ) (x : Message) → Among (as_read (propose_new h false).sends) (to, x) → ⊥
+pub nothing_asked : (h : Facts) (to : ℕ) (x : Message) → Among (as_read (if false then proposal_effects h (next_key h.me h.agreement) (neighbours h) (agreement.others_among h.me (neighbours h)) else nothing).sends) (to, x) → ⊥
 unfolding as_read
 nothing_asked h to x i = i
 
@@ -230,7 +230,7 @@ rests_asks : (ns gs : List ℕ) (g : ℕ) (set : List Member) (w : World) → Re
 rests_asks ns gs g set w r m here e to x i =
     let h : Facts = after_ages (w.facts m) in
     nothing_asked h to x
-    (subst (λ (b : Bool). Among (as_read (propose_new h b).sends) (to, x)) e
+    (subst (λ (b : Bool). Among (as_read (if b then proposal_effects h (next_key h.me h.agreement) (neighbours h) (agreement.others_among h.me (neighbours h)) else nothing).sends) (to, x)) e
     (subst (λ (o : Option Proposal). Among (as_read (propose_with h o).sends) (to, x)) (aged_none (w.facts m) (r.none m here)) i))
 
 leader_asks : (ns gs : List ℕ) (g : ℕ) (set : List Member) (w : World) → Ready ns gs g set w → is_to_propose (after_ages (w.facts g)) ≡ true
@@ -241,7 +241,7 @@ leader_asks ns gs g set w r e to x i =
     proposed_only h set (others_among g set) (key_next g w) (next_readable ns gs g set w r e).proposes to x
     (subst (λ (y : ℕ). Among (as_read (proposal_effects h (next_key y (w.facts g).agreement) set (others_among y set)).sends) (to, x)) (r.base.named g)
     (subst (λ (ms : List Member). Among (as_read (proposal_effects h (next_key h.me h.agreement) ms (others_among h.me ms)).sends) (to, x)) (r.sees g here)
-    (subst (λ (b : Bool). Among (as_read (propose_new h b).sends) (to, x)) e
+    (subst (λ (b : Bool). Among (as_read (if b then proposal_effects h (next_key h.me h.agreement) (neighbours h) (agreement.others_among h.me (neighbours h)) else nothing).sends) (to, x)) e
     (subst (λ (o : Option Proposal). Among (as_read (propose_with h o).sends) (to, x)) (aged_none (w.facts g) (r.none g here)) i))))
 
 asks_only : (ns gs : List ℕ) (g : ℕ) (set : List Member) (w : World) → Ready ns gs g set w → (m : ℕ) → has_node gs m ≡ true

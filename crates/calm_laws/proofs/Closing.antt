@@ -1,6 +1,6 @@
 -- In an undisturbed round of a group in one view each open transaction is resolved and closed.
 use Rattle.std.proofs.Common.{◌≡◌, ℕ, Bool, true, false, List, [], ◌∷◌, Option, Some, None, refl, sym, ap, subst, ◌∙◌, ◌⊎◌, inl, inr}
-use Rattle.std.specs.Prelude.{is_some}
+use Rattle.std.specs.Prelude.{is_some, if◌then◌else◌}
 use Rattle.std.specs.FinMap as finite
 use Rattle.cluster_types.specs.declared.cluster_key.ClusterKey.{ClusterKey}
 use Rattle.cluster_types.specs.declared.member.Member.{Member}
@@ -9,11 +9,10 @@ use Rattle.wire_messages.specs.declared.message.Message.TheVariants as message
 use Rattle.node_rules.specs.Copies.{is_nil}
 use Rattle.node_rules.specs.Exchange.{Exchange, is_view}
 use Rattle.node_rules.specs.Facts.{Facts, view_key}
-use Rattle.node_rules.specs.Messages.{ask_came}
 use Rattle.node_rules.specs.Notes.{after_ages}
 use Rattle.node_rules.specs.Resolving.{repl}
 use Rattle.node_rules.specs.Tables.{contains}
-use Rattle.node_rules.specs.Tick.{beat, propose, rows, sends_again, tick_if, transactions}
+use Rattle.node_rules.specs.Tick.{beat, propose, rows, sends_again, transactions, parts, parts_in_order}
 use Rattle.node_rules.specs.Transactions.{Transaction, Transactions, Write, transaction}
 use Rattle.journal_readings.specs.Lines.{has_node}
 use Rattle.cluster_rules.specs.World.{World}
@@ -39,6 +38,9 @@ use Rattle.calm_laws.proofs.Transacting.{acted_heard, found_number, to_each_amon
 use Rattle.calm_laws.proofs.Numbered.{nothing_open}
 use Rattle.calm_laws.proofs.OpenSteps.{flow_open, heard_turns, in_acted, in_key, in_seen, keeps_open, none_turns, writes_close}
 use Rattle.calm_laws.proofs.Resolutions.{Wrote, again_among, found_among, resolves, rests_transactions}
+use Rattle.node_rules.specs.Effects.{lines_only, sends_only, to_one}
+use Rattle.node_rules.specs.StaleMessages.{stale}
+use Rattle.journal_lines.specs.declared.line.Line.TheVariants as line
 
 -- ---- the round
 
@@ -104,7 +106,7 @@ module _ (n : ℕ) (ns gs : List ℕ) (g : ℕ) (set : List Member) (k : Cluster
       up = h.ready.base.up m (h.ready.group.up m here)
 
       plain : as_read (tick_list n (w.facts m)) ≡ tick_list n (w.facts m)
-      plain = subst (λ (b : Bool). as_read (tick_if n (w.facts m) b).sends ≡ (tick_if n (w.facts m) b).sends) up (h.legible.ticks m here)
+      plain = subst (λ (b : Bool). as_read (if b then parts_in_order (parts n) (w.facts m) else lines_only (line.Down (w.facts m).me ∷ [])).sends ≡ (if b then parts_in_order (parts n) (w.facts m) else lines_only (line.Down (w.facts m).me ∷ [])).sends) up (h.legible.ticks m here)
 
       part : Among (transactions (proposed (w.facts m))).sends (x, y)
       part =
@@ -211,9 +213,9 @@ module _ (n : ℕ) (ns gs : List ℕ) (g : ℕ) (set : List Member) (k : Cluster
         key : view_key (after_ages (w.facts m)) ≡ k
         key = in_key k set m (w.facts m) (record { me = h.ready.base.named m; view = h.steady.views m here })
 
-        answered : (f : Facts) → In k set x f × Unit {0} → Any (AnswerTo k number m) (ask_came f m (view_key (after_ages (w.facts m))) t.number t.digest (is_view f.exchange.view (view_key (after_ages (w.facts m))))).sends
+        answered : (f : Facts) → In k set x f × Unit {0} → Any (AnswerTo k number m) (if is_view f.exchange.view (view_key (after_ages (w.facts m))) then sends_only (to_one m (message.Answer (view_key (after_ages (w.facts m))) t.number (finite.get f.store.content t.digest))) else stale f).sends
         answered f i =
-            subst (λ (b : Bool). Any (AnswerTo k number m) (ask_came f m (view_key (after_ages (w.facts m))) t.number t.digest b).sends) (sym (ap (λ (q : ClusterKey). is_view f.exchange.view q) key ∙ in_seen k set x f i.0))
+            subst (λ (b : Bool). Any (AnswerTo k number m) (if b then sends_only (to_one m (message.Answer (view_key (after_ages (w.facts m))) t.number (finite.get f.store.content t.digest))) else stale f).sends) (sym (ap (λ (q : ClusterKey). is_view f.exchange.view q) key ∙ in_seen k set x f i.0))
             (record { which = (m, message.Answer (view_key (after_ages (w.facts m))) t.number (finite.get f.store.content t.digest)); among = inl refl; good = record { to = refl; answers = (key, found_number (w.facts m).transactions.running number t e) } })
 
         some : Any (AnswerTo k number m) (outbox n (r.ticks_end.clocks x) (r.ticks_end.facts x) (inbox r.ticks_end x))

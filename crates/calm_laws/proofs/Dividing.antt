@@ -1,6 +1,6 @@
 -- Only the event that divides the network changes its groups, so no node stands in two of them.
 use Rattle.std.proofs.Common.{◌≡◌, ℕ, ◌+◌, ◌==◌, nat_lt, Bool, true, false, List, [], ◌∷◌, ◌++◌, map, length, Option, Some, None, refl, sym, subst, ◌∙◌, append-nil}
-use Rattle.std.specs.Prelude.{option_and_then}
+use Rattle.std.specs.Prelude.{option_and_then, if◌then◌else◌}
 use Rattle.std.specs.List.{concat}
 use Rattle.conflict_order.specs.declared.want.Want.{Want}
 use Rattle.conflict_order.specs.declared.want.Want.TheVariants as want
@@ -21,7 +21,7 @@ use Rattle.node_rules.specs.Shows.{due_map, due_show}
 use Rattle.node_rules.specs.Tick.{tick_of}
 use Rattle.cluster_rules.specs.declared.event.Event.{Event}
 use Rattle.cluster_rules.specs.declared.event.Event.TheVariants as event
-use Rattle.cluster_rules.specs.DueEvents.{arriving, arriving_cut, delivery, due_arrival, due_at_client, due_at_end, due_at_named, due_at_node, due_of, full_unless, is_blocked, losing, one_more_if, sent_lines, unless_blocked, written}
+use Rattle.cluster_rules.specs.DueEvents.{arriving, delivery, due_arrival, due_at_client, due_at_named, due_at_node, due_of, is_blocked, losing, sent_lines, written}
 use Rattle.cluster_rules.specs.Marks.{Begins, Writes, after_all, after_line, event_begun}
 use Rattle.cluster_rules.specs.Network.{Network, flying_at, has_place, landed, posting, posting_at}
 use Rattle.cluster_rules.specs.Opening.{Header, declared_nodes}
@@ -51,7 +51,7 @@ sents_undivided : (ms : List (ℕ × Message)) (a s fl : ℕ) → Undivided (sen
 sents_undivided [] a s fl = tt
 sents_undivided (m ∷ ms) a s fl = go (has_place fl) (λ k. sents_undivided ms a (s + 1) k)
   where
-    go : (b : Bool) → ((k : ℕ) → Undivided (sent_lines a (s + 1) k ms)) → Undivided (full_unless (s + 1) b ++ sent_lines a (s + 1) (one_more_if fl b) ms)
+    go : (b : Bool) → ((k : ℕ) → Undivided (sent_lines a (s + 1) k ms)) → Undivided ((if b then [] else line.Full (s + 1) ∷ []) ++ sent_lines a (s + 1) (if b then fl + 1 else fl) ms)
     go true rest = rest (fl + 1)
     go false rest = rest fl
 
@@ -76,7 +76,7 @@ client_undivided m = tt
 arriving_undivided : (n : ℕ) (w : World) (net : Network) (p : Posting) → Undivided (arriving n w net p)
 arriving_undivided n w net p = go (message_of p.bytes)
   where
-    at_end : (m : Message) (b : Bool) → Undivided (due_at_end n w net p m b)
+    at_end : (m : Message) (b : Bool) → Undivided (if b then due_at_client m else written net p.to (due_message_of n (w.facts p.to) (w.clocks p.to) p.from m))
     at_end m true = client_undivided m
     at_end m false = written_undivided net p.to (due_message_of n (w.facts p.to) (w.clocks p.to) p.from m) (own_unsent (w.facts p.to).me _ (message_own n (w.facts p.to) (w.clocks p.to) p.from m))
 
@@ -84,7 +84,7 @@ arriving_undivided n w net p = go (message_of p.bytes)
     go None = tt
     go (Some m) = at_end m (p.to == client)
 
-cut_undivided : (n : ℕ) (w : World) (net : Network) (p : Posting) (b : Bool) → Undivided (arriving_cut n w net p b)
+cut_undivided : (n : ℕ) (w : World) (net : Network) (p : Posting) (b : Bool) → Undivided (if b then line.Short p.to ∷ [] else arriving n w net p)
 cut_undivided n w net p true = tt
 cut_undivided n w net p false = arriving_undivided n w net p
 
@@ -92,7 +92,7 @@ delivery_undivided : (w : World) (i : ℕ) (lines : Posting → List Line) → (
 delivery_undivided w i lines h None = tt
 delivery_undivided w i lines h (Some p) = go (is_blocked w p)
   where
-    go : (b : Bool) → Undivided (unless_blocked i lines p b)
+    go : (b : Bool) → Undivided (if b then line.Blocked i ∷ [] else lines p)
     go true = tt
     go false = h p
 

@@ -1,16 +1,15 @@
 -- A node that knows all settled answers each that asks, so that all know that it is done at the round's end.
-use Rattle.std.proofs.Common.{◌≡◌, ℕ, ◌&&◌, Bool, true, false, List, Option, refl, sym, ap, subst, ◌∙◌, ◌⊎◌, inl, inr}
+use Rattle.std.proofs.Common.{◌≡◌, ℕ, ◌&&◌, Bool, true, false, List, Option, refl, sym, ap, subst, ◌∙◌, ◌⊎◌, inl, inr, [], if◌then◌else◌, ◌++◌, ◌∷◌}
 use Rattle.cluster_types.specs.declared.cluster_key.ClusterKey.{ClusterKey}
 use Rattle.cluster_types.specs.declared.member.Member.{Member}
 use Rattle.cluster_types.specs.Partitions.{partition_count}
 use Rattle.wire_messages.specs.declared.message.Message.{Message}
 use Rattle.wire_messages.specs.declared.message.Message.TheVariants as message
 use Rattle.node_rules.specs.declared.member_row.MemberRow.{MemberRow}
-use Rattle.node_rules.specs.Exchange.{Exchange, View, is_view, exchange_key, with_row, with_row_if}
+use Rattle.node_rules.specs.Exchange.{Exchange, View, is_view, exchange_key, with_row}
 use Rattle.node_rules.specs.Facts.{Facts, view_key}
 use Rattle.node_rules.specs.Keys.{same_key}
 use Rattle.node_rules.specs.Map.{lacks}
-use Rattle.node_rules.specs.Messages.{answer_progress, progress_effects_if}
 use Rattle.node_rules.specs.Notes as notes
 use Rattle.node_rules.specs.Notes.{after_ages, all_sent, reached}
 use Rattle.node_rules.specs.Standing.{knows_all_settled}
@@ -43,6 +42,8 @@ use Rattle.calm_laws.proofs.Proposing.{flow_arrives}
 use Rattle.calm_laws.proofs.Taking.{acted_takes, all_sent_still}
 use Rattle.calm_laws.proofs.Ticking.{progressing, tick_facts, tick_list}
 use Rattle.calm_laws.proofs.Telling.{TellRound, all_done, calm, emptied_acked, empty_first, empty_ticks, full_first, full_row, full_second, full_third}
+use Rattle.node_rules.specs.Effects.{nothing, sends_only, to_one}
+use Rattle.node_rules.specs.StaleMessages.{stale}
 
 -- ---- rows that are all there stay
 
@@ -50,7 +51,7 @@ took_rows : (e : Exchange) (from : ℕ) (x : Message) → lacks e.rows from ≡ 
 took_rows e from (message.State key wants row) h = go (is_view e.view key)
   where
     go : (b : Bool) → (taken_if e from row b).rows ≡ e.rows
-    go true = finished_rows (record e { rows = with_row e.rows from row }) (ends_with e (record e { rows = with_row e.rows from row })) ∙ ap (λ (b : Bool). with_row_if e.rows from row b) h
+    go true = finished_rows (record e { rows = with_row e.rows from row }) (ends_with e (record e { rows = with_row e.rows from row })) ∙ ap (λ (b : Bool). (if b then e.rows ++ record { node = from; row = row } ∷ [] else e.rows)) h
     go false = refl
 took_rows e from _ h = refl
 
@@ -87,8 +88,8 @@ pub record DoneTo (k : ClusterKey) (m : ℕ) (l : ℕ × Message) : Type 0 where
 answers_done : (c : ℕ) (k : ClusterKey) (set : List Member) (rows : List MemberRow) (f : Facts) → Settles k set rows f → (m : ℕ) (key : ClusterKey) → key ≡ k → (done handed settled : List Bool)
     → Any (DoneTo k m) (effects partition_count c f (Gets m (message.Progress key true done handed settled))).sends
 answers_done c k set rows f s m key e done handed settled =
-    subst (λ (b : Bool). Any (DoneTo k m) (progress_effects_if partition_count f (notes.progress_came f m done handed settled b) m true b).sends) (sym seen)
-    (subst (λ (b : Bool). Any (DoneTo k m) (answer_progress partition_count (notes.progress_came f m done handed settled true) m b).sends) (sym knows)
+    subst (λ (b : Bool). Any (DoneTo k m) (if b then (if true && knows_all_settled (notes.progress_came f m done handed settled b) partition_count 0 then sends_only (to_one m (progress_message partition_count (notes.progress_came f m done handed settled b) false)) else nothing) else stale f).sends) (sym seen)
+    (subst (λ (b : Bool). Any (DoneTo k m) (if b then sends_only (to_one m (progress_message partition_count (notes.progress_came f m done handed settled true) false)) else nothing).sends) (sym knows)
     (record { which = (m, progress_message partition_count (notes.progress_came f m done handed settled true) false); among = inl refl; good = record { to = refl; tells = (ap (λ (o : Option View). exchange_key o) s.over.view, full_row (notes.progress_came f m done handed settled true) (λ p. all_done (notes.progress_came f m done handed settled true) s.over.exchanged s.empty p) partition_count 0) } }))
   where
     seen : is_view f.exchange.view key ≡ true

@@ -1,5 +1,5 @@
 -- A node that doesn't know all settled tells each other one that it is done, and they know it at the round's end.
-use Rattle.std.proofs.Common.{◌≡◌, ℕ, ◌&&◌, not, Bool, true, false, List, [], Option, None, refl, sym, ap, subst, ◌∙◌}
+use Rattle.std.proofs.Common.{◌≡◌, ℕ, ◌&&◌, not, Bool, true, false, List, [], Option, None, refl, sym, ap, subst, ◌∙◌, if◌then◌else◌, ◌∷◌}
 use Rattle.cluster_types.specs.declared.cluster_key.ClusterKey.{ClusterKey}
 use Rattle.cluster_types.specs.declared.member.Member.{Member}
 use Rattle.cluster_types.specs.Partitions.{partition_count}
@@ -10,7 +10,7 @@ use Rattle.node_rules.specs.Facts.{Facts, view_key}
 use Rattle.node_rules.specs.Notes.{after_ages}
 use Rattle.node_rules.specs.Settling.{settling_due}
 use Rattle.node_rules.specs.Standing.{is_done, knows_all_settled, others}
-use Rattle.node_rules.specs.Tick.{batches, beat, progress, progress_if, progress_message, propose, rows, tick_if, transactions}
+use Rattle.node_rules.specs.Tick.{batches, beat, progress, progress_message, propose, rows, transactions, parts, parts_in_order}
 use Rattle.journal_readings.specs.Lines.{has_node}
 use Rattle.cluster_rules.specs.World.{World}
 use Rattle.cluster_rules.proofs.OwnLines.{noted_me}
@@ -35,6 +35,8 @@ use Rattle.calm_laws.proofs.Taking.{rests_proposed, settled_exchange}
 use Rattle.calm_laws.proofs.Telling.{TellRound, all_done, calm, empty_ticks, full_first, full_second, full_third, full_row, full_ticks}
 use Rattle.calm_laws.proofs.Ticking.{progressing, proposed, tick_list, tick_sent}
 use Rattle.calm_laws.proofs.Transacting.{to_each_among}
+use Rattle.node_rules.specs.Effects.{lines_only, nothing, sends_only, to_each}
+use Rattle.journal_lines.specs.declared.line.Line.TheVariants as line
 
 -- ---- flows
 
@@ -88,7 +90,7 @@ module _ (ns gs : List ℕ) (g : ℕ) (set : List Member) (k : ClusterKey) (w v 
       (subst (λ (ms : List (ℕ × Message)). Among ms (m, progress_message partition_count (progressing partition_count (w.facts x)) true)) (sym (tick_sent partition_count (w.clocks x) (w.facts x) (up_of x here) ∙ plain)) (listed (progress_message partition_count (progressing partition_count (w.facts x)) true) part))
     where
       plain : as_read (tick_list partition_count (w.facts x)) ≡ tick_list partition_count (w.facts x)
-      plain = subst (λ (b : Bool). as_read (tick_if partition_count (w.facts x) b).sends ≡ (tick_if partition_count (w.facts x) b).sends) (up_of x here) (h.hands.legible.ticks x here)
+      plain = subst (λ (b : Bool). as_read (if b then parts_in_order (parts partition_count) (w.facts x) else lines_only (line.Down (w.facts x).me ∷ [])).sends ≡ (if b then parts_in_order (parts partition_count) (w.facts x) else lines_only (line.Down (w.facts x).me ∷ [])).sends) (up_of x here) (h.hands.legible.ticks x here)
 
       tells : ((progressing partition_count (w.facts x)).exchange.exchanged && not (knows_all_settled (progressing partition_count (w.facts x)) partition_count 0)) ≡ true
       tells =
@@ -97,7 +99,7 @@ module _ (ns gs : List ℕ) (g : ℕ) (set : List Member) (k : ClusterKey) (w v 
 
       part : Among (progress partition_count (progressing partition_count (w.facts x))).sends (m, progress_message partition_count (progressing partition_count (w.facts x)) true)
       part =
-          subst (λ (b : Bool). Among (progress_if partition_count (progressing partition_count (w.facts x)) b).sends (m, progress_message partition_count (progressing partition_count (w.facts x)) true)) (sym tells)
+          subst (λ (b : Bool). Among (if b then sends_only (to_each (others (progressing partition_count (w.facts x))) (progress_message partition_count (progressing partition_count (w.facts x)) true)) else nothing).sends (m, progress_message partition_count (progressing partition_count (w.facts x)) true)) (sym tells)
           (to_each_among (others (progressing partition_count (w.facts x))) m (progress_message partition_count (progressing partition_count (w.facts x)) true)
           (subst (λ (ys : List ℕ). Among ys m) (sym (others_of x here)) (contains_among (agreement.others_among x set) m (other_in gs g set h.hands.ready.roll x m there d))))
 

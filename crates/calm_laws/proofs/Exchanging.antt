@@ -1,6 +1,6 @@
 -- In an undisturbed round of a group in one view all rows come to all, and the exchange ends.
 use Rattle.std.proofs.Common.{◌≡◌, ℕ, ◌==◌, ◌||◌, ◌&&◌, not, Bool, true, false, cond, List, [], ◌∷◌, ◌++◌, Option, Some, None, refl, sym, ap, subst, ◌∙◌, inl, inr}
-use Rattle.std.specs.Prelude.{filter, find, is_none, option_map, unwrap_or}
+use Rattle.std.specs.Prelude.{filter, find, is_none, option_map, unwrap_or, if◌then◌else◌}
 use Rattle.std.proofs.lemmas.Option.{none-some}
 use Rattle.cluster_types.specs.declared.cluster_key.ClusterKey.{ClusterKey}
 use Rattle.cluster_types.specs.declared.member.Member.{Member}
@@ -11,13 +11,12 @@ use Rattle.partition_lists.proofs.InOrderLaws.{equal}
 use Rattle.node_rules.specs.declared.member_row.MemberRow.{MemberRow}
 use Rattle.node_rules.specs.Agreement as agreement
 use Rattle.node_rules.specs.Copies.{Row}
-use Rattle.node_rules.specs.Exchange.{Exchange, View, first_missing, is_view, exchange_key, members_of, with_row, with_row_if}
-use Rattle.node_rules.specs.Facts.{Facts}
+use Rattle.node_rules.specs.Exchange.{Exchange, View, first_missing, is_view, exchange_key, members_of, with_row}
+use Rattle.node_rules.specs.Facts.{Facts, view_key}
 use Rattle.node_rules.specs.Map.{lacks, row_of_member}
-use Rattle.node_rules.specs.Messages.{state_came}
 use Rattle.node_rules.specs.Notes.{after_ages, reached}
 use Rattle.node_rules.specs.Standing.{others}
-use Rattle.node_rules.specs.Tables.{contains}
+use Rattle.node_rules.specs.Tables.{contains, only_if}
 use Rattle.node_rules.specs.Tick.{own_row_in, state}
 use Rattle.journal_readings.specs.Lines.{has_node}
 use Rattle.cluster_rules.specs.World.{World}
@@ -43,6 +42,10 @@ use Rattle.calm_laws.proofs.Sent.{AllGets, each_among}
 use Rattle.calm_laws.proofs.Steadying.{steady_rests}
 use Rattle.calm_laws.proofs.Taking.{acted_takes, rests_exchange, rests_proposed}
 use Rattle.calm_laws.proofs.Ticking.{proposed, tick_rows}
+use Rattle.node_rules.specs.Effects.{lines_and_sends, to_one}
+use Rattle.node_rules.specs.RowMessages.{finishes}
+use Rattle.node_rules.specs.StaleMessages.{stale}
+use Rattle.journal_lines.specs.declared.line.Line.TheVariants as line
 
 -- ---- flows
 
@@ -95,21 +98,21 @@ finished_view e false = refl
 with_has : (rows : List MemberRow) (from x : ℕ) (row : Row) → lacks rows x ≡ false → lacks (with_row rows from row) x ≡ false
 with_has rows from x row h = go (lacks rows from)
   where
-    go : (b : Bool) → lacks (with_row_if rows from row b) x ≡ false
+    go : (b : Bool) → lacks (if b then rows ++ record { node = from; row = row } ∷ [] else rows) x ≡ false
     go true = has_first rows (record { node = from; row = row } ∷ []) x h
     go false = h
 
 with_own : (rows : List MemberRow) (from m : ℕ) (row mine : Row) → row_of_member rows m ≡ Some mine → row_of_member (with_row rows from row) m ≡ Some mine
 with_own rows from m row mine h = go (lacks rows from)
   where
-    go : (b : Bool) → row_of_member (with_row_if rows from row b) m ≡ Some mine
+    go : (b : Bool) → row_of_member (if b then rows ++ record { node = from; row = row } ∷ [] else rows) m ≡ Some mine
     go true = found_first rows (record { node = from; row = row } ∷ []) m mine h
     go false = h
 
 with_new : (rows : List MemberRow) (from : ℕ) (row : Row) → lacks (with_row rows from row) from ≡ false
 with_new rows from row = go (lacks rows from) refl
   where
-    go : (b : Bool) → lacks rows from ≡ b → lacks (with_row_if rows from row b) from ≡ false
+    go : (b : Bool) → lacks rows from ≡ b → lacks (if b then rows ++ record { node = from; row = row } ∷ [] else rows) from ≡ false
     go true e = has_last rows from row
     go false e = e
 
@@ -185,7 +188,7 @@ nobody_missing test (x ∷ xs) h =
 row_answered : (n c : ℕ) (k : ClusterKey) (set : List Member) (m : ℕ) (mine : Row) → CanBeRead (message.State k false mine) → (f : Facts) → f.me ≡ m → Shares k set m mine f.exchange → (from : ℕ) (row : Row)
     → Among (sent_at n c f (Gets from (message.State k true row))) (from, message.State k false mine)
 row_answered n c k set m mine reads f name h from row =
-    subst (λ (b : Bool). Among (as_read (state_came f (reached f from (message.State k true row)) from true b).sends) (from, message.State k false mine)) (sym (ap (λ (o : Option View). is_view o k) h.view ∙ same_self k))
+    subst (λ (b : Bool). Among (as_read (if b then lines_and_sends (only_if (line.Exchanged f.me (view_key f)) (finishes f (reached f from (message.State k true row)))) (if true then to_one from (state f false) else []) else stale f).sends) (from, message.State k false mine)) (sym (ap (λ (o : Option View). is_view o k) h.view ∙ same_self k))
     (subst (λ (x : Message). Among (as_read ((from, x) ∷ [])) (from, message.State k false mine)) (sym (own_state f false name h))
     (each_among (message.State k false mine) reads (from ∷ []) from (inl refl)))
   where

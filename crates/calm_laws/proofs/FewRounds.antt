@@ -14,16 +14,16 @@ use Rattle.wire_messages.specs.declared.message.Message.{Message}
 use Rattle.wire_messages.specs.declared.message.Message.TheVariants as message
 use Rattle.journal_lines.specs.declared.refusal.Refusal.{Refusal}
 use Rattle.node_rules.specs.Agreement as agreement
-use Rattle.node_rules.specs.Agreement.{Agreement, has_round, may_enter, others_among, proposes, proposes_anew}
+use Rattle.node_rules.specs.Agreement.{Agreement, has_round, may_enter, others_among, proposes, proposes_anew, accepted_by, agreement_entered, next_key, promising, proposing_to}
 use Rattle.node_rules.specs.ByParts.{asked_or_resolved, exchanged_if, merged_if, requested}
 use Rattle.node_rules.specs.Facts.{Facts, list_at, view_key}
 use Rattle.node_rules.specs.Map.{list_master}
 use Rattle.node_rules.specs.Messages.{finishes}
 use Rattle.node_rules.specs.Notes as notes
-use Rattle.node_rules.specs.Notes.{after_ages, if_view, in_view, neighbours, opening_transaction}
+use Rattle.node_rules.specs.Notes.{after_ages, in_view, neighbours, opening_transaction}
 use Rattle.node_rules.specs.Requests.{request_refusal}
 use Rattle.node_rules.specs.Steps.{after_message, after_tick}
-use Rattle.node_rules.specs.Tick.{is_candidate, tick_if}
+use Rattle.node_rules.specs.Tick.{is_candidate, parts, parts_in_order}
 use Rattle.node_rules.specs.Transactions.{Transaction, transaction}
 use Rattle.node_rules.proofs.Agreeing.{accept_agrees, commit_agrees, propose_agrees, refuse_agrees}
 use Rattle.node_rules.proofs.PartLaws as parts
@@ -45,6 +45,8 @@ use Rattle.calm_laws.proofs.Becoming.{became}
 use Rattle.calm_laws.proofs.Fronts.{facts_are, front_of, known, read_there, room_before, said_there}
 use Rattle.calm_laws.proofs.Waits.{answer_agreement, counted, resolved_agreement}
 use Rattle.calm_laws.proofs.Walks.{named_of, order_of, reaches}
+use Rattle.node_rules.specs.Effects.{lines_only}
+use Rattle.journal_lines.specs.declared.line.Line.TheVariants as line
 
 -- the rounds that the node has promised and seen
 pub record Low (k : ℕ) (a : Agreement) : Type 0 where
@@ -62,14 +64,14 @@ max_most a b k h i = grind (arith, nat_tests)
 voting_low : (k : ℕ) (a : Agreement) (key : ClusterKey) → key.round ≤ k → Low k a → Low k (agreement.voting a key)
 voting_low k a key le h = go (key_lt a.promised key)
   where
-    go : (b : Bool) → Low k (agreement.promising_if a key b)
+    go : (b : Bool) → Low k (if b then promising a key else a)
     go true = record { promised = le; seen = h.seen }
     go false = h
 
 counting_low : (k : ℕ) (a : Agreement) (from : ℕ) (key : ClusterKey) → Low k a → Low k (agreement.counting a from key)
 counting_low k a from key h = go (proposes a.proposal key) _
   where
-    go : (b c : Bool) → Low k (agreement.entering_if (agreement.accepting_if a from b) key c)
+    go : (b c : Bool) → Low k (if c then agreement_entered (if b then record a { proposal = accepted_by a.proposal from } else a) key else (if b then record a { proposal = accepted_by a.proposal from } else a))
     go true true = record { promised = h.promised; seen = h.seen }
     go true false = record { promised = h.promised; seen = h.seen }
     go false true = record { promised = h.promised; seen = h.seen }
@@ -78,19 +80,19 @@ counting_low k a from key h = go (proposes a.proposal key) _
 refusing_low : (k : ℕ) (a : Agreement) (key promised : ClusterKey) → promised.round ≤ k → Low k a → Low k (agreement.refusing a key promised)
 refusing_low k a key promised le h = go (proposes a.proposal key)
   where
-    go : (b : Bool) → Low k (agreement.seeing (agreement.refused_if a b) promised)
+    go : (b : Bool) → Low k (agreement.seeing (if b then record a { proposal = None } else a) promised)
     go true = record { promised = h.promised; seen = max_most a.seen promised.round k h.seen le }
     go false = record { promised = h.promised; seen = max_most a.seen promised.round k h.seen le }
 
 committing_low : (k me : ℕ) (a : Agreement) (key : ClusterKey) (ms : List Member) → Low k a → Low k (agreement.committing me a key ms)
 committing_low k me a key ms h = go (may_enter me a key ms)
   where
-    go : (b : Bool) → Low k (agreement.entering_if a key b)
+    go : (b : Bool) → Low k (if b then agreement_entered a key else a)
     go true = record { promised = h.promised; seen = h.seen }
     go false = h
 
 -- the agreement of a message that isn't one of it
-view_agreement : (b : Bool) (g f : Facts) → g.agreement ≡ f.agreement → (if_view b g f).agreement ≡ f.agreement
+view_agreement : (b : Bool) (g f : Facts) → g.agreement ≡ f.agreement → (if b then g else f).agreement ≡ f.agreement
 view_agreement true g f e = e
 view_agreement false g f e = refl
 
@@ -156,7 +158,7 @@ ticking_low k me a set candidate h = go (proposes_anew still candidate)
     proposing : (key : ClusterKey) (b : agreement.Agreement) → Low (k + 1) b → Low (k + 1) (agreement.proposing b me key set)
     proposing key b l = by_test (proposes b.proposal key)
       where
-        by_test : (c : Bool) → Low (k + 1) (agreement.proposed_if b (agreement.proposal_of me key set) c)
+        by_test : (c : Bool) → Low (k + 1) (if c then b else record b { proposal = Some (agreement.proposal_of me key set) })
         by_test true = l
         by_test false = record { promised = l.promised; seen = l.seen }
 
@@ -167,7 +169,7 @@ ticking_low k me a set candidate h = go (proposes_anew still candidate)
     new [] = record { promised = next_low a.promised.round a.seen k h.promised h.seen; seen = later }
     new (n ∷ ns) = proposing (agreement.next_key me still) (agreement.promising still (agreement.next_key me still)) (record { promised = next_low a.promised.round a.seen k h.promised h.seen; seen = later })
 
-    go : (b : Bool) → Low (k + 1) (agreement.proposing_if me still set b)
+    go : (b : Bool) → Low (k + 1) (if b then proposing_to me still (next_key me still) set (others_among me set) else still)
     go true = new (others_among me set)
     go false = record { promised = omega (arith, h.promised); seen = later }
 
@@ -182,12 +184,12 @@ tick_low k f h = go f.up refl
 tick_writes : (w : World) (a : ℕ) → 1 ≤ length (due_of partition_count w (event.Tick a))
 tick_writes w a = go (w.facts a).up
   where
-    some : (f : Facts) (b : Bool) → 1 ≤ length (tick_if partition_count f b).lines
+    some : (f : Facts) (b : Bool) → 1 ≤ length (if b then parts_in_order (parts partition_count) f else lines_only (line.Down f.me ∷ [])).lines
     some f true = omega arith
     some f false = omega arith
 
-    go : (b : Bool) → 1 ≤ length ((tick_if partition_count (w.facts a) b).lines ++ sent_lines a (length w.network.sent) (length w.network.flying) (tick_if partition_count (w.facts a) b).sends)
-    go b = omega (arith, some (w.facts a) b, length-append (tick_if partition_count (w.facts a) b).lines (sent_lines a (length w.network.sent) (length w.network.flying) (tick_if partition_count (w.facts a) b).sends))
+    go : (b : Bool) → 1 ≤ length ((if b then parts_in_order (parts partition_count) (w.facts a) else lines_only (line.Down (w.facts a).me ∷ [])).lines ++ sent_lines a (length w.network.sent) (length w.network.flying) (if b then parts_in_order (parts partition_count) (w.facts a) else lines_only (line.Down (w.facts a).me ∷ [])).sends)
+    go b = omega (arith, some (w.facts a) b, length-append (if b then parts_in_order (parts partition_count) (w.facts a) else lines_only (line.Down (w.facts a).me ∷ [])).lines (sent_lines a (length w.network.sent) (length w.network.flying) (if b then parts_in_order (parts partition_count) (w.facts a) else lines_only (line.Down (w.facts a).me ∷ [])).sends))
 
 -- ---- all worlds
 

@@ -1,6 +1,6 @@
 -- In an undisturbed round of a group whose exchange is over each batch that is to be sent is sent and acknowledged.
 use Rattle.std.proofs.Common.{◌≡◌, ℕ, Bool, true, false, List, [], ◌∷◌, map, Option, Some, None, refl, sym, ap, subst, ◌∙◌, inl, inr}
-use Rattle.std.specs.Prelude.{filter_map, unwrap_or}
+use Rattle.std.specs.Prelude.{filter_map, unwrap_or, if◌then◌else◌}
 use Rattle.std.specs.List.{cons_option}
 use Rattle.std.proofs.lemmas.Option.{none-some}
 use Rattle.cluster_types.specs.declared.cluster_key.ClusterKey.{ClusterKey}
@@ -13,9 +13,8 @@ use Rattle.node_rules.specs.Copies.{Content}
 use Rattle.node_rules.specs.Exchange.{Exchange, View, is_view, exchange_key, with_row}
 use Rattle.node_rules.specs.Facts.{Facts, view_key}
 use Rattle.node_rules.specs.Keys.{same_key}
-use Rattle.node_rules.specs.Messages.{batch_came}
 use Rattle.node_rules.specs.Notes.{after_ages}
-use Rattle.node_rules.specs.Tick.{batch_to, batches, beat, propose, rows, tick_if, transactions}
+use Rattle.node_rules.specs.Tick.{batch_to, batches, beat, propose, rows, transactions, parts, parts_in_order}
 use Rattle.journal_readings.specs.Lines.{has_node}
 use Rattle.cluster_rules.specs.World.{World}
 use Rattle.key_laws.proofs.Order.{same_self}
@@ -40,6 +39,10 @@ use Rattle.calm_laws.proofs.Acknowledged.{Acked, Became, Pairs, acked_pairs_kept
 use Rattle.calm_laws.proofs.Steadying.{steady_rests}
 use Rattle.calm_laws.proofs.Taking.{acted_takes, rests_exchange, rests_proposed}
 use Rattle.calm_laws.proofs.Ticking.{proposed, tick_list, tick_sent}
+use Rattle.node_rules.specs.BatchMessages.{merging_all}
+use Rattle.node_rules.specs.Effects.{lines_and_sends, lines_only, to_one}
+use Rattle.node_rules.specs.StaleMessages.{stale}
+use Rattle.journal_lines.specs.declared.line.Line.TheVariants as line
 
 -- ---- what is sent is read as it was sent
 
@@ -200,7 +203,7 @@ module _ (n : ℕ) (ns gs : List ℕ) (g : ℕ) (set : List Member) (k : Cluster
       up = h.ready.base.up m (h.ready.group.up m here)
 
       plain : as_read (tick_list n (w.facts m)) ≡ tick_list n (w.facts m)
-      plain = subst (λ (x : Bool). as_read (tick_if n (w.facts m) x).sends ≡ (tick_if n (w.facts m) x).sends) up (h.legible.ticks m here)
+      plain = subst (λ (x : Bool). as_read (if x then parts_in_order (parts n) (w.facts m) else lines_only (line.Down (w.facts m).me ∷ [])).sends ≡ (if x then parts_in_order (parts n) (w.facts m) else lines_only (line.Down (w.facts m).me ∷ [])).sends) up (h.legible.ticks m here)
 
       part : Among (batches (proposed (w.facts m))).sends (t.node, message.Batch b)
       part =
@@ -231,9 +234,9 @@ module _ (n : ℕ) (ns gs : List ℕ) (g : ℕ) (set : List Member) (k : Cluster
       key : b.key ≡ k
       key = batch_key k (w.facts m).store.content t b (λ d e. h.handing.key m here t d there e) next
 
-      acks : (f : Facts) → Over k set f → Among (batch_came f m b (is_view f.exchange.view b.key)).sends (m, message.BatchAck k b.number)
+      acks : (f : Facts) → Over k set f → Among (if is_view f.exchange.view b.key then lines_and_sends (merging_all f b.records) (to_one m (message.BatchAck b.key b.number)) else stale f).sends (m, message.BatchAck k b.number)
       acks f o =
-          subst (λ (c : Bool). Among (batch_came f m b c).sends (m, message.BatchAck k b.number)) (sym (ap (λ (v : Option View). is_view v b.key) o.view ∙ ap (λ (q : ClusterKey). same_key k q) key ∙ same_self k))
+          subst (λ (c : Bool). Among (if c then lines_and_sends (merging_all f b.records) (to_one m (message.BatchAck b.key b.number)) else stale f).sends (m, message.BatchAck k b.number)) (sym (ap (λ (v : Option View). is_view v b.key) o.view ∙ ap (λ (q : ClusterKey). same_key k q) key ∙ same_self k))
           (inl (ap (λ (q : ClusterKey). (m, message.BatchAck q b.number)) key))
 
   acked_second : (m : ℕ) (here : has_node gs m ≡ true) (t : Target) → Among (begins m) t → (b : Batch) → t.out ≡ Some b → Pairs (Acked t.node b.number) (begins m) (r.second_end.facts m).batches

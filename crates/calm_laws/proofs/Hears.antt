@@ -1,5 +1,5 @@
 -- Whom a node hears after what came to it.
-use Rattle.std.proofs.Common.{◌≡◌, ℕ, ◌==◌, Bool, true, false, cond, List, [], ◌∷◌, ◌++◌, Option, Some, None, refl, sym, ap, subst, ◌∙◌, ◌⊎◌, inl, inr, arith, nat_lt}
+use Rattle.std.proofs.Common.{◌≡◌, ℕ, ◌==◌, Bool, true, false, cond, List, [], ◌∷◌, ◌++◌, Option, Some, None, refl, sym, ap, subst, ◌∙◌, ◌⊎◌, inl, inr, arith, nat_lt, if◌then◌else◌}
 use Rattle.std.specs.FinMap.Entries.{find-put}
 use Rattle.std.specs.Ordering.{nat_cmp, eq_by_cmp}
 use Rattle.std.proofs.lemmas.Cmp.{nat_cmp_total}
@@ -21,7 +21,7 @@ use Rattle.node_rules.specs.Messages.{due_message_of}
 use Rattle.node_rules.specs.Notes as notes
 use Rattle.node_rules.specs.Notes.{note, noted, reached, sent, all_sent, in_view, after_ages}
 use Rattle.node_rules.specs.Tables.{Table, table_with}
-use Rattle.node_rules.specs.Tick.{parts_in_order, tick_if}
+use Rattle.node_rules.specs.Tick.{parts_in_order, parts}
 use Rattle.cluster_rules.proofs.KeptFacts.{num_same}
 use Rattle.cluster_laws.proofs.At.{differ}
 use Rattle.run_laws.specs.Tied.{Among}
@@ -29,6 +29,7 @@ use Rattle.calm_laws.specs.Acts.{Input, Ticks, Gets, as_read, acted, served}
 use Rattle.calm_laws.specs.Flows.{HeardAs, look, new_heard}
 use Rattle.calm_laws.proofs.Own.{Steady, AllSteady, message_steady, later_parts, later_steady}
 use Rattle.calm_laws.proofs.Sent.{AllGets}
+use Rattle.node_rules.specs.Effects.{lines_only}
 
 -- ---- what is heard goes with beats and ticks alone
 
@@ -111,8 +112,8 @@ served_heard n c f (Gets a m ∷ is) h = served_heard n c (acted n c f (Gets a m
 
 pub tick_heard : (n c : ℕ) (f : Facts) → f.up ≡ true → (acted n c f Ticks).hearing.heard ≡ aged f.hearing.heard
 tick_heard n c f up =
-    ap (λ (b : Bool). (all_sent (noted None f (tick_if n f b).lines) (as_read (tick_if n f b).sends)).hearing.heard) up
-    ∙ all_sent_heard (noted None f (tick_if n f true).lines) (as_read (tick_if n f true).sends)
+    ap (λ (b : Bool). (all_sent (noted None f (if b then parts_in_order (parts n) f else lines_only (line.Down f.me ∷ [])).lines) (as_read (if b then parts_in_order (parts n) f else lines_only (line.Down f.me ∷ [])).sends)).hearing.heard) up
+    ∙ all_sent_heard (noted None f (if true then parts_in_order (parts n) f else lines_only (line.Down f.me ∷ [])).lines) (as_read (if true then parts_in_order (parts n) f else lines_only (line.Down f.me ∷ [])).sends)
     ∙ noted_heard None (after_ages f) f.me (parts_in_order (later_parts n) (after_ages f)).lines (later_steady n (after_ages f))
 
 -- ---- what is heard of one node

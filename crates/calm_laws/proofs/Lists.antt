@@ -1,11 +1,11 @@
 -- Lists of numbers and of what was posted.
 use Rattle.std.proofs.Common.{◌≡◌, ℕ, zero, suc, ◌+◌, ◌-◌, ◌<◌, ◌≤◌, ◌==◌, ◌||◌, not, Bool, true, false, cond, List, [], ◌∷◌, ◌++◌, length, Some, refl, ap, ◌∙◌, arith}
-use Rattle.std.specs.Prelude.{slice_get, filter, nat_lt}
+use Rattle.std.specs.Prelude.{slice_get, filter, nat_lt, None, if◌then◌else◌}
 use Rattle.std.proofs.lemmas.Bool.Decides.{nat_tests}
 use Rattle.cluster_types.specs.Distinct.{without}
 use Rattle.journal_readings.specs.Lines.{has_node}
 use Rattle.journal_readings.specs.Messages.{Posting}
-use Rattle.cluster_rules.specs.Network.{Network, posting_at, posting_if}
+use Rattle.cluster_rules.specs.Network.{Network, posting_at}
 use Rattle.cluster_laws.proofs.GroundLaws.{apart}
 use Rattle.calm_laws.specs.Letters.{new_numbers}
 
@@ -36,14 +36,14 @@ above k lt = grind (arith, nat_tests)
 pub posting_stays : (u w : Network) (ps : List Posting) (i : ℕ) → u.sent ≡ w.sent ++ ps → 0 < i → i ≤ length w.sent → posting_at u i ≡ posting_at w i
 posting_stays u w ps i e lt le = go (nat_lt 0 i)
   where
-    go : (b : Bool) → posting_if u i b ≡ posting_if w i b
+    go : (b : Bool) → (if b then slice_get u.sent (i - 1) else None) ≡ (if b then slice_get w.sent (i - 1) else None)
     go true = ap (λ (xs : List Posting). slice_get xs (i - 1)) e ∙ get_front w.sent ps (i - 1) (omega (arith, lt, le))
     go false = refl
 
 pub posting_new : (u : Network) (before : List Posting) (p : Posting) (behind : List Posting) → u.sent ≡ before ++ p ∷ behind → posting_at u (length before + 1) ≡ Some p
 posting_new u before p behind e =
     let one : length before + 1 - 1 ≡ length before = omega arith in
-    ap (λ (b : Bool). posting_if u (length before + 1) b) (above_none (length before))
+    ap (λ (b : Bool). (if b then slice_get u.sent ((length before + 1) - 1) else None)) (above_none (length before))
     ∙ ap (λ (k : ℕ). slice_get u.sent k) one
     ∙ ap (λ (xs : List Posting). slice_get xs (length before)) e
     ∙ get_behind before p behind
@@ -51,7 +51,7 @@ posting_new u before p behind e =
 pub posting_there : (w : Network) (i : ℕ) → 0 < i → i ≤ length w.sent → (p : Posting) × (posting_at w i ≡ Some p)
 posting_there w i lt le =
     let g : (p : Posting) × (slice_get w.sent (i - 1) ≡ Some p) = get_some w.sent (i - 1) (omega (arith, lt, le)) in
-    (g.0, ap (λ (b : Bool). posting_if w i b) (above i lt) ∙ g.1)
+    (g.0, ap (λ (b : Bool). (if b then slice_get w.sent (i - 1) else None)) (above i lt) ∙ g.1)
 
 -- ---- lists without a number
 

@@ -1,6 +1,6 @@
 -- What the acts of an undisturbed round keep of an open transaction, and how its acknowledgements close it.
 use Rattle.std.proofs.Common.{◌≡◌, ℕ, Bool, true, false, List, Option, Some, None, refl, sym, ap, subst, ◌∙◌, inl, inr}
-use Rattle.std.specs.Prelude.{is_some}
+use Rattle.std.specs.Prelude.{is_some, if◌then◌else◌}
 use Rattle.std.proofs.lemmas.Option.{none-some}
 use Rattle.cluster_types.specs.declared.cluster_key.ClusterKey.{ClusterKey}
 use Rattle.cluster_types.specs.declared.member.Member.{Member}
@@ -8,7 +8,7 @@ use Rattle.wire_messages.specs.declared.message.Message.{Message}
 use Rattle.wire_messages.specs.declared.message.Message.TheVariants as message
 use Rattle.node_rules.specs.Exchange.{Exchange, View, is_view, exchange_key}
 use Rattle.node_rules.specs.Facts.{Facts, view_key}
-use Rattle.node_rules.specs.Messages.{due_message_of, repl_came}
+use Rattle.node_rules.specs.Messages.{due_message_of}
 use Rattle.node_rules.specs.Tables.{contains}
 use Rattle.node_rules.specs.Transactions.{Transaction}
 use Rattle.journal_readings.specs.Lines.{has_node}
@@ -33,6 +33,9 @@ use Rattle.calm_laws.proofs.Same.{acted_same}
 use Rattle.calm_laws.proofs.Sent.{AllGets}
 use Rattle.calm_laws.proofs.Taking.{acted_takes}
 use Rattle.calm_laws.proofs.Transacting.{acted_lost, acted_opens}
+use Rattle.node_rules.specs.BatchMessages.{merging}
+use Rattle.node_rules.specs.Effects.{lines_and_sends, to_one}
+use Rattle.node_rules.specs.StaleMessages.{stale}
 
 -- ---- what an act keeps
 
@@ -136,7 +139,7 @@ module _ (n : ℕ) (ns gs : List ℕ) (k : ClusterKey) (set : List Member) (numb
 
       acks : (y : Message) → WritesFor k number y → (x : ℕ) (f : Facts) (c : ℕ) → In k set x f → Among (due_message_of n f c m y).sends (m, message.ReplAck k number)
       acks (message.Repl key t nth digest ver) w x f c i =
-          subst (λ (b : Bool). Among (repl_came f m key t digest ver b).sends (m, message.ReplAck k number)) (sym (ap (λ (q : ClusterKey). is_view f.exchange.view q) w.0 ∙ in_seen k set x f i))
+          subst (λ (b : Bool). Among (if b then lines_and_sends (merging f digest ver) (to_one m (message.ReplAck key t)) else stale f).sends (m, message.ReplAck k number)) (sym (ap (λ (q : ClusterKey). is_view f.exchange.view q) w.0 ∙ in_seen k set x f i))
           (inl (ap (λ (q : ClusterKey). (m, message.ReplAck q t)) w.0 ∙ ap (λ (a : ℕ). (m, message.ReplAck k a)) w.1))
       acks _ w x f c i = absurd w
 

@@ -1,5 +1,5 @@
 -- The lines that are due of a node's tick and of a message at it are its own.
-use Rattle.std.proofs.Common.{◌≡◌, ℕ, zero, suc, ◌+◌, Bool, true, false, List, [], ◌∷◌, ◌++◌, map, Option, Some, None, refl, subst, ◌∙◌}
+use Rattle.std.proofs.Common.{◌≡◌, ℕ, zero, suc, ◌+◌, Bool, true, false, List, [], ◌∷◌, ◌++◌, map, Option, Some, None, refl, subst, ◌∙◌, if◌then◌else◌, ◌&&◌}
 use Rattle.conflict_order.specs.declared.want.Want.{Want}
 use Rattle.conflict_order.specs.declared.want.Want.TheVariants as want
 use Rattle.conflict_order.specs.declared.version.Version.{Version}
@@ -7,27 +7,35 @@ use Rattle.conflict_order.specs.declared.version.Body.TheVariants as body
 use Rattle.conflict_order.specs.Next.{next}
 use Rattle.cluster_types.specs.declared.cluster_key.ClusterKey.{ClusterKey}
 use Rattle.cluster_types.specs.declared.member.Member.{Member}
+use Rattle.wire_messages.specs.declared.message.Batch.{Batch}
 use Rattle.wire_messages.specs.declared.message.Message.{Message}
 use Rattle.wire_messages.specs.declared.message.Message.TheVariants as message
 use Rattle.journal_lines.specs.declared.line.Line.{Line}
 use Rattle.journal_lines.specs.declared.line.Line.TheVariants as line
-use Rattle.node_rules.specs.Agreement.{Proposal, proposes, without_missing}
+use Rattle.node_rules.specs.Agreement.{Proposal, proposes, without_missing, next_key}
 use Rattle.node_rules.specs.Batches.{out_to, has_number}
 use Rattle.node_rules.specs.Copies.{is_nil}
-use Rattle.node_rules.specs.Effects.{Effects}
-use Rattle.node_rules.specs.Entering.{ending, closing, exchanging, entering}
+use Rattle.node_rules.specs.Effects.{Effects, lines_and_sends, lines_only, nothing, sends_only, to_each, to_one}
+use Rattle.node_rules.specs.Entering.{ending, closing, entering}
 use Rattle.node_rules.specs.Exchange.{is_single}
 use Rattle.node_rules.specs.Facts.{Facts, list_at, view_key}
-use Rattle.node_rules.specs.Messages.{vote_effects, commit_effects, accept_effects, unless_stale, entry_effects_if, state_came, finishes, batch_came, batch_ack_came, unless_spent, progress_effects_if, answer_progress, repl_came, done_by, ack_of, repl_ack_came, ask_came, resolving_if, answered_by, answer_of, answer_effects_if, table_if, may_enter_view, merging, merging_all, due_message_of}
-use Rattle.node_rules.specs.Notes.{note, noted, reached, in_view, after_ages}
-use Rattle.node_rules.specs.Resolving.{done_if, writing, resolving_want}
-use Rattle.node_rules.specs.Settling.{drop, hand, learn, settle, settling_at, settling_from, settling_if}
-use Rattle.node_rules.specs.Standing.{other_replicas}
-use Rattle.node_rules.specs.Tick.{Part, parts_in_order, beat, propose, proposal_effects, propose_new, propose_with, rows, transactions, batches, settlings, progress, progress_if, tick_if, tick_of}
+use Rattle.node_rules.specs.Messages.{commit_effects, accept_effects, finishes, ack_of, answer_of, may_enter_view, merging, merging_all, due_message_of}
+use Rattle.node_rules.specs.Notes.{note, noted, reached, in_view, after_ages, neighbours}
+use Rattle.node_rules.specs.Resolving.{writing, resolving_want, resolving}
+use Rattle.node_rules.specs.Settling.{drop, hand, learn, settle, settling_at, settling_from}
+use Rattle.node_rules.specs.Standing.{other_replicas, knows_all_settled, others}
+use Rattle.node_rules.specs.Tick.{Part, parts_in_order, beat, propose, proposal_effects, propose_with, rows, transactions, batches, settlings, progress, tick_of, parts, progress_message, state}
 use Rattle.node_rules.specs.Transactions.{Transaction, Write, transaction, awaits_answer, awaits_ack, answered, is_last_awaited}
 use Rattle.node_rules.specs.Tables.{only_if}
 use Rattle.cluster_rules.specs.NodeSteps.{IsOf}
 use Rattle.cluster_rules.proofs.OwnLines.{noted_me}
+use Rattle.cluster_types.specs.Endpoints.{client}
+use Rattle.cluster_types.specs.Partitions.{partition_of}
+use Rattle.node_rules.specs.ClientMessages.{map_table}
+use Rattle.node_rules.specs.StaleMessages.{spent, stale}
+use Rattle.node_rules.specs.Agreement as agreement
+use Rattle.std.specs.FinMap as finite
+use Rattle.cluster_types.specs.ClusterKeys as keys
 
 -- ---- own lines
 
@@ -85,7 +93,7 @@ closing_from : (a : ℕ) (k : ClusterKey) (xs : List Transaction) → AllSteady 
 closing_from a k [] = tt
 closing_from a k (x ∷ xs) = (ending_own a k x.number x.applied, closing_from a k xs)
 
-exchanging_own : (a : ℕ) (k : ClusterKey) (b : Bool) → AllSteady a (exchanging a k b)
+exchanging_own : (a : ℕ) (k : ClusterKey) (b : Bool) → AllSteady a (only_if (line.Exchanged a k) b)
 exchanging_own a k true = (refl, tt)
 exchanging_own a k false = tt
 
@@ -105,46 +113,46 @@ merging_all_own a f (r ∷ rs) e =
 counting_own : (f : Facts) (from : ℕ) (key : ClusterKey) (o : Option Proposal) (b : Bool) → Owns f (accept_effects f from key o b)
 counting_own f from key (Some p) true = go (is_nil (without_missing p from).missing)
   where
-    go : (b : Bool) → Owns f (commit_effects f p b)
+    go : (b : Bool) → Owns f (if b then commit_effects f p else nothing)
     go true = entering_own f p.key p.members
     go false = tt
 counting_own f from key (Some p) false = (tt, tt)
 counting_own f from key None b = (tt, tt)
 
 voting_own : (f : Facts) (from : ℕ) (key : ClusterKey) (b : Bool)
-    → Owns f (vote_effects f from key b)
+    → Owns f (if b then sends_only (to_one from (message.Refuse key f.agreement.promised)) else lines_and_sends (only_if (line.Promise f.me key) (keys.key_lt f.agreement.promised key)) (to_one from (message.Accept key)))
 voting_own f from key true = tt
 voting_own f from key false = line_if_own f.me _ _ refl
 
-unless_stale_own : (f : Facts) (b : Bool) → Owns f (unless_stale f b)
+unless_stale_own : (f : Facts) (b : Bool) → Owns f (if b then nothing else stale f)
 unless_stale_own f true = tt
 unless_stale_own f false = (tt, tt)
 
-entering_if_own : (f : Facts) (key : ClusterKey) (ms : List Member) (b : Bool) → Owns f (entry_effects_if f key ms b)
+entering_if_own : (f : Facts) (key : ClusterKey) (ms : List Member) (b : Bool) → Owns f (if b then lines_only (entering f key ms) else stale f)
 entering_if_own f key ms true = entering_own f key ms
 entering_if_own f key ms false = (tt, tt)
 
-state_own : (f now : Facts) (from : ℕ) (wants b : Bool) → Owns f (state_came f now from wants b)
+state_own : (f now : Facts) (from : ℕ) (wants b : Bool) → Owns f (if b then lines_and_sends (only_if (line.Exchanged f.me (view_key f)) (finishes f now)) (if wants then to_one from (state f false) else []) else stale f)
 state_own f now from wants true = line_if_own f.me _ (finishes f now) refl
 state_own f now from wants false = (tt, tt)
 
-unless_spent_own : (f : Facts) (b : Bool) → Owns f (unless_spent f b)
+unless_spent_own : (f : Facts) (b : Bool) → Owns f (if b then nothing else spent f)
 unless_spent_own f true = tt
 unless_spent_own f false = (tt, tt)
 
-batch_ack_own : (f : Facts) (from number : ℕ) (b : Bool) → Owns f (batch_ack_came f from number b)
+batch_ack_own : (f : Facts) (from number : ℕ) (b : Bool) → Owns f (if b then (if has_number (out_to f.batches from) number then nothing else spent f) else stale f)
 batch_ack_own f from number true = unless_spent_own f (has_number (out_to f.batches from) number)
 batch_ack_own f from number false = (tt, tt)
 
-answer_progress_own : (n : ℕ) (f now : Facts) (from : ℕ) (b : Bool) → Owns f (answer_progress n now from b)
+answer_progress_own : (n : ℕ) (f now : Facts) (from : ℕ) (b : Bool) → Owns f (if b then sends_only (to_one from (progress_message n now false)) else nothing)
 answer_progress_own n f now from true = tt
 answer_progress_own n f now from false = tt
 
-progress_own : (n : ℕ) (f now : Facts) (from : ℕ) (wants b : Bool) → Owns f (progress_effects_if n f now from wants b)
+progress_own : (n : ℕ) (f now : Facts) (from : ℕ) (wants b : Bool) → Owns f (if b then (if wants && knows_all_settled now n 0 then sends_only (to_one from (progress_message n now false)) else nothing) else stale f)
 progress_own n f now from wants true = answer_progress_own n f now from _
 progress_own n f now from wants false = (tt, tt)
 
-done_by_own : (f : Facts) (t : Transaction) (from : ℕ) (b : Bool) → Owns f (done_by f t from b)
+done_by_own : (f : Facts) (t : Transaction) (from : ℕ) (b : Bool) → Owns f (if b then lines_only (only_if (line.Done f.me (view_key f) t.number) (is_last_awaited t from)) else spent f)
 done_by_own f t from true = line_if_own f.me _ (is_last_awaited t from) refl
 done_by_own f t from false = (tt, tt)
 
@@ -152,15 +160,15 @@ ack_of_own : (f : Facts) (from : ℕ) (o : Option Transaction) → Owns f (ack_o
 ack_of_own f from None = (tt, tt)
 ack_of_own f from (Some t) = done_by_own f t from (awaits_ack t from)
 
-repl_ack_own : (f : Facts) (from number : ℕ) (b : Bool) → Owns f (repl_ack_came f from number b)
+repl_ack_own : (f : Facts) (from number : ℕ) (b : Bool) → Owns f (if b then ack_of f from (transaction f.transactions number) else stale f)
 repl_ack_own f from number true = ack_of_own f from (transaction f.transactions number)
 repl_ack_own f from number false = (tt, tt)
 
-ask_own : (f : Facts) (from : ℕ) (key : ClusterKey) (number : ℕ) (d : List ℕ) (b : Bool) → Owns f (ask_came f from key number d b)
+ask_own : (f : Facts) (from : ℕ) (key : ClusterKey) (number : ℕ) (d : List ℕ) (b : Bool) → Owns f (if b then sends_only (to_one from (message.Answer key number (finite.get f.store.content d))) else stale f)
 ask_own f from key number d true = tt
 ask_own f from key number d false = (tt, tt)
 
-done_own : (f : Facts) (number : ℕ) (b : Bool) → AllSteady f.me (done_if f number b)
+done_own : (f : Facts) (number : ℕ) (b : Bool) → AllSteady f.me (only_if (line.Done f.me (view_key f) number) b)
 done_own f number true = (refl, tt)
 done_own f number false = tt
 
@@ -172,11 +180,11 @@ resolving_own f clock l t want.Get = (refl, tt)
 resolving_own f clock l t (want.Put bytes) = writing_own f l t (next t.best clock (body.Value bytes))
 resolving_own f clock l t want.Del = writing_own f l t (next t.best clock body.Tombstone)
 
-resolving_if_own : (f : Facts) (clock : ℕ) (t : Transaction) (b : Bool) → Owns f (resolving_if f clock t b)
+resolving_if_own : (f : Facts) (clock : ℕ) (t : Transaction) (b : Bool) → Owns f (if b then resolving f clock (list_at f (partition_of t.digest)) t else nothing)
 resolving_if_own f clock t true = resolving_own f clock _ t t.want
 resolving_if_own f clock t false = tt
 
-answered_own : (f : Facts) (clock : ℕ) (t : Transaction) (from : ℕ) (v : Option Version) (b : Bool) → Owns f (answered_by f clock t from v b)
+answered_own : (f : Facts) (clock : ℕ) (t : Transaction) (from : ℕ) (v : Option Version) (b : Bool) → Owns f (if b then (if is_last_awaited t from then resolving f clock (list_at f (partition_of (answered f.store.by from v t).digest)) (answered f.store.by from v t) else nothing) else spent f)
 answered_own f clock t from v true = resolving_if_own f clock (answered f.store.by from v t) (is_last_awaited t from)
 answered_own f clock t from v false = (tt, tt)
 
@@ -184,19 +192,19 @@ answer_of_own : (f : Facts) (clock from : ℕ) (v : Option Version) (o : Option 
 answer_of_own f clock from v None = (tt, tt)
 answer_of_own f clock from v (Some t) = answered_own f clock t from v (awaits_answer t from)
 
-answer_own : (f : Facts) (clock from number : ℕ) (v : Option Version) (b : Bool) → Owns f (answer_effects_if f clock from number v b)
+answer_own : (f : Facts) (clock from number : ℕ) (v : Option Version) (b : Bool) → Owns f (if b then answer_of f clock from v (transaction f.transactions number) else stale f)
 answer_own f clock from number v true = answer_of_own f clock from v (transaction f.transactions number)
 answer_own f clock from number v false = (tt, tt)
 
-table_own : (f : Facts) (b : Bool) → Owns f (table_if f b)
+table_own : (f : Facts) (b : Bool) → Owns f (if b then sends_only (to_one client (message.MapTable (map_table f))) else nothing)
 table_own f true = tt
 table_own f false = tt
 
-batch_own : (f : Facts) (from : ℕ) (b : _) (c : Bool) → Owns f (batch_came f from b c)
+batch_own : (f : Facts) (from : ℕ) (b : Batch) (c : Bool) → Owns f (if c then lines_and_sends (merging_all f b.records) (to_one from (message.BatchAck b.key b.number)) else stale f)
 batch_own f from b true = merging_all_own f.me f b.records refl
 batch_own f from b false = (tt, tt)
 
-repl_own : (f : Facts) (from : ℕ) (key : ClusterKey) (number : ℕ) (d : List ℕ) (v : Version) (b : Bool) → Owns f (repl_came f from key number d v b)
+repl_own : (f : Facts) (from : ℕ) (key : ClusterKey) (number : ℕ) (d : List ℕ) (v : Version) (b : Bool) → Owns f (if b then lines_and_sends (merging f d v) (to_one from (message.ReplAck key number)) else stale f)
 repl_own f from key number d v true = line_if_own f.me _ _ refl
 repl_own f from key number d v false = (tt, tt)
 
@@ -242,7 +250,7 @@ settling_from_own a (suc n) p f e =
     own_append a (settling_at (list_at f p) p f) _ (settling_at_own a (list_at f p) p f e)
     (settling_from_own a n (p + 1) (noted None f (settling_at (list_at f p) p f)) (noted_me None f (settling_at (list_at f p) p f) ∙ e))
 
-settling_own : (n : ℕ) (f : Facts) (b : Bool) → AllSteady f.me (settling_if n f b)
+settling_own : (n : ℕ) (f : Facts) (b : Bool) → AllSteady f.me (if b then settling_from n 0 f else [])
 settling_own n f true = settling_from_own f.me n 0 f refl
 settling_own n f false = tt
 
@@ -263,7 +271,7 @@ proposing_own : (f : Facts) (k : ClusterKey) (set : List Member) (ns : List ℕ)
 proposing_own f k set [] = (refl, entering_own f k set)
 proposing_own f k set (n ∷ ns) = (refl, tt)
 
-propose_new_own : (f : Facts) (b : Bool) → Owns f (propose_new f b)
+propose_new_own : (f : Facts) (b : Bool) → Owns f (if b then proposal_effects f (next_key f.me f.agreement) (neighbours f) (agreement.others_among f.me (neighbours f)) else nothing)
 propose_new_own f true = proposing_own f _ _ _
 propose_new_own f false = tt
 
@@ -271,7 +279,7 @@ propose_own : (f : Facts) (o : Option Proposal) → Owns f (propose_with f o)
 propose_own f (Some p) = tt
 propose_own f None = propose_new_own f _
 
-progress_if_own : (n : ℕ) (f : Facts) (b : Bool) → Owns f (progress_if n f b)
+progress_if_own : (n : ℕ) (f : Facts) (b : Bool) → Owns f (if b then sends_only (to_each (others f) (progress_message n f true)) else nothing)
 progress_if_own n f true = tt
 progress_if_own n f false = tt
 
@@ -307,6 +315,6 @@ later_steady n f = in_order_own (later_parts n) (parts_own n) f
 pub tick_own : (n : ℕ) (f : Facts) → OwnLines f.me (tick_of n f).lines
 tick_own n f = go f.up
   where
-    go : (b : Bool) → OwnLines f.me (tick_if n f b).lines
+    go : (b : Bool) → OwnLines f.me (if b then parts_in_order (parts n) f else lines_only (line.Down f.me ∷ [])).lines
     go true = (refl, all_steady_own f.me _ (later_steady n (after_ages f)))
     go false = (tt, tt)

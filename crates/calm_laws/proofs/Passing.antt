@@ -1,6 +1,6 @@
 -- Messages of one proposal are answered by messages of the same proposal, flow by flow.
 use Rattle.std.proofs.Common.{◌≡◌, ℕ, ◌==◌, ◌||◌, Bool, true, false, List, [], ◌∷◌, Option, Some, None, refl, sym, ap, subst, ◌∙◌, ◌⊎◌, inl, inr}
-use Rattle.std.specs.Prelude.{unwrap_or}
+use Rattle.std.specs.Prelude.{unwrap_or, if◌then◌else◌}
 use Rattle.std.proofs.lemmas.Option.{none-some}
 use Rattle.cluster_types.specs.declared.cluster_key.ClusterKey.{ClusterKey}
 use Rattle.cluster_types.specs.declared.member.Member.{Member}
@@ -15,10 +15,10 @@ use Rattle.wire_messages.proofs.DecodingLaws.{read_back}
 use Rattle.node_rules.specs.Agreement as agreement
 use Rattle.node_rules.specs.Agreement.{Proposal, proposes, without_missing}
 use Rattle.node_rules.specs.Copies.{is_nil}
-use Rattle.node_rules.specs.Effects.{to_each}
+use Rattle.node_rules.specs.Effects.{to_each, lines_and_sends, nothing, sends_only, to_one}
 use Rattle.node_rules.specs.Facts.{Facts}
-use Rattle.node_rules.specs.Messages.{vote_effects, commit_effects, accept_effects}
-use Rattle.node_rules.specs.Tables.{contains}
+use Rattle.node_rules.specs.Messages.{commit_effects, accept_effects}
+use Rattle.node_rules.specs.Tables.{contains, only_if}
 use Rattle.journal_readings.specs.Lines.{has_node}
 use Rattle.cluster_rules.specs.World.{World}
 use Rattle.cluster_rules.proofs.KeptFacts.{num_same}
@@ -40,6 +40,8 @@ use Rattle.calm_laws.proofs.Same.{acted_same}
 use Rattle.calm_laws.proofs.Sent.{AllGets, among_each}
 use Rattle.calm_laws.proofs.Turning.{acted_turns}
 use Rattle.calm_laws.proofs.Turns.{Led, follows_kept, inside_follows, leads_kept}
+use Rattle.cluster_types.specs.ClusterKeys as keys
+use Rattle.journal_lines.specs.declared.line.Line.TheVariants as line
 
 -- ---- a member of the group
 
@@ -112,14 +114,14 @@ free_replies _ j e h = no_kind j h
 -- ---- what is sent on a message of the proposal
 
 module _ (p a o : Bool) (k : ClusterKey) (ms : List Member) (r : Readable k ms) where
-  accept_passes : (f : Facts) (from : ℕ) (l : ClusterKey) → l ≡ k → p ≡ true → KeyAtMost f.agreement.promised k → (to : ℕ) (x : Message) → Among (as_read (vote_effects f from l (key_lt l f.agreement.promised)).sends) (to, x) → Only false p a k ms x
+  accept_passes : (f : Facts) (from : ℕ) (l : ClusterKey) → l ≡ k → p ≡ true → KeyAtMost f.agreement.promised k → (to : ℕ) (x : Message) → Among (as_read (if key_lt l f.agreement.promised then sends_only (to_one from (message.Refuse l f.agreement.promised)) else lines_and_sends (only_if (line.Promise f.me l) (keys.key_lt f.agreement.promised l)) (to_one from (message.Accept l))).sends) (to, x) → Only false p a k ms x
   accept_passes f from l e may most to x h =
       let not_below : key_lt l f.agreement.promised ≡ false = ap (λ (y : ClusterKey). key_lt y f.agreement.promised) e ∙ at_most_lt k f.agreement.promised most in
       let is : message.Accept k ≡ x = among_each (message.Accept k) r.accepts (from ∷ []) to x
-      (subst (λ (y : ClusterKey). Among (as_read (vote_effects f from y false).sends) (to, x)) e (subst (λ (b : Bool). Among (as_read (vote_effects f from l b).sends) (to, x)) not_below h)) in
+      (subst (λ (y : ClusterKey). Among (as_read (if false then sends_only (to_one from (message.Refuse y f.agreement.promised)) else lines_and_sends (only_if (line.Promise f.me y) (keys.key_lt f.agreement.promised y)) (to_one from (message.Accept y))).sends) (to, x)) e (subst (λ (b : Bool). Among (as_read (if b then sends_only (to_one from (message.Refuse l f.agreement.promised)) else lines_and_sends (only_if (line.Promise f.me l) (keys.key_lt f.agreement.promised l)) (to_one from (message.Accept l))).sends) (to, x)) not_below h)) in
       subst (λ (y : Message). Only false p a k ms y) is (may, refl)
 
-  commit_passes : (f : Facts) (q : Proposal) → q.key ≡ k → q.members ≡ ms → a ≡ true → (b : Bool) (to : ℕ) (x : Message) → Among (as_read (commit_effects f q b).sends) (to, x) → Only false p a k ms x
+  commit_passes : (f : Facts) (q : Proposal) → q.key ≡ k → q.members ≡ ms → a ≡ true → (b : Bool) (to : ℕ) (x : Message) → Among (as_read (if b then commit_effects f q else nothing).sends) (to, x) → Only false p a k ms x
   unfolding as_read
   commit_passes f q e i may false to x h = absurd h
   commit_passes f q e i may true to x h =

@@ -1,5 +1,5 @@
 -- A proposal between ticks: it is given up, or those who answer are missed no more.
-use Rattle.std.proofs.Common.{◌≡◌, ℕ, ◌==◌, ◌||◌, ◌&&◌, not, Bool, true, false, cond, List, [], ◌∷◌, Option, Some, None, refl, sym, ap, subst, ◌∙◌, inl, inr}
+use Rattle.std.proofs.Common.{◌≡◌, ℕ, ◌==◌, ◌||◌, ◌&&◌, not, Bool, true, false, cond, List, [], ◌∷◌, Option, Some, None, refl, sym, ap, subst, ◌∙◌, inl, inr, if◌then◌else◌}
 use Rattle.std.specs.List.{cons_option}
 use Rattle.conflict_order.specs.declared.want.Want.{Want}
 use Rattle.conflict_order.specs.declared.version.Version.{Version}
@@ -16,14 +16,14 @@ use Rattle.wire_messages.specs.Spelling.{spelling}
 use Rattle.journal_lines.specs.declared.line.Line.{Line}
 use Rattle.journal_lines.specs.declared.line.Line.TheVariants as line
 use Rattle.node_rules.specs.Agreement as agreement
-use Rattle.node_rules.specs.Agreement.{Agreement, Proposal, proposes, without_missing, accepted_by, kept_if}
+use Rattle.node_rules.specs.Agreement.{Agreement, Proposal, proposes, without_missing, accepted_by}
 use Rattle.node_rules.specs.Copies.{Row}
 use Rattle.node_rules.specs.Facts.{Facts, list_at}
 use Rattle.node_rules.specs.Keys.{same_key}
-use Rattle.node_rules.specs.Messages.{due_message_of, vote_effects, client}
+use Rattle.node_rules.specs.Messages.{due_message_of, client}
 use Rattle.node_rules.specs.Notes as notes
 use Rattle.node_rules.specs.Notes.{note, noted, reached, sent, all_sent, in_view}
-use Rattle.node_rules.specs.Tables.{contains}
+use Rattle.node_rules.specs.Tables.{contains, only_if}
 use Rattle.cluster_rules.specs.Network.{are_apart}
 use Rattle.cluster_rules.specs.World.{World, is_up}
 use Rattle.cluster_laws.proofs.At.{differ}
@@ -39,6 +39,8 @@ use Rattle.calm_laws.proofs.Inputs.{Keeps, Along, served_kept, served_each, Any,
 use Rattle.calm_laws.proofs.KindLaws.{NoneOf, none_read}
 use Rattle.calm_laws.proofs.Own.{Steady, AllSteady, message_steady}
 use Rattle.calm_laws.proofs.Sent.{asks, AllGets, message_none}
+use Rattle.node_rules.specs.Effects.{lines_and_sends, sends_only, to_one}
+use Rattle.cluster_types.specs.ClusterKeys as keys
 
 -- ---- proposals that shrink
 
@@ -66,7 +68,7 @@ shrunk_on (Some p) (Some q) (Some r) h i = record { key = h.key ∙ i.key; missi
 abbrev pub prop : Facts → Option Proposal
 prop f = f.agreement.proposal
 
-kept_shrinks : (b : Bool) (o : Option Proposal) → Shrunk (kept_if b o) o
+kept_shrinks : (b : Bool) (o : Option Proposal) → Shrunk (if b then o else None) o
 kept_shrinks true o = shrunk_refl o
 kept_shrinks false o = tt
 
@@ -111,7 +113,7 @@ without_itself (y ∷ xs) x = go (y == x) refl (without_itself xs x)
     go true s f = f
     go false s f = ap (λ (c : Bool). c || contains (without xs x) x) s ∙ f
 
-accepting_shrinks : (a : Agreement) (from : ℕ) (b : Bool) → Shrunk (agreement.accepting_if a from b).proposal a.proposal
+accepting_shrinks : (a : Agreement) (from : ℕ) (b : Bool) → Shrunk (if b then record a { proposal = accepted_by a.proposal from } else a).proposal a.proposal
 accepting_shrinks a from false = shrunk_refl a.proposal
 accepting_shrinks a from true = go a.proposal
   where
@@ -119,7 +121,7 @@ accepting_shrinks a from true = go a.proposal
     go None = tt
     go (Some p) = record { key = refl; missing = λ m e. without_hasnt p.missing from m e }
 
-refused_shrinks : (a : Agreement) (b : Bool) → Shrunk (agreement.refused_if a b).proposal a.proposal
+refused_shrinks : (a : Agreement) (b : Bool) → Shrunk (if b then record a { proposal = None } else a).proposal a.proposal
 refused_shrinks a true = tt
 refused_shrinks a false = shrunk_refl a.proposal
 
@@ -218,17 +220,17 @@ vote_reached k f m (message.Accept key) v h = go f.agreement.proposal h
     proposed : (p : Proposal) → p.key ≡ k → proposes (Some p) key ≡ true
     proposed p e = ap (λ (y : ClusterKey). same_key y key) (e ∙ sym v) ∙ same_self key
 
-    go : (o : Option Proposal) → Of k o → Got k m (agreement.accepting_if (record f.agreement { proposal = o }) m (proposes o key)).proposal
+    go : (o : Option Proposal) → Of k o → Got k m (if proposes o key then record (record f.agreement { proposal = o }) { proposal = accepted_by (record f.agreement { proposal = o }).proposal m } else record f.agreement { proposal = o }).proposal
     go None i = tt
-    go (Some p) i = subst (λ (b : Bool). Got k m (agreement.accepting_if (record f.agreement { proposal = Some p }) m b).proposal) (sym (proposed p i)) (i, without_itself p.missing m)
+    go (Some p) i = subst (λ (b : Bool). Got k m (if b then record (record f.agreement { proposal = Some p }) { proposal = accepted_by (record f.agreement { proposal = Some p }).proposal m } else record f.agreement { proposal = Some p }).proposal) (sym (proposed p i)) (i, without_itself p.missing m)
 vote_reached k f m (message.Refuse key promised) v h = go f.agreement.proposal h
   where
     proposed : (p : Proposal) → p.key ≡ k → proposes (Some p) key ≡ true
     proposed p e = ap (λ (y : ClusterKey). same_key y key) (e ∙ sym v) ∙ same_self key
 
-    go : (o : Option Proposal) → Of k o → Got k m (agreement.refused_if (record f.agreement { proposal = o }) (proposes o key)).proposal
+    go : (o : Option Proposal) → Of k o → Got k m (if proposes o key then record (record f.agreement { proposal = o }) { proposal = None } else record f.agreement { proposal = o }).proposal
     go None i = tt
-    go (Some p) i = subst (λ (b : Bool). Got k m (agreement.refused_if (record f.agreement { proposal = Some p }) b).proposal) (sym (proposed p i)) tt
+    go (Some p) i = subst (λ (b : Bool). Got k m (if b then record (record f.agreement { proposal = Some p }) { proposal = None } else record f.agreement { proposal = Some p }).proposal) (sym (proposed p i)) tt
 vote_reached k f m _ v h = absurd v
 
 pub vote_gives : (n c : ℕ) (k : ClusterKey) (f : Facts) (m : ℕ) (x : Message) → IsVote k x → Of k (prop f) → Got k m (prop (acted n c f (Gets m x)))
@@ -249,7 +251,7 @@ votes : (n c : ℕ) (k : ClusterKey) (a : ℕ) (ms : List Member) (f : Facts) �
 unfolding as_read
 votes n c k a ms f v = go (key_lt k f.agreement.promised) refl
   where
-    go : (b : Bool) → key_lt k f.agreement.promised ≡ b → Any (VoteTo k a) (as_read (vote_effects f a k b).sends)
+    go : (b : Bool) → key_lt k f.agreement.promised ≡ b → Any (VoteTo k a) (as_read (if b then sends_only (to_one a (message.Refuse k f.agreement.promised)) else lines_and_sends (only_if (line.Promise f.me k) (keys.key_lt f.agreement.promised k)) (to_one a (message.Accept k))).sends)
     go true e =
         let l : ℕ × Message = (a, message.Refuse k f.agreement.promised) in
         record { which = l; among = subst (λ (o : Option Message). Among (cons_option (read_to a o) []) l) (sym (v.refuses e)) (inl refl); good = record { to = refl; vote = refl } }

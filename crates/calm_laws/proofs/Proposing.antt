@@ -1,5 +1,5 @@
 -- A proposal of the group goes through in its round: all of the group are in its view at the end.
-use Rattle.std.proofs.Common.{◌≡◌, ℕ, ◌==◌, Bool, true, false, List, [], ◌∷◌, Option, Some, refl, sym, ap, subst, ◌∙◌, ◌⊎◌, inl, inr}
+use Rattle.std.proofs.Common.{◌≡◌, ℕ, ◌==◌, Bool, true, false, List, [], ◌∷◌, Option, Some, refl, sym, ap, subst, ◌∙◌, ◌⊎◌, inl, inr, if◌then◌else◌}
 use Rattle.cluster_types.specs.declared.cluster_key.ClusterKey.{ClusterKey}
 use Rattle.cluster_types.specs.declared.member.Member.{Member}
 use Rattle.cluster_types.specs.Members.{ids_of}
@@ -9,13 +9,13 @@ use Rattle.partition_lists.proofs.InOrderLaws.{equal}
 use Rattle.node_rules.specs.Agreement as agreement
 use Rattle.node_rules.specs.Agreement.{Proposal, others_among, proposes, without_missing}
 use Rattle.node_rules.specs.Copies.{is_nil}
-use Rattle.node_rules.specs.Effects.{to_each}
+use Rattle.node_rules.specs.Effects.{to_each, lines_and_sends, nothing, sends_only, to_one}
 use Rattle.node_rules.specs.Exchange.{is_member}
 use Rattle.node_rules.specs.Facts.{Facts}
 use Rattle.node_rules.specs.Keys.{same_key}
-use Rattle.node_rules.specs.Messages.{vote_effects, commit_effects, accept_effects}
+use Rattle.node_rules.specs.Messages.{commit_effects, accept_effects}
 use Rattle.node_rules.specs.Notes.{after_ages}
-use Rattle.node_rules.specs.Tables.{contains}
+use Rattle.node_rules.specs.Tables.{contains, only_if}
 use Rattle.journal_readings.specs.Lines.{has_node}
 use Rattle.cluster_rules.specs.World.{World, is_up}
 use Rattle.cluster_rules.proofs.KeptFacts.{num_same}
@@ -43,12 +43,14 @@ use Rattle.calm_laws.proofs.Sent.{AllGets, each_among}
 use Rattle.calm_laws.proofs.Ticking.{tick_proposes}
 use Rattle.calm_laws.proofs.Turning.{acted_turns}
 use Rattle.calm_laws.proofs.Turns.{Led, Votes, committed, follows_kept, inside_kept, leads_counted, leads_stay, led_kept, votes_kept, votes_made}
+use Rattle.cluster_types.specs.ClusterKeys as keys
+use Rattle.journal_lines.specs.declared.line.Line.TheVariants as line
 
 -- ---- what is sent
 
 accept_sent : (n c : ℕ) (k : ClusterKey) (ms : List Member) (r : Readable k ms) (f : Facts) (from : ℕ) → Party k ms (stance_of f) → Among (sent_at n c f (Gets from (message.Propose k ms))) (from, message.Accept k)
 accept_sent n c k ms r f from h =
-    subst (λ (b : Bool). Among (as_read (vote_effects f from k b).sends) (from, message.Accept k)) (sym (at_most_lt k f.agreement.promised (party_promised k ms (stance_of f) h)))
+    subst (λ (b : Bool). Among (as_read (if b then sends_only (to_one from (message.Refuse k f.agreement.promised)) else lines_and_sends (only_if (line.Promise f.me k) (keys.key_lt f.agreement.promised k)) (to_one from (message.Accept k))).sends) (from, message.Accept k)) (sym (at_most_lt k f.agreement.promised (party_promised k ms (stance_of f) h)))
     (each_among (message.Accept k) r.accepts (from ∷ []) from (inl refl))
 
 -- the commits to all others
@@ -60,7 +62,7 @@ commit_sent : (n c : ℕ) (k : ClusterKey) (ms : List Member) (r : Readable k ms
 commit_sent n c k ms r me f name from l e h last x there =
     subst (λ (o : Option Proposal). Among (as_read (accept_effects f from l o (proposes o l)).sends) (x, message.Commit k ms)) (sym h.is)
     (subst (λ (b : Bool). Among (as_read (accept_effects f from l (Some h.stands) b).sends) (x, message.Commit k ms)) (sym mine)
-    (subst (λ (b : Bool). Among (as_read (commit_effects f h.stands b).sends) (x, message.Commit k ms)) (sym last)
+    (subst (λ (b : Bool). Among (as_read (if b then commit_effects f h.stands else nothing).sends) (x, message.Commit k ms)) (sym last)
     (subst (λ (y : ClusterKey). Among (as_read (to_each (others_among f.me h.stands.members) (message.Commit y h.stands.members))) (x, message.Commit k ms)) (sym h.key)
     (subst (λ (ys : List Member). Among (as_read (to_each (others_among f.me ys) (message.Commit k ys))) (x, message.Commit k ms)) (sym h.members)
     (subst (λ (y : ℕ). Among (as_read (to_each (others_among y ms) (message.Commit k ms))) (x, message.Commit k ms)) (sym name)

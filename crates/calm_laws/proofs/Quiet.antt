@@ -1,21 +1,21 @@
 -- A tick of a node that has nothing left to do sends beats alone, and beats change nothing that is to come to rest.
 use Rattle.std.proofs.Common.{◌≡◌, ℕ, ◌==◌, ◌||◌, ◌&&◌, arith, not, Bool, true, false, List, [], ◌∷◌, Option, None, refl, sym, ap, subst, ◌∙◌, inl, inr}
-use Rattle.std.specs.Prelude.{filter_map, flat_map}
+use Rattle.std.specs.Prelude.{filter_map, flat_map, if◌then◌else◌}
 use Rattle.std.specs.List.{cons_option}
 use Rattle.std.proofs.lemmas.Bool.{not-false}
 use Rattle.cluster_types.specs.declared.cluster_key.ClusterKey.{ClusterKey}
 use Rattle.wire_messages.specs.declared.message.Batch.{Batch}
 use Rattle.wire_messages.specs.declared.message.Message.{Message}
 use Rattle.wire_messages.specs.declared.message.Message.TheVariants as message
-use Rattle.node_rules.specs.Agreement.{Proposal}
+use Rattle.node_rules.specs.Agreement.{Proposal, next_key}
 use Rattle.node_rules.specs.Batches.{Target, Targets, batch_after, fresh_batch, next_batch}
 use Rattle.node_rules.specs.Copies.{Content}
-use Rattle.node_rules.specs.Effects.{to_each}
+use Rattle.node_rules.specs.Effects.{to_each, sends_only}
 use Rattle.node_rules.specs.Exchange.{Exchange}
 use Rattle.node_rules.specs.Facts.{Facts, view_key}
-use Rattle.node_rules.specs.Notes.{after_ages, all_sent, sent}
-use Rattle.node_rules.specs.Standing.{knows_all_settled}
-use Rattle.node_rules.specs.Tick.{batch_to, batches, beat, progress, progress_if, propose, propose_new, propose_with, rows, sends_again, state, transactions}
+use Rattle.node_rules.specs.Notes.{after_ages, all_sent, sent, neighbours}
+use Rattle.node_rules.specs.Standing.{knows_all_settled, others}
+use Rattle.node_rules.specs.Tick.{batch_to, batches, beat, progress, propose, propose_with, rows, sends_again, state, transactions, progress_message, proposal_effects}
 use Rattle.node_rules.specs.Transactions.{Transaction}
 use Rattle.cluster_rules.proofs.KeptFacts.{num_same}
 use Rattle.cluster_laws.proofs.At.{differ}
@@ -31,6 +31,8 @@ use Rattle.calm_laws.proofs.Replies.{each_in, outside}
 use Rattle.calm_laws.proofs.Sent.{AllGets, none_among}
 use Rattle.calm_laws.proofs.Taking.{rests_proposed, settled_exchange}
 use Rattle.calm_laws.proofs.Ticking.{progressing, proposed, tick_facts, tick_list, tick_sent}
+use Rattle.node_rules.specs.Agreement as agreement
+use Rattle.node_rules.specs.Effects as effects
 
 -- ---- what a tick sends
 
@@ -64,7 +66,7 @@ quiet_list n f h =
     same = rests_proposed f h.none h.asks
 
     nothing : (propose (after_ages f)).sends ≡ []
-    nothing = ap (λ (o : Option Proposal). (propose_with (after_ages f) o).sends) h.none ∙ ap (λ (b : Bool). (propose_new (after_ages f) b).sends) h.asks
+    nothing = ap (λ (o : Option Proposal). (propose_with (after_ages f) o).sends) h.none ∙ ap (λ (b : Bool). (if b then proposal_effects (after_ages f) (next_key (after_ages f).me (after_ages f).agreement) (neighbours (after_ages f)) (agreement.others_among (after_ages f).me (neighbours (after_ages f))) else effects.nothing).sends) h.asks
 
     never : (a : Bool) → (a && not true) ≡ false
     never true = refl
@@ -72,7 +74,7 @@ quiet_list n f h =
 
     tells : Beats (progress n (progressing n f)).sends
     tells =
-        subst (λ (b : Bool). Beats (progress_if n (progressing n f) b).sends)
+        subst (λ (b : Bool). Beats (if b then sends_only (to_each (others (progressing n f)) (progress_message n (progressing n f) true)) else effects.nothing).sends)
         (sym (ap (λ (b : Bool). (progressing n f).exchange.exchanged && not b) (knows_telling n f h) ∙ never (progressing n f).exchange.exchanged)) tt
 
 -- such a node sends beats alone

@@ -1,5 +1,5 @@
 -- What events of a round make of the world: what each node makes of what came to it.
-use Rattle.std.proofs.Common.{◌≡◌, ℕ, ◌+◌, ◌<◌, ◌≤◌, ◌==◌, ◌||◌, ◌&&◌, not, Bool, true, false, List, [], ◌∷◌, ◌++◌, length, Option, Some, None, refl, sym, ap, subst, ◌∙◌, append_assoc, append-nil, arith, length-append}
+use Rattle.std.proofs.Common.{◌≡◌, ℕ, ◌+◌, ◌<◌, ◌≤◌, ◌==◌, ◌||◌, ◌&&◌, not, Bool, true, false, List, [], ◌∷◌, ◌++◌, length, Option, Some, None, refl, sym, ap, subst, ◌∙◌, append_assoc, append-nil, arith, length-append, if◌then◌else◌}
 use Rattle.std.specs.List.{cons_option}
 use Rattle.std.proofs.lemmas.List.Elements.{filter_map-append}
 use Rattle.cluster_types.specs.Distinct.{without}
@@ -14,7 +14,7 @@ use Rattle.cluster_rules.specs.declared.event.Event.TheVariants as event
 use Rattle.cluster_rules.specs.DueEvents.{is_blocked}
 use Rattle.journal_readings.specs.Lines.{has_node}
 use Rattle.journal_readings.specs.Messages.{Posting}
-use Rattle.cluster_rules.specs.Network.{posting_at, flying_at, flying_if, are_apart}
+use Rattle.cluster_rules.specs.Network.{posting_at, flying_at, are_apart}
 use Rattle.cluster_rules.specs.Steps.{play, play_all}
 use Rattle.cluster_rules.specs.World.{World, is_up}
 use Rattle.cluster_rules.proofs.KeptFacts.{num_same}
@@ -216,7 +216,7 @@ ran n [] w named ready clear = record {
 }
 ran n (event.Deliver i ∷ es) w named ready clear =
     let there : (p : Posting) × (posting_at w.network i ≡ Some p) = posting_there w.network i ready.1 ready.2 in
-    let flies : flying_at w.network i ≡ Some there.0 = ap (λ (b : Bool). flying_if w.network i b) ready.0 ∙ there.1 in
+    let flies : flying_at w.network i ≡ Some there.0 = ap (λ (b : Bool). (if b then posting_at w.network i else None)) ready.0 ∙ there.1 in
     let st : Stepped n w (play n (event.Deliver i) w).world (input_of w (Some there.0)) (without w.network.flying i) = step_deliver n w i there.0 named flies there.1 clear.0 in
     ran_on n w (play n (event.Deliver i) w).world (play_all n (event.Deliver i ∷ es) w).world (event.Deliver i) es (without w.network.flying i)
     (subst (λ (o : Option Posting). Stepped n w (play n (event.Deliver i) w).world (input_of w o) (without w.network.flying i)) (sym there.1) st)

@@ -1,7 +1,7 @@
 -- In every world that due steps reach the numbers in flight were given and stand once, and each node's facts are its
 -- own.
 use Rattle.std.proofs.Common.{◌≡◌, ℕ, ◌+◌, ◌-◌, ◌==◌, ◌||◌, not, Bool, true, false, cond, nat_lt, List, [], ◌∷◌, ◌++◌, map, length, Option, Some, None, refl, sym, ap, subst, ◌∙◌, arith, length-append}
-use Rattle.std.specs.Prelude.{fold, option_and_then}
+use Rattle.std.specs.Prelude.{fold, option_and_then, if◌then◌else◌}
 use Rattle.std.specs.List.{range_with_len}
 use Rattle.conflict_order.specs.declared.want.Want.{Want}
 use Rattle.conflict_order.specs.declared.want.Want.TheVariants as want
@@ -14,14 +14,14 @@ use Rattle.wire_messages.specs.declared.message.Message.{Message}
 use Rattle.wire_messages.specs.declared.message.Message.TheVariants as message
 use Rattle.wire_messages.specs.Decoding.{message_of}
 use Rattle.node_rules.specs.Copies.{is_nil}
-use Rattle.node_rules.specs.Effects.{Effects, sends_only, to_one}
+use Rattle.node_rules.specs.Effects.{Effects, sends_only, to_one, lines_only}
 use Rattle.node_rules.specs.Entering.{ending, closing}
 use Rattle.node_rules.specs.Facts.{Facts, view_key, list_at}
 use Rattle.node_rules.specs.Map.{entry_of}
 use Rattle.node_rules.specs.Messages.{due_message_of, client}
 use Rattle.node_rules.specs.Notes.{opening_transaction}
-use Rattle.node_rules.specs.Requests.{asking, request_if, due_request, request_refusal, map_refusal, stop_if, start_if, due_stop, due_start}
-use Rattle.node_rules.specs.Resolving.{done_if, resolving_want}
+use Rattle.node_rules.specs.Requests.{asking, request_if, due_request, request_refusal, map_refusal, due_stop, due_start}
+use Rattle.node_rules.specs.Resolving.{resolving_want}
 use Rattle.node_rules.specs.Shows.{map_line, map_if, due_map, due_show}
 use Rattle.node_rules.specs.Standing.{other_replicas}
 use Rattle.node_rules.specs.Tick.{tick_of}
@@ -29,9 +29,9 @@ use Rattle.node_rules.specs.Transactions.{Transaction, Write}
 use Rattle.cluster_rules.specs.declared.event.Event.{Event}
 use Rattle.cluster_rules.specs.declared.event.Event.TheVariants as event
 use Rattle.node_rules.specs.Client.{node_for}
-use Rattle.cluster_rules.specs.DueEvents.{full_unless, one_more_if, sent_lines, written, due_at_node, due_at_named, due_at_client, due_at_end, due_arrival, arriving, arriving_cut, is_blocked, unless_blocked, delivery, losing, due_of}
+use Rattle.cluster_rules.specs.DueEvents.{sent_lines, written, due_at_node, due_at_named, due_at_client, due_arrival, arriving, is_blocked, delivery, losing, due_of}
 use Rattle.journal_readings.specs.Lines.{has_node}
-use Rattle.cluster_rules.specs.Marks.{Mark, Begins, Writes, event_begun, taken_by, came, came_to, came_to_client, sent_by, posted_by, after_line, after_all, lines_among}
+use Rattle.cluster_rules.specs.Marks.{Mark, Begins, Writes, event_begun, taken_by, came, came_to_client, sent_by, posted_by, after_line, after_all, lines_among, came_to_node}
 use Rattle.journal_readings.specs.Messages.{Posting, Arrival, arrived, arrived_cut}
 use Rattle.cluster_rules.specs.Network.{Network, has_place, landed, posting, posting_at, flying_at}
 use Rattle.cluster_rules.specs.Opening.{Header}
@@ -44,6 +44,7 @@ use Rattle.run_laws.proofs.Carried.{taken_sent}
 use Rattle.calm_laws.specs.Flows.{Named, AreGiven, InOrder}
 use Rattle.calm_laws.proofs.Flow.{numbered_more}
 use Rattle.calm_laws.proofs.Own.{OwnLines, tick_own, message_own}
+use Rattle.node_rules.specs.Tables.{only_if}
 
 -- ---- lines that post in order
 
@@ -82,7 +83,7 @@ fits_sents : (ms : List (ℕ × Message)) (a s fl : ℕ) → Fits s (sent_lines 
 fits_sents [] a s fl = tt
 fits_sents (m ∷ ms) a s fl = (refl, go (has_place fl) (λ k. fits_sents ms a (s + 1) k))
   where
-    go : (b : Bool) → ((k : ℕ) → Fits (s + 1) (sent_lines a (s + 1) k ms)) → Fits (s + 1) (full_unless (s + 1) b ++ sent_lines a (s + 1) (one_more_if fl b) ms)
+    go : (b : Bool) → ((k : ℕ) → Fits (s + 1) (sent_lines a (s + 1) k ms)) → Fits (s + 1) ((if b then [] else line.Full (s + 1) ∷ []) ++ sent_lines a (s + 1) (if b then fl + 1 else fl) ms)
     go true rest = rest (fl + 1)
     go false rest = rest fl
 
@@ -91,7 +92,7 @@ written_fits net a e h = unsent_fits (length net.sent) e.lines _ h (fits_sents e
 
 -- ---- requests and what is shown
 
-done_unsent : (f : Facts) (number : ℕ) (b : Bool) → Unsent (done_if f number b)
+done_unsent : (f : Facts) (number : ℕ) (b : Bool) → Unsent (only_if (line.Done f.me (view_key f) number) b)
 done_unsent f number true = tt
 done_unsent f number false = tt
 
@@ -116,11 +117,11 @@ closing_unsent f (x ∷ xs) = go x.applied (closing_unsent f xs)
     go None rest = rest
     go (Some w) rest = rest
 
-pub stop_unsent : (f : Facts) (b : Bool) → Unsent (stop_if f b).lines
+pub stop_unsent : (f : Facts) (b : Bool) → Unsent (if b then lines_only (closing f ++ line.Stop f.me ∷ []) else lines_only (line.Down f.me ∷ [])).lines
 stop_unsent f true = unsent_append (closing f) (line.Stop f.me ∷ []) (closing_unsent f f.transactions.running) tt
 stop_unsent f false = tt
 
-pub start_unsent : (f : Facts) (b : Bool) → Unsent (start_if f b).lines
+pub start_unsent : (f : Facts) (b : Bool) → Unsent (if b then lines_only (line.Up f.me ∷ []) else lines_only (line.Start f.me ∷ [])).lines
 start_unsent f true = tt
 start_unsent f false = tt
 
@@ -150,7 +151,7 @@ client_fits s m = tt
 arriving_fits : (n : ℕ) (w : World) (net : Network) (p : Posting) → Fits (length net.sent) (arriving n w net p)
 arriving_fits n w net p = go (message_of p.bytes)
   where
-    at_end : (m : Message) (b : Bool) → Fits (length net.sent) (due_at_end n w net p m b)
+    at_end : (m : Message) (b : Bool) → Fits (length net.sent) (if b then due_at_client m else written net p.to (due_message_of n (w.facts p.to) (w.clocks p.to) p.from m))
     at_end m true = client_fits (length net.sent) m
     at_end m false = written_fits net p.to (due_message_of n (w.facts p.to) (w.clocks p.to) p.from m) (own_unsent (w.facts p.to).me _ (message_own n (w.facts p.to) (w.clocks p.to) p.from m))
 
@@ -158,7 +159,7 @@ arriving_fits n w net p = go (message_of p.bytes)
     go None = tt
     go (Some m) = at_end m (p.to == client)
 
-cut_fits : (n : ℕ) (w : World) (net : Network) (p : Posting) (b : Bool) → Fits (length net.sent) (arriving_cut n w net p b)
+cut_fits : (n : ℕ) (w : World) (net : Network) (p : Posting) (b : Bool) → Fits (length net.sent) (if b then line.Short p.to ∷ [] else arriving n w net p)
 cut_fits n w net p true = tt
 cut_fits n w net p false = arriving_fits n w net p
 
@@ -166,7 +167,7 @@ delivery_fits : (w : World) (i s : ℕ) (lines : Posting → List Line) → ((p 
 delivery_fits w i s lines h None = tt
 delivery_fits w i s lines h (Some p) = go (is_blocked w p)
   where
-    go : (b : Bool) → Fits s (unless_blocked i lines p b)
+    go : (b : Bool) → Fits s (if b then line.Blocked i ∷ [] else lines p)
     go true = tt
     go false = h p
 
@@ -223,7 +224,7 @@ came_net w (Some x) = go (x.to == client)
     at_client (message.MapTable t) = refl
     at_client m = refl
 
-    go : (b : Bool) → (came_to w x b).network ≡ w.network
+    go : (b : Bool) → (if b then came_to_client w x.message else came_to_node w x).network ≡ w.network
     go true = at_client x.message
     go false = refl
 

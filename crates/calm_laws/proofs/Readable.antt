@@ -1,5 +1,5 @@
 -- What nodes send in a round that may be taken is read as it was sent.
-use Rattle.std.proofs.Common.{◌≡◌, ℕ, ◌==◌, ◌||◌, ◌&&◌, not, Bool, true, false, List, [], ◌∷◌, ◌++◌, map, length, Option, Some, None, refl, sym, ap, subst, ◌∙◌, arith}
+use Rattle.std.proofs.Common.{◌≡◌, ℕ, ◌==◌, ◌||◌, ◌&&◌, not, Bool, true, false, List, [], ◌∷◌, ◌++◌, map, length, Option, Some, None, refl, sym, ap, subst, ◌∙◌, arith, if◌then◌else◌}
 use Rattle.std.specs.List.{cons_option}
 use Rattle.cluster_types.specs.Distinct.{without}
 use Rattle.cluster_types.specs.Partitions.{partition_count}
@@ -12,7 +12,7 @@ use Rattle.journal_readings.proofs.AlongLaws.{some_same}
 use Rattle.cluster_rules.specs.declared.event.Event.{Event}
 use Rattle.cluster_rules.specs.declared.event.Event.TheVariants as event
 use Rattle.cluster_rules.specs.DueEvents.{is_blocked}
-use Rattle.cluster_rules.specs.Network.{are_apart, flying_at, flying_if, posting_at}
+use Rattle.cluster_rules.specs.Network.{are_apart, flying_at, posting_at}
 use Rattle.cluster_rules.specs.NodeSteps.{AreRead}
 use Rattle.cluster_rules.specs.Steps.{Played, flow, flows, play, play_all, round}
 use Rattle.cluster_rules.specs.World.{World, is_up, up_nodes}
@@ -85,7 +85,7 @@ legible_flow (i ∷ is) w m may named ready clear =
     let es : List Event = map event.Deliver is in
     let u : World = (play partition_count (event.Deliver i) w).world in
     let there : (p : Posting) × (posting_at w.network i ≡ Some p) = posting_there w.network i ready.1 ready.2 in
-    let flies : flying_at w.network i ≡ Some there.0 = ap (λ (b : Bool). flying_if w.network i b) ready.0 ∙ there.1 in
+    let flies : flying_at w.network i ≡ Some there.0 = ap (λ (b : Bool). (if b then posting_at w.network i else None)) ready.0 ∙ there.1 in
     let st0 : Stepped partition_count w u (input_of w (Some there.0)) (without w.network.flying i) = step_deliver partition_count w i there.0 named flies there.1 clear.0 in
     let st : Stepped partition_count w u (input w (event.Deliver i)) (without w.network.flying i) = subst (λ (o : Option Posting). Stepped partition_count w u (input_of w o) (without w.network.flying i)) (sym there.1) st0 in
     let alike : Alike u w = record { groups = st.groups; ups = ups_on partition_count w u (λ x. given x (input w (event.Deliver i))) st.facts } in

@@ -1,6 +1,6 @@
 -- An open transaction is resolved, and its write goes out; a tick leaves it.
 use Rattle.std.proofs.Common.{◌≡◌, ℕ, zero, suc, ◌+◌, ◌==◌, Bool, true, false, cond, List, [], ◌∷◌, Option, Some, None, refl, sym, ap, subst, ◌∙◌, ◌⊎◌, inl, inr}
-use Rattle.std.specs.Prelude.{find, flat_map, unwrap_or}
+use Rattle.std.specs.Prelude.{find, flat_map, unwrap_or, if◌then◌else◌}
 use Rattle.std.proofs.lemmas.Option.{none-some}
 use Rattle.conflict_order.specs.declared.want.Want.{Want}
 use Rattle.cluster_types.specs.declared.cluster_key.ClusterKey.{ClusterKey}
@@ -12,7 +12,7 @@ use Rattle.node_rules.specs.Exchange.{View, members_of}
 use Rattle.node_rules.specs.Facts.{Facts, list_at}
 use Rattle.node_rules.specs.Messages.{due_message_of}
 use Rattle.node_rules.specs.Notes.{after_ages, note, noted}
-use Rattle.node_rules.specs.Settling.{hand, learn, settle, settling_due, settling_at, settling_from, settling_if, may_hand, may_settle}
+use Rattle.node_rules.specs.Settling.{hand, learn, settle, settling_due, settling_at, settling_from, may_hand, may_settle}
 use Rattle.node_rules.specs.Standing.{is_to_drop, is_to_learn}
 use Rattle.node_rules.specs.Tables.{contains}
 use Rattle.node_rules.specs.Tick.{sends_again}
@@ -111,7 +111,7 @@ settling_from_rests (suc n) p f =
 pub settling_rests : (n : ℕ) (f : Facts) → Each Rests (settling_due n f)
 settling_rests n f = go f.exchange.exchanged
   where
-    go : (b : Bool) → Each Rests (settling_if n f b)
+    go : (b : Bool) → Each Rests (if b then settling_from n 0 f else [])
     go true = settling_from_rests n 0 f
     go false = tt
 

@@ -1,7 +1,7 @@
 -- A round of a group of which each node knows each partition settled: only beats are sent, nothing is left to learn or
 -- drop, and nothing is on its way.
 use Rattle.std.proofs.Common.{◌≡◌, ℕ, zero, suc, ◌+◌, ◌≤◌, ◌==◌, ◌||◌, ◌&&◌, arith, not, Bool, true, false, cond, List, [], ◌∷◌, length, Option, None, refl, sym, ap, subst, ◌∙◌, ◌⊎◌, inl, inr}
-use Rattle.std.specs.Prelude.{filter}
+use Rattle.std.specs.Prelude.{filter, if◌then◌else◌}
 use Rattle.cluster_types.specs.declared.cluster_key.ClusterKey.{ClusterKey}
 use Rattle.cluster_types.specs.declared.member.Member.{Member}
 use Rattle.partition_lists.proofs.InOrderLaws.{equal}
@@ -13,7 +13,7 @@ use Rattle.node_rules.specs.Exchange.{Exchange, View, members_of}
 use Rattle.node_rules.specs.Facts.{Facts, list_at}
 use Rattle.node_rules.specs.Map.{lacks}
 use Rattle.node_rules.specs.Notes.{after_ages, noted}
-use Rattle.node_rules.specs.Settling.{settling_due, settling_from, settling_if}
+use Rattle.node_rules.specs.Settling.{settling_due, settling_from}
 use Rattle.node_rules.specs.Standing.{has_nothing_to_learn_or_drop, is_to_drop, is_to_learn, knows_all_settled, others}
 use Rattle.node_rules.specs.Tables.{contains}
 use Rattle.journal_readings.specs.Lines.{has_node}
@@ -181,7 +181,7 @@ module _ (n : ℕ) (ns gs : List ℕ) (g : ℕ) (set : List Member) (k : Cluster
   settles : (m : ℕ) → has_node gs m ≡ true → progressing n (w.facts m) ≡ noted None (after_ages (w.facts m)) (settling_from n 0 (after_ages (w.facts m)))
   settles m here =
       ap (λ (f : Facts). noted None f (settling_due n f)) (rests_proposed (w.facts m) (idle m here).none (idle m here).asks)
-      ∙ ap (λ (b : Bool). noted None (after_ages (w.facts m)) (settling_if n (after_ages (w.facts m)) b)) (h.over m here)
+      ∙ ap (λ (b : Bool). noted None (after_ages (w.facts m)) (if b then settling_from n 0 (after_ages (w.facts m)) else [])) (h.over m here)
 
   -- and have nothing to learn or drop
   pub owes_end : (m : ℕ) → has_node gs m ≡ true → has_nothing_to_learn_or_drop (v.facts m) n 0 ≡ true

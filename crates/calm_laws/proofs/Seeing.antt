@@ -1,5 +1,5 @@
 -- After a round that begins ready the greatest has seen the round of each promise in the group.
-use Rattle.std.proofs.Common.{◌≡◌, ℕ, ◌≤◌, ◌==◌, max, Bool, true, false, List, Option, Some, None, refl, sym, ap, subst, ◌∙◌, inl, inr, arith}
+use Rattle.std.proofs.Common.{◌≡◌, ℕ, ◌≤◌, ◌==◌, max, Bool, true, false, List, Option, Some, None, refl, sym, ap, subst, ◌∙◌, inl, inr, arith, if◌then◌else◌}
 use Rattle.cluster_types.specs.declared.cluster_key.ClusterKey.{ClusterKey}
 use Rattle.cluster_types.specs.declared.member.Member.{Member}
 use Rattle.cluster_types.specs.ClusterKeys.{key_lt}
@@ -7,7 +7,7 @@ use Rattle.wire_messages.specs.declared.message.Message.{Message}
 use Rattle.wire_messages.specs.declared.message.Message.TheVariants as message
 use Rattle.partition_lists.proofs.InOrderLaws.{equal}
 use Rattle.node_rules.specs.Agreement as agreement
-use Rattle.node_rules.specs.Agreement.{Agreement, Proposal, may_enter, proposes, seen_round, without_missing}
+use Rattle.node_rules.specs.Agreement.{Agreement, Proposal, may_enter, proposes, seen_round, without_missing, accepted_by, promising}
 use Rattle.node_rules.specs.Copies.{is_nil}
 use Rattle.node_rules.specs.Facts.{Facts}
 use Rattle.node_rules.specs.Notes.{after_ages}
@@ -36,20 +36,20 @@ use Rattle.calm_laws.proofs.Turns.{Led}
 abbrev Seen : ℕ → Stance → Type 0
 Seen x s = x ≤ seen_round s.agreement
 
-seen_promise : (x : ℕ) (a : Agreement) (key : ClusterKey) (b : Bool) → key_lt a.promised key ≡ b → x ≤ seen_round a → x ≤ seen_round (agreement.promising_if a key b)
+seen_promise : (x : ℕ) (a : Agreement) (key : ClusterKey) (b : Bool) → key_lt a.promised key ≡ b → x ≤ seen_round a → x ≤ seen_round (if b then promising a key else a)
 seen_promise x a key false e h = h
 seen_promise x a key true e h = go (lt_below a.promised key e).rounds
   where
     go : a.promised.round ≤ key.round → x ≤ max key.round a.seen
     go le = omega (arith, le, h)
 
-seen_accepts : (x : ℕ) (s : Stance) (from : ℕ) (key : ClusterKey) (o : Option Proposal) (b : Bool) → Seen x s → Seen x (counts (record s { agreement = agreement.accepting_if s.agreement from b }) from o b)
+seen_accepts : (x : ℕ) (s : Stance) (from : ℕ) (key : ClusterKey) (o : Option Proposal) (b : Bool) → Seen x s → Seen x (counts (record s { agreement = (if b then record s.agreement { proposal = accepted_by s.agreement.proposal from } else s.agreement) }) from o b)
 seen_accepts x s from key None true h = h
 seen_accepts x s from key None false h = h
 seen_accepts x s from key (Some p) false h = h
 seen_accepts x s from key (Some p) true h = go (is_nil (without_missing p from).missing)
   where
-    go : (b : Bool) → Seen x (enters_if (record s { agreement = agreement.accepting_if s.agreement from true }) p.key p.members b)
+    go : (b : Bool) → Seen x (enters_if (record s { agreement = (if true then record s.agreement { proposal = accepted_by s.agreement.proposal from } else s.agreement) }) p.key p.members b)
     go true = h
     go false = h
 
@@ -62,7 +62,7 @@ seen_kept x me s from (message.Refuse key promised) h = go (proposes s.agreement
     more : (p q r : ℕ) → x ≤ max p q → x ≤ max p (max q r)
     more p q r h = omega (arith, h)
 
-    go : (b : Bool) → x ≤ seen_round (agreement.seeing (agreement.refused_if s.agreement b) promised)
+    go : (b : Bool) → x ≤ seen_round (agreement.seeing (if b then record s.agreement { proposal = None } else s.agreement) promised)
     go true = more s.agreement.promised.round s.agreement.seen promised.round h
     go false = more s.agreement.promised.round s.agreement.seen promised.round h
 seen_kept x me s from (message.Commit key ms) h = go (may_enter me s.agreement key ms)
@@ -85,13 +85,13 @@ abbrev Low : ℕ → Message → Type 0
 Low x (message.Propose key ms) = key.round ≤ x
 Low x _ = Unit {0}
 
-bound_accepts : (x : ℕ) (s : Stance) (from : ℕ) (o : Option Proposal) (b : Bool) → Bound x s → Bound x (counts (record s { agreement = agreement.accepting_if s.agreement from b }) from o b)
+bound_accepts : (x : ℕ) (s : Stance) (from : ℕ) (o : Option Proposal) (b : Bool) → Bound x s → Bound x (counts (record s { agreement = (if b then record s.agreement { proposal = accepted_by s.agreement.proposal from } else s.agreement) }) from o b)
 bound_accepts x s from None true h = h
 bound_accepts x s from None false h = h
 bound_accepts x s from (Some p) false h = h
 bound_accepts x s from (Some p) true h = go (is_nil (without_missing p from).missing)
   where
-    go : (b : Bool) → Bound x (enters_if (record s { agreement = agreement.accepting_if s.agreement from true }) p.key p.members b)
+    go : (b : Bool) → Bound x (enters_if (record s { agreement = (if true then record s.agreement { proposal = accepted_by s.agreement.proposal from } else s.agreement) }) p.key p.members b)
     go true = h
     go false = h
 
@@ -99,13 +99,13 @@ bound_kept : (x : ℕ) (me : ℕ) (s : Stance) (from : ℕ) (m : Message) → Lo
 bound_kept x me s from (message.Heartbeat view promised hears role) l h = h
 bound_kept x me s from (message.Propose key ms) l h = go (key_lt s.agreement.promised key)
   where
-    go : (b : Bool) → Bound x (record s { agreement = agreement.promising_if s.agreement key b })
+    go : (b : Bool) → Bound x (record s { agreement = (if b then promising s.agreement key else s.agreement) })
     go true = l
     go false = h
 bound_kept x me s from (message.Accept key) l h = bound_accepts x s from s.agreement.proposal (proposes s.agreement.proposal key) h
 bound_kept x me s from (message.Refuse key promised) l h = go (proposes s.agreement.proposal key)
   where
-    go : (b : Bool) → (agreement.seeing (agreement.refused_if s.agreement b) promised).promised.round ≤ x
+    go : (b : Bool) → (agreement.seeing (if b then record s.agreement { proposal = None } else s.agreement) promised).promised.round ≤ x
     go true = h
     go false = h
 bound_kept x me s from (message.Commit key ms) l h = go (may_enter me s.agreement key ms)

@@ -1,6 +1,6 @@
 -- Which kinds a node sends: beats of a tick alone, and one to each peer.
 use Rattle.std.proofs.Common.{◌≡◌, ℕ, ◌==◌, ◌||◌, Bool, true, false, List, [], ◌∷◌, ◌++◌, Option, Some, None, refl, sym, ap, subst, ◌∙◌, inl, inr}
-use Rattle.std.specs.Prelude.{filter_map, flat_map}
+use Rattle.std.specs.Prelude.{filter_map, flat_map, if◌then◌else◌, ◌&&◌}
 use Rattle.std.specs.List.{cons_option}
 use Rattle.std.proofs.lemmas.List.Elements.{filter_map-append}
 use Rattle.conflict_order.specs.declared.version.Version.{Version}
@@ -16,22 +16,34 @@ use Rattle.wire_messages.specs.declared.message.Message.TheVariants as message
 use Rattle.wire_messages.specs.Decoding.{message_of}
 use Rattle.wire_messages.specs.Spelling.{spelling}
 use Rattle.node_rules.specs.Agreement as agreement
-use Rattle.node_rules.specs.Agreement.{Proposal, proposes, without_missing}
+use Rattle.node_rules.specs.Agreement.{Proposal, proposes, without_missing, next_key}
 use Rattle.node_rules.specs.Batches.{out_to, has_number, next_batch, Target, Targets}
 use Rattle.node_rules.specs.Copies.{is_nil, Content}
-use Rattle.node_rules.specs.Effects.{Effects, to_each}
-use Rattle.node_rules.specs.Facts.{Facts, view_key}
-use Rattle.node_rules.specs.Messages.{vote_effects, commit_effects, accept_effects, unless_stale, entry_effects_if, state_came, batch_came, batch_ack_came, unless_spent, progress_effects_if, answer_progress, repl_came, done_by, ack_of, repl_ack_came, ask_came, resolving_if, answered_by, answer_of, answer_effects_if, table_if, may_enter_view, due_message_of, answer_state}
-use Rattle.node_rules.specs.Notes.{noted, reached, in_view, after_ages}
-use Rattle.node_rules.specs.Resolving.{writing, resolving_want, repl}
-use Rattle.node_rules.specs.Standing.{other_replicas, others}
-use Rattle.node_rules.specs.Tick.{Part, parts_in_order, propose, proposal_effects, propose_new, propose_with, rows, transactions, sends_again, batches, batch_to, settlings, progress, progress_if, state, tick_if}
+use Rattle.node_rules.specs.Effects.{Effects, to_each, lines_and_sends, lines_only, nothing, sends_only, to_one}
+use Rattle.node_rules.specs.Facts.{Facts, view_key, list_at}
+use Rattle.node_rules.specs.Messages.{commit_effects, accept_effects, ack_of, answer_of, may_enter_view, due_message_of}
+use Rattle.node_rules.specs.Notes.{noted, reached, in_view, after_ages, neighbours}
+use Rattle.node_rules.specs.Resolving.{writing, resolving_want, repl, resolving}
+use Rattle.node_rules.specs.Standing.{other_replicas, others, knows_all_settled}
+use Rattle.node_rules.specs.Tick.{Part, parts_in_order, propose, proposal_effects, propose_with, rows, transactions, sends_again, batches, batch_to, settlings, progress, state, parts, progress_message}
 use Rattle.node_rules.specs.Transactions.{Transaction, Write, transaction, awaits_answer, awaits_ack, answered, is_last_awaited}
 use Rattle.run_laws.specs.Tied.{Among}
 use Rattle.calm_laws.specs.Acts.{Input, Ticks, Gets, reading, read_to, as_read, sent_at, acted, outbox}
 use Rattle.calm_laws.specs.Flows.{beat_of}
 use Rattle.calm_laws.specs.Group.{kind}
 use Rattle.calm_laws.proofs.KindLaws.{NoneOf, none_append, none_read}
+use Rattle.cluster_types.specs.Endpoints.{client}
+use Rattle.cluster_types.specs.Partitions.{partition_of}
+use Rattle.node_rules.specs.BatchMessages.{merging, merging_all}
+use Rattle.node_rules.specs.ClientMessages.{map_table}
+use Rattle.node_rules.specs.Entering.{entering}
+use Rattle.node_rules.specs.RowMessages.{finishes}
+use Rattle.node_rules.specs.StaleMessages.{spent, stale}
+use Rattle.node_rules.specs.Tables.{only_if}
+use Rattle.std.specs.FinMap as finite
+use Rattle.cluster_types.specs.ClusterKeys as keys
+use Rattle.journal_lines.specs.declared.line.Line.TheVariants as line
+use Rattle.node_rules.specs.Standing as standing
 
 -- ---- a message at a node sends no beat, and nothing else that ticks send alone
 
@@ -46,7 +58,7 @@ each_none : (ns : List ℕ) (m : Message) → asks (kind m) ≡ false → NoneOf
 each_none [] m h = tt
 each_none (n ∷ ns) m h = (h, each_none ns m h)
 
-committing_none : (f : Facts) (p : Proposal) (b : Bool) → Answers (commit_effects f p b)
+committing_none : (f : Facts) (p : Proposal) (b : Bool) → Answers (if b then commit_effects f p else nothing)
 committing_none f p true = each_none (agreement.others_among f.me p.members) (message.Commit p.key p.members) refl
 committing_none f p false = tt
 
@@ -56,51 +68,51 @@ counting_none f from key (Some p) false = tt
 counting_none f from key None b = tt
 
 voting_none : (f : Facts) (from : ℕ) (key : ClusterKey) (b : Bool)
-    → Answers (vote_effects f from key b)
+    → Answers (if b then sends_only (to_one from (message.Refuse key f.agreement.promised)) else lines_and_sends (only_if (line.Promise f.me key) (keys.key_lt f.agreement.promised key)) (to_one from (message.Accept key)))
 voting_none f from key true = (refl, tt)
 voting_none f from key false = (refl, tt)
 
-unless_stale_none : (f : Facts) (b : Bool) → Answers (unless_stale f b)
+unless_stale_none : (f : Facts) (b : Bool) → Answers (if b then nothing else stale f)
 unless_stale_none f true = tt
 unless_stale_none f false = tt
 
-entering_if_none : (f : Facts) (key : ClusterKey) (ms : List Member) (b : Bool) → Answers (entry_effects_if f key ms b)
+entering_if_none : (f : Facts) (key : ClusterKey) (ms : List Member) (b : Bool) → Answers (if b then lines_only (entering f key ms) else stale f)
 entering_if_none f key ms true = tt
 entering_if_none f key ms false = tt
 
-answer_state_none : (f : Facts) (from : ℕ) (b : Bool) → NoneOf asks (answer_state f from b)
+answer_state_none : (f : Facts) (from : ℕ) (b : Bool) → NoneOf asks (if b then to_one from (state f false) else [])
 answer_state_none f from true = (refl, tt)
 answer_state_none f from false = tt
 
-state_none : (f now : Facts) (from : ℕ) (wants b : Bool) → Answers (state_came f now from wants b)
+state_none : (f now : Facts) (from : ℕ) (wants b : Bool) → Answers (if b then lines_and_sends (only_if (line.Exchanged f.me (view_key f)) (finishes f now)) (if wants then to_one from (state f false) else []) else stale f)
 state_none f now from wants true = answer_state_none f from wants
 state_none f now from wants false = tt
 
-batch_none : (f : Facts) (from : ℕ) (b : Batch) (c : Bool) → Answers (batch_came f from b c)
+batch_none : (f : Facts) (from : ℕ) (b : Batch) (c : Bool) → Answers (if c then lines_and_sends (merging_all f b.records) (to_one from (message.BatchAck b.key b.number)) else stale f)
 batch_none f from b true = (refl, tt)
 batch_none f from b false = tt
 
-unless_spent_none : (f : Facts) (b : Bool) → Answers (unless_spent f b)
+unless_spent_none : (f : Facts) (b : Bool) → Answers (if b then nothing else spent f)
 unless_spent_none f true = tt
 unless_spent_none f false = tt
 
-batch_ack_none : (f : Facts) (from number : ℕ) (b : Bool) → Answers (batch_ack_came f from number b)
+batch_ack_none : (f : Facts) (from number : ℕ) (b : Bool) → Answers (if b then (if has_number (out_to f.batches from) number then nothing else spent f) else stale f)
 batch_ack_none f from number true = unless_spent_none f (has_number (out_to f.batches from) number)
 batch_ack_none f from number false = tt
 
-answer_progress_none : (n : ℕ) (now : Facts) (from : ℕ) (b : Bool) → Answers (answer_progress n now from b)
+answer_progress_none : (n : ℕ) (now : Facts) (from : ℕ) (b : Bool) → Answers (if b then sends_only (to_one from (progress_message n now false)) else nothing)
 answer_progress_none n now from true = (refl, tt)
 answer_progress_none n now from false = tt
 
-progress_none : (n : ℕ) (f now : Facts) (from : ℕ) (wants b : Bool) → Answers (progress_effects_if n f now from wants b)
+progress_none : (n : ℕ) (f now : Facts) (from : ℕ) (wants b : Bool) → Answers (if b then (if wants && knows_all_settled now n 0 then sends_only (to_one from (progress_message n now false)) else nothing) else stale f)
 progress_none n f now from wants true = answer_progress_none n now from _
 progress_none n f now from wants false = tt
 
-repl_none : (f : Facts) (from : ℕ) (key : ClusterKey) (number : ℕ) (d : List ℕ) (v : Version) (b : Bool) → Answers (repl_came f from key number d v b)
+repl_none : (f : Facts) (from : ℕ) (key : ClusterKey) (number : ℕ) (d : List ℕ) (v : Version) (b : Bool) → Answers (if b then lines_and_sends (merging f d v) (to_one from (message.ReplAck key number)) else stale f)
 repl_none f from key number d v true = (refl, tt)
 repl_none f from key number d v false = tt
 
-done_by_none : (f : Facts) (t : Transaction) (from : ℕ) (b : Bool) → Answers (done_by f t from b)
+done_by_none : (f : Facts) (t : Transaction) (from : ℕ) (b : Bool) → Answers (if b then lines_only (only_if (line.Done f.me (view_key f) t.number) (is_last_awaited t from)) else spent f)
 done_by_none f t from true = tt
 done_by_none f t from false = tt
 
@@ -108,11 +120,11 @@ ack_of_none : (f : Facts) (from : ℕ) (o : Option Transaction) → Answers (ack
 ack_of_none f from None = tt
 ack_of_none f from (Some t) = done_by_none f t from (awaits_ack t from)
 
-repl_ack_none : (f : Facts) (from number : ℕ) (b : Bool) → Answers (repl_ack_came f from number b)
+repl_ack_none : (f : Facts) (from number : ℕ) (b : Bool) → Answers (if b then ack_of f from (transaction f.transactions number) else stale f)
 repl_ack_none f from number true = ack_of_none f from (transaction f.transactions number)
 repl_ack_none f from number false = tt
 
-ask_none : (f : Facts) (from : ℕ) (key : ClusterKey) (number : ℕ) (d : List ℕ) (b : Bool) → Answers (ask_came f from key number d b)
+ask_none : (f : Facts) (from : ℕ) (key : ClusterKey) (number : ℕ) (d : List ℕ) (b : Bool) → Answers (if b then sends_only (to_one from (message.Answer key number (finite.get f.store.content d))) else stale f)
 ask_none f from key number d true = (refl, tt)
 ask_none f from key number d false = tt
 
@@ -124,11 +136,11 @@ resolving_none f clock l t want.Get = tt
 resolving_none f clock l t (want.Put bytes) = writing_none f l t (next t.best clock (body.Value bytes))
 resolving_none f clock l t want.Del = writing_none f l t (next t.best clock body.Tombstone)
 
-resolving_if_none : (f : Facts) (clock : ℕ) (t : Transaction) (b : Bool) → Answers (resolving_if f clock t b)
+resolving_if_none : (f : Facts) (clock : ℕ) (t : Transaction) (b : Bool) → Answers (if b then resolving f clock (list_at f (partition_of t.digest)) t else nothing)
 resolving_if_none f clock t true = resolving_none f clock _ t t.want
 resolving_if_none f clock t false = tt
 
-answered_none : (f : Facts) (clock : ℕ) (t : Transaction) (from : ℕ) (v : Option Version) (b : Bool) → Answers (answered_by f clock t from v b)
+answered_none : (f : Facts) (clock : ℕ) (t : Transaction) (from : ℕ) (v : Option Version) (b : Bool) → Answers (if b then (if is_last_awaited t from then resolving f clock (list_at f (partition_of (answered f.store.by from v t).digest)) (answered f.store.by from v t) else nothing) else spent f)
 answered_none f clock t from v true = resolving_if_none f clock (answered f.store.by from v t) (is_last_awaited t from)
 answered_none f clock t from v false = tt
 
@@ -136,11 +148,11 @@ answer_of_none : (f : Facts) (clock from : ℕ) (v : Option Version) (o : Option
 answer_of_none f clock from v None = tt
 answer_of_none f clock from v (Some t) = answered_none f clock t from v (awaits_answer t from)
 
-answer_none : (f : Facts) (clock from number : ℕ) (v : Option Version) (b : Bool) → Answers (answer_effects_if f clock from number v b)
+answer_none : (f : Facts) (clock from number : ℕ) (v : Option Version) (b : Bool) → Answers (if b then answer_of f clock from v (transaction f.transactions number) else stale f)
 answer_none f clock from number v true = answer_of_none f clock from v (transaction f.transactions number)
 answer_none f clock from number v false = tt
 
-table_none : (f : Facts) (b : Bool) → Answers (table_if f b)
+table_none : (f : Facts) (b : Bool) → Answers (if b then sends_only (to_one client (message.MapTable (map_table f))) else nothing)
 table_none f true = (refl, tt)
 table_none f false = tt
 
@@ -205,7 +217,7 @@ proposing_none : (f : Facts) (k : ClusterKey) (set : List Member) (ns : List ℕ
 proposing_none f k set [] = tt
 proposing_none f k set (n ∷ ns) = each_silent (n ∷ ns) (message.Propose k set) refl
 
-propose_new_none : (f : Facts) (b : Bool) → Silent (propose_new f b)
+propose_new_none : (f : Facts) (b : Bool) → Silent (if b then proposal_effects f (next_key f.me f.agreement) (neighbours f) (agreement.others_among f.me (neighbours f)) else nothing)
 propose_new_none f true = proposing_none f _ _ _
 propose_new_none f false = tt
 
@@ -213,7 +225,7 @@ propose_none : (f : Facts) (o : Option Proposal) → Silent (propose_with f o)
 propose_none f (Some p) = each_silent p.missing (message.Propose p.key p.members) refl
 propose_none f None = propose_new_none f _
 
-progress_if_none : (n : ℕ) (f : Facts) (b : Bool) → Silent (progress_if n f b)
+progress_if_none : (n : ℕ) (f : Facts) (b : Bool) → Silent (if b then sends_only (to_each (standing.others f) (progress_message n f true)) else nothing)
 progress_if_none n f true = each_silent (others f) _ refl
 progress_if_none n f false = tt
 
@@ -289,6 +301,6 @@ tick_sends n c f up = go f.up up
     go : (b : Bool) → b ≡ true → TickSends n c f
     go b e = record {
       others = as_read rest.sends;
-      all = ap (λ (x : Bool). as_read (tick_if n f x).sends) up ∙ read_append (to_each f.peers (beat_of (after_ages f))) rest.sends;
+      all = ap (λ (x : Bool). as_read (if x then parts_in_order (parts n) f else lines_only (line.Down f.me ∷ [])).sends) up ∙ read_append (to_each f.peers (beat_of (after_ages f))) rest.sends;
       silent = none_read is_one rest.sends (in_order_none (silent_parts n) (silent_none n) (after_ages f));
     }

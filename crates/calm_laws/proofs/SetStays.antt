@@ -1,5 +1,5 @@
 -- The set that a node takes at its tick stays from the twelfth round on.
-use Rattle.std.proofs.Common.{◌≡◌, ℕ, ◌==◌, Bool, true, false, cond, List, [], ◌∷◌, Option, Some, None, refl, sym, ap, ◌∙◌, arith, nat_lt}
+use Rattle.std.proofs.Common.{◌≡◌, ℕ, ◌==◌, Bool, true, false, cond, List, [], ◌∷◌, Option, Some, None, refl, sym, ap, ◌∙◌, arith, nat_lt, if◌then◌else◌}
 use Rattle.conflict_order.specs.declared.want.Want.{Want}
 use Rattle.conflict_order.specs.declared.version.Version.{Version}
 use Rattle.cluster_types.specs.declared.cluster_key.ClusterKey.{ClusterKey}
@@ -16,7 +16,7 @@ use Rattle.node_rules.specs.Messages.{due_message_of}
 use Rattle.node_rules.specs.Notes as notes
 use Rattle.node_rules.specs.Notes.{note, noted, reached, sent, all_sent, in_view, after_ages}
 use Rattle.node_rules.specs.Tables.{Table}
-use Rattle.node_rules.specs.Tick.{parts_in_order, tick_if}
+use Rattle.node_rules.specs.Tick.{parts_in_order, parts}
 use Rattle.journal_readings.specs.Lines.{has_node}
 use Rattle.cluster_rules.specs.World.{World}
 use Rattle.key_laws.specs.Sound.{RisesByNumber, IsUnder}
@@ -26,6 +26,7 @@ use Rattle.calm_laws.proofs.Hearing.{gets_inbox}
 use Rattle.calm_laws.proofs.Hears.{ties}
 use Rattle.calm_laws.proofs.Own.{Steady, AllSteady, message_steady, later_parts, later_steady}
 use Rattle.calm_laws.proofs.Sent.{AllGets}
+use Rattle.node_rules.specs.Effects.{lines_only}
 
 -- ---- only a tick takes a set
 
@@ -97,8 +98,8 @@ served_set n c f (Gets a m ∷ is) h =
 
 tick_set : (n c : ℕ) (f : Facts) → f.up ≡ true → set_of (acted n c f Ticks) ≡ Some (neighbours_of f.me f.role (aged f.hearing.heard))
 tick_set n c f up =
-    ap (λ (b : Bool). set_of (all_sent (noted None f (tick_if n f b).lines) (as_read (tick_if n f b).sends))) up
-    ∙ all_sent_set (noted None f (tick_if n f true).lines) (as_read (tick_if n f true).sends)
+    ap (λ (b : Bool). set_of (all_sent (noted None f (if b then parts_in_order (parts n) f else lines_only (line.Down f.me ∷ [])).lines) (as_read (if b then parts_in_order (parts n) f else lines_only (line.Down f.me ∷ [])).sends))) up
+    ∙ all_sent_set (noted None f (if true then parts_in_order (parts n) f else lines_only (line.Down f.me ∷ [])).lines) (as_read (if true then parts_in_order (parts n) f else lines_only (line.Down f.me ∷ [])).sends)
     ∙ noted_set None (after_ages f) f.me (parts_in_order (later_parts n) (after_ages f)).lines (later_steady n (after_ages f))
 
 flow_set : (n : ℕ) (w v : World) (m : ℕ) → Flowed n w v → set_of (v.facts m) ≡ set_of (w.facts m)

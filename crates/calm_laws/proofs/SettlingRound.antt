@@ -1,6 +1,6 @@
 -- What a node knows settled, and what the tick of a round in which nothing is pending hands over and settles.
 use Rattle.std.proofs.Common.{◌≡◌, ℕ, zero, suc, ◌+◌, ◌<◌, ◌≤◌, ◌==◌, ◌||◌, ◌&&◌, Bool, true, false, List, [], Option, None, refl, sym, ap, subst, ◌∙◌, arith}
-use Rattle.std.specs.Prelude.{unwrap_or}
+use Rattle.std.specs.Prelude.{unwrap_or, if◌then◌else◌}
 use Rattle.std.specs.List.{list_all, list_any}
 use Rattle.cluster_types.specs.declared.cluster_key.ClusterKey.{ClusterKey}
 use Rattle.cluster_types.specs.declared.member.Member.{Member}
@@ -16,7 +16,7 @@ use Rattle.node_rules.specs.Exchange.{View, members_of}
 use Rattle.node_rules.specs.Facts.{Facts, list_at}
 use Rattle.node_rules.specs.Map.{acting_by_rows, list_master}
 use Rattle.node_rules.specs.Notes.{after_ages, noted}
-use Rattle.node_rules.specs.Settling.{settling_due, settling_from, settling_if}
+use Rattle.node_rules.specs.Settling.{settling_due, settling_from}
 use Rattle.node_rules.specs.Standing.{are_all_done, is_acting, is_all_empty, knows_all_settled, knows_settled, others}
 use Rattle.node_rules.specs.Tables.{contains}
 use Rattle.node_rules.specs.Transactions.{Transaction, is_busy}
@@ -77,7 +77,7 @@ module _ (ns gs : List ℕ) (g : ℕ) (set : List Member) (k : ClusterKey) (w v 
   settles : (m : ℕ) → has_node gs m ≡ true → progressing partition_count (w.facts m) ≡ noted None (after_ages (w.facts m)) (settling_from partition_count 0 (after_ages (w.facts m)))
   settles m here =
       ap (λ (f : Facts). noted None f (settling_due partition_count f)) (rests_proposed (w.facts m) (none m here) (asks m here))
-      ∙ ap (λ (b : Bool). noted None (after_ages (w.facts m)) (settling_if partition_count (after_ages (w.facts m)) b)) (h.hands.over m here)
+      ∙ ap (λ (b : Bool). noted None (after_ages (w.facts m)) (if b then settling_from partition_count 0 (after_ages (w.facts m)) else [])) (h.hands.over m here)
 
   list_of : (m : ℕ) → has_node gs m ≡ true → (p : ℕ) → list_at (after_ages (w.facts m)) p ≡ list set p
   list_of m here p = ap (λ (o : Option View). list (members_of o) p) (h.hands.steady.views m here)

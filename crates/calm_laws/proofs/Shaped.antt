@@ -1,7 +1,7 @@
 -- Each line and each message leaves a target for each other member, and a place for each partition in the row of what
 -- was learnt.
 use Rattle.std.proofs.Common.{◌≡◌, ◌⊎◌, inl, inr, ℕ, zero, suc, ◌==◌, ◌||◌, Bool, true, false, List, [], ◌∷◌, map, Option, Some, None, refl, ap, subst, ◌∙◌}
-use Rattle.std.specs.Prelude.{option_and_then}
+use Rattle.std.specs.Prelude.{option_and_then, if◌then◌else◌}
 use Rattle.conflict_order.specs.declared.want.Want.{Want}
 use Rattle.cluster_types.specs.declared.cluster_key.ClusterKey.{ClusterKey}
 use Rattle.cluster_types.specs.Partitions.{partition_of}
@@ -22,7 +22,7 @@ use Rattle.node_rules.specs.Notes.{in_view, note, reached, sent}
 use Rattle.node_rules.specs.Standing.{others}
 use Rattle.node_rules.specs.Tables.{changed_if}
 use Rattle.journal_readings.specs.Messages.{Arrival, arrived, arrived_cut}
-use Rattle.cluster_rules.specs.Marks.{Mark, Begins, Writes, after_all, after_line, came, came_to, came_to_client, came_to_node, sent_by}
+use Rattle.cluster_rules.specs.Marks.{Mark, Begins, Writes, after_all, after_line, came, came_to_client, came_to_node, sent_by}
 use Rattle.cluster_rules.specs.Network.{posting, posting_at}
 use Rattle.cluster_rules.specs.Steps.{all_marks}
 use Rattle.cluster_rules.specs.World.{World, changed_at, new_if, opened}
@@ -166,7 +166,7 @@ came_shaped w (Some x) h = go (x.to == client)
     at_client (message.MapTable t) = h
     at_client m = h
 
-    go : (b : Bool) → AllShaped (came_to w x b)
+    go : (b : Bool) → AllShaped (if b then came_to_client w x.message else came_to_node w x)
     go true = at_client x.message
     go false = at_shaped w.facts x.to (reached (w.facts x.to) x.from x.message) (reached_shaped (w.facts x.to) x.from x.message (h x.to)) h
 

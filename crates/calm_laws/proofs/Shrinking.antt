@@ -21,8 +21,8 @@ use Rattle.node_rules.specs.Tick.{tick_of}
 use Rattle.node_rules.specs.Transactions.{Transaction, Transactions, acknowledged, answered, awaits_ack, awaits_answer, changing, without_transaction}
 use Rattle.cluster_rules.specs.declared.event.Event.{Event}
 use Rattle.cluster_rules.specs.declared.event.Event.TheVariants as event
-use Rattle.cluster_rules.specs.DueEvents.{arriving, delivery, due_arrival, due_at_client, due_at_end, due_of, full_unless, is_blocked, one_more_if, sent_lines, unless_blocked, written}
-use Rattle.cluster_rules.specs.Marks.{Begins, Mark, Writes, after_all, after_line, event_begun, by_node, came, came_to, came_to_client, sent_by}
+use Rattle.cluster_rules.specs.DueEvents.{arriving, delivery, due_arrival, due_at_client, due_of, is_blocked, sent_lines, written}
+use Rattle.cluster_rules.specs.Marks.{Begins, Mark, Writes, after_all, after_line, event_begun, by_node, came, came_to_client, sent_by, came_to_node}
 use Rattle.cluster_rules.specs.Network.{Network, flying_at, has_place, landed, posting, posting_at}
 use Rattle.cluster_rules.specs.Steps.{Step, all_marks, flow, flows, marks_of, play, play_all, round, rounds}
 use Rattle.cluster_rules.specs.World.{World, changed_at, new_if, up_nodes}
@@ -71,7 +71,7 @@ sents_quiet : (ms : List (ℕ × Message)) (a s fl : ℕ) → QuietLines (sent_l
 sents_quiet [] a s fl = tt
 sents_quiet (m ∷ ms) a s fl = (tt, go (has_place fl) (λ k. sents_quiet ms a (s + 1) k))
   where
-    go : (b : Bool) → ((k : ℕ) → QuietLines (sent_lines a (s + 1) k ms)) → QuietLines (full_unless (s + 1) b ++ sent_lines a (s + 1) (one_more_if fl b) ms)
+    go : (b : Bool) → ((k : ℕ) → QuietLines (sent_lines a (s + 1) k ms)) → QuietLines ((if b then [] else line.Full (s + 1) ∷ []) ++ sent_lines a (s + 1) (if b then fl + 1 else fl) ms)
     go true rest = rest (fl + 1)
     go false rest = (tt, rest fl)
 
@@ -95,7 +95,7 @@ due_quiet n w (event.Deliver i) h = start (flying_at w.network i)
     net : Network
     net = landed w.network i
 
-    at_end : (p : Posting) (m : Message) (b : Bool) → QuietLines (due_at_end n w net p m b)
+    at_end : (p : Posting) (m : Message) (b : Bool) → QuietLines (if b then due_at_client m else written net p.to (due_message_of n (w.facts p.to) (w.clocks p.to) p.from m))
     at_end p m true = client_quiet m
     at_end p m false = written_quiet net p.to (due_message_of n (w.facts p.to) (w.clocks p.to) p.from m) (w.facts p.to).me (message_own n (w.facts p.to) (w.clocks p.to) p.from m)
 
@@ -103,7 +103,7 @@ due_quiet n w (event.Deliver i) h = start (flying_at w.network i)
     arrives p None = tt
     arrives p (Some m) = at_end p m (p.to == client)
 
-    opens : (p : Posting) (b : Bool) → QuietLines (unless_blocked i (λ q. line.Deliver i q.from q.to ∷ arriving n w net q) p b)
+    opens : (p : Posting) (b : Bool) → QuietLines (if b then line.Blocked i ∷ [] else line.Deliver i p.from p.to ∷ arriving n w net p)
     opens p true = (tt, tt)
     opens p false = (tt, arrives p (message_of p.bytes))
 
@@ -152,7 +152,7 @@ came_groups w (Some x) = go (x.to == client)
     at_client (message.MapTable table) = refl
     at_client m = refl
 
-    go : (b : Bool) → (came_to w x b).network.groups ≡ w.network.groups
+    go : (b : Bool) → (if b then came_to_client w x.message else came_to_node w x).network.groups ≡ w.network.groups
     go true = at_client x.message
     go false = refl
 
@@ -300,7 +300,7 @@ module _ (S : List ℕ → Type 0) where
       at_client (message.MapTable t) = h
       at_client m = h
 
-      go : (b : Bool) → AllRunOn S (came_to w x b)
+      go : (b : Bool) → AllRunOn S (if b then came_to_client w x.message else came_to_node w x)
       go true = at_client x.message
       go false = at_runs w.facts x.to (reached (w.facts x.to) x.from x.message) (reached_runs (w.facts x.to) x.from x.message (h x.to)) h
 

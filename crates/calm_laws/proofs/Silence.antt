@@ -1,13 +1,12 @@
 -- At the end of a round nothing is on its way to a group: what began in it was answered to the end.
 use Rattle.std.proofs.Common.{◌≡◌, ℕ, ◌==◌, ◌||◌, ◌&&◌, not, Bool, true, false, cond, List, [], ◌∷◌, refl, sym, ap, subst, ◌∙◌, ◌⊎◌, inl, inr}
-use Rattle.std.specs.Prelude.{filter, flat_map}
+use Rattle.std.specs.Prelude.{filter, flat_map, if◌then◌else◌}
 use Rattle.wire_messages.specs.declared.message.Message.{Message}
 use Rattle.wire_messages.specs.declared.message.Message.TheVariants as message
-use Rattle.node_rules.specs.Facts.{Facts}
-use Rattle.node_rules.specs.Messages.{answer_progress, answer_state, progress_effects_if, state_came}
+use Rattle.node_rules.specs.Facts.{Facts, view_key}
 use Rattle.node_rules.specs.Notes.{in_view, reached}
 use Rattle.node_rules.specs.Standing.{knows_all_settled}
-use Rattle.node_rules.specs.Tables.{contains}
+use Rattle.node_rules.specs.Tables.{contains, only_if}
 use Rattle.journal_readings.specs.Lines.{has_node}
 use Rattle.cluster_rules.specs.World.{World}
 use Rattle.cluster_rules.proofs.KeptFacts.{num_same}
@@ -25,6 +24,11 @@ use Rattle.calm_laws.proofs.Proposals.{all_gets}
 use Rattle.calm_laws.proofs.Replies.{answers, answers_all}
 use Rattle.calm_laws.proofs.Resting.{each_kind, Undisturbed}
 use Rattle.calm_laws.proofs.Sent.{AllGets}
+use Rattle.node_rules.specs.Effects.{lines_and_sends, nothing, sends_only, to_one}
+use Rattle.node_rules.specs.RowMessages.{finishes}
+use Rattle.node_rules.specs.StaleMessages.{stale}
+use Rattle.node_rules.specs.Tick.{progress_message, state}
+use Rattle.journal_lines.specs.declared.line.Line.TheVariants as line
 
 -- ---- messages that want an answer of their own kind
 
@@ -65,21 +69,21 @@ apart_kind ks j e h = (six (j == 6) refl, nine (j == 9) refl)
 by_kind : (ks : List ℕ) (x : Message) → apart ks ≡ true → contains ks (kind x) ≡ true → asking x ≡ false
 by_kind ks x e h = no_asking x (apart_kind ks (kind x) e h).0 (apart_kind ks (kind x) e h).1
 
-state_unasked : (f : Facts) (from : ℕ) (b : Bool) (to : ℕ) (x : Message) → Among (answer_state f from b) (to, x) → asking x ≡ false
+state_unasked : (f : Facts) (from : ℕ) (b : Bool) (to : ℕ) (x : Message) → Among (if b then to_one from (state f false) else []) (to, x) → asking x ≡ false
 state_unasked f from true to x (inl e) = sym (ap (λ (l : ℕ × Message). asking l.1) e)
 state_unasked f from true to x (inr i) = absurd i
 state_unasked f from false to x i = absurd i
 
-state_came_unasked : (f now : Facts) (from : ℕ) (wants b : Bool) (to : ℕ) (x : Message) → Among (state_came f now from wants b).sends (to, x) → asking x ≡ false
+state_came_unasked : (f now : Facts) (from : ℕ) (wants b : Bool) (to : ℕ) (x : Message) → Among (if b then lines_and_sends (only_if (line.Exchanged f.me (view_key f)) (finishes f now)) (if wants then to_one from (state f false) else []) else stale f).sends (to, x) → asking x ≡ false
 state_came_unasked f now from wants true to x i = state_unasked f from wants to x i
 state_came_unasked f now from wants false to x i = absurd i
 
-progress_unasked : (n : ℕ) (now : Facts) (from : ℕ) (b : Bool) (to : ℕ) (x : Message) → Among (answer_progress n now from b).sends (to, x) → asking x ≡ false
+progress_unasked : (n : ℕ) (now : Facts) (from : ℕ) (b : Bool) (to : ℕ) (x : Message) → Among (if b then sends_only (to_one from (progress_message n now false)) else nothing).sends (to, x) → asking x ≡ false
 progress_unasked n now from true to x (inl e) = sym (ap (λ (l : ℕ × Message). asking l.1) e)
 progress_unasked n now from true to x (inr i) = absurd i
 progress_unasked n now from false to x i = absurd i
 
-progress_came_unasked : (n : ℕ) (f now : Facts) (from : ℕ) (wants b : Bool) (to : ℕ) (x : Message) → Among (progress_effects_if n f now from wants b).sends (to, x) → asking x ≡ false
+progress_came_unasked : (n : ℕ) (f now : Facts) (from : ℕ) (wants b : Bool) (to : ℕ) (x : Message) → Among (if b then (if wants && knows_all_settled now n 0 then sends_only (to_one from (progress_message n now false)) else nothing) else stale f).sends (to, x) → asking x ≡ false
 progress_came_unasked n f now from wants true to x i = progress_unasked n now from (wants && knows_all_settled now n 0) to x i
 progress_came_unasked n f now from wants false to x i = absurd i
 
@@ -104,13 +108,13 @@ unfolding as_read
 unasked_silent n c f from (message.State key true row) e to x i = differ refl e
 unasked_silent n c f from (message.State key false row) e to x i = absurd (none (in_view f key) i)
   where
-    none : (b : Bool) → Among (as_read (state_came f (reached f from (message.State key false row)) from false b).sends) (to, x) → ⊥
+    none : (b : Bool) → Among (as_read (if b then lines_and_sends (only_if (line.Exchanged f.me (view_key f)) (finishes f (reached f from (message.State key false row)))) (if false then to_one from (state f false) else []) else stale f).sends) (to, x) → ⊥
     none true j = j
     none false j = j
 unasked_silent n c f from (message.Progress key true done handed settled) e to x i = differ refl e
 unasked_silent n c f from (message.Progress key false done handed settled) e to x i = absurd (none (in_view f key) i)
   where
-    none : (b : Bool) → Among (as_read (progress_effects_if n f (reached f from (message.Progress key false done handed settled)) from false b).sends) (to, x) → ⊥
+    none : (b : Bool) → Among (as_read (if b then (if false && knows_all_settled (reached f from (message.Progress key false done handed settled)) n 0 then sends_only (to_one from (progress_message n (reached f from (message.Progress key false done handed settled)) false)) else nothing) else stale f).sends) (to, x) → ⊥
     none true j = j
     none false j = j
 unasked_silent n c f from (message.Heartbeat view promised hears role) e to x i = (refl, refl)

@@ -1,6 +1,6 @@
 -- In a round in which nothing is pending: who knows all settled does so as it ends, and a bit that a node has after its
 -- tick all others have as it ends, where it tells of it or is asked.
-use Rattle.std.proofs.Common.{◌≡◌, ℕ, ◌&&◌, Bool, true, false, List, Option, refl, sym, ap, subst, ◌∙◌, inl}
+use Rattle.std.proofs.Common.{◌≡◌, ℕ, ◌&&◌, Bool, true, false, List, Option, refl, sym, ap, subst, ◌∙◌, inl, if◌then◌else◌}
 use Rattle.cluster_types.specs.declared.cluster_key.ClusterKey.{ClusterKey}
 use Rattle.cluster_types.specs.declared.member.Member.{Member}
 use Rattle.cluster_types.specs.Partitions.{partition_count}
@@ -12,7 +12,6 @@ use Rattle.node_rules.specs.Exchange.{View, is_view, exchange_key}
 use Rattle.node_rules.specs.Facts.{Facts, view_key}
 use Rattle.node_rules.specs.Keys.{same_key}
 use Rattle.node_rules.specs.Map.{lacks}
-use Rattle.node_rules.specs.Messages.{answer_progress, progress_effects_if}
 use Rattle.node_rules.specs.Notes as notes
 use Rattle.node_rules.specs.Standing.{knows_all_settled}
 use Rattle.node_rules.specs.Tick.{progress_message}
@@ -39,6 +38,8 @@ use Rattle.calm_laws.proofs.Proposals.{all_gets}
 use Rattle.calm_laws.proofs.Proposing.{flow_arrives}
 use Rattle.calm_laws.proofs.Telling.{TellRound, calm, empty_first, empty_ticks}
 use Rattle.calm_laws.proofs.Ticking.{progressing, tick_list}
+use Rattle.node_rules.specs.Effects.{nothing, sends_only, to_one}
+use Rattle.node_rules.specs.StaleMessages.{stale}
 
 -- ---- who is asked tells of the bit
 
@@ -61,8 +62,8 @@ knower_acted n c k set rows p f from y free there s = record { settles = settles
 answers_settled : (c : ℕ) (k : ClusterKey) (set : List Member) (rows : List MemberRow) (p : ℕ) (f : Facts) → Knower k set rows p f → (m : ℕ) (key : ClusterKey) → key ≡ k → (done handed settled : List Bool)
     → Any (SettledTo k m p) (effects partition_count c f (Gets m (message.Progress key true done handed settled))).sends
 answers_settled c k set rows p f s m key e done handed settled =
-    subst (λ (b : Bool). Any (SettledTo k m p) (progress_effects_if partition_count f (notes.progress_came f m done handed settled b) m true b).sends) (sym seen)
-    (subst (λ (b : Bool). Any (SettledTo k m p) (answer_progress partition_count (notes.progress_came f m done handed settled true) m b).sends) (sym knows)
+    subst (λ (b : Bool). Any (SettledTo k m p) (if b then (if true && knows_all_settled (notes.progress_came f m done handed settled b) partition_count 0 then sends_only (to_one m (progress_message partition_count (notes.progress_came f m done handed settled b) false)) else nothing) else stale f).sends) (sym seen)
+    (subst (λ (b : Bool). Any (SettledTo k m p) (if b then sends_only (to_one m (progress_message partition_count (notes.progress_came f m done handed settled true) false)) else nothing).sends) (sym knows)
     (record { which = (m, progress_message partition_count (notes.progress_came f m done handed settled true) false); among = inl refl; good = record { to = refl; tells = (ap (λ (o : Option View). exchange_key o) s.settles.over.view, (progress_bits f m done handed settled true).settled p s.has) } }))
   where
     seen : is_view f.exchange.view key ≡ true

@@ -1,7 +1,7 @@
 -- What a tick and a delivery make of the world: one act of one node, if any.
 use Rattle.std.proofs.Common.{◌≡◌, ℕ, ◌==◌, Bool, true, false, List, ◌∷◌, ◌++◌, map, length, Option, Some, None, refl, sym, ap, subst, ◌∙◌, append-nil}
 use Rattle.std.specs.List.{list_any}
-use Rattle.std.specs.Prelude.{option_and_then, option_map, nat_lt}
+use Rattle.std.specs.Prelude.{option_and_then, option_map, nat_lt, [], if◌then◌else◌, slice_get, ◌-◌}
 use Rattle.cluster_types.specs.Distinct.{without}
 use Rattle.wire_messages.specs.declared.message.Message.{Message}
 use Rattle.wire_messages.specs.declared.message.Message.TheVariants as message
@@ -16,10 +16,10 @@ use Rattle.node_rules.specs.Notes.{reached}
 use Rattle.node_rules.specs.Tick.{tick_of}
 use Rattle.cluster_rules.specs.declared.event.Event.TheVariants as event
 use Rattle.cluster_rules.specs.CalmBound.{is_full_line}
-use Rattle.cluster_rules.specs.DueEvents.{written, due_of, due_at_client, due_at_end, due_arrival, arriving, is_blocked, unless_blocked, delivery}
-use Rattle.cluster_rules.specs.Marks.{Writes, event_begun, after_all, came, came_to, came_to_client, came_to_node}
+use Rattle.cluster_rules.specs.DueEvents.{written, due_of, due_at_client, due_arrival, arriving, is_blocked, delivery}
+use Rattle.cluster_rules.specs.Marks.{Writes, event_begun, after_all, came, came_to_client, came_to_node}
 use Rattle.journal_readings.specs.Messages.{Posting, arrived}
-use Rattle.cluster_rules.specs.Network.{Network, posting_at, posting_if, flying_at, landed}
+use Rattle.cluster_rules.specs.Network.{Network, posting_at, flying_at, landed}
 use Rattle.cluster_rules.specs.Steps.{play}
 use Rattle.cluster_rules.specs.World.{World}
 use Rattle.cluster_rules.proofs.KeptFacts.{num_same}
@@ -81,7 +81,7 @@ step_tick n w a named full =
 landed_at : (net : Network) (i : ℕ) → posting_at (landed net i) i ≡ posting_at net i
 landed_at net i = go (nat_lt 0 i)
   where
-    go : (b : Bool) → posting_if (landed net i) i b ≡ posting_if net i b
+    go : (b : Bool) → (if b then slice_get (landed net i).sent (i - 1) else None) ≡ (if b then slice_get net.sent (i - 1) else None)
     go true = refl
     go false = refl
 
@@ -116,8 +116,8 @@ step_deliver n w i p named flies stands full = start (flying_at w.network i) fli
     idle : Stepped n w b None (without w.network.flying i)
     idle = stepped_idle n w b _ refl refl refl refl refl refl
 
-    at_end : (m : Message) (c : Bool) → list_any is_full_line (due_at_end n w (landed w.network i) p m c) ≡ false
-        → Stepped n w (after_all (came_to b (record { from = p.from; to = p.to; message = m }) c) (map Writes (due_at_end n w (landed w.network i) p m c))) (arriving_input p (Some m) c) (without w.network.flying i)
+    at_end : (m : Message) (c : Bool) → list_any is_full_line (if c then due_at_client m else written (landed w.network i) p.to (due_message_of n (w.facts p.to) (w.clocks p.to) p.from m)) ≡ false
+        → Stepped n w (after_all (if c then came_to_client b m else came_to_node b (record { from = p.from; to = p.to; message = m })) (map Writes (if c then due_at_client m else written (landed w.network i) p.to (due_message_of n (w.facts p.to) (w.clocks p.to) p.from m)))) (arriving_input p (Some m) c) (without w.network.flying i)
     at_end m true f = client_idle n w b m (without w.network.flying i) refl refl refl refl
     at_end m false f = node_acts n w i p m named f
 
@@ -126,7 +126,7 @@ step_deliver n w i p named flies stands full = start (flying_at w.network i) fli
     arrives None f = idle
     arrives (Some m) f = at_end m (p.to == client) f
 
-    opens : (c : Bool) → list_any is_full_line (unless_blocked i lines p c) ≡ false → Stepped n w (after_all b (map Writes (unless_blocked i lines p c))) (unblocked p c) (without w.network.flying i)
+    opens : (c : Bool) → list_any is_full_line (if c then line.Blocked i ∷ [] else lines p) ≡ false → Stepped n w (after_all b (map Writes (if c then line.Blocked i ∷ [] else lines p))) (unblocked p c) (without w.network.flying i)
     opens true f = idle
     opens false f =
         subst (λ (o : Option Posting). Stepped n w (after_all (came b (option_and_then (arrived p.to) o)) (map Writes (arriving n w (landed w.network i) p))) (unblocked p false) (without w.network.flying i))

@@ -1,5 +1,5 @@
 -- What messages and a tick that bring into no view make of a node's exchange.
-use Rattle.std.proofs.Common.{◌≡◌, ℕ, Bool, true, false, List, [], ◌∷◌, Option, None, refl, sym, ap, ◌∙◌}
+use Rattle.std.proofs.Common.{◌≡◌, ℕ, Bool, true, false, List, [], ◌∷◌, Option, None, refl, sym, ap, ◌∙◌, if◌then◌else◌}
 use Rattle.conflict_order.specs.declared.want.Want.{Want}
 use Rattle.conflict_order.specs.declared.version.Version.{Version}
 use Rattle.cluster_types.specs.declared.cluster_key.ClusterKey.{ClusterKey}
@@ -8,15 +8,15 @@ use Rattle.wire_messages.specs.declared.message.Message.{Message}
 use Rattle.wire_messages.specs.declared.message.Message.TheVariants as message
 use Rattle.journal_lines.specs.declared.line.Line.{Line}
 use Rattle.journal_lines.specs.declared.line.Line.TheVariants as line
-use Rattle.node_rules.specs.Agreement.{Proposal}
+use Rattle.node_rules.specs.Agreement.{Proposal, next_key}
 use Rattle.node_rules.specs.Copies.{Row}
 use Rattle.node_rules.specs.Facts.{Facts, list_at, view_key}
 use Rattle.node_rules.specs.Messages as due
 use Rattle.node_rules.specs.Messages.{due_message_of, finishes}
 use Rattle.node_rules.specs.Notes as notes
-use Rattle.node_rules.specs.Notes.{after_ages, all_sent, in_view, note, noted, reached, sent}
+use Rattle.node_rules.specs.Notes.{after_ages, all_sent, in_view, note, noted, reached, sent, neighbours}
 use Rattle.node_rules.specs.Settling.{settling_due}
-use Rattle.node_rules.specs.Tick.{propose_new, propose_with}
+use Rattle.node_rules.specs.Tick.{propose_with, proposal_effects, state}
 use Rattle.node_rules.specs.Tables.{only_if}
 use Rattle.cluster_laws.proofs.At.{differ}
 use Rattle.key_laws.proofs.DueViews.{AllOfView, OfView, settling_of_view}
@@ -27,6 +27,9 @@ use Rattle.calm_laws.specs.Laws.{is_to_propose}
 use Rattle.calm_laws.specs.Turns.{is_agreeing}
 use Rattle.calm_laws.proofs.Ticking.{proposed, progressing, tick_facts, tick_list}
 use Rattle.calm_laws.proofs.Words.{Each, Ends, Words, agrees, is_state, message_words}
+use Rattle.node_rules.specs.Effects.{lines_and_sends, nothing, to_one}
+use Rattle.node_rules.specs.StaleMessages.{stale}
+use Rattle.node_rules.specs.Agreement as agreement
 
 -- the line leaves every exchange
 abbrev Still : Line → Type 0
@@ -98,7 +101,7 @@ ended : (f g : Facts) (k : ClusterKey) (b : Bool) → (noted None g (only_if (li
 ended f g k true = refl
 ended f g k false = refl
 
-row_taken : (f : Facts) (from : ℕ) (row : Row) (wants b : Bool) → (noted None (notes.row_came f from row b) (due.state_came f (notes.row_came f from row b) from wants b).lines).exchange ≡ taken_if f.exchange from row b
+row_taken : (f : Facts) (from : ℕ) (row : Row) (wants b : Bool) → (noted None (notes.row_came f from row b) (if b then lines_and_sends (only_if (line.Exchanged f.me (view_key f)) (finishes f (notes.row_came f from row b))) (if wants then to_one from (state f false) else []) else stale f).lines).exchange ≡ taken_if f.exchange from row b
 row_taken f from row wants true = ended f (notes.row_came f from row true) (view_key f) (finishes f (notes.row_came f from row true))
 row_taken f from row wants false = refl
 
@@ -146,7 +149,7 @@ all_of_view_still a k (l ∷ ls) h = (of_view_still a k l h.0, all_of_view_still
 pub rests_proposed : (f : Facts) → (after_ages f).agreement.proposal ≡ None → is_to_propose (after_ages f) ≡ false → proposed f ≡ after_ages f
 rests_proposed f none e =
     ap (λ (o : Option Proposal). noted None (after_ages f) (propose_with (after_ages f) o).lines) none
-    ∙ ap (λ (b : Bool). noted None (after_ages f) (propose_new (after_ages f) b).lines) e
+    ∙ ap (λ (b : Bool). noted None (after_ages f) (if b then proposal_effects (after_ages f) (next_key (after_ages f).me (after_ages f).agreement) (neighbours (after_ages f)) (agreement.others_among (after_ages f).me (neighbours (after_ages f))) else nothing).lines) e
 
 -- and leaves the exchange
 pub rests_exchange : (n c : ℕ) (f : Facts) → f.up ≡ true → (after_ages f).agreement.proposal ≡ None → is_to_propose (after_ages f) ≡ false → (acted n c f Ticks).exchange ≡ f.exchange

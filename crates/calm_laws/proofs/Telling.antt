@@ -9,19 +9,18 @@ use Rattle.wire_messages.specs.declared.message.Batch.{Batch}
 use Rattle.wire_messages.specs.declared.message.Message.{Message}
 use Rattle.wire_messages.specs.declared.message.Message.TheVariants as message
 use Rattle.node_rules.specs.Batches.{Target, Targets, acked_out, is_among, is_pending, next_batch, without_batch}
-use Rattle.node_rules.specs.Agreement.{Proposal}
+use Rattle.node_rules.specs.Agreement.{Proposal, next_key}
 use Rattle.node_rules.specs.Copies.{Content, is_of}
 use Rattle.node_rules.specs.Exchange.{Exchange}
-use Rattle.node_rules.specs.Effects.{to_each}
+use Rattle.node_rules.specs.Effects.{to_each, lines_only, sends_only, to_one}
 use Rattle.node_rules.specs.Facts.{Facts, view_key}
 use Rattle.node_rules.specs.Keys.{same_key}
-use Rattle.node_rules.specs.Messages.{answer_progress, progress_effects_if}
 use Rattle.node_rules.specs.Notes as notes
-use Rattle.node_rules.specs.Notes.{after_ages, in_view, reached}
+use Rattle.node_rules.specs.Notes.{after_ages, in_view, reached, neighbours}
 use Rattle.node_rules.specs.Resolving.{repl}
 use Rattle.node_rules.specs.Standing.{is_done, knows_all_settled, others}
 use Rattle.node_rules.specs.Tables.{changed_if, contains}
-use Rattle.node_rules.specs.Tick.{batch_to, batches, beat, done_from, progress, progress_if, progress_message, propose, propose_new, propose_with, rows, sends_again, state, tick_if, transactions}
+use Rattle.node_rules.specs.Tick.{batch_to, batches, beat, done_from, progress, progress_message, propose, propose_with, rows, sends_again, state, transactions, parts, parts_in_order, proposal_effects}
 use Rattle.node_rules.specs.Transactions.{Transaction, Write}
 use Rattle.journal_readings.specs.Lines.{has_node}
 use Rattle.cluster_rules.specs.World.{World}
@@ -48,6 +47,10 @@ use Rattle.calm_laws.proofs.Sent.{AllGets}
 use Rattle.calm_laws.proofs.Steadying.{steady_rests}
 use Rattle.calm_laws.proofs.Taking.{settled_exchange}
 use Rattle.calm_laws.proofs.Ticking.{progressing, proposed, tick_list, tick_sent}
+use Rattle.node_rules.specs.StaleMessages.{stale}
+use Rattle.node_rules.specs.Agreement as agreement
+use Rattle.node_rules.specs.Effects as effects
+use Rattle.journal_lines.specs.declared.line.Line.TheVariants as line
 
 -- ---- targets
 
@@ -96,13 +99,13 @@ full_row f done (suc n) at (suc p) lt = full_row f done n (at + 1) p (omega (ari
 
 -- ---- what is sent
 
-full_answer : (n : ℕ) (f : Facts) → ((p : ℕ) → is_done f p ≡ true) → (from : ℕ) (b : Bool) (to : ℕ) (x : Message) → Among (answer_progress n f from b).sends (to, x) → FullProgress n x
+full_answer : (n : ℕ) (f : Facts) → ((p : ℕ) → is_done f p ≡ true) → (from : ℕ) (b : Bool) (to : ℕ) (x : Message) → Among (if b then sends_only (to_one from (progress_message n f false)) else effects.nothing).sends (to, x) → FullProgress n x
 full_answer n f done from false to x i = absurd i
 full_answer n f done from true to x (inr i) = absurd i
 full_answer n f done from true to x (inl e) = subst (λ (y : Message). FullProgress n y) (ap (λ (l : ℕ × Message). l.1) e) (full_row f done n 0)
 
 -- the answer to a Progress tells that each partition is done
-pub full_came : (n : ℕ) (f now : Facts) → ((p : ℕ) → is_done now p ≡ true) → (from : ℕ) (wants b : Bool) (to : ℕ) (x : Message) → Among (progress_effects_if n f now from wants b).sends (to, x) → FullProgress n x
+pub full_came : (n : ℕ) (f now : Facts) → ((p : ℕ) → is_done now p ≡ true) → (from : ℕ) (wants b : Bool) (to : ℕ) (x : Message) → Among (if b then (if wants && knows_all_settled now n 0 then sends_only (to_one from (progress_message n now false)) else effects.nothing) else stale f).sends (to, x) → FullProgress n x
 full_came n f now done from wants false to x i = absurd i
 full_came n f now done from wants true to x i = full_answer n now done from (wants && knows_all_settled now n 0) to x i
 
@@ -209,7 +212,7 @@ batches_full n k c (t ∷ ts) = go (next_batch k c t) (batches_full n k c ts)
     go None rest = rest
     go (Some b) rest = such_append (FullProgress n) ((t.node, message.Batch b) ∷ []) _ (such_each (FullProgress n) (t.node ∷ []) (message.Batch b) tt) rest
 
-progress_full : (n : ℕ) (f : Facts) → ((p : ℕ) → is_done f p ≡ true) → (b : Bool) → AllSuch (FullProgress n) (progress_if n f b).sends
+progress_full : (n : ℕ) (f : Facts) → ((p : ℕ) → is_done f p ≡ true) → (b : Bool) → AllSuch (FullProgress n) (if b then sends_only (to_each (others f) (progress_message n f true)) else effects.nothing).sends
 progress_full n f done true = such_each (FullProgress n) (others f) (progress_message n f true) (full_tick f done n true)
 progress_full n f done false = λ to x i. absurd i
 
@@ -219,13 +222,13 @@ pub tick_full : (n c : ℕ) (f : Facts) → f.up ≡ true → (after_ages f).agr
 tick_full n c f up none e read over empty to x i = listed to x (subst (λ (ms : List (ℕ × Message)). Among ms (to, x)) (tick_sent n c f up ∙ plain) i)
   where
     plain : as_read (tick_list n f) ≡ tick_list n f
-    plain = subst (λ (b : Bool). as_read (tick_if n f b).sends ≡ (tick_if n f b).sends) up read
+    plain = subst (λ (b : Bool). as_read (if b then parts_in_order (parts n) f else lines_only (line.Down f.me ∷ [])).sends ≡ (if b then parts_in_order (parts n) f else lines_only (line.Down f.me ∷ [])).sends) up read
 
     done : (p : ℕ) → is_done (progressing n f) p ≡ true
     done = all_done (progressing n f) (ap (λ (x : Exchange). x.exchanged) (settled_exchange n f none e) ∙ over) (subst Emptied (sym (settled_batches n f none e)) empty)
 
     nothing : (propose (after_ages f)).sends ≡ []
-    nothing = ap (λ (o : Option Proposal). (propose_with (after_ages f) o).sends) none ∙ ap (λ (b : Bool). (propose_new (after_ages f) b).sends) e
+    nothing = ap (λ (o : Option Proposal). (propose_with (after_ages f) o).sends) none ∙ ap (λ (b : Bool). (if b then proposal_effects (after_ages f) (next_key (after_ages f).me (after_ages f).agreement) (neighbours (after_ages f)) (agreement.others_among (after_ages f).me (neighbours (after_ages f))) else effects.nothing).sends) e
 
     listed : AllSuch (FullProgress n) (tick_list n f)
     listed =

@@ -1,6 +1,6 @@
 -- What a tick makes of a node's stance, and what of agreement it sends.
 use Rattle.std.proofs.Common.{◌≡◌, ℕ, Bool, true, false, List, [], ◌∷◌, ◌++◌, Option, Some, None, refl, sym, ap, subst, ◌∙◌, ◌⊎◌, inl, inr}
-use Rattle.std.specs.Prelude.{filter_map, flat_map}
+use Rattle.std.specs.Prelude.{filter_map, flat_map, if◌then◌else◌}
 use Rattle.std.specs.List.{cons_option}
 use Rattle.cluster_types.specs.declared.cluster_key.ClusterKey.{ClusterKey}
 use Rattle.cluster_types.specs.declared.member.Member.{Member}
@@ -15,13 +15,13 @@ use Rattle.node_rules.specs.Agreement as agreement
 use Rattle.node_rules.specs.Agreement.{Agreement, Proposal, has_round, next_key, proposal_of, proposes}
 use Rattle.node_rules.specs.Batches.{next_batch, Target, Targets}
 use Rattle.node_rules.specs.Copies.{Content}
-use Rattle.node_rules.specs.Effects.{to_each}
+use Rattle.node_rules.specs.Effects.{to_each, nothing, sends_only}
 use Rattle.node_rules.specs.Facts.{Facts, view_key}
 use Rattle.node_rules.specs.Notes.{after_ages, all_sent, neighbours, note, noted, sent}
 use Rattle.node_rules.specs.Resolving.{repl}
 use Rattle.node_rules.specs.Settling.{settling_due}
 use Rattle.node_rules.specs.Standing.{others}
-use Rattle.node_rules.specs.Tick.{beat, propose, propose_new, propose_with, proposal_effects, rows, transactions, sends_again, batches, batch_to, progress, progress_if, state}
+use Rattle.node_rules.specs.Tick.{beat, propose, propose_with, proposal_effects, rows, transactions, sends_again, batches, batch_to, progress, state, progress_message}
 use Rattle.node_rules.specs.Transactions.{Transaction, Write}
 use Rattle.node_rules.proofs.NoteLaws.{all_sent-append}
 use Rattle.cluster_rules.proofs.OwnLines.{noted_me}
@@ -67,7 +67,7 @@ batches_free k c (t ∷ ts) = go (next_batch k c t) (batches_free k c ts)
     go None rest = rest
     go (Some b) rest = (refl, rest)
 
-progress_free : (n : ℕ) (f : Facts) (b : Bool) → Free (progress_if n f b).sends
+progress_free : (n : ℕ) (f : Facts) (b : Bool) → Free (if b then sends_only (to_each (others f) (progress_message n f true)) else nothing).sends
 progress_free n f true = each_free (others f) _ refl
 progress_free n f false = tt
 
@@ -129,14 +129,14 @@ proposed_again : (f : Facts) (k : ClusterKey) (ms : List Member) (ns : List ℕ)
 proposed_again f k ms [] h = refl
 proposed_again f k ms (n ∷ ns) h =
     let g : Facts = sent f n (message.Propose k ms) in
-    let same : g.agreement ≡ f.agreement = ap (λ (b : Bool). agreement.proposed_if f.agreement (proposal_of f.me k ms) b) h in
+    let same : g.agreement ≡ f.agreement = ap (λ (b : Bool). (if b then f.agreement else record f.agreement { proposal = Some (proposal_of f.me k ms) })) h in
     proposed_again g k ms ns (ap (λ (a : Agreement). proposes a.proposal k) same ∙ h)
     ∙ ap (λ (a : Agreement). record (stance_of f) { agreement = a }) same
 
 stands_then : (a : Agreement) (me : ℕ) (k : ClusterKey) (ms : List Member) → proposes (agreement.proposing a me k ms).proposal k ≡ true
 stands_then a me k ms = go (proposes a.proposal k) refl
   where
-    go : (b : Bool) → proposes a.proposal k ≡ b → proposes (agreement.proposed_if a (proposal_of me k ms) b).proposal k ≡ true
+    go : (b : Bool) → proposes a.proposal k ≡ b → proposes (if b then a else record a { proposal = Some (proposal_of me k ms) }).proposal k ≡ true
     go true e = e
     go false e = same_self k
 
@@ -165,7 +165,7 @@ promising_turns : (g : Facts) (key : ClusterKey) (set : List Member) (ns : List 
 promising_turns g key set [] = entering_turns g (note None g (line.Promise g.me key)) key set
 promising_turns g key set (n ∷ ns) = refl
 
-new_turns : (g : Facts) (b : Bool) → stance_of (noted None g (propose_new g b).lines) ≡ promises_if g.me (stance_of g) (neighbours g) b
+new_turns : (g : Facts) (b : Bool) → stance_of (noted None g (if b then proposal_effects g (next_key g.me g.agreement) (neighbours g) (agreement.others_among g.me (neighbours g)) else nothing).lines) ≡ promises_if g.me (stance_of g) (neighbours g) b
 new_turns g true = promising_turns g (next_key g.me g.agreement) (neighbours g) (agreement.others_among g.me (neighbours g))
 new_turns g false = refl
 
@@ -186,7 +186,7 @@ to_sends g h key set (n ∷ ns) me r e =
 
 new_sends : (g h : Facts) (b : Bool) → h.me ≡ g.me
     → (b ≡ true → CanBeRead (message.Propose (next_key g.me g.agreement) (neighbours g)))
-    → stance_of h ≡ promises_if g.me (stance_of g) (neighbours g) b → stance_of (all_sent h (as_read (propose_new g b).sends)) ≡ proposes_if g.me (stance_of g) (neighbours g) b
+    → stance_of h ≡ promises_if g.me (stance_of g) (neighbours g) b → stance_of (all_sent h (as_read (if b then proposal_effects g (next_key g.me g.agreement) (neighbours g) (agreement.others_among g.me (neighbours g)) else nothing).sends)) ≡ proposes_if g.me (stance_of g) (neighbours g) b
 unfolding as_read
 new_sends g h true me r e = to_sends g h (next_key g.me g.agreement) (neighbours g) (agreement.others_among g.me (neighbours g)) me (r refl) e
 new_sends g h false me r e = e

@@ -1,6 +1,6 @@
 -- A tick part by part, and its proposal.
 use Rattle.std.proofs.Common.{◌≡◌, ℕ, Bool, true, false, List, [], ◌++◌, Some, None, refl, sym, ap, subst, ◌∙◌}
-use Rattle.std.specs.Prelude.{filter}
+use Rattle.std.specs.Prelude.{filter, if◌then◌else◌, ◌∷◌}
 use Rattle.cluster_types.specs.declared.cluster_key.ClusterKey.{ClusterKey}
 use Rattle.cluster_types.specs.declared.member.Member.{Member}
 use Rattle.wire_messages.specs.declared.message.Message.{Message}
@@ -8,18 +8,19 @@ use Rattle.wire_messages.specs.declared.message.Message.TheVariants as message
 use Rattle.wire_messages.specs.Decoding.{message_of}
 use Rattle.wire_messages.specs.Spelling.{spelling}
 use Rattle.journal_lines.specs.declared.line.Line.{Line}
-use Rattle.node_rules.specs.Effects.{to_each}
+use Rattle.node_rules.specs.Effects.{to_each, lines_only, nothing, sends_only}
 use Rattle.node_rules.specs.Facts.{Facts}
 use Rattle.node_rules.specs.Map.{lacks}
 use Rattle.node_rules.specs.Notes.{noted, all_sent, after_ages}
 use Rattle.node_rules.specs.Settling.{settling_due}
 use Rattle.node_rules.specs.Standing.{others}
-use Rattle.node_rules.specs.Tick.{beat, propose, rows, transactions, batches, progress, progress_if, state, tick_if}
+use Rattle.node_rules.specs.Tick.{beat, propose, rows, transactions, batches, progress, state, parts, parts_in_order, progress_message}
 use Rattle.node_rules.proofs.NoteLaws.{noted-append}
 use Rattle.run_laws.specs.Tied.{Among}
 use Rattle.calm_laws.specs.Acts.{Ticks, as_read, sent_at, acted}
 use Rattle.calm_laws.proofs.Flow.{among_front, among_behind}
 use Rattle.calm_laws.proofs.Sent.{read_append, each_among}
+use Rattle.journal_lines.specs.declared.line.Line.TheVariants as line
 
 -- the facts of a tick as it proposes, after that, and as it tells of progress
 abbrev pub proposing : Facts → Facts
@@ -31,7 +32,7 @@ proposed f = noted None (proposing f) (propose (proposing f)).lines
 abbrev pub progressing : ℕ → Facts → Facts
 progressing n f = noted None (proposed f) (settling_due n (proposed f))
 
-progress_lines : (n : ℕ) (f : Facts) (b : Bool) → (progress_if n f b).lines ≡ []
+progress_lines : (n : ℕ) (f : Facts) (b : Bool) → (if b then sends_only (to_each (others f) (progress_message n f true)) else nothing).lines ≡ []
 progress_lines n f true = refl
 progress_lines n f false = refl
 
@@ -40,7 +41,7 @@ abbrev pub tick_list : ℕ → Facts → List (ℕ × Message)
 tick_list n f = (beat (proposing f)).sends ++ ((propose (proposing f)).sends ++ ((rows (proposed f)).sends ++ ((transactions (proposed f)).sends ++ ((batches (proposed f)).sends ++ ((progress n (progressing n f)).sends ++ [])))))
 
 pub tick_sent : (n c : ℕ) (f : Facts) → f.up ≡ true → sent_at n c f Ticks ≡ as_read (tick_list n f)
-tick_sent n c f up = ap (λ (b : Bool). as_read (tick_if n f b).sends) up
+tick_sent n c f up = ap (λ (b : Bool). as_read (if b then parts_in_order (parts n) f else lines_only (line.Down f.me ∷ [])).sends) up
 
 -- and the facts after it
 pub tick_facts : (n c : ℕ) (f : Facts) → f.up ≡ true → acted n c f Ticks ≡ all_sent (progressing n f) (as_read (tick_list n f))
@@ -48,7 +49,7 @@ tick_facts n c f up =
     let g : Facts = proposing f in
     let ls : List Line = settling_due n (proposed f) in
     let end : List Line = (progress n (progressing n f)).lines ++ [] in
-    ap (λ (b : Bool). all_sent (noted None f (tick_if n f b).lines) (as_read (tick_if n f b).sends)) up
+    ap (λ (b : Bool). all_sent (noted None f (if b then parts_in_order (parts n) f else lines_only (line.Down f.me ∷ [])).lines) (as_read (if b then parts_in_order (parts n) f else lines_only (line.Down f.me ∷ [])).sends)) up
     ∙ ap (λ (h : Facts). all_sent h (as_read (tick_list n f)))
     (noted-append None g (propose g).lines (ls ++ end)
     ∙ noted-append None (proposed f) ls end

@@ -1,5 +1,5 @@
 -- What a step of one node makes of the world.
-use Rattle.std.proofs.Common.{◌≡◌, ℕ, ◌+◌, ◌||◌, Bool, true, false, List, [], ◌∷◌, ◌++◌, map, length, Option, Some, None, refl, sym, ap, subst, ◌∙◌, append_assoc, append-nil}
+use Rattle.std.proofs.Common.{◌≡◌, ℕ, ◌+◌, ◌||◌, Bool, true, false, List, [], ◌∷◌, ◌++◌, map, length, Option, Some, None, refl, sym, ap, subst, ◌∙◌, append_assoc, append-nil, if◌then◌else◌}
 use Rattle.std.specs.List.{list_any, cons_option}
 use Rattle.conflict_order.specs.declared.want.Want.{Want}
 use Rattle.wire_messages.specs.declared.message.Message.{Message}
@@ -12,7 +12,7 @@ use Rattle.node_rules.specs.Effects.{Effects}
 use Rattle.node_rules.specs.Facts.{Facts}
 use Rattle.node_rules.specs.Notes.{note, noted, sent, all_sent}
 use Rattle.cluster_rules.specs.CalmBound.{is_full_line}
-use Rattle.cluster_rules.specs.DueEvents.{sent_lines, full_unless, one_more_if, written}
+use Rattle.cluster_rules.specs.DueEvents.{sent_lines, written}
 use Rattle.cluster_rules.specs.Marks.{Mark, Writes, after_line, after_all, by_node, sent_by}
 use Rattle.journal_readings.specs.Messages.{Posting}
 use Rattle.cluster_rules.specs.Network.{Network, has_place, posting}
@@ -166,9 +166,9 @@ took_sents (m ∷ ms) w a s fl h = go (has_place fl) h (λ k i. took_sents ms (a
         (subst (λ (f : Facts). Took u v a f (postings a ms) (new_numbers (s + 1) (postings a ms)))
         (ap (λ (f : Facts). all_sent f (as_read ms)) first.here ∙ sent_on (w.facts a) m.0 (message_of (spelling m.1)) (as_read ms)) rest)
 
-    go : (b : Bool) → list_any is_full_line (full_unless (s + 1) b ++ sent_lines a (s + 1) (one_more_if fl b) ms) ≡ false
+    go : (b : Bool) → list_any is_full_line ((if b then [] else line.Full (s + 1) ∷ []) ++ sent_lines a (s + 1) (if b then fl + 1 else fl) ms) ≡ false
         → ((k : ℕ) → list_any is_full_line (sent_lines a (s + 1) k ms) ≡ false → Took u (after_all u (map Writes (sent_lines a (s + 1) k ms))) a (all_sent (u.facts a) (as_read ms)) (postings a ms) (new_numbers (s + 1) (postings a ms)))
-        → Took w (after_all u (map Writes (full_unless (s + 1) b ++ sent_lines a (s + 1) (one_more_if fl b) ms))) a (all_sent (w.facts a) (as_read (m ∷ ms))) (postings a (m ∷ ms)) (new_numbers s (postings a (m ∷ ms)))
+        → Took w (after_all u (map Writes ((if b then [] else line.Full (s + 1) ∷ []) ++ sent_lines a (s + 1) (if b then fl + 1 else fl) ms))) a (all_sent (w.facts a) (as_read (m ∷ ms))) (postings a (m ∷ ms)) (new_numbers s (postings a (m ∷ ms)))
     go true i rest = next (after_all u (map Writes (sent_lines a (s + 1) (fl + 1) ms))) (rest (fl + 1) i)
     go false i rest = differ refl i
 

@@ -1,6 +1,6 @@
 -- What messages make of the open transaction of one number.
 use Rattle.std.proofs.Common.{◌≡◌, ℕ, ◌==◌, ◌&&◌, not, Bool, true, false, cond, List, [], ◌∷◌, Option, Some, None, refl, sym, ap, subst, ◌∙◌, ◌⊎◌, inl, inr, arith}
-use Rattle.std.specs.Prelude.{Contains, drop, find, is_some, option_map, take, unwrap_or}
+use Rattle.std.specs.Prelude.{Contains, drop, find, is_some, option_map, take, unwrap_or, if◌then◌else◌}
 use Rattle.std.proofs.lemmas.List.Elements.{Contains-append_cases, Contains-append_left, Contains-append_right, Contains-push, Contains-push_cases}
 use Rattle.std.proofs.lemmas.List.{take-append-drop}
 use Rattle.std.proofs.lemmas.Option.{none-some}
@@ -20,13 +20,13 @@ use Rattle.wire_messages.specs.declared.message.Message.TheVariants as message
 use Rattle.journal_lines.specs.declared.line.Line.{Line}
 use Rattle.journal_lines.specs.declared.line.Line.TheVariants as line
 use Rattle.node_rules.specs.Copies.{Row, is_nil}
-use Rattle.node_rules.specs.Effects.{to_each}
+use Rattle.node_rules.specs.Effects.{to_each, lines_only, nothing}
 use Rattle.node_rules.specs.Facts.{Facts, list_at, members_of_view, view_key}
 use Rattle.node_rules.specs.Messages as due
 use Rattle.node_rules.specs.Messages.{due_message_of}
 use Rattle.node_rules.specs.Notes as notes
 use Rattle.node_rules.specs.Notes.{all_sent, in_view, note, noted, reached, sent}
-use Rattle.node_rules.specs.Resolving.{done_if, repl, resolving_want, writing}
+use Rattle.node_rules.specs.Resolving.{repl, resolving_want, writing, resolving}
 use Rattle.node_rules.specs.Standing.{other_replicas}
 use Rattle.node_rules.specs.Tables.{changed_if, contains, only_if}
 use Rattle.node_rules.specs.Transactions as transactions
@@ -45,6 +45,8 @@ use Rattle.calm_laws.proofs.Rolls.{contains_among}
 use Rattle.calm_laws.proofs.Numbered.{at_number, changed_number, find_changed, find_closed, find_other}
 use Rattle.calm_laws.proofs.Taking.{free_agrees}
 use Rattle.calm_laws.proofs.Words.{Each, Words, is_answer, message_words}
+use Rattle.node_rules.specs.StaleMessages.{spent, stale}
+use Rattle.node_rules.specs.TransactionMessages.{ack_of, answer_of}
 
 -- ---- messages that answer no transaction
 
@@ -173,7 +175,7 @@ ack_here f x number t e = go (awaits_ack t x) refl
         ∙ find_closed (acked f x number).transactions.running number
     ends i false = now ∙ ap (λ (b : Bool). Some (changed_if (acknowledged x) t b)) i
 
-    go : (b : Bool) → awaits_ack t x ≡ b → open_at (noted None (acked f x number) (due.done_by f t x b).lines) number ≡ ack_next t x b (is_last_awaited t x)
+    go : (b : Bool) → awaits_ack t x ≡ b → open_at (noted None (acked f x number) (if b then lines_only (only_if (line.Done f.me (view_key f) t.number) (is_last_awaited t x)) else spent f).lines) number ≡ ack_next t x b (is_last_awaited t x)
     go true i = ends i (is_last_awaited t x)
     go false i = now ∙ ap (λ (b : Bool). Some (changed_if (acknowledged x) t b)) i
 
@@ -191,7 +193,7 @@ ack_other f x number at d (Some t) e = go (awaits_ack t x)
     ends true = find_other (acked f x at).transactions.running number t.number (ap (λ (y : ℕ). y == number) (found_number f.transactions.running at t e) ∙ d) ∙ other
     ends false = other
 
-    go : (b : Bool) → open_at (noted None (acked f x at) (due.done_by f t x b).lines) number ≡ open_at f number
+    go : (b : Bool) → open_at (noted None (acked f x at) (if b then lines_only (only_if (line.Done f.me (view_key f) t.number) (is_last_awaited t x)) else spent f).lines) number ≡ open_at f number
     go true = ends (is_last_awaited t x)
     go false = other
 
@@ -267,24 +269,24 @@ module _ (f : Facts) (c x number : ℕ) (v : Option Version) (k : ClusterKey) (v
       unwritten true c e = differ refl (sym e)
       unwritten false c e = refl
 
-      then : (b : Bool) → is_nil (other_replicas f (list_at f (partition_of t.digest))) ≡ b
-          → open_at (noted None (replied f x number v) (line.Apply f.me (view_key f) t.number t.digest ver ∷ done_if f t.number b)) number
+      onward : (b : Bool) → is_nil (other_replicas f (list_at f (partition_of t.digest))) ≡ b
+          → open_at (noted None (replied f x number v) (line.Apply f.me (view_key f) t.number t.digest ver ∷ only_if (line.Done f.me (view_key f) t.number) b)) number
           ≡ cond b None (Some (transactions.with_write ver (notes.next_nth f (partition_of t.digest)) (other_replicas f (list_at f (partition_of t.digest))) (answered f.store.by x v t)))
-      then true n =
+      onward true n =
           ap (λ (y : ℕ). transaction (transactions.without_transaction (transactions.changing (replied f x number v).transactions t.number (transactions.with_write ver (notes.next_nth f (partition_of t.digest)) (other_replicas f (list_at f (partition_of t.digest))))) y) number) (found_number f.transactions.running number t e)
           ∙ find_closed (transactions.changing (replied f x number v).transactions t.number (transactions.with_write ver (notes.next_nth f (partition_of t.digest)) (other_replicas f (list_at f (partition_of t.digest))))).running number
-      then false n =
+      onward false n =
           ap (λ (y : ℕ). transaction (transactions.changing (replied f x number v).transactions y (transactions.with_write ver (notes.next_nth f (partition_of t.digest)) (other_replicas f (list_at f (partition_of t.digest))))) number) (found_number f.transactions.running number t e)
           ∙ changed_here (replied f x number v).transactions number (transactions.with_write ver (notes.next_nth f (partition_of t.digest)) (other_replicas f (list_at f (partition_of t.digest)))) (λ s. refl) (answered f.store.by x v t) (answered_now t e i)
 
       go : (b : Bool) → is_nil (other_replicas f (list_at f (partition_of t.digest))) ≡ b
-          → Ended t (line.Apply f.me (view_key f) t.number t.digest ver ∷ done_if f t.number b) (writing f (list_at f (partition_of t.digest)) (answered f.store.by x v t) ver).sends
-      go true n = inl (then true n)
+          → Ended t (line.Apply f.me (view_key f) t.number t.digest ver ∷ only_if (line.Done f.me (view_key f) t.number) b) (writing f (list_at f (partition_of t.digest)) (answered f.store.by x v t) ver).sends
+      go true n = inl (onward true n)
       go false n = inr (inr (record {
         was = t;
         now = transactions.with_write ver (notes.next_nth f (partition_of t.digest)) (other_replicas f (list_at f (partition_of t.digest))) (answered f.store.by x v t);
         before = refl;
-        after = then false n;
+        after = onward false n;
         waiting = unwritten (is_some t.applied) (contains t.awaiting x) i;
         applied = refl;
         some = n;
@@ -303,16 +305,16 @@ module _ (f : Facts) (c x number : ℕ) (v : Option Version) (k : ClusterKey) (v
 
   -- what an answer makes of the transaction that awaits it
   answer_awaited : (t : Transaction) → open_at f number ≡ Some t → awaits_answer t x ≡ true → Ended t (due.answer_of f c x v (Some t)).lines (due.answer_of f c x v (Some t)).sends
-  answer_awaited t e i = subst (λ (b : Bool). Ended t (due.answered_by f c t x v b).lines (due.answered_by f c t x v b).sends) (sym i) (last (is_last_awaited t x) refl)
+  answer_awaited t e i = subst (λ (b : Bool). Ended t (if b then (if is_last_awaited t x then resolving f c (list_at f (partition_of (answered f.store.by x v t).digest)) (answered f.store.by x v t) else nothing) else spent f).lines (if b then (if is_last_awaited t x then resolving f c (list_at f (partition_of (answered f.store.by x v t).digest)) (answered f.store.by x v t) else nothing) else spent f).sends) (sym i) (last (is_last_awaited t x) refl)
     where
-      last : (b : Bool) → is_last_awaited t x ≡ b → Ended t (due.resolving_if f c (answered f.store.by x v t) b).lines (due.resolving_if f c (answered f.store.by x v t) b).sends
+      last : (b : Bool) → is_last_awaited t x ≡ b → Ended t (if b then resolving f c (list_at f (partition_of (answered f.store.by x v t).digest)) (answered f.store.by x v t) else nothing).lines (if b then resolving f c (list_at f (partition_of (answered f.store.by x v t).digest)) (answered f.store.by x v t) else nothing).sends
       last true n = resolved_end t e i t.want
       last false n = inr (inl (record { was = t; now = answered f.store.by x v t; before = refl; after = answered_now t e i; applied = refl; awaiting = refl; some = n }))
 
   -- and of one that doesn't
   answer_spent : (t : Transaction) → open_at f number ≡ Some t → awaits_answer t x ≡ false → open_at (noted None (replied f x number v) (due.answer_of f c x v (Some t)).lines) number ≡ Some t
   answer_spent t e i =
-      subst (λ (b : Bool). open_at (noted None (replied f x number v) (due.answered_by f c t x v b).lines) number ≡ Some t) (sym i)
+      subst (λ (b : Bool). open_at (noted None (replied f x number v) (if b then (if is_last_awaited t x then resolving f c (list_at f (partition_of (answered f.store.by x v t).digest)) (answered f.store.by x v t) else nothing) else spent f).lines) number ≡ Some t) (sym i)
       (changed_here f.transactions number (λ t. changed_if (answered f.store.by x v) t (awaits_answer t x)) (answer_keeps f x v) t e
       ∙ ap (λ (b : Bool). Some (changed_if (answered f.store.by x v) t b)) i)
 
@@ -333,7 +335,7 @@ answer_other f c x at v number d o e = go o e
     apart : (t : Transaction) → open_at f at ≡ Some t → (t.number == number) ≡ false
     apart t i = ap (λ (y : ℕ). y == number) (found_number f.transactions.running at t i) ∙ d
 
-    done : (h : Facts) (t : Transaction) (b : Bool) → open_at f at ≡ Some t → open_at h number ≡ open_at f number → open_at (noted None h (done_if f t.number b)) number ≡ open_at f number
+    done : (h : Facts) (t : Transaction) (b : Bool) → open_at f at ≡ Some t → open_at h number ≡ open_at f number → open_at (noted None h (only_if (line.Done f.me (view_key f) t.number) b)) number ≡ open_at f number
     done h t true i s = find_other h.transactions.running number t.number (apart t i) ∙ s
     done h t false i s = s
 
@@ -347,11 +349,11 @@ answer_other f c x at v number d o e = go o e
     resolved t i (want.Put bytes) = written t (next (answered f.store.by x v t).best c (body.Value bytes)) i
     resolved t i want.Del = written t (next (answered f.store.by x v t).best c body.Tombstone) i
 
-    last : (t : Transaction) → open_at f at ≡ Some t → (b : Bool) → open_at (noted None (replied f x at v) (due.resolving_if f c (answered f.store.by x v t) b).lines) number ≡ open_at f number
+    last : (t : Transaction) → open_at f at ≡ Some t → (b : Bool) → open_at (noted None (replied f x at v) (if b then resolving f c (list_at f (partition_of (answered f.store.by x v t).digest)) (answered f.store.by x v t) else nothing).lines) number ≡ open_at f number
     last t i true = resolved t i t.want
     last t i false = other
 
-    awaited : (t : Transaction) → open_at f at ≡ Some t → (b : Bool) → open_at (noted None (replied f x at v) (due.answered_by f c t x v b).lines) number ≡ open_at f number
+    awaited : (t : Transaction) → open_at f at ≡ Some t → (b : Bool) → open_at (noted None (replied f x at v) (if b then (if is_last_awaited t x then resolving f c (list_at f (partition_of (answered f.store.by x v t).digest)) (answered f.store.by x v t) else nothing) else spent f).lines) number ≡ open_at f number
     awaited t i true = last t i (is_last_awaited t x)
     awaited t i false = other
 
@@ -384,7 +386,7 @@ answer_turns c k f view x number v None e = inl (answer_gone f c x number v e)
 answer_turns c k f view x number v (Some t) e = answer_here f c x number v k view t e
 
 module _ (n c : ℕ) (k : ClusterKey) (f : Facts) (view : view_key f ≡ k) (x number : ℕ) where
-  came_ack : (key : ClusterKey) (at : ℕ) (b : Bool) → Turns k number f x (due.repl_ack_came f x at b).sends (open_at f number) (open_at (noted None (notes.write_acked f x at b) (due.repl_ack_came f x at b).lines) number)
+  came_ack : (key : ClusterKey) (at : ℕ) (b : Bool) → Turns k number f x (if b then ack_of f x (transaction f.transactions at) else stale f).sends (open_at f number) (open_at (noted None (notes.write_acked f x at b) (if b then ack_of f x (transaction f.transactions at) else stale f).lines) number)
   came_ack key at false = inl refl
   came_ack key at true = go (at == number) refl
     where
@@ -392,7 +394,7 @@ module _ (n c : ℕ) (k : ClusterKey) (f : Facts) (view : view_key f ≡ k) (x n
       go true e = subst (λ (y : ℕ). Turns k number f x (due.ack_of f x (open_at f y)).sends (open_at f number) (open_at (noted None (acked f x y) (due.ack_of f x (open_at f y)).lines) number)) (sym (num_same at number e)) (ack_turns k f x number (due.ack_of f x (open_at f number)).sends (open_at f number) refl)
       go false e = inl (ack_other f x number at e (open_at f at) refl)
 
-  came_answer : (key : ClusterKey) (at : ℕ) (v : Option Version) (b : Bool) → Turns k number f x (due.answer_effects_if f c x at v b).sends (open_at f number) (open_at (noted None (notes.answer_came f x at v b) (due.answer_effects_if f c x at v b).lines) number)
+  came_answer : (key : ClusterKey) (at : ℕ) (v : Option Version) (b : Bool) → Turns k number f x (if b then answer_of f c x v (transaction f.transactions at) else stale f).sends (open_at f number) (open_at (noted None (notes.answer_came f x at v b) (if b then answer_of f c x v (transaction f.transactions at) else stale f).lines) number)
   came_answer key at v false = inl refl
   came_answer key at v true = go (at == number) refl
     where
@@ -453,10 +455,10 @@ module _ (n c : ℕ) (k : ClusterKey) (f : Facts) (seen : in_view f k ≡ true) 
   acted_heard v =
       let m : Message = message.Answer k number v in
       subst (λ (ts : Transactions). Such (HeardFrom x) (transaction ts number)) (sym (all_sent_idle (noted None (reached f x m) (due_message_of n f c x m).lines) (as_read (due_message_of n f c x m).sends)))
-      (subst (λ (b : Bool). Such (HeardFrom x) (open_at (noted None (notes.answer_came f x number v b) (due.answer_effects_if f c x number v b).lines) number)) (sym seen) (heard_here f c x number v k view (open_at f number) refl))
+      (subst (λ (b : Bool). Such (HeardFrom x) (open_at (noted None (notes.answer_came f x number v b) (if b then answer_of f c x v (transaction f.transactions number) else stale f).lines) number)) (sym seen) (heard_here f c x number v k view (open_at f number) refl))
 
   pub acted_lost : (S : ℕ → Type 0) → Such (Awaits true S) (open_at f number) → Such (Lost x) (open_at (acted n c f (Gets x (message.ReplAck k number))) number)
   acted_lost S h =
       let m : Message = message.ReplAck k number in
       subst (λ (ts : Transactions). Such (Lost x) (transaction ts number)) (sym (all_sent_idle (noted None (reached f x m) (due_message_of n f c x m).lines) (as_read (due_message_of n f c x m).sends)))
-      (subst (λ (b : Bool). Such (Lost x) (open_at (noted None (notes.write_acked f x number b) (due.repl_ack_came f x number b).lines) number)) (sym seen) (lost_here f x number (open_at f number) refl S h))
+      (subst (λ (b : Bool). Such (Lost x) (open_at (noted None (notes.write_acked f x number b) (if b then ack_of f x (transaction f.transactions number) else stale f).lines) number)) (sym seen) (lost_here f x number (open_at f number) refl S h))

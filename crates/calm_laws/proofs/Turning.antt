@@ -1,5 +1,5 @@
 -- What a message makes of a node's stance: nothing but what the rules of agreement say.
-use Rattle.std.proofs.Common.{◌≡◌, ℕ, Bool, true, false, List, [], ◌∷◌, map, Option, Some, None, refl, sym, ap, ◌∙◌}
+use Rattle.std.proofs.Common.{◌≡◌, ℕ, Bool, true, false, List, [], ◌∷◌, map, Option, Some, None, refl, sym, ap, ◌∙◌, if◌then◌else◌}
 use Rattle.conflict_order.specs.declared.want.Want.{Want}
 use Rattle.conflict_order.specs.declared.version.Version.{Version}
 use Rattle.cluster_types.specs.declared.cluster_key.ClusterKey.{ClusterKey}
@@ -11,9 +11,9 @@ use Rattle.wire_messages.specs.declared.message.Message.TheVariants as message
 use Rattle.journal_lines.specs.declared.line.Line.{Line}
 use Rattle.journal_lines.specs.declared.line.Line.TheVariants as line
 use Rattle.node_rules.specs.Agreement as agreement
-use Rattle.node_rules.specs.Agreement.{Proposal, proposes, without_missing}
+use Rattle.node_rules.specs.Agreement.{Proposal, proposes, without_missing, promising}
 use Rattle.node_rules.specs.Copies.{Row, is_nil}
-use Rattle.node_rules.specs.Entering.{ending, exchanging, closing, entering}
+use Rattle.node_rules.specs.Entering.{ending, closing, entering}
 use Rattle.node_rules.specs.Exchange.{is_single}
 use Rattle.node_rules.specs.Facts.{Facts, list_at, view_key}
 use Rattle.node_rules.specs.Messages as due
@@ -31,6 +31,10 @@ use Rattle.calm_laws.specs.Stances.{Stance, stance_of, enters_view, enters_if, c
 use Rattle.calm_laws.proofs.KindLaws.{NoneOf, none_read}
 use Rattle.calm_laws.proofs.Sent.{asks, message_none}
 use Rattle.calm_laws.proofs.Words.{Each, Ends, Words, agrees, message_words}
+use Rattle.node_rules.specs.Effects.{lines_and_sends, lines_only, nothing, sends_only, to_one}
+use Rattle.node_rules.specs.StaleMessages.{stale}
+use Rattle.node_rules.specs.VoteMessages.{commit_effects}
+use Rattle.cluster_types.specs.ClusterKeys as keys
 
 -- ---- what leaves it
 
@@ -75,15 +79,15 @@ closing_calm : (a : ℕ) (k : ClusterKey) (ts : List Transaction) → Each Calm 
 closing_calm a k [] = tt
 closing_calm a k (t ∷ ts) = (ending_calm a k t.number t.applied, closing_calm a k ts)
 
-exchanging_calm : (a : ℕ) (k : ClusterKey) (b : Bool) → Each Calm (exchanging a k b)
+exchanging_calm : (a : ℕ) (k : ClusterKey) (b : Bool) → Each Calm (only_if (line.Exchanged a k) b)
 exchanging_calm a k true = (λ q f. refl, tt)
 exchanging_calm a k false = tt
 
 pub entering_turns : (f g : Facts) (k : ClusterKey) (ms : List Member) → stance_of (noted None g (entering f k ms)) ≡ enters_view (stance_of g) k ms
 entering_turns f g k ms =
     let closed : Facts = noted None g (closing f) in
-    ap (λ (h : Facts). stance_of h) (noted-append None g (closing f) (line.Enter f.me k ms ∷ exchanging f.me k (is_single ms)))
-    ∙ noted_calm None (note None closed (line.Enter f.me k ms)) (exchanging f.me k (is_single ms)) (exchanging_calm f.me k (is_single ms))
+    ap (λ (h : Facts). stance_of h) (noted-append None g (closing f) (line.Enter f.me k ms ∷ only_if (line.Exchanged f.me k) (is_single ms)))
+    ∙ noted_calm None (note None closed (line.Enter f.me k ms)) (only_if (line.Exchanged f.me k) (is_single ms)) (exchanging_calm f.me k (is_single ms))
     ∙ ap (λ (s : Stance). enters_view s k ms) (noted_calm None g (closing f) (closing_calm f.me (view_key f) f.transactions.running))
 
 -- ---- what reaches the node
@@ -131,16 +135,16 @@ reached_turns f from m h = refl
 -- ---- what is due
 
 voted : (f : Facts) (from : ℕ) (key : ClusterKey) (b : Bool) → key_lt key f.agreement.promised ≡ b
-    → stance_of (noted None f (due.vote_effects f from key b).lines) ≡ record (stance_of f) { agreement = agreement.voting f.agreement key }
+    → stance_of (noted None f (if b then sends_only (to_one from (message.Refuse key f.agreement.promised)) else lines_and_sends (only_if (line.Promise f.me key) (keys.key_lt f.agreement.promised key)) (to_one from (message.Accept key))).lines) ≡ record (stance_of f) { agreement = agreement.voting f.agreement key }
 voted f from key true e =
-    sym (ap (λ (b : Bool). record (stance_of f) { agreement = agreement.promising_if f.agreement key b }) (at_most_lt f.agreement.promised key (below_at_most (lt_below key f.agreement.promised e))))
+    sym (ap (λ (b : Bool). record (stance_of f) { agreement = (if b then promising f.agreement key else f.agreement) }) (at_most_lt f.agreement.promised key (below_at_most (lt_below key f.agreement.promised e))))
 voted f from key false e = go (key_lt f.agreement.promised key)
   where
-    go : (b : Bool) → stance_of (noted None f (only_if (line.Promise f.me key) b)) ≡ record (stance_of f) { agreement = agreement.promising_if f.agreement key b }
+    go : (b : Bool) → stance_of (noted None f (only_if (line.Promise f.me key) b)) ≡ record (stance_of f) { agreement = (if b then promising f.agreement key else f.agreement) }
     go true = refl
     go false = refl
 
-committed : (f g : Facts) (p : Proposal) (b : Bool) → stance_of (noted None g (due.commit_effects f p b).lines) ≡ enters_if (stance_of g) p.key p.members b
+committed : (f g : Facts) (p : Proposal) (b : Bool) → stance_of (noted None g (if b then commit_effects f p else nothing).lines) ≡ enters_if (stance_of g) p.key p.members b
 committed f g p true = entering_turns f g p.key p.members
 committed f g p false = refl
 
@@ -149,7 +153,7 @@ counted f g from key None b = refl
 counted f g from key (Some p) false = refl
 counted f g from key (Some p) true = committed f g p (is_nil (without_missing p from).missing)
 
-entered : (f : Facts) (key : ClusterKey) (ms : List Member) (b : Bool) → stance_of (noted None f (due.entry_effects_if f key ms b).lines) ≡ enters_if (stance_of f) key ms b
+entered : (f : Facts) (key : ClusterKey) (ms : List Member) (b : Bool) → stance_of (noted None f (if b then lines_only (entering f key ms) else stale f).lines) ≡ enters_if (stance_of f) key ms b
 entered f key ms true = entering_turns f f key ms
 entered f key ms false = refl
 

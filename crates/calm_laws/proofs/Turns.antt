@@ -1,5 +1,5 @@
 -- What the messages of one proposal make of those who follow it and of the one who leads it.
-use Rattle.std.proofs.Common.{◌≡◌, ℕ, ◌&&◌, Bool, true, false, List, Option, Some, None, refl, sym, ap, subst, ◌∙◌, ◌⊎◌, inl, inr}
+use Rattle.std.proofs.Common.{◌≡◌, ℕ, ◌&&◌, Bool, true, false, List, Option, Some, None, refl, sym, ap, subst, ◌∙◌, ◌⊎◌, inl, inr, if◌then◌else◌}
 use Rattle.cluster_types.specs.declared.cluster_key.ClusterKey.{ClusterKey}
 use Rattle.cluster_types.specs.declared.member.Member.{Member}
 use Rattle.cluster_types.specs.ClusterKeys.{IsBelow, key_lt}
@@ -7,7 +7,7 @@ use Rattle.wire_messages.specs.declared.message.Message.{Message}
 use Rattle.wire_messages.specs.declared.message.Message.TheVariants as message
 use Rattle.journal_readings.proofs.Fronts.{and_left}
 use Rattle.node_rules.specs.Agreement as agreement
-use Rattle.node_rules.specs.Agreement.{Agreement, Proposal, proposes, without_missing, accepted_by, kept_if, may_enter}
+use Rattle.node_rules.specs.Agreement.{Agreement, Proposal, proposes, without_missing, accepted_by, may_enter, promising}
 use Rattle.node_rules.specs.Copies.{is_nil}
 use Rattle.node_rules.specs.Exchange.{View, is_member}
 use Rattle.node_rules.specs.Keys.{same_key}
@@ -38,7 +38,7 @@ same_view k l ms ns e i = ap (λ (x : ClusterKey). Some (record { key = x; membe
 -- ---- an Accept, where that proposal stands
 
 abbrev accepts : Stance → ℕ → ClusterKey → Option Proposal → Stance
-accepts s from l o = counts (record s { agreement = agreement.accepting_if s.agreement from (proposes o l) }) from o (proposes o l)
+accepts s from l o = counts (record s { agreement = (if proposes o l then record s.agreement { proposal = accepted_by s.agreement.proposal from } else s.agreement) }) from o (proposes o l)
 
 -- ---- inside
 
@@ -48,7 +48,7 @@ inside_entered k l ms ns s e i p = record { view = same_view k l ms ns e i; last
 pub inside_kept : (p a c : Bool) (k : ClusterKey) (ms : List Member) (me : ℕ) (s : Stance) (from : ℕ) (m : Message) → Only p a c k ms m → Inside k ms s → Inside k ms (turned me s from m)
 inside_kept p a c k ms me s from (message.Heartbeat view promised hears role) o h = record { view = h.view; last = h.last; promised = h.promised; proposal = h.proposal; quiet = h.quiet }
 inside_kept p a c k ms me s from (message.Propose l ns) o h =
-    subst (λ (b : Bool). Inside k ms (record s { agreement = agreement.promising_if s.agreement l b })) (sym (not_above_itself s.agreement.promised k l h.promised o.1)) h
+    subst (λ (b : Bool). Inside k ms (record s { agreement = (if b then promising s.agreement l else s.agreement) })) (sym (not_above_itself s.agreement.promised k l h.promised o.1)) h
 inside_kept p a c k ms me s from (message.Accept l) o h = subst (λ (x : Option Proposal). Inside k ms (accepts s from l x)) (sym h.proposal) h
 inside_kept p a c k ms me s from (message.Refuse l promised) o h = absurd o
 inside_kept p a c k ms me s from (message.Commit l ns) o h = subst (λ (b : Bool). Inside k ms (enters_if s l ns b)) (sym (no_entry me s.agreement k l ns h.last o.1)) h
@@ -63,8 +63,8 @@ follows_below : (p a c : Bool) (k : ClusterKey) (ms : List Member) (me : ℕ) (s
 follows_below p a c k ms me s from (message.Heartbeat view promised hears role) o most none below = record { promised = most; proposal = none; last = inl below }
 follows_below p a c k ms me s from (message.Propose l ns) o most none below = go (key_lt s.agreement.promised l)
   where
-    go : (b : Bool) → Follows k ms (record s { agreement = agreement.promising_if s.agreement l b })
-    go true = record { promised = at_most_eq o.1; proposal = ap (λ (x : Option Proposal). kept_if (proposes x l) x) none; last = inl below }
+    go : (b : Bool) → Follows k ms (record s { agreement = (if b then promising s.agreement l else s.agreement) })
+    go true = record { promised = at_most_eq o.1; proposal = ap (λ (x : Option Proposal). (if proposes x l then x else None)) none; last = inl below }
     go false = record { promised = most; proposal = none; last = inl below }
 follows_below p a c k ms me s from (message.Accept l) o most none below =
     subst (λ (x : Option Proposal). Follows k ms (accepts s from l x)) (sym none) (record { promised = most; proposal = none; last = inl below })
@@ -92,7 +92,7 @@ pub record Votes (k : ClusterKey) (ms : List Member) (s : Stance) : Type 0 where
 pub votes_made : (k : ClusterKey) (ms : List Member) (me : ℕ) (s : Stance) (from : ℕ) (ns : List Member) → ns ≡ ms → Follows k ms s → Votes k ms (turned me s from (message.Propose k ns))
 votes_made k ms me s from ns e h = record { follows = follows_kept true true true k ms me s from (message.Propose k ns) (refl, refl, e) h; promised = go (key_lt s.agreement.promised k) refl }
   where
-    go : (b : Bool) → key_lt s.agreement.promised k ≡ b → (agreement.promising_if s.agreement k b).promised ≡ k
+    go : (b : Bool) → key_lt s.agreement.promised k ≡ b → (if b then promising s.agreement k else s.agreement).promised ≡ k
     go true e = refl
     go false e = neither_lt s.agreement.promised k e (at_most_lt k s.agreement.promised h.promised)
 
@@ -101,7 +101,7 @@ votes_kept p a c k ms me s from m o h = record { follows = follows_kept p a c k 
   where
     go : (m : Message) → Only p a c k ms m → (turned me s from m).agreement.promised ≡ k
     go (message.Heartbeat view promised hears role) o = h.promised
-    go (message.Propose l ns) o = subst (λ (b : Bool). (agreement.promising_if s.agreement l b).promised ≡ k) (sym (not_above_itself s.agreement.promised k l h.promised o.1)) h.promised
+    go (message.Propose l ns) o = subst (λ (b : Bool). (if b then promising s.agreement l else s.agreement).promised ≡ k) (sym (not_above_itself s.agreement.promised k l h.promised o.1)) h.promised
     go (message.Accept l) o = subst (λ (x : Option Proposal). (accepts s from l x).agreement.promised ≡ k) (sym h.follows.proposal) h.promised
     go (message.Refuse l promised) o = absurd o
     go (message.Commit l ns) o = enter (may_enter me s.agreement l ns)
@@ -133,14 +133,14 @@ Led k ms s = Leads k ms s ⊎ Inside k ms s
 pub leads_kept : (p a c : Bool) (k : ClusterKey) (ms : List Member) (me : ℕ) (s : Stance) (from : ℕ) (m : Message) → Only p a c k ms m → Leads k ms s → Led k ms (turned me s from m)
 leads_kept p a c k ms me s from (message.Heartbeat view promised hears role) o h = inl (record { promised = h.promised; below = h.below; stands = h.stands; is = h.is; key = h.key; members = h.members; some = h.some })
 leads_kept p a c k ms me s from (message.Propose l ns) o h =
-    subst (λ (b : Bool). Led k ms (record s { agreement = agreement.promising_if s.agreement l b })) (sym (not_above_itself s.agreement.promised k l h.promised o.1)) (inl h)
+    subst (λ (b : Bool). Led k ms (record s { agreement = (if b then promising s.agreement l else s.agreement) })) (sym (not_above_itself s.agreement.promised k l h.promised o.1)) (inl h)
 leads_kept p a c k ms me s from (message.Accept l) o h = subst (λ (x : Option Proposal). Led k ms (accepts s from l x)) (sym h.is) here
   where
     mine : proposes (Some h.stands) l ≡ true
     mine = ap (λ (x : ClusterKey). same_key x l) (h.key ∙ sym o.1) ∙ same_self l
 
     counted : Stance
-    counted = record s { agreement = agreement.accepting_if s.agreement from true }
+    counted = record s { agreement = (if true then record s.agreement { proposal = accepted_by s.agreement.proposal from } else s.agreement) }
 
     go : (b : Bool) → is_nil (without_missing h.stands from).missing ≡ b → Led k ms (enters_if counted h.stands.key h.stands.members b)
     go true e = inr (inside_entered k h.stands.key ms h.stands.members counted h.key h.members h.promised)
@@ -155,7 +155,7 @@ leads_kept p a c k ms me s from (message.Accept l) o h = subst (λ (x : Option P
     })
 
     here : Led k ms (accepts s from l (Some h.stands))
-    here = subst (λ (b : Bool). Led k ms (counts (record s { agreement = agreement.accepting_if s.agreement from b }) from (Some h.stands) b)) (sym mine) (go (is_nil (without_missing h.stands from).missing) refl)
+    here = subst (λ (b : Bool). Led k ms (counts (record s { agreement = (if b then record s.agreement { proposal = accepted_by s.agreement.proposal from } else s.agreement) }) from (Some h.stands) b)) (sym mine) (go (is_nil (without_missing h.stands from).missing) refl)
 leads_kept p a c k ms me s from (message.Refuse l promised) o h = absurd o
 leads_kept p a c k ms me s from (message.Commit l ns) o h = go (may_enter me s.agreement l ns)
   where
@@ -172,7 +172,7 @@ led_kept p a c k ms me s from m o (inr h) = inr (inside_kept p a c k ms me s fro
 pub leads_stay : (p : Bool) (k : ClusterKey) (ms : List Member) (me : ℕ) (s : Stance) (from : ℕ) (m : Message) → Only p false false k ms m → Leads k ms s → Leads k ms (turned me s from m)
 leads_stay p k ms me s from (message.Heartbeat view promised hears role) o h = record { promised = h.promised; below = h.below; stands = h.stands; is = h.is; key = h.key; members = h.members; some = h.some }
 leads_stay p k ms me s from (message.Propose l ns) o h =
-    subst (λ (b : Bool). Leads k ms (record s { agreement = agreement.promising_if s.agreement l b })) (sym (not_above_itself s.agreement.promised k l h.promised o.1)) h
+    subst (λ (b : Bool). Leads k ms (record s { agreement = (if b then promising s.agreement l else s.agreement) })) (sym (not_above_itself s.agreement.promised k l h.promised o.1)) h
 leads_stay p k ms me s from (message.Accept l) o h = differ o.0 refl
 leads_stay p k ms me s from (message.Refuse l promised) o h = absurd o
 leads_stay p k ms me s from (message.Commit l ns) o h = differ o.0 refl
@@ -186,10 +186,10 @@ leads_counted k ms me s from l e h more = subst (λ (x : Option Proposal). Leads
     mine = ap (λ (x : ClusterKey). same_key x l) (h.key ∙ sym e) ∙ same_self l
 
     counted : Stance
-    counted = record s { agreement = agreement.accepting_if s.agreement from true }
+    counted = record s { agreement = (if true then record s.agreement { proposal = accepted_by s.agreement.proposal from } else s.agreement) }
 
     here : Leads k ms (accepts s from l (Some h.stands))
-    here = subst (λ (b : Bool). Leads k ms (counts (record s { agreement = agreement.accepting_if s.agreement from b }) from (Some h.stands) b)) (sym mine)
+    here = subst (λ (b : Bool). Leads k ms (counts (record s { agreement = (if b then record s.agreement { proposal = accepted_by s.agreement.proposal from } else s.agreement) }) from (Some h.stands) b)) (sym mine)
         (subst (λ (b : Bool). Leads k ms (enters_if counted h.stands.key h.stands.members b)) (sym more) (record {
           promised = h.promised;
           below = h.below;

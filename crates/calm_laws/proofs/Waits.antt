@@ -19,7 +19,7 @@ use Rattle.journal_lines.specs.declared.line.Line.TheVariants as line
 use Rattle.journal_lines.specs.declared.refusal.Refusal.{Refusal}
 use Rattle.partition_lists.proofs.InOrderLaws.{equal}
 use Rattle.node_rules.specs.Agreement as agreement
-use Rattle.node_rules.specs.Agreement.{Agreement, Proposal, accepted_by, is_accepted_with, kept_if, may_enter, others_among, proposes, proposes_anew, proposes_set, without_missing}
+use Rattle.node_rules.specs.Agreement.{Agreement, Proposal, accepted_by, is_accepted_with, may_enter, others_among, proposes, proposes_anew, proposes_set, without_missing, agreement_entered, next_key, promising, proposing_to}
 use Rattle.node_rules.specs.ByParts.{asked_or_resolved, closed_if, exchanged_if, merged_if, proposed_facts, requested, resolved, resolved_by, resolved_with, view_entered, with_applied_write}
 use Rattle.node_rules.specs.Copies.{is_nil}
 use Rattle.node_rules.specs.Exchange.{is_single}
@@ -27,9 +27,9 @@ use Rattle.node_rules.specs.Facts.{Facts, list_at, view_key}
 use Rattle.node_rules.specs.Map.{list_master}
 use Rattle.node_rules.specs.Messages as due
 use Rattle.node_rules.specs.Notes as notes
-use Rattle.node_rules.specs.Notes.{after_ages, if_view, in_view, neighbours, opening_transaction, note, noted, reached}
+use Rattle.node_rules.specs.Notes.{after_ages, in_view, neighbours, opening_transaction, note, noted, reached}
 use Rattle.node_rules.specs.Requests.{request_refusal}
-use Rattle.node_rules.specs.Settling.{drop, hand, learn, settle, settling_due, settling_at, settling_from, settling_if}
+use Rattle.node_rules.specs.Settling.{drop, hand, learn, settle, settling_due, settling_at, settling_from}
 use Rattle.node_rules.specs.Standing.{other_replicas}
 use Rattle.node_rules.specs.Steps.{after_message, after_tick}
 use Rattle.node_rules.specs.Tick.{is_candidate, propose}
@@ -50,40 +50,40 @@ use Rattle.calm_laws.specs.Waits.{AwaitSome, LacksSome, Waits}
 
 -- ---- proposals
 
-kept_lacks : (test : Bool) (o : Option Proposal) → LacksSome o → LacksSome (kept_if test o)
+kept_lacks : (test : Bool) (o : Option Proposal) → LacksSome o → LacksSome (if test then o else None)
 kept_lacks true o h = h
 kept_lacks false o h = tt
 
 voting_lacks : (a : Agreement) (k : ClusterKey) → LacksSome a.proposal → LacksSome (agreement.voting a k).proposal
 voting_lacks a k h = go (key_lt a.promised k)
   where
-    go : (b : Bool) → LacksSome (agreement.promising_if a k b).proposal
+    go : (b : Bool) → LacksSome (if b then promising a k else a).proposal
     go true = kept_lacks (proposes a.proposal k) a.proposal h
     go false = h
 
 counting_lacks : (a : Agreement) (from : ℕ) (k : ClusterKey) → LacksSome a.proposal → LacksSome (agreement.counting a from k).proposal
 counting_lacks a from k h = go (proposes a.proposal k)
   where
-    last : (o : Option Proposal) (c : Bool) → is_accepted_with o from ≡ c → LacksSome (agreement.entering_if (record a { proposal = accepted_by o from }) k c).proposal
+    last : (o : Option Proposal) (c : Bool) → is_accepted_with o from ≡ c → LacksSome (if c then agreement_entered (record a { proposal = accepted_by o from }) k else record a { proposal = accepted_by o from }).proposal
     last o true i = tt
     last None false i = tt
     last (Some p) false i = i
 
-    go : (b : Bool) → LacksSome (agreement.entering_if (agreement.accepting_if a from b) k (b && is_accepted_with a.proposal from)).proposal
+    go : (b : Bool) → LacksSome (if b && is_accepted_with a.proposal from then agreement_entered (if b then record a { proposal = accepted_by a.proposal from } else a) k else (if b then record a { proposal = accepted_by a.proposal from } else a)).proposal
     go true = last a.proposal (is_accepted_with a.proposal from) refl
     go false = h
 
 refusing_lacks : (a : Agreement) (k promised : ClusterKey) → LacksSome a.proposal → LacksSome (agreement.refusing a k promised).proposal
 refusing_lacks a k promised h = go (proposes a.proposal k)
   where
-    go : (b : Bool) → LacksSome (agreement.seeing (agreement.refused_if a b) promised).proposal
+    go : (b : Bool) → LacksSome (agreement.seeing (if b then record a { proposal = None } else a) promised).proposal
     go true = tt
     go false = h
 
 committing_lacks : (me : ℕ) (a : Agreement) (k : ClusterKey) (ms : List Member) → LacksSome a.proposal → LacksSome (agreement.committing me a k ms).proposal
 committing_lacks me a k ms h = go (may_enter me a k ms)
   where
-    go : (b : Bool) → LacksSome (agreement.entering_if a k b).proposal
+    go : (b : Bool) → LacksSome (if b then agreement_entered a k else a).proposal
     go true = tt
     go false = h
 
@@ -100,9 +100,9 @@ ticking_lacks me a set candidate h = go (proposes_anew still candidate) refl
     new : (k : ClusterKey) (ns : List ℕ) → others_among me set ≡ ns → still.proposal ≡ None → LacksSome (agreement.proposing_to me still k set ns).proposal
     new k [] e none = tt
     new k (n ∷ ns) e none =
-        subst (λ (o : Option Proposal). LacksSome (agreement.proposing (record still { promised = k; proposal = kept_if (proposes o k) o }) me k set).proposal) (sym none) (ap is_nil e)
+        subst (λ (o : Option Proposal). LacksSome (agreement.proposing (record still { promised = k; proposal = (if proposes o k then o else None) }) me k set).proposal) (sym none) (ap is_nil e)
 
-    go : (b : Bool) → proposes_anew still candidate ≡ b → LacksSome (agreement.proposing_if me still set b).proposal
+    go : (b : Bool) → proposes_anew still candidate ≡ b → LacksSome (if b then proposing_to me still (next_key me still) set (others_among me set) else still).proposal
     go true e = new (agreement.next_key me still) (others_among me set) refl
         (no_none still.proposal _ e)
     go false e = kept_lacks (proposes_set a.proposal set) a.proposal h
@@ -329,7 +329,7 @@ from_transactions (suc n) p f =
 settling_transactions : (n : ℕ) (f : Facts) → (noted None f (settling_due n f)).transactions ≡ f.transactions
 settling_transactions n f = go f.exchange.exchanged
   where
-    go : (b : Bool) → (noted None f (settling_if n f b)).transactions ≡ f.transactions
+    go : (b : Bool) → (noted None f (if b then settling_from n 0 f else [])).transactions ≡ f.transactions
     go true = from_transactions n 0 f
     go false = refl
 
@@ -356,7 +356,7 @@ tick_waits f h = go f.up refl
 
 -- ---- messages
 
-view_waits : (f : Facts) (b : Bool) (g : Facts) → Waits f → Waits g → Waits (if_view b g f)
+view_waits : (f : Facts) (b : Bool) (g : Facts) → Waits f → Waits g → Waits (if b then g else f)
 view_waits f true g h i = i
 view_waits f false g h i = h
 

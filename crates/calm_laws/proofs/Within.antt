@@ -1,5 +1,5 @@
 -- No proposal of just the group stands at the end of a round: all have answered it.
-use Rattle.std.proofs.Common.{◌≡◌, ℕ, Bool, true, false, List, [], ◌∷◌, Option, Some, None, refl, sym, ap, subst, ◌∙◌, ◌⊎◌, inl, inr}
+use Rattle.std.proofs.Common.{◌≡◌, ℕ, Bool, true, false, List, [], ◌∷◌, Option, Some, None, refl, sym, ap, subst, ◌∙◌, ◌⊎◌, inl, inr, if◌then◌else◌}
 use Rattle.std.proofs.lemmas.Option.{none-some}
 use Rattle.cluster_types.specs.declared.cluster_key.ClusterKey.{ClusterKey}
 use Rattle.cluster_types.specs.declared.member.Member.{Member}
@@ -11,13 +11,13 @@ use Rattle.wire_messages.specs.declared.message.Message.TheVariants as message
 use Rattle.wire_messages.specs.Keys.{IsKeyField, IsKeyOrNone}
 use Rattle.journal_readings.proofs.Fronts.{and_right}
 use Rattle.node_rules.specs.Agreement as agreement
-use Rattle.node_rules.specs.Agreement.{Agreement, Proposal, kept_if, may_enter, next_key, others_among, proposal_of, proposes, proposes_set, without_missing}
+use Rattle.node_rules.specs.Agreement.{Agreement, Proposal, may_enter, next_key, others_among, proposal_of, proposes, proposes_set, without_missing, accepted_by, promising}
 use Rattle.node_rules.specs.Copies.{is_nil}
 use Rattle.node_rules.specs.Effects.{to_each}
 use Rattle.node_rules.specs.Facts.{Facts}
 use Rattle.node_rules.specs.Notes.{after_ages, neighbours}
 use Rattle.node_rules.specs.Tables.{contains}
-use Rattle.node_rules.specs.Tick.{is_candidate, propose, propose_new, propose_with, proposal_effects}
+use Rattle.node_rules.specs.Tick.{is_candidate, propose, propose_with, proposal_effects}
 use Rattle.journal_readings.specs.Lines.{has_node}
 use Rattle.cluster_rules.specs.World.{World}
 use Rattle.cluster_laws.proofs.At.{differ}
@@ -43,10 +43,11 @@ use Rattle.calm_laws.proofs.Rolls.{contains_among, nothing_there, other_here}
 use Rattle.calm_laws.proofs.Sent.{among_each}
 use Rattle.calm_laws.proofs.Ticking.{tick_proposes}
 use Rattle.calm_laws.proofs.TickTurns.{tick_turns}
+use Rattle.node_rules.specs.Effects as effects
 
 -- ---- a node after its tick
 
-kept_some : (b : Bool) (o : Option Proposal) (p : Proposal) → kept_if b o ≡ Some p → (b ≡ true) × (o ≡ Some p)
+kept_some : (b : Bool) (o : Option Proposal) (p : Proposal) → (if b then o else None) ≡ Some p → (b ≡ true) × (o ≡ Some p)
 kept_some true o p e = (refl, e)
 kept_some false o p e = absurd (none-some p e)
 
@@ -80,7 +81,7 @@ ticks_promised m s set (Some p) b h next = h
 ticks_promised m s set None false h next = h
 ticks_promised m s set None true h next = go (others_among m set)
   where
-    new : (a : Agreement) (p : Proposal) (c : Bool) → a.promised ≡ next_key m s.agreement → IsKeyOrNone (agreement.proposed_if a p c).promised
+    new : (a : Agreement) (p : Proposal) (c : Bool) → a.promised ≡ next_key m s.agreement → IsKeyOrNone (if c then a else record a { proposal = Some p }).promised
     new a p true e = subst (λ (q : ClusterKey). IsKeyOrNone q) (sym e) (next refl)
     new a p false e = subst (λ (q : ClusterKey). IsKeyOrNone q) (sym e) (next refl)
 
@@ -88,26 +89,26 @@ ticks_promised m s set None true h next = go (others_among m set)
     go [] = next refl
     go (x ∷ xs) = new (agreement.promising s.agreement (next_key m s.agreement)) (proposal_of m (next_key m s.agreement) set) _ refl
 
-key_accepts : (s : Stance) (from : ℕ) (o : Option Proposal) (b : Bool) → IsKeyOrNone s.agreement.promised → IsKeyOrNone (counts (record s { agreement = agreement.accepting_if s.agreement from b }) from o b).agreement.promised
+key_accepts : (s : Stance) (from : ℕ) (o : Option Proposal) (b : Bool) → IsKeyOrNone s.agreement.promised → IsKeyOrNone (counts (record s { agreement = (if b then record s.agreement { proposal = accepted_by s.agreement.proposal from } else s.agreement) }) from o b).agreement.promised
 key_accepts s from None true h = h
 key_accepts s from None false h = h
 key_accepts s from (Some p) false h = h
 key_accepts s from (Some p) true h = go (is_nil (without_missing p from).missing)
   where
-    go : (b : Bool) → IsKeyOrNone (enters_if (record s { agreement = agreement.accepting_if s.agreement from true }) p.key p.members b).agreement.promised
+    go : (b : Bool) → IsKeyOrNone (enters_if (record s { agreement = (if true then record s.agreement { proposal = accepted_by s.agreement.proposal from } else s.agreement) }) p.key p.members b).agreement.promised
     go true = h
     go false = h
 
 key_kept : (me : ℕ) (s : Stance) (from : ℕ) (m : Message) → Keyed m → IsKeyOrNone s.agreement.promised → IsKeyOrNone (turned me s from m).agreement.promised
 key_kept me s from (message.Propose key ms) l h = go (key_lt s.agreement.promised key)
   where
-    go : (b : Bool) → IsKeyOrNone (agreement.promising_if s.agreement key b).promised
+    go : (b : Bool) → IsKeyOrNone (if b then promising s.agreement key else s.agreement).promised
     go true = inr l
     go false = h
 key_kept me s from (message.Accept key) l h = key_accepts s from s.agreement.proposal (proposes s.agreement.proposal key) h
 key_kept me s from (message.Refuse key promised) l h = go (proposes s.agreement.proposal key)
   where
-    go : (b : Bool) → IsKeyOrNone (agreement.seeing (agreement.refused_if s.agreement b) promised).promised
+    go : (b : Bool) → IsKeyOrNone (agreement.seeing (if b then record s.agreement { proposal = None } else s.agreement) promised).promised
     go true = h
     go false = h
 key_kept me s from (message.Commit key ms) l h = go (may_enter me s.agreement key ms)
@@ -165,7 +166,7 @@ module _ (n : ℕ) (ns gs : List ℕ) (g : ℕ) (set : List Member) (w t : World
           (proposal_effects h (next_key m h.agreement) set (others_among m set)).sends
       sent =
           ap (λ (o : Option Proposal). (propose_with h o).sends) e
-          ∙ ap (λ (c : Bool). (propose_new h c).sends) b
+          ∙ ap (λ (c : Bool). (if c then proposal_effects h (next_key h.me h.agreement) (neighbours h) (agreement.others_among h.me (neighbours h)) else effects.nothing).sends) b
           ∙ ap (λ (ms : List Member). (proposal_effects h (next_key h.me h.agreement) ms (others_among h.me ms)).sends) (j.sees m here)
           ∙ ap (λ (y : ℕ). (proposal_effects h (next_key y h.agreement) set (others_among y set)).sends) (j.base.named m)
 
@@ -178,8 +179,8 @@ module _ (n : ℕ) (ns gs : List ℕ) (g : ℕ) (set : List Member) (w t : World
       nothing : (os : List ℕ) → os ≡ [] → (to : ℕ) (x : Message) → Among (as_read (proposal_effects h (next_key m h.agreement) set os).sends) (to, x) → ⊥
       nothing os is to x i = nothing_asked h to x (subst (λ (xs : List ℕ). Among (as_read (proposal_effects h (next_key m h.agreement) set xs).sends) (to, x)) is i)
 
-      proposed : (o : Option Proposal) → o ≡ None → (agreement.proposing (record s.agreement { promised = next_key m h.agreement; proposal = kept_if (proposes o (next_key m h.agreement)) o }) m (next_key m h.agreement) set).proposal ≡ Some (proposal_of m (next_key m h.agreement) set)
-      proposed o is = ap (λ (o : Option Proposal). (agreement.proposing (record s.agreement { promised = next_key m h.agreement; proposal = kept_if (proposes o (next_key m h.agreement)) o }) m (next_key m h.agreement) set).proposal) is
+      proposed : (o : Option Proposal) → o ≡ None → (agreement.proposing (record s.agreement { promised = next_key m h.agreement; proposal = (if proposes o (next_key m h.agreement) then o else None) }) m (next_key m h.agreement) set).proposal ≡ Some (proposal_of m (next_key m h.agreement) set)
+      proposed o is = ap (λ (o : Option Proposal). (agreement.proposing (record s.agreement { promised = next_key m h.agreement; proposal = (if proposes o (next_key m h.agreement) then o else None) }) m (next_key m h.agreement) set).proposal) is
 
       go : (os : List ℕ) → others_among m set ≡ os → Silent f (stance_of (t.facts m)) ⊎ Asking m set f (stance_of (t.facts m))
       go [] is = inl (record {
@@ -212,7 +213,7 @@ module _ (n : ℕ) (ns gs : List ℕ) (g : ℕ) (set : List Member) (w t : World
             ap (λ (x : Stance). x.agreement.proposal) (stance_then m here ∙ ap (λ (o : Option Proposal). ticks m (stance_of (after_ages (w.facts m))) set o (is_to_propose (after_ages (w.facts m)))) e ∙ ap (λ (c : Bool). ticks m (stance_of (after_ages (w.facts m))) set None c) b)
             ∙ e;
         quiet = λ to x i. nothing_asked (after_ages (w.facts m)) to x
-            (subst (λ (c : Bool). Among (as_read (propose_new (after_ages (w.facts m)) c).sends) (to, x)) b
+            (subst (λ (c : Bool). Among (as_read (if c then proposal_effects (after_ages (w.facts m)) (next_key (after_ages (w.facts m)).me (after_ages (w.facts m)).agreement) (neighbours (after_ages (w.facts m))) (agreement.others_among (after_ages (w.facts m)).me (neighbours (after_ages (w.facts m)))) else effects.nothing).sends) (to, x)) b
             (subst (λ (o : Option Proposal). Among (as_read (propose_with (after_ages (w.facts m)) o).sends) (to, x)) e i));
       })
       go (Some p) e b i =

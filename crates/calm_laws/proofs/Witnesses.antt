@@ -19,7 +19,7 @@ use Rattle.cluster_types.specs.Partitions.{partition_count}
 use Rattle.journal_lines.specs.declared.line.Line.{Line}
 use Rattle.journal_lines.specs.declared.line.Line.TheVariants as line
 use Rattle.journal_readings.specs.Contents.{applied, applied_step, joined_if}
-use Rattle.journal_readings.specs.Lines.{has_node, same_digest}
+use Rattle.journal_readings.specs.Lines.{has_node}
 use Rattle.journal_readings.proofs.CopyLaws.{same_digest_is}
 use Rattle.journal_readings.proofs.StepLaws.{applied-more}
 use Rattle.node_rules.specs.Copies.{Content}
@@ -168,9 +168,9 @@ each_applies G S z (Begins e ∷ ms) g q r = each_applies G S (front_after z (Be
 each_applies G S z (Writes l ∷ ms) g q r = (applies_run G S z l g.1 r, each_applies G S (front_after z (Writes l)) ms g.2 q.1 (line_runs S (world_of z) l q.0 r))
 
 step_applied : (S : List ℕ → Type 0) (by : Policy) (d : List ℕ) (o : Option Version) (l : Line) → AppliesOn S l → is_some (applied_step by d o l) ≡ true → (is_some o ≡ true) ⊎ S d
-step_applied S by d o (line.Apply n k t e v) h i = go (same_digest e d) refl i
+step_applied S by d o (line.Apply n k t e v) h i = go (bytes_eq e d) refl i
   where
-    go : (b : Bool) → same_digest e d ≡ b → is_some (joined_if b by o v) ≡ true → (is_some o ≡ true) ⊎ S d
+    go : (b : Bool) → bytes_eq e d ≡ b → is_some (joined_if b by o v) ≡ true → (is_some o ≡ true) ⊎ S d
     go true s j = inr (subst S (same_digest_is e d s) h)
     go false s j = inl j
 step_applied S by d o l h i = inl i

@@ -1,11 +1,12 @@
 -- Which lines are due of a message that proposes nothing and enters no view.
-use Rattle.std.proofs.Common.{◌≡◌, ℕ, Bool, true, false, List, [], ◌∷◌, ◌++◌, Option, Some, None, refl}
+use Rattle.std.proofs.Common.{◌≡◌, ℕ, Bool, true, false, List, [], ◌∷◌, ◌++◌, Option, Some, None, refl, if◌then◌else◌, ◌&&◌}
 use Rattle.conflict_order.specs.declared.want.Want.{Want}
 use Rattle.conflict_order.specs.declared.want.Want.TheVariants as want
 use Rattle.conflict_order.specs.declared.version.Version.{Version}
 use Rattle.conflict_order.specs.declared.version.Body.TheVariants as body
 use Rattle.conflict_order.specs.Next.{next}
 use Rattle.cluster_types.specs.declared.cluster_key.ClusterKey.{ClusterKey}
+use Rattle.wire_messages.specs.declared.message.Batch.{Batch}
 use Rattle.wire_messages.specs.declared.message.Message.{Message}
 use Rattle.wire_messages.specs.declared.message.Message.TheVariants as message
 use Rattle.journal_lines.specs.declared.line.Line.{Line}
@@ -13,15 +14,21 @@ use Rattle.journal_lines.specs.declared.line.Line.TheVariants as line
 use Rattle.node_rules.specs.Agreement.{proposes}
 use Rattle.node_rules.specs.Batches.{out_to, has_number}
 use Rattle.node_rules.specs.Copies.{is_nil}
-use Rattle.node_rules.specs.Effects.{Effects}
-use Rattle.node_rules.specs.Facts.{Facts}
-use Rattle.node_rules.specs.Messages.{unless_stale, state_came, finishes, batch_came, batch_ack_came, unless_spent, progress_effects_if, answer_progress, repl_came, done_by, ack_of, repl_ack_came, ask_came, resolving_if, answered_by, answer_of, answer_effects_if, table_if, merging, merging_all, due_message_of}
+use Rattle.node_rules.specs.Effects.{Effects, lines_and_sends, lines_only, nothing, sends_only, to_one}
+use Rattle.node_rules.specs.Facts.{Facts, list_at, view_key}
+use Rattle.node_rules.specs.Messages.{finishes, ack_of, answer_of, merging, merging_all, due_message_of}
 use Rattle.node_rules.specs.Notes.{noted, reached, in_view}
-use Rattle.node_rules.specs.Resolving.{done_if, writing, resolving_want}
-use Rattle.node_rules.specs.Standing.{other_replicas}
+use Rattle.node_rules.specs.Resolving.{writing, resolving_want, resolving}
+use Rattle.node_rules.specs.Standing.{other_replicas, knows_all_settled}
 use Rattle.node_rules.specs.Transactions.{Transaction, transaction, awaits_answer, awaits_ack, answered, is_last_awaited}
 use Rattle.node_rules.specs.Tables.{only_if}
 use Rattle.cluster_laws.proofs.At.{differ}
+use Rattle.cluster_types.specs.Endpoints.{client}
+use Rattle.cluster_types.specs.Partitions.{partition_of}
+use Rattle.node_rules.specs.ClientMessages.{map_table}
+use Rattle.node_rules.specs.Tick.{progress_message, state}
+use Rattle.std.specs.FinMap as finite
+use Rattle.node_rules.specs.StaleMessages as stale_messages
 
 -- what holds of each of the lines
 abbrev pub Each : (Line → Type 0) → List Line → Type 0
@@ -74,31 +81,31 @@ module _ (P : Line → Type 0) (w : Words P) where
   abbrev Says : Effects → Type 0
   Says e = Each P e.lines
 
-  unless_stale_words : (f : Facts) (b : Bool) → Says (unless_stale f b)
+  unless_stale_words : (f : Facts) (b : Bool) → Says (if b then nothing else stale_messages.stale f)
   unless_stale_words f true = tt
   unless_stale_words f false = (w.stale f.me, tt)
 
-  state_words : ((n : ℕ) (k : ClusterKey) → P (line.Exchanged n k)) → (f now : Facts) (from : ℕ) (wants b : Bool) → Says (state_came f now from wants b)
+  state_words : ((n : ℕ) (k : ClusterKey) → P (line.Exchanged n k)) → (f now : Facts) (from : ℕ) (wants b : Bool) → Says (if b then lines_and_sends (only_if (line.Exchanged f.me (view_key f)) (finishes f now)) (if wants then to_one from (state f false) else []) else stale_messages.stale f)
   state_words ends f now from wants true = each_if P _ (finishes f now) (ends _ _)
   state_words ends f now from wants false = (w.stale f.me, tt)
 
-  unless_spent_words : (f : Facts) (b : Bool) → Says (unless_spent f b)
+  unless_spent_words : (f : Facts) (b : Bool) → Says (if b then nothing else stale_messages.spent f)
   unless_spent_words f true = tt
   unless_spent_words f false = (w.spent f.me, tt)
 
-  batch_ack_words : (f : Facts) (from number : ℕ) (b : Bool) → Says (batch_ack_came f from number b)
+  batch_ack_words : (f : Facts) (from number : ℕ) (b : Bool) → Says (if b then (if has_number (out_to f.batches from) number then nothing else stale_messages.spent f) else stale_messages.stale f)
   batch_ack_words f from number true = unless_spent_words f (has_number (out_to f.batches from) number)
   batch_ack_words f from number false = (w.stale f.me, tt)
 
-  answer_progress_words : (n : ℕ) (now : Facts) (from : ℕ) (b : Bool) → Says (answer_progress n now from b)
+  answer_progress_words : (n : ℕ) (now : Facts) (from : ℕ) (b : Bool) → Says (if b then sends_only (to_one from (progress_message n now false)) else nothing)
   answer_progress_words n now from true = tt
   answer_progress_words n now from false = tt
 
-  progress_words : (n : ℕ) (f now : Facts) (from : ℕ) (wants b : Bool) → Says (progress_effects_if n f now from wants b)
+  progress_words : (n : ℕ) (f now : Facts) (from : ℕ) (wants b : Bool) → Says (if b then (if wants && knows_all_settled now n 0 then sends_only (to_one from (progress_message n now false)) else nothing) else stale_messages.stale f)
   progress_words n f now from wants true = answer_progress_words n now from _
   progress_words n f now from wants false = (w.stale f.me, tt)
 
-  done_by_words : Ends P → (f : Facts) (t : Transaction) (from : ℕ) (b : Bool) → Says (done_by f t from b)
+  done_by_words : Ends P → (f : Facts) (t : Transaction) (from : ℕ) (b : Bool) → Says (if b then lines_only (only_if (line.Done f.me (view_key f) t.number) (is_last_awaited t from)) else stale_messages.spent f)
   done_by_words z f t from true = each_if P _ (is_last_awaited t from) (z.done _ _ _)
   done_by_words z f t from false = (w.spent f.me, tt)
 
@@ -106,15 +113,15 @@ module _ (P : Line → Type 0) (w : Words P) where
   ack_of_words z f from None = (w.spent f.me, tt)
   ack_of_words z f from (Some t) = done_by_words z f t from (awaits_ack t from)
 
-  repl_ack_words : Ends P → (f : Facts) (from number : ℕ) (b : Bool) → Says (repl_ack_came f from number b)
+  repl_ack_words : Ends P → (f : Facts) (from number : ℕ) (b : Bool) → Says (if b then ack_of f from (transaction f.transactions number) else stale_messages.stale f)
   repl_ack_words z f from number true = ack_of_words z f from (transaction f.transactions number)
   repl_ack_words z f from number false = (w.stale f.me, tt)
 
-  ask_words : (f : Facts) (from : ℕ) (key : ClusterKey) (number : ℕ) (d : List ℕ) (b : Bool) → Says (ask_came f from key number d b)
+  ask_words : (f : Facts) (from : ℕ) (key : ClusterKey) (number : ℕ) (d : List ℕ) (b : Bool) → Says (if b then sends_only (to_one from (message.Answer key number (finite.get f.store.content d))) else stale_messages.stale f)
   ask_words f from key number d true = tt
   ask_words f from key number d false = (w.stale f.me, tt)
 
-  done_words : Ends P → (f : Facts) (number : ℕ) (b : Bool) → Each P (done_if f number b)
+  done_words : Ends P → (f : Facts) (number : ℕ) (b : Bool) → Each P (only_if (line.Done f.me (view_key f) number) b)
   done_words z f number true = (z.done _ _ _, tt)
   done_words z f number false = tt
 
@@ -126,11 +133,11 @@ module _ (P : Line → Type 0) (w : Words P) where
   resolving_words z f clock l t (want.Put bytes) = writing_words z f l t (next t.best clock (body.Value bytes))
   resolving_words z f clock l t want.Del = writing_words z f l t (next t.best clock body.Tombstone)
 
-  resolving_if_words : Ends P → (f : Facts) (clock : ℕ) (t : Transaction) (b : Bool) → Says (resolving_if f clock t b)
+  resolving_if_words : Ends P → (f : Facts) (clock : ℕ) (t : Transaction) (b : Bool) → Says (if b then resolving f clock (list_at f (partition_of t.digest)) t else nothing)
   resolving_if_words z f clock t true = resolving_words z f clock _ t t.want
   resolving_if_words z f clock t false = tt
 
-  answered_words : Ends P → (f : Facts) (clock : ℕ) (t : Transaction) (from : ℕ) (v : Option Version) (b : Bool) → Says (answered_by f clock t from v b)
+  answered_words : Ends P → (f : Facts) (clock : ℕ) (t : Transaction) (from : ℕ) (v : Option Version) (b : Bool) → Says (if b then (if is_last_awaited t from then resolving f clock (list_at f (partition_of (answered f.store.by from v t).digest)) (answered f.store.by from v t) else nothing) else stale_messages.spent f)
   answered_words z f clock t from v true = resolving_if_words z f clock (answered f.store.by from v t) (is_last_awaited t from)
   answered_words z f clock t from v false = (w.spent f.me, tt)
 
@@ -138,19 +145,19 @@ module _ (P : Line → Type 0) (w : Words P) where
   answer_of_words z f clock from v None = (w.spent f.me, tt)
   answer_of_words z f clock from v (Some t) = answered_words z f clock t from v (awaits_answer t from)
 
-  answer_words : Ends P → (f : Facts) (clock from number : ℕ) (v : Option Version) (b : Bool) → Says (answer_effects_if f clock from number v b)
+  answer_words : Ends P → (f : Facts) (clock from number : ℕ) (v : Option Version) (b : Bool) → Says (if b then answer_of f clock from v (transaction f.transactions number) else stale_messages.stale f)
   answer_words z f clock from number v true = answer_of_words z f clock from v (transaction f.transactions number)
   answer_words z f clock from number v false = (w.stale f.me, tt)
 
-  table_words : (f : Facts) (b : Bool) → Says (table_if f b)
+  table_words : (f : Facts) (b : Bool) → Says (if b then sends_only (to_one client (message.MapTable (map_table f))) else nothing)
   table_words f true = tt
   table_words f false = tt
 
-  batch_words : (f : Facts) (from : ℕ) (b : _) (c : Bool) → Says (batch_came f from b c)
+  batch_words : (f : Facts) (from : ℕ) (b : Batch) (c : Bool) → Says (if c then lines_and_sends (merging_all f b.records) (to_one from (message.BatchAck b.key b.number)) else stale_messages.stale f)
   batch_words f from b true = merging_words f b.records
   batch_words f from b false = (w.stale f.me, tt)
 
-  repl_words : (f : Facts) (from : ℕ) (key : ClusterKey) (number : ℕ) (d : List ℕ) (v : Version) (b : Bool) → Says (repl_came f from key number d v b)
+  repl_words : (f : Facts) (from : ℕ) (key : ClusterKey) (number : ℕ) (d : List ℕ) (v : Version) (b : Bool) → Says (if b then lines_and_sends (merging f d v) (to_one from (message.ReplAck key number)) else stale_messages.stale f)
   repl_words f from key number d v true = each_if P _ _ (w.merge _ _ _ _)
   repl_words f from key number d v false = (w.stale f.me, tt)
 

@@ -2,15 +2,15 @@
 use Rattle.std.proofs.Common.{◌≡◌, ℕ, ◌==◌, Bool, true, false, ◌&&◌, not, List, Option, Some, None, is_some, refl, ap, arith}
 use Rattle.std.specs.Prelude.{nat_le}
 use Rattle.conflict_order.specs.declared.version.Version.{Version}
+use Rattle.conflict_order.specs.Contents.{Write}
 use Rattle.cluster_types.specs.declared.cluster_key.ClusterKey.{ClusterKey}
 use Rattle.cluster_types.specs.declared.copy_state.CopyState.{CopyState}
+use Rattle.cluster_types.specs.Distinct.{contains}
 use Rattle.wire_messages.specs.declared.message.Batch.{Batch}
 use Rattle.wire_messages.specs.declared.message.Message.{Message}
 use Rattle.wire_messages.specs.declared.message.Message.TheVariants as message
 use Rattle.journal_lines.specs.declared.line.Line.{Line}
 use Rattle.journal_lines.specs.declared.line.Line.TheVariants as line
-use Rattle.node_rules.specs.Tables.{contains}
-use Rattle.node_rules.specs.Transactions.{Write}
 use Rattle.cluster_laws.specs.Ground.{Ground}
 use Rattle.cluster_laws.specs.Stay.{Running}
 use Rattle.cluster_laws.specs.Picture.{Packet, Picture}

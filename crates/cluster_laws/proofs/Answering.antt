@@ -1,5 +1,5 @@
 -- What an open transaction knows, and that it is resolved with the fold.
-use Rattle.std.proofs.Common.{◌≡◌, ℕ, ◌+◌, Bool, true, false, cond, not, ◌||◌, List, [], Option, Some, None, option_map, refl, sym, ap, ◌∙◌, subst, subst₂, arith, ◌⊎◌, inl, inr, ⊎_elim}
+use Rattle.std.proofs.Common.{◌≡◌, ℕ, ◌+◌, Bool, true, false, cond, not, ◌||◌, List, [], Option, Some, None, option_map, refl, sym, ap, ◌∙◌, subst, subst₂, ◌⊎◌, inl, inr, ⊎_elim}
 use Rattle.conflict_order.specs.declared.version.Version.{Version}
 use Rattle.conflict_order.specs.Join.{join, AtMost}
 use Rattle.conflict_order.proofs.OrderLaws.{AtMost_trans, AtMost_none, AtMost_antisymm}
@@ -8,10 +8,10 @@ use Rattle.cluster_types.specs.declared.cluster_key.ClusterKey.{ClusterKey}
 use Rattle.cluster_types.specs.declared.copy_state.CopyState.{CopyState}
 use Rattle.cluster_types.specs.declared.copy_state.CopyState.TheVariants.{Empty, Part, Whole}
 use Rattle.cluster_types.specs.Partitions.{partition_of}
-use Rattle.cluster_types.specs.Distinct.{without}
+use Rattle.cluster_types.specs.Distinct.{without, contains}
+use Rattle.cluster_types.proofs.BoolFacts.{neither_left as left_false}
+use Rattle.partition_lists.specs.Acting.{is_empty}
 use Rattle.wire_messages.specs.declared.message.Message.TheVariants as message
-use Rattle.node_rules.specs.Map.{is_empty}
-use Rattle.node_rules.specs.Tables.{contains}
 use Rattle.cluster_laws.specs.Ground.{Ground, IsGround, is_view_member, view_master, view_acting, is_view_replica, is_view_empty, same_view_class, asks}
 use Rattle.cluster_laws.specs.Stay.{Versions, Running, Applied, Stay}
 use Rattle.cluster_laws.specs.Picture.{Seen, Picture, start}
@@ -126,9 +126,6 @@ opened_asking G w s n k t d ok un y yd yb ya yw = record {
         (⊎_elim (λ h. h) (λ h. differ (subst (λ (c : List ℕ). w.settled k (partition_of c) ≡ true) i h) unsettled)
         ((s.whole.known.inside n k ok.is_in.view).write u e (subst (λ (l : ℕ). (w.stay l k).writes u ≡ Some e) (q ∙ (ap (λ (c : List ℕ). view_acting G k (partition_of c)) i ∙ sym actor)) z))))
         (λ q. differ (subst (λ (c : List ℕ). w.settled k (partition_of c) ≡ true) i q.1) unsettled) ((s.whole.writers m k).write u e z)
-
-left_false : (a b : Bool) → (a || b) ≡ false → a ≡ false
-left_false a b e = grind arith
 
 opened_open : (G : Ground) (w : Picture) → IsGround G → Sound G w → (n : ℕ) (k : ClusterKey) (t : ℕ) (d : List ℕ) → MayOpen G w n k t d → Open G w n k (running_at_opening G k n (w.node n).content (w.stay n k) d)
 opened_open G w ground s n k t d ok = go ((w.stay n k).settled (partition_of d) || is_view_empty G k (partition_of d)) refl

@@ -1,16 +1,17 @@
 -- What a change in one view does to the copies that were whole in another.
-use Rattle.std.proofs.Common.{◌≡◌, ℕ, ◌==◌, Bool, true, false, cond, ◌&&◌, List, Option, Some, None, option_map, refl, sym, ap, ◌∙◌, subst, ◌⊎◌, inl, inr}
+use Rattle.std.proofs.Common.{◌≡◌, ℕ, ◌==◌, Bool, true, false, cond, ◌&&◌, List, Option, Some, None, option_map, refl, sym, ap, ◌∙◌, subst, ◌⊎◌, inl, inr, if◌then◌else◌}
 use Rattle.conflict_order.specs.declared.version.Version.{Version}
 use Rattle.conflict_order.specs.Join.{join}
 use Rattle.cluster_types.specs.declared.cluster_key.ClusterKey.{ClusterKey}
 use Rattle.cluster_types.specs.Partitions.{partition_of}
-use Rattle.node_rules.specs.Keys.{same_key}
-use Rattle.node_rules.specs.Stamps.{no_class, recounted, spoiled}
+use Rattle.cluster_types.specs.ClusterKeys.{same_key}
+use Rattle.partition_lists.specs.Classes.{no_class}
+use Rattle.partition_lists.specs.Counts.{recounted, spoiled}
 use Rattle.cluster_laws.specs.Changed.{at_number}
 use Rattle.cluster_laws.specs.Ground.{Ground, view_master, is_view_empty, is_view_replica}
 use Rattle.cluster_laws.specs.Stay.{Versions, Stay}
 use Rattle.cluster_laws.specs.Picture.{Seen}
-use Rattle.cluster_laws.specs.Changes.{copy_count, stamp_if, whole_where_empty, seen_after_write, seen_after_merge, seen_after_learning, seen_after_drop, seen_after_count, recounted_if, with_version, without_part}
+use Rattle.cluster_laws.specs.Changes.{copy_count, whole_where_empty, seen_after_write, seen_after_merge, seen_after_learning, seen_after_drop, seen_after_count, recounted_if, with_version, without_part}
 use Rattle.cluster_laws.proofs.At.{numbers, digests, changed_here, changed_other, number_same, number_cases, key_same, some_same, no_some}
 
 -- the stamp counts nothing, and was there under its key
@@ -34,8 +35,8 @@ pub apart_exchange : (G : Ground) (n : ℕ) (j k : ClusterKey) (x : Seen) (s : S
 apart_exchange G n j k x s apart = record { part = λ p. go p (is_view_empty G j p && is_view_replica G j p n) refl }
   where
     go : (p : ℕ) (b : Bool) → (is_view_empty G j p && is_view_replica G j p n) ≡ b → LeftAlone k x x.content (whole_where_empty G n j x s) p
-    go p true e = inr (λ c z. other_key j k (copy_count G j n s p) c apart (sym (ap (λ (b : Bool). stamp_if b (j, copy_count G j n s p) (x.stamp p)) e) ∙ z))
-    go p false e = inl (ap (λ (b : Bool). stamp_if b (j, copy_count G j n s p) (x.stamp p)) e, λ d _. refl)
+    go p true e = inr (λ c z. other_key j k (copy_count G j n s p) c apart (sym (ap (λ (b : Bool). (if b then Some (j, copy_count G j n s p) else x.stamp p)) e) ∙ z))
+    go p false e = inl (ap (λ (b : Bool). (if b then Some (j, copy_count G j n s p) else x.stamp p)) e, λ d _. refl)
 
 -- the stamps change at one partition, and the content at none or within it
 apart_at : (k : ClusterKey) (x : Seen) (content : Versions) (p : ℕ) (o : Option (ClusterKey × ℕ)) → ((d : List ℕ) → (p ≡ partition_of d → ⊥) → content d ≡ x.content d)

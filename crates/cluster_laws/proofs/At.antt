@@ -1,13 +1,14 @@
 -- Functions changed at one place.
-use Rattle.std.proofs.Common.{◌≡◌, ℕ, ◌==◌, Bool, true, false, cond, ◌&&◌, ◌||◌, List, Option, Some, None, refl, sym, ap, ap₂, ◌∙◌, arith, ◌⊎◌, inl, inr, subst}
+use Rattle.std.proofs.Common.{◌≡◌, ℕ, ◌==◌, Bool, true, false, cond, List, Option, Some, None, refl, sym, ap, ap₂, ◌∙◌, arith, ◌⊎◌, inl, inr, subst}
 use Rattle.std.specs.Prelude.{bytes_eq}
 use Rattle.std.proofs.lemmas.Bool.Decides.{nat_tests}
 use Rattle.cluster_types.specs.declared.cluster_key.ClusterKey.{ClusterKey}
-use Rattle.node_rules.specs.Keys.{same_key}
 use Rattle.cluster_laws.specs.Changed.{changed, at_number, at_key, at_stay, at_part, at_pair}
 use Rattle.cluster_laws.specs.Stay.{Stay}
 use Rattle.cluster_laws.specs.Picture.{Seen}
 use Rattle.std.proofs.lemmas.Slice.Eq.{bytes_eq-Decides}
+pub use Rattle.cluster_types.proofs.BoolFacts.{and_left, and_right, or_cases, and_both}
+use Rattle.cluster_types.specs.ClusterKeys.{same_key}
 
 -- the test tells whether two things are the same
 pub record Tells {I : Type 0} (test : I → I → Bool) : Type 0 where
@@ -22,18 +23,6 @@ number_here n = grind (arith, nat_tests)
 
 pub numbers : Tells (λ (i j : ℕ). i == j)
 numbers = record { here = number_here; same = number_same }
-
-pub and_left : (a b : Bool) → (a && b) ≡ true → a ≡ true
-and_left a b e = grind arith
-
-pub and_right : (a b : Bool) → (a && b) ≡ true → b ≡ true
-and_right a b e = grind arith
-
-pub or_cases : (a b : Bool) → (a || b) ≡ true → (a ≡ true) ⊎ (b ≡ true)
-or_cases a b e = grind arith
-
-pub and_both : (a b : Bool) → a ≡ true → b ≡ true → (a && b) ≡ true
-and_both a b p q = grind arith
 
 pub key_same : (k j : ClusterKey) → same_key k j ≡ true → k ≡ j
 key_same k j e = ap₂ (λ (r p : ℕ). record { round = r; principal = p }) (number_same k.round j.round (and_left (k.round == j.round) (k.principal == j.principal) e)) (number_same k.principal j.principal (and_right (k.round == j.round) (k.principal == j.principal) e))

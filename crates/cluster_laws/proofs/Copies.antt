@@ -6,9 +6,9 @@ use Rattle.conflict_order.proofs.OrderLaws.{AtMost_trans, AtMost_none}
 use Rattle.cluster_types.specs.declared.cluster_key.ClusterKey.{ClusterKey}
 use Rattle.cluster_types.specs.declared.copy_state.CopyState.TheVariants.{Empty, Whole}
 use Rattle.cluster_types.specs.Partitions.{partition_of}
-use Rattle.node_rules.specs.Map.{is_empty}
-use Rattle.node_rules.specs.Stamps.{no_class}
-use Rattle.node_rules.specs.Tables.{contains}
+use Rattle.cluster_types.specs.Distinct.{contains}
+use Rattle.partition_lists.specs.Acting.{is_empty}
+use Rattle.partition_lists.specs.Classes.{no_class}
 use Rattle.cluster_laws.specs.Changed.{at_key}
 use Rattle.cluster_laws.specs.Ground.{Ground, is_view_member, view_master, view_acting, is_view_replica, is_view_empty, same_view_class}
 use Rattle.cluster_laws.specs.Stay.{Versions, Running, Applied, Stay}

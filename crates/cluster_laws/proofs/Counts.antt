@@ -1,17 +1,13 @@
 -- What a count tells of the numbers.
-use Rattle.std.proofs.Common.{◌≡◌, ℕ, ◌+◌, ◌≤◌, ◌==◌, Bool, true, false, cond, ◌||◌, List, [], ◌∷◌, length, refl, sym, ◌∙◌, subst, arith, ◌⊎◌, inl, inr, ⊎_elim}
+use Rattle.std.proofs.Common.{◌≡◌, ℕ, ◌+◌, ◌≤◌, ◌==◌, Bool, true, false, cond, List, [], ◌∷◌, length, refl, sym, ◌∙◌, subst, arith, ◌⊎◌, inl, inr, ⊎_elim}
 use Rattle.std.specs.Prelude.{nat_eq}
 use Rattle.std.specs.Cmp.Lexicographic.{pointwise}
 use Rattle.std.specs.List.{range_with_len}
-use Rattle.node_rules.specs.Stamps.{no_class, have_no_gap, count_of}
-use Rattle.node_rules.specs.Tables.{contains}
+use Rattle.std.proofs.lemmas.Bool.{or_left, or_right}
+use Rattle.cluster_types.specs.Distinct.{contains}
+use Rattle.partition_lists.specs.Classes.{no_class}
+use Rattle.partition_lists.specs.Counts.{have_no_gap, count_of}
 use Rattle.cluster_laws.proofs.At.{number_same, number_here, number_cases, differ, and_left, and_right, or_cases}
-
-or_left : (a b : Bool) → a ≡ true → (a || b) ≡ true
-or_left a b e = grind arith
-
-or_right : (a b : Bool) → b ≡ true → (a || b) ≡ true
-or_right a b e = grind arith
 
 -- numbers in succession
 within_range : (ms : List ℕ) (a x : ℕ) → pointwise nat_eq ms (range_with_len a (length ms)) ≡ true → contains ms x ≡ true → (a ≤ x) × (x + 1 ≤ a + length ms)

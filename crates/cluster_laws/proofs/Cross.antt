@@ -3,14 +3,12 @@ use Rattle.std.proofs.Common.{◌≡◌, ℕ, ◌+◌, Bool, true, false, not, �
 use Rattle.conflict_order.specs.declared.version.Version.{Version}
 use Rattle.conflict_order.specs.Join.{AtMost}
 use Rattle.conflict_order.proofs.OrderLaws.{AtMost_trans, AtMost_none}
+use Rattle.conflict_order.specs.Contents.{is_among, Write}
 use Rattle.cluster_types.specs.declared.cluster_key.ClusterKey.{ClusterKey}
 use Rattle.cluster_types.specs.Partitions.{partition_of}
 use Rattle.cluster_types.specs.Rows.{bit}
-use Rattle.cluster_types.specs.Distinct.{without}
+use Rattle.cluster_types.specs.Distinct.{without, contains}
 use Rattle.wire_messages.specs.declared.message.Message.TheVariants as message
-use Rattle.node_rules.specs.Batches.{is_among}
-use Rattle.node_rules.specs.Tables.{contains}
-use Rattle.node_rules.specs.Transactions.{Write}
 use Rattle.cluster_laws.specs.Changed.{at_number, at_key}
 use Rattle.cluster_laws.specs.Ground.{Ground, is_view_replica, other_view_replicas, view_sends_to}
 use Rattle.cluster_laws.specs.Stay.{Running, Applied, Stay}

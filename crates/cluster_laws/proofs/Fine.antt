@@ -5,9 +5,9 @@ use Rattle.conflict_order.specs.Join.{AtMost}
 use Rattle.conflict_order.proofs.OrderLaws.{AtMost_trans, AtMost_none}
 use Rattle.cluster_types.specs.declared.cluster_key.ClusterKey.{ClusterKey}
 use Rattle.cluster_types.specs.Partitions.{partition_of}
+use Rattle.cluster_types.specs.Distinct.{contains}
 use Rattle.wire_messages.specs.declared.message.Batch.{Batch}
 use Rattle.wire_messages.specs.declared.message.Message.TheVariants as message
-use Rattle.node_rules.specs.Tables.{contains}
 use Rattle.cluster_laws.specs.Ground.{Ground, view_master, is_view_empty}
 use Rattle.cluster_laws.specs.Stay.{Applied, Stay}
 use Rattle.cluster_laws.specs.Picture.{Seen, Picture, start}

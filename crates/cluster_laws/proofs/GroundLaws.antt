@@ -1,19 +1,19 @@
 -- Masters, replicas and classes by the ground alone.
-use Rattle.std.proofs.Common.{◌≡◌, ℕ, ◌<◌, ◌==◌, Bool, true, false, not, ◌&&◌, ◌||◌, List, [], ◌∷◌, Option, Some, None, refl, sym, ap, ◌∙◌, arith, ◌⊎◌, inl, inr, ⊎_elim, zero, suc, take}
+use Rattle.std.proofs.Common.{◌≡◌, ℕ, ◌<◌, ◌==◌, Bool, true, false, not, ◌&&◌, List, [], ◌∷◌, Option, Some, None, refl, sym, ap, ◌∙◌, arith, ◌⊎◌, inl, inr, ⊎_elim, zero, suc, take}
 use Rattle.std.specs.Prelude.{find, filter, unwrap_or, if◌then◌else◌}
 use Rattle.std.specs.List.{list_all}
+use Rattle.std.proofs.lemmas.Bool.{or_left, or_right}
 use Rattle.cluster_types.specs.declared.cluster_key.ClusterKey.{ClusterKey}
 use Rattle.cluster_types.specs.declared.copy_state.CopyState.{CopyState}
 use Rattle.cluster_types.specs.declared.copy_state.CopyState.TheVariants.{Empty, Part, Whole}
 use Rattle.cluster_types.specs.Members.{ids_of}
+use Rattle.cluster_types.proofs.BoolFacts.{not_true as not_false}
+use Rattle.cluster_types.specs.ClusterKeys.{same_key}
+use Rattle.cluster_types.specs.Distinct.{contains}
+use Rattle.partition_lists.specs.Acting.{is_empty, is_whole, list_master, is_wholest_by}
+use Rattle.partition_lists.specs.Classes.{no_class, is_whole_with, is_that, is_in_class_by}
 use Rattle.partition_lists.proofs.ListLaws.{list_contains, any_is_contained}
-use Rattle.node_rules.specs.Keys.{same_key}
-use Rattle.node_rules.specs.Map as map
-use Rattle.node_rules.specs.Map.{is_empty, is_whole}
-use Rattle.node_rules.specs.Classes.{is_whole_with, is_that}
-use Rattle.node_rules.specs.Stamps.{no_class}
-use Rattle.node_rules.specs.Tables.{contains}
-use Rattle.cluster_laws.specs.Ground.{Ground, IsGround, is_view_member, view_list, view_master, is_view_replica, is_view_wholest, view_acting, is_view_empty, is_in_view_class, same_view_class, is_view_class_first, view_sends_to, asks}
+use Rattle.cluster_laws.specs.Ground.{Ground, IsGround, is_view_member, view_list, view_master, is_view_replica, view_state, view_acting, is_view_empty, same_view_class, is_view_class_first, view_sends_to, asks}
 use Rattle.cluster_laws.proofs.At.{keys, number_same, number_here, key_same, differ, and_left, and_right, and_both, or_cases}
 
 -- ---- members and the list
@@ -24,10 +24,7 @@ member_listed G k p n e = (any_is_contained n (view_list G k p)).1 ((list_contai
 pub listed_member : (G : Ground) (k : ClusterKey) (p n : ℕ) → contains (view_list G k p) n ≡ true → is_view_member G k n ≡ true
 listed_member G k p n e = (any_is_contained n (ids_of (G.members k))).1 ((list_contains (G.members k) p n).0 ((any_is_contained n (view_list G k p)).0 e))
 
-or_left : (a b : Bool) → a ≡ true → (a || b) ≡ true
-or_left a b e = grind arith
-
-first_taken : (f : ℕ) (l : List ℕ) (n : ℕ) → 0 < f → contains l n ≡ true → contains (take f l) (map.list_master l) ≡ true
+first_taken : (f : ℕ) (l : List ℕ) (n : ℕ) → 0 < f → contains l n ≡ true → contains (take f l) (list_master l) ≡ true
 first_taken zero l n pos e = absurd (omega arith)
 first_taken (suc f) [] n pos e = differ e refl
 first_taken (suc f) (m ∷ l) n pos e = or_left (m == m) (contains (take f l) m) (number_here m)
@@ -73,8 +70,8 @@ none_found test [] h = refl
 none_found test (m ∷ l) h = ap (λ (b : Bool). if b then Some m else find test l) (h m (or_left (m == m) (contains l m) (number_here m))) ∙ none_found test l (λ n e. h n (grind arith))
 
 pub empty_acting : (G : Ground) (k : ClusterKey) (p : ℕ) → is_view_empty G k p ≡ true → view_acting G k p ≡ view_master G k p
-unfolding view_acting is_view_empty
-empty_acting G k p a = ap (λ (o : Option ℕ). unwrap_or o (view_master G k p)) (none_found (is_view_wholest G k p) (view_list G k p)
+unfolding view_acting view_master is_view_empty
+empty_acting G k p a = ap (λ (o : Option ℕ). unwrap_or o (view_master G k p)) (none_found (is_wholest_by (view_list G k p) (view_state G k p)) (view_list G k p)
     (λ n e. less_left (is_whole (G.row k n p)) _ (not_whole (G.row k n p) (all_listed (λ m. is_empty (G.row k m p)) (view_list G k p) n a e))))
 
 -- ---- classes
@@ -96,7 +93,7 @@ pub alike : (G : Ground) (k : ClusterKey) (p a b : ℕ) → same_view_class G k 
 unfolding same_view_class
 alike G k p a b h = go (G.row k a p) refl h
   where
-    go : (s : CopyState) → G.row k a p ≡ s → is_in_view_class G k p a b s ≡ true → (a ≡ b) ⊎ Alike G k p a b
+    go : (s : CopyState) → G.row k a p ≡ s → is_in_class_by (view_state G k p) a b s ≡ true → (a ≡ b) ⊎ Alike G k p a b
     go Empty i e = differ refl (sym e)
     go Part i e = inl (number_same a b e)
     go (Whole j c) i e = deep (c == no_class) refl e
@@ -110,7 +107,7 @@ unfolding same_view_class
 own_class G k p n h = go (G.row k n p) refl h
   where
     go : (s : CopyState) → G.row k n p ≡ s → is_empty s ≡ false
-        → is_in_view_class G k p n n s ≡ true
+        → is_in_class_by (view_state G k p) n n s ≡ true
     go Empty i e = differ refl e
     go Part i e = number_here n
     go (Whole j c) i e = deep (c == no_class)
@@ -121,7 +118,7 @@ own_class G k p n h = go (G.row k n p) refl h
 
 whole_in : (G : Ground) (k : ClusterKey) (p a b : ℕ) (j : ClusterKey) (c : ℕ) → G.row k a p ≡ Whole j c → (c == no_class) ≡ false → same_view_class G k p a b ≡ is_whole_with j c (G.row k b p)
 unfolding same_view_class
-whole_in G k p a b j c e z = ap (is_in_view_class G k p a b) e ∙ ap (λ (q : Bool). if q then a == b else is_whole_with j c (G.row k b p)) z
+whole_in G k p a b j c e z = ap (is_in_class_by (view_state G k p) a b) e ∙ ap (λ (q : Bool). if q then a == b else is_whole_with j c (G.row k b p)) z
 
 -- members of one class have one class
 pub class_same : (G : Ground) (k : ClusterKey) (p n f b : ℕ) → same_view_class G k p n f ≡ true → same_view_class G k p f b ≡ same_view_class G k p n b
@@ -133,9 +130,6 @@ record Finds (test : ℕ → Bool) (l : List ℕ) : Type 0 where
   found : find test l ≡ Some item
   passes : test item ≡ true
   listed : contains l item ≡ true
-
-or_right : (a b : Bool) → b ≡ true → (a || b) ≡ true
-or_right a b e = grind arith
 
 finds : (test : ℕ → Bool) (l : List ℕ) (n : ℕ) → contains l n ≡ true → test n ≡ true → Finds test l
 finds test [] n e t = differ e refl
@@ -158,7 +152,7 @@ pub record First (G : Ground) (k : ClusterKey) (p n : ℕ) : Type 0 where
   pub same : same_view_class G k p n node ≡ true
 
 pub first_of : (G : Ground) (k : ClusterKey) (p n : ℕ) → is_view_member G k n ≡ true → is_empty (G.row k n p) ≡ false → First G k p n
-unfolding is_view_class_first
+unfolding is_view_class_first same_view_class
 first_of G k p n mem e = record {
   node = f.item;
   member = listed_member G k p f.item f.listed;
@@ -184,15 +178,12 @@ apart a b h = go (a == b) refl
     go false e = refl
 
 pub first_sends : (G : Ground) (k : ClusterKey) (p f r : ℕ) → is_view_replica G k p r ≡ true → (f ≡ r → ⊥) → is_empty (G.row k f p) ≡ false → is_view_class_first G k p f ≡ true → same_view_class G k p f r ≡ false → view_sends_to G k p f r ≡ true
-unfolding view_sends_to
+unfolding view_sends_to is_view_class_first same_view_class
 first_sends G k p f r rep other full first out = and_both (is_view_replica G k p r) _ rep (and_both (not (f == r)) _ (not_true (f == r) (apart f r other))
     (and_both (not (is_empty (G.row k f p))) _ (not_true (is_empty (G.row k f p)) full) (and_both (is_view_class_first G k p f) _ first (not_true (same_view_class G k p f r) out))))
 
-not_false : (b : Bool) → not b ≡ true → b ≡ false
-not_false b e = grind arith
-
 pub sender_full : (G : Ground) (k : ClusterKey) (p f r : ℕ) → view_sends_to G k p f r ≡ true → is_empty (G.row k f p) ≡ false
-unfolding view_sends_to
+unfolding view_sends_to is_view_class_first same_view_class
 sender_full G k p f r e = not_false (is_empty (G.row k f p)) (and_left (not (is_empty (G.row k f p))) _ (and_right (not (f == r)) _ (and_right (is_view_replica G k p r) _ e)))
 
 -- who hands records on, does so where not all is empty
@@ -205,7 +196,7 @@ sender_some G k p f r mem e = go (is_view_empty G k p) refl
 
 empty_class : (G : Ground) (k : ClusterKey) (p a b : ℕ) → G.row k a p ≡ Empty → same_view_class G k p a b ≡ false
 unfolding same_view_class
-empty_class G k p a b e = ap (is_in_view_class G k p a b) e
+empty_class G k p a b e = ap (is_in_class_by (view_state G k p) a b) e
 
 pub class_full : (G : Ground) (k : ClusterKey) (p a b : ℕ) → same_view_class G k p a b ≡ true → is_empty (G.row k a p) ≡ false
 class_full G k p a b e = full (G.row k a p) refl
@@ -230,5 +221,5 @@ in_filter test (m ∷ l) n e t = go (test m) refl (or_cases (m == n) (contains l
     go false i (inr z) rest = rest z
 
 pub first_asked : (G : Ground) (k : ClusterKey) (p n f : ℕ) → is_view_member G k f ≡ true → is_view_class_first G k p f ≡ true → same_view_class G k p n f ≡ false → contains (asks G k p n) f ≡ true
-unfolding asks
+unfolding asks is_view_class_first same_view_class
 first_asked G k p n f mem first out = in_filter _ (view_list G k p) f (member_listed G k p f mem) (and_both (is_view_class_first G k p f) (not (same_view_class G k p n f)) first (not_true (same_view_class G k p n f) out))

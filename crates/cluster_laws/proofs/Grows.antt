@@ -6,14 +6,13 @@ use Rattle.conflict_order.specs.declared.version.Version.{Version}
 use Rattle.conflict_order.specs.Join.{join, AtMost}
 use Rattle.conflict_order.proofs.OrderLaws.{AtMost_refl, AtMost_trans, AtMost_none}
 use Rattle.conflict_order.proofs.JoinLaws.{join_left, join_right, join_least}
+use Rattle.conflict_order.specs.Contents.{is_among}
 use Rattle.cluster_types.specs.declared.cluster_key.ClusterKey.{ClusterKey}
 use Rattle.cluster_types.specs.ClusterKeys.{key_lt}
 use Rattle.cluster_types.specs.Partitions.{partition_of}
+use Rattle.partition_lists.specs.Counts.{with_number}
 use Rattle.wire_messages.specs.declared.message.Message.{Message}
 use Rattle.cluster_types.specs.Rows.{bit}
-use Rattle.node_rules.specs.Batches.{is_among}
-use Rattle.node_rules.specs.Stamps.{with_number}
-use Rattle.node_rules.specs.Tables.{contains}
 use Rattle.cluster_laws.specs.Changed.{at_number, at_key, at_pair}
 use Rattle.cluster_laws.specs.Ground.{Ground, view_master}
 use Rattle.cluster_laws.specs.Stay.{Versions, Applied, Stay}
@@ -27,6 +26,9 @@ use Rattle.cluster_laws.proofs.Step.{Within, exchange, begin, apply, finish, mer
 use Rattle.cluster_laws.proofs.Stays.{Entered, AllEntered}
 use Rattle.cluster_laws.proofs.Own.{Own, AllOwn}
 use Rattle.cluster_laws.proofs.Txns.{Txns, AllTxns}
+pub use Rattle.std.proofs.lemmas.Bool.{or_left}
+use Rattle.std.proofs.lemmas.Bool.{or_right}
+use Rattle.cluster_types.specs.Distinct.{contains}
 
 -- ---- versions
 
@@ -83,12 +85,6 @@ stay_same by s = record {
   settled = λ p e. e;
   own_handed = λ p e. e;
 }
-
-pub or_left : (a b : Bool) → a ≡ true → (a || b) ≡ true
-or_left a b e = grind arith
-
-or_right : (a b : Bool) → b ≡ true → (a || b) ≡ true
-or_right a b e = grind arith
 
 less : (a b : Bool) → a ≡ false → (a && b) ≡ false
 less a b e = grind arith

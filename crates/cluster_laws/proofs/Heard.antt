@@ -7,15 +7,15 @@ use Rattle.conflict_order.specs.Order.{is_newer}
 use Rattle.conflict_order.proofs.OrderLaws.{AtMost_trans, not_newer_AtMost}
 use Rattle.cluster_types.specs.declared.cluster_key.ClusterKey.{ClusterKey}
 use Rattle.cluster_types.specs.Partitions.{partition_of}
+use Rattle.cluster_types.specs.Distinct.{contains}
+use Rattle.partition_lists.specs.Counts.{with_number}
 use Rattle.wire_messages.specs.declared.message.Message.TheVariants as message
-use Rattle.node_rules.specs.Stamps.{with_number}
-use Rattle.node_rules.specs.Tables.{contains}
 use Rattle.cluster_laws.specs.Ground.{Ground, view_master, is_view_replica}
 use Rattle.cluster_laws.specs.Stay.{Applied, Stay}
 use Rattle.cluster_laws.specs.Picture.{Seen, Owed, Picture, start}
 use Rattle.cluster_laws.specs.Effect.{Effect}
 use Rattle.cluster_laws.specs.Changes as changes
-use Rattle.cluster_laws.specs.Changes.{act, heard, hearing, owes, with_version}
+use Rattle.cluster_laws.specs.Changes.{act, heard, hearing, with_version}
 use Rattle.cluster_laws.specs.Licences.{MayApply}
 use Rattle.cluster_laws.proofs.At.{numbers, changed_either, number_same, differ, some_same, no_some, or_cases}
 use Rattle.cluster_laws.proofs.Allowed.{Allowed, WriteCame}
@@ -173,7 +173,7 @@ hears_kept G w e ok g a ts paid h n k = record {
         same_write = some_same (sym made ∙ (ap (v.stay (view_master G k (partition_of f.digest)) k).writes ((ts (view_master G k (partition_of f.digest)) k).once z.came.number t that f made b z.part refl) ∙ b))
 
         go : (q : Bool) → is_newer G.by z.version ((w.node n).content z.digest) ≡ q → AtMost G.by (Some z.version) ((v.stay n k).held z.digest) ⊎ (v.owed ≡ Some (record { node = n; key = k; digest = z.digest; version = z.version }))
-        go true i = inr (ap (λ (y : Picture). y.owed) z.is ∙ ap (owes (record { node = n; key = k; digest = z.digest; version = z.version })) i)
+        go true i = inr (ap (λ (y : Picture). y.owed) z.is ∙ ap (λ (holds : Bool). if holds then Some (record { node = n; key = k; digest = z.digest; version = z.version }) else None) i)
         go false i = inl (AtMost_trans (not_newer_AtMost z.version ((w.node n).content z.digest) i) (AtMost_trans ((a.inside n k z.view).held z.digest) ((g.stay n k).held z.digest)))
 
 pub hears_start : (G : Ground) → AllHears G start

@@ -44,4 +44,4 @@ mod ReadingHeard
 pub mod ReadingClasses
 mod BitRows
 mod LateRun
-mod ReadingHeaders
+mod LoneJournal

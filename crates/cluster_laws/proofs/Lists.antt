@@ -1,18 +1,12 @@
 -- Members of lists, with and without one.
-use Rattle.std.proofs.Common.{◌≡◌, ℕ, ◌==◌, Bool, true, false, cond, not, ◌||◌, List, [], ◌∷◌, Some, refl, sym, ap, ◌∙◌, arith, ◌⊎◌, inl, inr, ⊎_elim, zero, suc}
+use Rattle.std.proofs.Common.{◌≡◌, ℕ, ◌==◌, Bool, true, false, cond, not, List, [], ◌∷◌, Some, refl, sym, ap, ◌∙◌, ◌⊎◌, inl, inr, ⊎_elim, zero, suc}
 use Rattle.std.specs.Prelude.{bytes_eq}
+use Rattle.std.proofs.lemmas.Bool.{or_left, or_right}
 use Rattle.conflict_order.specs.declared.version.Version.{Version}
-use Rattle.cluster_types.specs.Distinct.{without}
-use Rattle.node_rules.specs.Tables.{contains}
-use Rattle.node_rules.specs.Batches.{is_among}
+use Rattle.conflict_order.specs.Contents.{is_among}
+use Rattle.cluster_types.specs.Distinct.{without, contains}
 use Rattle.cluster_laws.specs.Licences.{IsAmong}
 use Rattle.cluster_laws.proofs.At.{digests, number_same, differ, or_cases}
-
-or_left : (a b : Bool) → a ≡ true → (a || b) ≡ true
-or_left a b e = grind arith
-
-or_right : (a b : Bool) → b ≡ true → (a || b) ≡ true
-or_right a b e = grind arith
 
 -- what is in the list is in it without another
 pub contains_without : (xs : List ℕ) (a b : ℕ) → contains xs b ≡ true → (b ≡ a → ⊥) → contains (without xs a) b ≡ true

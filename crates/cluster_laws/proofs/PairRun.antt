@@ -7,6 +7,7 @@ use Rattle.conflict_order.specs.Join.{join, AtMost}
 use Rattle.conflict_order.specs.Next.{next}
 use Rattle.conflict_order.specs.Order.{version_cmp, is_newer}
 use Rattle.conflict_order.proofs.OrderLaws.{AtMost_refl}
+use Rattle.conflict_order.specs.Contents.{is_among, Write}
 use Rattle.cluster_types.specs.declared.copy_state.CopyState.TheVariants.{Empty, Whole}
 use Rattle.cluster_types.specs.Partitions.{partition_of}
 use Rattle.wire_messages.specs.declared.message.Message.TheVariants as message
@@ -21,8 +22,6 @@ use Rattle.wire_messages.specs.Decoding.{decoded, message_of}
 use Rattle.journal_lines.specs.declared.line.Line.TheVariants as line
 use Rattle.partition_lists.specs.Hashes.{fnv1a, jenkins_state, jenkins_end, node_bytes, partition_bytes, place}
 use Rattle.partition_lists.specs.Lists.{list}
-use Rattle.node_rules.specs.Batches.{is_among}
-use Rattle.node_rules.specs.Transactions.{Write}
 use Rattle.journal_readings.specs.Examples.{digest, key, version}
 use Rattle.cluster_laws.specs.Changed.{at_digest}
 use Rattle.cluster_laws.specs.Ground.{is_view_member, view_master, is_view_replica, other_view_replicas, view_acting, is_view_empty, same_view_class, is_view_class_first, view_sends_to, asks}

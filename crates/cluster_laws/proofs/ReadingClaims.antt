@@ -1,6 +1,7 @@
 -- What holds of the journal of a licensed run, by the laws of its picture.
 use Rattle.std.proofs.Common.{◌≡◌, ℕ, ◌==◌, Bool, true, false, not, ◌&&◌, ◌||◌, List, [], ◌∷◌, Option, Some, None, take, slice_get, map, refl, sym, ap, ap₂, subst, ◌∙◌, inl, inr, ⊎_elim}
 use Rattle.std.specs.List.{list_any, list_all}
+use Rattle.std.specs.Prelude.{bytes_eq}
 use Rattle.conflict_order.specs.declared.policy.Policy.{Policy}
 use Rattle.conflict_order.specs.declared.version.Version.{Version}
 use Rattle.conflict_order.specs.Join.{join, AtMost}
@@ -11,15 +12,13 @@ use Rattle.cluster_types.specs.declared.cluster_key.ClusterKey.{ClusterKey}
 use Rattle.cluster_types.specs.declared.member.Member.{Member}
 use Rattle.cluster_types.specs.Members.{ids_of}
 use Rattle.cluster_types.specs.Partitions.{partition_of}
+use Rattle.cluster_types.specs.ClusterKeys.{same_key}
+use Rattle.cluster_types.specs.Distinct.{contains}
+use Rattle.partition_lists.specs.Acting.{is_empty, list_master}
 use Rattle.partition_lists.specs.Lists as lists
 use Rattle.journal_lines.specs.declared.line.Line.{Line}
 use Rattle.journal_lines.specs.declared.line.Line.TheVariants as line
-use Rattle.node_rules.specs.Keys.{same_key}
-use Rattle.node_rules.specs.Map as the_map
-use Rattle.node_rules.specs.Map.{is_empty}
-use Rattle.node_rules.specs.Tables.{contains}
-use Rattle.cluster_rules.specs.Opening.{Header}
-use Rattle.journal_readings.specs.Lines.{same_digest, is_done_line, is_exchanged, is_settled_line}
+use Rattle.journal_readings.specs.Lines.{is_done_line, is_exchanged, is_settled_line}
 use Rattle.journal_readings.specs.Settings.{policy_of, nodes}
 use Rattle.journal_readings.specs.Contents.{content, applied, join_all}
 use Rattle.journal_readings.specs.Entries.{fold_of}
@@ -68,7 +67,7 @@ newest_applied G ns j w t d = AtMost_antisymm
         let x : (n : ℕ) × ((w.node n).content d ≡ Some v) = laws.no_loss G w t.sound d v e in
         subst (λ (a : Option Version). AtMost G.by a (join_all G.by (map (λ n. content G.by n d j) ns))) (t.contents x.0 d ∙ x.1) (covered G.by (λ n. content G.by n d j) x.0 ns (t.holders x.0 d v x.1))
 
-pub no_loss : (h : Header) (G : Ground) (lines : List Line) → IsJournal h G lines → NoLoss (journal h lines)
+pub no_loss : (h : List Line) (G : Ground) (lines : List Line) → IsJournal h G lines → NoLoss (journal h lines)
 no_loss h G lines o = record {
   none_lost = λ i d. subst (λ (by : Policy). join_all by (map (λ n. content by n d (take i (journal h lines))) (nodes (journal h lines))) ≡ applied by d (take i (journal h lines))) o.by
       (newest_applied G (nodes (journal h lines)) (take i (journal h lines)) (picture G (journal h lines) i) (journal_tied h G lines o i) d);
@@ -76,13 +75,13 @@ no_loss h G lines o = record {
 
 -- ---- settled partitions
 
-pub first_is : (ids : List ℕ) → first_of ids ≡ the_map.list_master ids
+pub first_is : (ids : List ℕ) → first_of ids ≡ list_master ids
 first_is [] = refl
 first_is (n ∷ ids) = refl
 
 pub master_is : (G : Ground) (k : ClusterKey) (p : ℕ) (j : List Line) → members k j ≡ G.members k → master k p j ≡ ground.view_master G k p
 unfolding ground.view_master
-master_is G k p j e = first_is (lists.list (members k j) p) ∙ ap (λ (ms : List Member). the_map.list_master (lists.list ms p)) e
+master_is G k p j e = first_is (lists.list (members k j) p) ∙ ap (λ (ms : List Member). list_master (lists.list ms p)) e
 
 pub replica_is : (G : Ground) (k : ClusterKey) (p n : ℕ) (j : List Line) → members k j ≡ G.members k → is_replica G.factor k p n j ≡ ground.is_view_replica G k p n
 unfolding ground.is_view_replica
@@ -98,8 +97,8 @@ all_at test (m ∷ ms) h n e = go (m.id == n) refl (all_at test ms (and_right (t
 
 pub all_from : (test : ℕ → Bool) (ns : List ℕ) → ((n : ℕ) → contains ns n ≡ true → test n ≡ true) → list_all test ns ≡ true
 all_from test [] h = refl
-all_from test (n ∷ ns) h = Rattle.cluster_laws.proofs.At.and_both (test n) (list_all test ns) (h n (Rattle.cluster_laws.proofs.ReadingLines.or_left_true (n == n) (contains ns n) (Rattle.cluster_laws.proofs.At.number_here n)))
-    (all_from test ns (λ m e. h m (Rattle.cluster_laws.proofs.ReadingLines.or_right_true (n == m) (contains ns m) e)))
+all_from test (n ∷ ns) h = Rattle.cluster_types.proofs.BoolFacts.and_both (test n) (list_all test ns) (h n (Rattle.std.proofs.lemmas.Bool.or_left (n == n) (contains ns n) (Rattle.cluster_laws.proofs.At.number_here n)))
+    (all_from test ns (λ m e. h m (Rattle.std.proofs.lemmas.Bool.or_right (n == m) (contains ns m) e)))
 
 pub empty_everywhere : (G : Ground) (ns : List ℕ) (j : List Line) (w : Picture) → Tied G ns j w → (k : ClusterKey) (p : ℕ) → ((m : ℕ) → is_view_member G k m ≡ true → (w.stay m k).entered ≡ true) → members k j ≡ G.members k → is_empty_everywhere k p j ≡ true → is_view_empty G k p ≡ true
 unfolding is_empty_everywhere is_view_empty
@@ -125,13 +124,13 @@ some_but f g [] e q = cc
 some_but f g (x ∷ xs) e q = go (f x) refl (some_but f g xs) e
   where
     go : (b : Bool) → f x ≡ b → (list_any f xs ≡ true → list_any g xs ≡ false → (y : _) × (f y ≡ true) × (g y ≡ false)) → (b || list_any f xs) ≡ true → (y : _) × (f y ≡ true) × (g y ≡ false)
-    go true i rest z = (x, i, Rattle.cluster_laws.proofs.ReadingLines.or_left_false (g x) (list_any g xs) q)
-    go false i rest z = rest z (Rattle.cluster_laws.proofs.ReadingLines.or_right_false (g x) (list_any g xs) q)
+    go true i rest z = (x, i, Rattle.cluster_types.proofs.BoolFacts.neither_left (g x) (list_any g xs) q)
+    go false i rest z = rest z (Rattle.cluster_types.proofs.BoolFacts.neither_right (g x) (list_any g xs) q)
 
 not_open : (j : List Line) (k : ClusterKey) (p n t : ℕ) (d : List ℕ) → partition_of d ≡ p → (l : Line) → is_write k n t d l ≡ true → is_open_write k p n j l ≡ false → list_any (is_done_line k n t) j ≡ true
 not_open j k p n t d dp (line.Apply m l u c v) e q =
-    let b : (same_key l k && ((u == t) && same_digest c d)) ≡ true = and_right (m == n) _ e in
-    let f : ((u == t) && same_digest c d) ≡ true = and_right (same_key l k) _ b in
+    let b : (same_key l k && ((u == t) && bytes_eq c d)) ≡ true = and_right (m == n) _ e in
+    let f : ((u == t) && bytes_eq c d) ≡ true = and_right (same_key l k) _ b in
     subst (λ (z : ℕ). list_any (is_done_line k n z) j ≡ true)
     (number_same u t (and_left (u == t) _ f))
     (finished (m == n) (same_key l k) (partition_of c == p) (list_any (is_done_line k n u) j) (and_left (m == n) _ e) (and_left (same_key l k) _ b)
@@ -164,7 +163,7 @@ settled_at G ns j w t k r d st none rep vw =
     ∙ (laws.settled_join G w t.sound k (partition_of d) r d (settled_is G ns j w t k (partition_of d) ms st) (no_open_write G ns j w t k (partition_of d) ms none) (sym (replica_is G k (partition_of d) r j ms) ∙ rep) here refl
     ∙ sym (fold_is G ns j w t r k en d))
 
-pub settled_join : (h : Header) (G : Ground) (lines : List Line) → IsJournal h G lines → SettledJoin (journal h lines)
+pub settled_join : (h : List Line) (G : Ground) (lines : List Line) → IsJournal h G lines → SettledJoin (journal h lines)
 settled_join h G lines o = record {
   whole = λ i k r d st none _ rep vw. subst (λ (by : Policy). content by r d (take i (journal h lines)) ≡ fold_of by k d (take i (journal h lines))) o.by
       (settled_at G (nodes (journal h lines)) (take i (journal h lines)) (picture G (journal h lines) i) (journal_tied h G lines o i) k r d st none
@@ -174,14 +173,14 @@ settled_join h G lines o = record {
 -- ---- reads
 
 -- a reader finds the fold of the view in which the member is
-fold_here : (h : Header) (G : Ground) (lines : List Line) → IsJournal h G lines → (i n : ℕ) (k : ClusterKey) (d : List ℕ) → ((picture G (journal h lines) i).node n).view ≡ Some k
+fold_here : (h : List Line) (G : Ground) (lines : List Line) → IsJournal h G lines → (i n : ℕ) (k : ClusterKey) (d : List ℕ) → ((picture G (journal h lines) i).node n).view ≡ Some k
     → (picture G (journal h lines) i).fold k d ≡ fold_of (policy_of (journal h lines)) k d (take i (journal h lines))
 fold_here h G lines o i n k d e =
     let t : Tied G (nodes (journal h lines)) (take i (journal h lines)) (picture G (journal h lines) i) = journal_tied h G lines o i in
     sym (fold_is G (nodes (journal h lines)) (take i (journal h lines)) (picture G (journal h lines) i) t n k (in_view_entered G (nodes (journal h lines)) (take i (journal h lines)) (picture G (journal h lines) i) t n k e) d)
     ∙ ap (λ (by : Policy). fold_of by k d (take i (journal h lines))) o.by
 
-pub joins_view : (h : Header) (G : Ground) (lines : List Line) → IsJournal h G lines → (i : ℕ) (l : Line) → slice_get (journal h lines) i ≡ Some l → JoinsView (journal h lines) (take i (journal h lines)) l
+pub joins_view : (h : List Line) (G : Ground) (lines : List Line) → IsJournal h G lines → (i : ℕ) (l : Line) → slice_get (journal h lines) i ≡ Some l → JoinsView (journal h lines) (take i (journal h lines)) l
 joins_view h G lines o i (line.Value n k t d v) e =
     let ok : Ok G (picture G (journal h lines) i) (line.Value n k t d v) = ok_at G (journal h lines) i (line.Value n k t d v) (journal_licensed h G lines o) e in
     (reads.read_join G o.ground (journal h lines) (journal_licensed h G lines o)).value i n t k d v e ∙ fold_here h G lines o i n k d ok.1.resolved.is_in.view
@@ -191,5 +190,5 @@ joins_view h G lines o i (line.Apply n k t d v) e =
     ∙ ap₂ (λ (b : Option Version) (time : ℕ). next b time v.body) (fold_here h G lines o i n k d ok.1.resolved.is_in.view) (sym ((journal_tied h G lines o i).clocks n))
 joins_view h G lines o i l e = tt
 
-pub read_join : (h : Header) (G : Ground) (lines : List Line) → IsJournal h G lines → ReadJoin (journal h lines)
+pub read_join : (h : List Line) (G : Ground) (lines : List Line) → IsJournal h G lines → ReadJoin (journal h lines)
 read_join h G lines o = record { joined = joins_view h G lines o }

@@ -1,6 +1,6 @@
 -- Copies of one class are equal, as a reader finds them.
 use Rattle.std.proofs.Common.{◌≡◌, ℕ, ◌==◌, Bool, true, false, cond, not, ◌&&◌, ◌||◌, List, [], ◌∷◌, ◌++◌, length, Option, Some, None, option_map, take, refl, sym, ap, ap₂, subst, ◌∙◌, arith, ◌⊎◌, inl, inr, ⊎_elim}
-use Rattle.std.specs.Prelude.{count_by, filter}
+use Rattle.std.specs.Prelude.{count_by, filter, if◌then◌else◌}
 use Rattle.std.specs.List.{list_any}
 use Rattle.std.proofs.lemmas.List.FromFn.{length-range_with_len}
 use Rattle.conflict_order.specs.declared.policy.Policy.{Policy}
@@ -8,32 +8,32 @@ use Rattle.cluster_types.specs.declared.cluster_key.ClusterKey.{ClusterKey}
 use Rattle.cluster_types.specs.declared.copy_state.CopyState.{CopyState}
 use Rattle.cluster_types.specs.declared.copy_state.CopyState.TheVariants.{Empty, Part, Whole}
 use Rattle.cluster_types.specs.Partitions.{partition_of}
+use Rattle.cluster_types.specs.Distinct.{contains}
+use Rattle.cluster_types.specs.ClusterKeys.{same_key}
+use Rattle.partition_lists.specs.Acting.{is_whole}
+use Rattle.partition_lists.specs.Classes.{is_in_class_by, is_whole_with, no_class}
+use Rattle.partition_lists.specs.Counts.{count_of, recounted, spoiled}
 use Rattle.journal_lines.specs.declared.line.Line.{Line}
 use Rattle.journal_lines.specs.declared.line.Line.TheVariants as line
-use Rattle.node_rules.specs.Keys.{same_key}
-use Rattle.node_rules.specs.Map.{is_whole}
-use Rattle.node_rules.specs.Stamps as stamps
-use Rattle.node_rules.specs.Stamps.{no_class, recounted, spoiled}
-use Rattle.cluster_rules.specs.Opening.{Header}
 use Rattle.journal_readings.specs.Lines.{has_node, is_enter, lines_after}
 use Rattle.journal_readings.specs.Settings.{nodes}
 use Rattle.journal_readings.specs.Contents.{holds_any}
 use Rattle.journal_readings.specs.Entries.{entry}
 use Rattle.journal_readings.specs.Views.{members, master}
 use Rattle.journal_readings.specs.Messages.{posted}
-use Rattle.journal_readings.specs.Counts.{is_apply_in, own_numbers, heard_numbers, numbers, is_foreign, has_foreign, contains_number, has_no_gap, count}
+use Rattle.journal_readings.specs.Counts.{is_apply_in, own_numbers, heard_numbers, numbers, is_foreign, has_foreign, has_no_gap, count}
 use Rattle.journal_readings.specs.Rows.{stamped, copy_state, row}
 use Rattle.journal_readings.specs.Classes.{has_records, are_alike, is_in_class_of, class_of, are_in_one_class}
 use Rattle.journal_readings.specs.Claims.{EqualClasses}
 use Rattle.journal_readings.proofs.StepLaws.{row-more}
 use Rattle.cluster_laws.specs.Changed.{at_number}
 use Rattle.cluster_laws.specs.Ground as ground
-use Rattle.cluster_laws.specs.Ground.{Ground, IsGround, is_in_view_class, same_view_class}
+use Rattle.cluster_laws.specs.Ground.{Ground, IsGround, view_state, same_view_class}
 use Rattle.cluster_laws.specs.Stay.{Stay}
 use Rattle.cluster_laws.specs.Picture.{Seen, Picture, start}
 use Rattle.cluster_laws.specs.Effect.{Effect, Nothing, Row_came, Batch_acked, Told, Write_came, Write_acked, Answered, effect, arrives, arrives_cut}
 use Rattle.cluster_laws.specs.Changes as changes
-use Rattle.cluster_laws.specs.Changes.{act, restamped, recounted_if, stamp_if}
+use Rattle.cluster_laws.specs.Changes.{act, restamped, recounted_if}
 use Rattle.cluster_laws.specs.Licences.{Ok, IsState, picture_after}
 use Rattle.cluster_laws.specs.Laws.{picture}
 use Rattle.cluster_laws.specs.Journals.{journal, FitsGround, IsJournal}
@@ -131,7 +131,7 @@ moved G w (line.Drop m l q) ok n k p c = node_moved w (line.Drop m l q) m _ n k 
     (λ e out f. changed_either at.numbers (λ (o : Option (ClusterKey × ℕ)). o ≡ Some (k, c) → Was w m k p c) (w.node m).stamp q None p (λ i x. no_some x) (λ _ x. x) e)
 moved G w (line.Exchanged m l) ok n k p c = node_moved w (line.Exchanged m l) m _ n k p c (λ e out f. go out (ground.is_view_empty G l p && ground.is_view_replica G l p m) (changes.copy_count G l m (w.stay m l) p) e)
   where
-    go : ((w.node m).view ≡ Some k → ⊥) → (b : Bool) (a : ℕ) → stamp_if b (l, a) ((w.node m).stamp p) ≡ Some (k, c) → Was w m k p c
+    go : ((w.node m).view ≡ Some k → ⊥) → (b : Bool) (a : ℕ) → (if b then Some (l, a) else (w.node m).stamp p) ≡ Some (k, c) → Was w m k p c
     go out true a x = absurd (out (ok.1.is_in.view ∙ ap Some (ap (λ (y : ClusterKey × ℕ). y.0) (some_same x))))
     go out false a x = x
 moved G w (line.Clock m time) ok n k p c = node_moved w (line.Clock m time) m _ n k p c (λ e out f. e)
@@ -172,15 +172,15 @@ numbers_are : (G : Ground) (j : List Line) (n : ℕ) (k : ClusterKey) (p : ℕ) 
 unfolding numbers
 numbers_are G j n k p ms = ap (λ (m : ℕ). cond (n == m) (own_numbers k n p j) (heard_numbers k n p m j)) (master_is G k p j ms)
 
-gapless : (xs ys : List ℕ) → SameNumbers xs ys → has_no_gap xs ≡ true → stamps.count_of ys ≡ length xs
+gapless : (xs ys : List ℕ) → SameNumbers xs ys → has_no_gap xs ≡ true → count_of ys ≡ length xs
 gapless xs ys h e = ap (λ (b : Bool). cond b (length ys) no_class)
-    (in_succession ys 1 h.rising (λ x lo hi. sym (h.same x) ∙ all_in_range (contains_number xs) 1 (length xs) e x lo (omega (arith, hi, h.size)))) ∙ sym h.size
+    (in_succession ys 1 h.rising (λ x lo hi. sym (h.same x) ∙ all_in_range (contains xs) 1 (length xs) e x lo (omega (arith, hi, h.size)))) ∙ sym h.size
 
 counts_one : (G : Ground) (j : List Line) (w : Picture) → Applies_tied j w → Heard_tied G j w → (n : ℕ) (k : ClusterKey) (p : ℕ) (b : Bool) → (n == ground.view_master G k p) ≡ b → has_no_gap (cond b (own_numbers k n p j) (heard_numbers k n p (ground.view_master G k p) j)) ≡ true
     → changes.copy_count G k n (w.stay n k) p ≡ length (cond b (own_numbers k n p j) (heard_numbers k n p (ground.view_master G k p) j))
-counts_one G j w own he n k p true i e = ap (λ (b : Bool). cond b ((w.stay n k).applies p) (stamps.count_of ((w.stay n k).numbers p))) (eq_turned (ground.view_master G k p) n ∙ i)
+counts_one G j w own he n k p true i e = ap (λ (b : Bool). cond b ((w.stay n k).applies p) (count_of ((w.stay n k).numbers p))) (eq_turned (ground.view_master G k p) n ∙ i)
     ∙ (sym (own n k p) ∙ sym (length-range_with_len 1 (count_by (is_apply_in k n p) j)))
-counts_one G j w own he n k p false i e = ap (λ (b : Bool). cond b ((w.stay n k).applies p) (stamps.count_of ((w.stay n k).numbers p))) (eq_turned (ground.view_master G k p) n ∙ i)
+counts_one G j w own he n k p false i e = ap (λ (b : Bool). cond b ((w.stay n k).applies p) (count_of ((w.stay n k).numbers p))) (eq_turned (ground.view_master G k p) n ∙ i)
     ∙ gapless (heard_numbers k n p (ground.view_master G k p) j) ((w.stay n k).numbers p)
     (he n k p) e
 
@@ -255,7 +255,7 @@ counted_start G ns = record {
   wholes = λ n k p l a e. no_some e;
 }
 
-journal_counted : (h : Header) (G : Ground) (lines : List Line) → IsJournal h G lines → (i : ℕ) → Counted G (nodes (journal h lines)) (take i (journal h lines)) (picture G (journal h lines) i)
+journal_counted : (h : List Line) (G : Ground) (lines : List Line) → IsJournal h G lines → (i : ℕ) → Counted G (nodes (journal h lines)) (take i (journal h lines)) (picture G (journal h lines) i)
 journal_counted h G lines o i = journal_keeps h G lines o (Counted G (nodes (journal h lines))) (λ j w l t ok f. counted_step G o.ground (nodes (journal h lines)) j w l t ok f) (counted_start G (nodes (journal h lines))) i
 
 -- ---- classes
@@ -301,9 +301,9 @@ row_entered factor k n p j x e = go (list_any (is_enter k n) j) refl
 
 one_class : (G : Ground) (k : ClusterKey) (p n m : ℕ) (l : ClusterKey) (a : ℕ) → G.row k n p ≡ Whole l a → G.row k m p ≡ Whole l a → (a == no_class) ≡ false → same_view_class G k p n m ≡ true
 unfolding same_view_class
-one_class G k p n m l a en em some = ap (is_in_view_class G k p n m) en
-    ∙ (ap (λ (b : Bool). cond b (n == m) (Rattle.node_rules.specs.Classes.is_whole_with l a (G.row k m p))) some
-    ∙ (ap (Rattle.node_rules.specs.Classes.is_whole_with l a) em ∙ and_both (same_key l l) (a == a) (at.keys.here l) (number_here a)))
+one_class G k p n m l a en em some = ap (is_in_class_by (view_state G k p) n m) en
+    ∙ (ap (λ (b : Bool). cond b (n == m) (is_whole_with l a (G.row k m p))) some
+    ∙ (ap (is_whole_with l a) em ∙ and_both (same_key l l) (a == a) (at.keys.here l) (number_here a)))
 
 same_entry : (G : Ground) (ns : List ℕ) (j : List Line) (w : Picture) → Counted G ns j w → (k : ClusterKey) (n m : ℕ) (d : List ℕ) → are_in_one_class G.factor k (partition_of d) n m j ≡ true → entry G.by k n d j ≡ entry G.by k m d j
 unfolding class_of
@@ -327,7 +327,7 @@ same_entry G ns j w t k n m d e = ⊎_elim one two (or_cases ((m == n) && has_re
         ∙ (laws.equal_classes G w t.keyed.tied.sound k p n m d en em (one_class G k p n m a.key a.writes (t.wholes n k p a.key a.writes a.first a.counts) (t.wholes m k p a.key a.writes a.second a.counts) a.counts) refl
         ∙ sym (t.keyed.tied.entries m k d))
 
-pub equal_classes : (h : Header) (G : Ground) (lines : List Line) → IsJournal h G lines → EqualClasses (journal h lines)
+pub equal_classes : (h : List Line) (G : Ground) (lines : List Line) → IsJournal h G lines → EqualClasses (journal h lines)
 equal_classes h G lines o = record {
   equal = λ i k n m d e. subst (λ (by : Policy). entry by k n d (take i (journal h lines)) ≡ entry by k m d (take i (journal h lines))) o.by
       (same_entry G (nodes (journal h lines)) (take i (journal h lines)) (picture G (journal h lines) i) (journal_counted h G lines o i) k n m d

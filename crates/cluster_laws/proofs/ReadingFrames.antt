@@ -1,19 +1,18 @@
 -- What a line that changes no reading leaves as it is.
 use Rattle.std.proofs.Common.{◌≡◌, ℕ, ◌==◌, Bool, true, false, cond, ◌&&◌, ◌||◌, not, is_some, List, [], ◌∷◌, ◌++◌, Option, Some, None, refl, sym, ap, subst, ◌∙◌}
-use Rattle.std.specs.Prelude.{bytes_eq, nat_le}
+use Rattle.std.specs.Prelude.{nat_le}
 use Rattle.std.specs.List.{list_any}
 use Rattle.conflict_order.specs.declared.version.Version.{Version}
 use Rattle.cluster_types.specs.declared.cluster_key.ClusterKey.{ClusterKey}
+use Rattle.cluster_types.proofs.BoolFacts.{or_none}
+use Rattle.cluster_types.specs.ClusterKeys.{same_key}
+use Rattle.cluster_types.specs.Distinct.{contains}
 use Rattle.wire_messages.specs.declared.message.Batch.{Batch}
 use Rattle.wire_messages.specs.declared.message.Message.{Message}
 use Rattle.wire_messages.specs.declared.message.Message.TheVariants as message
 use Rattle.wire_messages.specs.Decoding.{message_of}
 use Rattle.journal_lines.specs.declared.line.Line.{Line}
 use Rattle.journal_lines.specs.declared.line.Line.TheVariants as line
-use Rattle.node_rules.specs.Keys.{same_key}
-use Rattle.node_rules.specs.Tables.{contains}
-use Rattle.journal_readings.specs.Lines.{same_digest}
-use Rattle.journal_readings.proofs.CopyLaws.{same_digest_is, same_digest_itself}
 use Rattle.cluster_laws.specs.Changed.{at_number, at_key, at_stay}
 use Rattle.cluster_laws.specs.Ground.{Ground}
 use Rattle.cluster_laws.specs.Stay.{Running, Stay}
@@ -21,7 +20,7 @@ use Rattle.cluster_laws.specs.Picture.{Seen, Packet, Picture}
 use Rattle.cluster_laws.specs.Effect.{Effect, Nothing, Row_came, Batch_acked, Told, Write_came, Write_acked, Answered, effect_if, is_view_key, batch_ack, write_ack, answer_effect, comes, comes_if, arrives, arrives_cut}
 use Rattle.cluster_laws.specs.Changes.{act, sends_message}
 use Rattle.cluster_laws.specs.Licences.{picture_after}
-use Rattle.cluster_laws.proofs.At.{number_same, digests}
+use Rattle.cluster_laws.proofs.At.{number_same}
 
 -- ---- changes at a place
 
@@ -63,23 +62,9 @@ stay_kept {A} f stay m l new n k e = go (m == n) refl
     go true i = inner (same_key l k) refl (number_same m n i)
     go false i = refl
 
--- the two tests of digests agree
-pub digest_tests : (e d : List ℕ) → same_digest e d ≡ bytes_eq e d
-digest_tests e d = go (same_digest e d) (bytes_eq e d) refl refl
-  where
-    go : (a b : Bool) → same_digest e d ≡ a → bytes_eq e d ≡ b → a ≡ b
-    go true true x y = refl
-    go false false x y = refl
-    go true false x y = sym (digests.here d) ∙ (ap (λ (z : List ℕ). bytes_eq z d) (sym (same_digest_is e d x)) ∙ y)
-    go false true x y = sym x ∙ (ap (λ (z : List ℕ). same_digest z d) (digests.same e d y) ∙ same_digest_itself d)
-
 or_over : (a b c : Bool) → ((a || b) || c) ≡ (a || (b || c))
 or_over true b c = refl
 or_over false b c = refl
-
-or_none : (b : Bool) → (b || false) ≡ b
-or_none true = refl
-or_none false = refl
 
 -- one item more
 pub any-more : {A : Type 0} (test : A → Bool) (xs : List A) (x : A) → list_any test (xs ++ x ∷ []) ≡ (list_any test xs || test x)

@@ -5,15 +5,15 @@ use Rattle.std.specs.List.{cons_option}
 use Rattle.conflict_order.specs.declared.version.Version.{Version}
 use Rattle.cluster_types.specs.declared.cluster_key.ClusterKey.{ClusterKey}
 use Rattle.cluster_types.specs.Partitions.{partition_of}
+use Rattle.cluster_types.specs.ClusterKeys.{same_key}
 use Rattle.partition_lists.proofs.InOrderLaws.{counts_one, counts_none}
+use Rattle.partition_lists.specs.Counts.{with_number}
 use Rattle.wire_messages.specs.declared.message.Message.{Message}
 use Rattle.wire_messages.specs.declared.message.Message.TheVariants as message
 use Rattle.wire_messages.specs.declared.message.Batch.{Batch}
 use Rattle.wire_messages.specs.Decoding.{message_of}
 use Rattle.journal_lines.specs.declared.line.Line.{Line}
 use Rattle.journal_lines.specs.declared.line.Line.TheVariants as line
-use Rattle.node_rules.specs.Keys.{same_key}
-use Rattle.node_rules.specs.Stamps as stamps
 use Rattle.journal_readings.specs.Messages.{Posting, Arrival, posted, posting_of, arrived, arrival, message_between}
 use Rattle.journal_readings.specs.Views.{is_in_view}
 use Rattle.journal_readings.specs.Counts.{is_apply_in, repl_number, with_new_number, heard_numbers}
@@ -200,7 +200,7 @@ applies_tied G j w l s ok h n k p = same_applies j w (picture_after G w l) l (λ
 -- a number that was heard, if one was
 abbrev hear : Option ℕ → List ℕ → List ℕ
 hear None ys = ys
-hear (Some x) ys = stamps.with_number ys x
+hear (Some x) ys = with_number ys x
 
 -- what the picture hears of a message of a write
 abbrev hears : Bool → Bool → Bool → Bool → ℕ → List ℕ → List ℕ
@@ -249,11 +249,11 @@ batch_other n k from number (Some b) = if_other (Batch_acked n k from b) (b.numb
 
 write_other : (n : ℕ) (k : ClusterKey) (from t : ℕ) (o : Option Running) → IsOther (write_ack n k from t o)
 write_other n k from t None = tt
-write_other n k from t (Some y) = if_other (Write_acked n k from t y) (Rattle.std.specs.Prelude.is_some y.applied && Rattle.node_rules.specs.Tables.contains y.awaiting from) tt
+write_other n k from t (Some y) = if_other (Write_acked n k from t y) (Rattle.std.specs.Prelude.is_some y.applied && Rattle.cluster_types.specs.Distinct.contains y.awaiting from) tt
 
 answer_other : (n : ℕ) (k : ClusterKey) (from t : ℕ) (v : Option Version) (o : Option Running) → IsOther (answer_effect n k from t v o)
 answer_other n k from t v None = tt
-answer_other n k from t v (Some y) = if_other (Answered n k from t v y) (not (Rattle.std.specs.Prelude.is_some y.applied) && Rattle.node_rules.specs.Tables.contains y.awaiting from) tt
+answer_other n k from t v (Some y) = if_other (Answered n k from t v y) (not (Rattle.std.specs.Prelude.is_some y.applied) && Rattle.cluster_types.specs.Distinct.contains y.awaiting from) tt
 
 -- what a message that came adds
 abbrev heard_of : Ground → Picture → ℕ → ℕ → Message → ℕ → ClusterKey → ℕ → List ℕ → List ℕ

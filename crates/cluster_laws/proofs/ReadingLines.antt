@@ -1,6 +1,6 @@
 -- What the readings of a journal are after one line more.
 use Rattle.std.proofs.Common.{◌≡◌, ℕ, ◌==◌, Bool, true, false, cond, ◌&&◌, ◌||◌, List, [], ◌∷◌, ◌++◌, Option, Some, None, refl, sym, ap, ap₂, subst, ◌∙◌, arith, ◌⊎◌, inl, inr, option_map}
-use Rattle.std.specs.Prelude.{map, option_and_then}
+use Rattle.std.specs.Prelude.{map, option_and_then, bytes_eq}
 use Rattle.std.specs.List.{list_any}
 use Rattle.std.proofs.lemmas.Bool.Decides.{nat_tests}
 use Rattle.conflict_order.specs.declared.policy.Policy.{Policy}
@@ -12,9 +12,7 @@ use Rattle.cluster_types.specs.declared.member.Member.{Member}
 use Rattle.cluster_types.specs.Members.{ids_of}
 use Rattle.journal_lines.specs.declared.line.Line.{Line}
 use Rattle.journal_lines.specs.declared.line.Line.TheVariants as line
-use Rattle.node_rules.specs.Keys.{same_key}
-use Rattle.node_rules.specs.Tables.{contains}
-use Rattle.journal_readings.specs.Lines.{same_digest, lines_before, is_enter}
+use Rattle.journal_readings.specs.Lines.{lines_before, is_enter}
 use Rattle.journal_readings.specs.Contents.{content, joined_if, join_all}
 use Rattle.journal_readings.specs.Entries.{entry}
 use Rattle.journal_readings.specs.Views.{members}
@@ -26,33 +24,12 @@ use Rattle.cluster_laws.specs.Stay.{Versions}
 use Rattle.cluster_laws.specs.Picture.{Seen}
 use Rattle.cluster_laws.specs.Changes.{with_version}
 use Rattle.cluster_laws.proofs.At.{number_same, key_same, differ}
-use Rattle.cluster_laws.proofs.ReadingFrames.{digest_tests}
+pub use Rattle.cluster_types.proofs.BoolFacts.{or_cases, neither_left as or_left_false, neither_right as or_right_false, or_none}
+pub use Rattle.std.proofs.lemmas.Bool.{or_left as or_left_true, or_right as or_right_true}
+use Rattle.cluster_types.specs.ClusterKeys.{same_key}
+use Rattle.cluster_types.specs.Distinct.{contains}
 
 -- ---- tests
-
-pub or_cases : (a b : Bool) → (a || b) ≡ true → (a ≡ true) ⊎ (b ≡ true)
-or_cases true b e = inl refl
-or_cases false b e = inr e
-
-pub or_left_true : (a b : Bool) → a ≡ true → (a || b) ≡ true
-or_left_true true b e = refl
-or_left_true false b e = cc
-
-pub or_right_true : (a b : Bool) → b ≡ true → (a || b) ≡ true
-or_right_true true b e = refl
-or_right_true false b e = e
-
-pub or_left_false : (a b : Bool) → (a || b) ≡ false → a ≡ false
-or_left_false true b e = cc
-or_left_false false b e = refl
-
-pub or_right_false : (a b : Bool) → (a || b) ≡ false → b ≡ false
-or_right_false true b e = cc
-or_right_false false b e = e
-
-pub or_none : (b : Bool) → (b || false) ≡ b
-or_none true = refl
-or_none false = refl
 
 pub eq_turned : (a b : ℕ) → (a == b) ≡ (b == a)
 eq_turned a b = grind (arith, nat_tests)
@@ -69,29 +46,29 @@ any_wider f g h (x ∷ xs) e = go (f x) refl (any_wider f g h xs) e
 -- ---- versions
 
 -- a version more at a digest, by the journal's words
-pub version_as : (by : Policy) (f : Versions) (e : List ℕ) (v : Version) (d : List ℕ) → with_version by f e v d ≡ joined_if (same_digest e d) by (f d) v
-version_as by f e v d = ap (λ (b : Bool). cond b (join by (f e) (Some v)) (f d)) (sym (digest_tests e d)) ∙ go (same_digest e d) refl
+pub version_as : (by : Policy) (f : Versions) (e : List ℕ) (v : Version) (d : List ℕ) → with_version by f e v d ≡ joined_if (bytes_eq e d) by (f d) v
+version_as by f e v d = go (bytes_eq e d) refl
   where
-    go : (b : Bool) → same_digest e d ≡ b → cond b (join by (f e) (Some v)) (f d) ≡ joined_if b by (f d) v
+    go : (b : Bool) → bytes_eq e d ≡ b → cond b (join by (f e) (Some v)) (f d) ≡ joined_if b by (f d) v
     go true i = ap (λ (z : List ℕ). join by (f z) (Some v)) (same_digest_is e d i)
     go false i = refl
 
 -- a node stores a version
 pub stored : (by : Policy) (node : ℕ → Seen) (m : ℕ) (new : Seen) (e : List ℕ) (v : Version) (n : ℕ) (d : List ℕ) → new.content ≡ with_version by (node m).content e v
-    → (at_number node m new n).content d ≡ joined_if ((m == n) && same_digest e d) by ((node n).content d) v
+    → (at_number node m new n).content d ≡ joined_if ((m == n) && bytes_eq e d) by ((node n).content d) v
 stored by node m new e v n d h = go (m == n) refl
   where
-    go : (b : Bool) → (m == n) ≡ b → (cond b new (node n)).content d ≡ joined_if (b && same_digest e d) by ((node n).content d) v
-    go true i = ap (λ (f : Versions). f d) h ∙ (version_as by (node m).content e v d ∙ ap (λ (z : ℕ). joined_if (same_digest e d) by ((node z).content d) v) (number_same m n i))
+    go : (b : Bool) → (m == n) ≡ b → (cond b new (node n)).content d ≡ joined_if (b && bytes_eq e d) by ((node n).content d) v
+    go true i = ap (λ (f : Versions). f d) h ∙ (version_as by (node m).content e v d ∙ ap (λ (z : ℕ). joined_if (bytes_eq e d) by ((node z).content d) v) (number_same m n i))
     go false i = refl
 
 -- the fold of a key with a version more
 pub key_stored : (by : Policy) (f : ClusterKey → Versions) (l : ClusterKey) (e : List ℕ) (v : Version) (k : ClusterKey) (d : List ℕ)
-    → at_key f l (with_version by (f l) e v) k d ≡ joined_if (same_key l k && same_digest e d) by (f k d) v
+    → at_key f l (with_version by (f l) e v) k d ≡ joined_if (same_key l k && bytes_eq e d) by (f k d) v
 key_stored by f l e v k d = go (same_key l k) refl
   where
-    go : (b : Bool) → same_key l k ≡ b → (cond b (with_version by (f l) e v) (f k)) d ≡ joined_if (b && same_digest e d) by (f k d) v
-    go true i = version_as by (f l) e v d ∙ ap (λ (z : ClusterKey). joined_if (same_digest e d) by (f z d) v) (key_same l k i)
+    go : (b : Bool) → same_key l k ≡ b → (cond b (with_version by (f l) e v) (f k)) d ≡ joined_if (b && bytes_eq e d) by (f k d) v
+    go true i = version_as by (f l) e v d ∙ ap (λ (z : ClusterKey). joined_if (bytes_eq e d) by (f z d) v) (key_same l k i)
     go false i = refl
 
 -- ---- entries
@@ -153,7 +130,7 @@ members-none k (line.Enter n j ms ∷ ls) e = go (same_key j k) (members-none k 
 members-none k (x ∷ ls) e = members-none k ls e
 
 pub enter_is_key : (k : ClusterKey) (n : ℕ) (l : Line) → is_enter k n l ≡ true → enters_key k l ≡ true
-enter_is_key k n (line.Enter m j ms) e = Rattle.cluster_laws.proofs.At.and_right (m == n) (same_key j k) e
+enter_is_key k n (line.Enter m j ms) e = Rattle.cluster_types.proofs.BoolFacts.and_right (m == n) (same_key j k) e
 enter_is_key k n (line.Tick m) e = e
 enter_is_key k n l e = e
 

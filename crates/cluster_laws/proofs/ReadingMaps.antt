@@ -7,13 +7,11 @@ use Rattle.cluster_types.specs.declared.copy_state.CopyState.{CopyState}
 use Rattle.cluster_types.specs.declared.copy_state.CopyState.TheVariants.{Empty, Part, Whole}
 use Rattle.cluster_types.specs.declared.member.Member.{Member}
 use Rattle.cluster_types.specs.ClusterKeys.{key_lt}
+use Rattle.cluster_types.specs.Distinct.{contains}
+use Rattle.partition_lists.specs.Acting.{is_whole, is_wholest_by, whole_key}
 use Rattle.partition_lists.specs.Lists as lists
 use Rattle.journal_lines.specs.declared.line.Line.{Line}
 use Rattle.journal_lines.specs.declared.line.Line.TheVariants as line
-use Rattle.node_rules.specs.Map as the_map
-use Rattle.node_rules.specs.Map.{is_whole}
-use Rattle.node_rules.specs.Tables.{contains}
-use Rattle.cluster_rules.specs.Opening.{Header}
 use Rattle.journal_readings.specs.Lines.{is_enter}
 use Rattle.journal_readings.specs.Settings.{nodes}
 use Rattle.journal_readings.specs.Stamps.{stamp}
@@ -23,7 +21,7 @@ use Rattle.journal_readings.specs.Maps.{has_key_above, is_newest_whole, acting, 
 use Rattle.journal_readings.specs.Claims.{OneMap, ShowsMap}
 use Rattle.journal_readings.proofs.AlongLaws.{one_map}
 use Rattle.cluster_laws.specs.Ground as ground
-use Rattle.cluster_laws.specs.Ground.{Ground, IsGround, is_view_member, view_list, is_view_wholest}
+use Rattle.cluster_laws.specs.Ground.{Ground, IsGround, is_view_member, view_list, view_state}
 use Rattle.cluster_laws.specs.Picture.{Picture, start}
 use Rattle.cluster_laws.specs.Licences.{Ok, picture_after}
 use Rattle.cluster_laws.specs.Laws.{picture}
@@ -54,7 +52,7 @@ pub keyed_start : (G : Ground) (ns : List ℕ) → Keyed G ns [] start
 unfolding stamp
 keyed_start G ns = record { tied = tied_start G ns; stamps = λ n p. refl; keys = λ n k p e. differ e refl }
 
-pub journal_keyed : (h : Header) (G : Ground) (lines : List Line) → IsJournal h G lines → (i : ℕ) → Keyed G (nodes (journal h lines)) (take i (journal h lines)) (picture G (journal h lines) i)
+pub journal_keyed : (h : List Line) (G : Ground) (lines : List Line) → IsJournal h G lines → (i : ℕ) → Keyed G (nodes (journal h lines)) (take i (journal h lines)) (picture G (journal h lines) i)
 journal_keyed h G lines o i = journal_keeps h G lines o (Keyed G (nodes (journal h lines))) (λ j w l t ok f. keyed_step G o.ground (nodes (journal h lines)) j w l t ok f) (keyed_start G (nodes (journal h lines))) i
 
 -- ---- the acting master
@@ -63,7 +61,7 @@ find_same : (f g : ℕ → Bool) (l : List ℕ) → ((n : ℕ) → contains l n 
 find_same f g [] h = refl
 find_same f g (n ∷ l) h = ap₂ (λ (b : Bool) (o : Option ℕ). cond b (Some n) o) (h n (or_left_true (n == n) (contains l n) (number_here n))) (find_same f g l (λ m e. h m (or_right_true (n == m) (contains l m) e)))
 
-above_is : (l : ClusterKey) (o : Option ClusterKey) (x : CopyState) → o ≡ state_key x → has_key_above l o ≡ key_lt l (the_map.whole_key x)
+above_is : (l : ClusterKey) (o : Option ClusterKey) (x : CopyState) → o ≡ state_key x → has_key_above l o ≡ key_lt l (whole_key x)
 above_is l o Empty e = ap (has_key_above l) e ∙ sym (lt_none l)
 above_is l o Part e = ap (has_key_above l) e ∙ sym (lt_none l)
 above_is l o (Whole k writes) e = ap (has_key_above l) e
@@ -73,14 +71,14 @@ not_any true b = refl
 not_any false b = refl
 
 none_above : (l : ClusterKey) (f : ℕ → Option ClusterKey) (g : ℕ → CopyState) (ids : List ℕ) → ((n : ℕ) → contains ids n ≡ true → f n ≡ state_key (g n))
-    → not (list_any (λ m. has_key_above l (f m)) ids) ≡ list_all (λ m. not (key_lt l (the_map.whole_key (g m)))) ids
+    → not (list_any (λ m. has_key_above l (f m)) ids) ≡ list_all (λ m. not (key_lt l (whole_key (g m)))) ids
 none_above l f g [] h = refl
 none_above l f g (n ∷ ids) h = not_any (has_key_above l (f n))
     (list_any (λ m. has_key_above l (f m)) ids)
     ∙ ap₂ (λ (a b : Bool). not a && b) (above_is l (f n) (g n) (h n (or_left_true (n == n) (contains ids n) (number_here n)))) (none_above l f g ids (λ m e. h m (or_right_true (n == m) (contains ids m) e)))
 
 newest_is : (G : Ground) (k : ClusterKey) (p : ℕ) (j : List Line) (o : Option ClusterKey) (x : CopyState) → o ≡ state_key x → ((n : ℕ) → contains (view_list G k p) n ≡ true → row_whole_key (row G.factor k n p j) ≡ state_key (G.row k n p))
-    → is_newest_whole G.factor k p j (view_list G k p) o ≡ (is_whole x && list_all (λ m. not (key_lt (the_map.whole_key x) (the_map.whole_key (G.row k m p)))) (view_list G k p))
+    → is_newest_whole G.factor k p j (view_list G k p) o ≡ (is_whole x && list_all (λ m. not (key_lt (whole_key x) (whole_key (G.row k m p)))) (view_list G k p))
 newest_is G k p j o Empty e h = ap (is_newest_whole G.factor k p j (view_list G k p)) e
 newest_is G k p j o Part e h = ap (is_newest_whole G.factor k p j (view_list G k p)) e
 newest_is G k p j o (Whole l writes) e h = ap (is_newest_whole G.factor k p j (view_list G k p)) e ∙ none_above l (λ n. row_whole_key (row G.factor k n p j)) (λ n. G.row k n p) (view_list G k p) h
@@ -90,7 +88,7 @@ unfolding acting ground.view_acting ground.view_master
 acting_is G k p j ms h =
     ap (λ (ids : List ℕ). unwrap_or (find (λ n. is_newest_whole G.factor k p j ids (row_whole_key (row G.factor k n p j))) ids) (first_of ids)) (ap (λ (x : List Member). lists.list x p) ms)
     ∙ ap₂ (λ (o : Option ℕ) (m : ℕ). unwrap_or o m)
-    (find_same (λ n. is_newest_whole G.factor k p j (view_list G k p) (row_whole_key (row G.factor k n p j))) (is_view_wholest G k p) (view_list G k p) (λ n e. newest_is G k p j (row_whole_key (row G.factor k n p j)) (G.row k n p) (h n e) h))
+    (find_same (λ n. is_newest_whole G.factor k p j (view_list G k p) (row_whole_key (row G.factor k n p j))) (is_wholest_by (view_list G k p) (view_state G k p)) (view_list G k p) (λ n e. newest_is G k p j (row_whole_key (row G.factor k n p j)) (G.row k n p) (h n e) h))
     (first_is (view_list G k p))
 
 -- ---- at the end of the journal
@@ -109,13 +107,13 @@ any_front test (suc i) (x ∷ xs) e = go (test x) (any_front test i xs) e
     go false rest q = rest q
 
 -- a member that was in the view once has entered it at the end
-still_entered : (h : Header) (G : Ground) (lines : List Line) → IsJournal h G lines → (i n : ℕ) (k : ClusterKey) → ((picture G (journal h lines) i).stay n k).entered ≡ true
+still_entered : (h : List Line) (G : Ground) (lines : List Line) → IsJournal h G lines → (i n : ℕ) (k : ClusterKey) → ((picture G (journal h lines) i).stay n k).entered ≡ true
     → ((picture G (journal h lines) (length (journal h lines))).stay n k).entered ≡ true
 still_entered h G lines o i n k e =
     sym ((journal_keyed h G lines o (length (journal h lines))).tied.entered n k)
     ∙ (ap (list_any (is_enter k n)) (take_all (journal h lines)) ∙ any_front (is_enter k n) i (journal h lines) ((journal_keyed h G lines o i).tied.entered n k ∙ e))
 
-shown : (h : Header) (G : Ground) (lines : List Line) → IsJournal h G lines → (i n : ℕ) (k : ClusterKey) (p : ℕ) (ms : List Member) (a : ℕ) → ShowsGround G (picture G (journal h lines) i) n k p ms a → ShowsMap (journal h lines) (line.Map n k p ms a)
+shown : (h : List Line) (G : Ground) (lines : List Line) → IsJournal h G lines → (i n : ℕ) (k : ClusterKey) (p : ℕ) (ms : List Member) (a : ℕ) → ShowsGround G (picture G (journal h lines) i) n k p ms a → ShowsMap (journal h lines) (line.Map n k p ms a)
 shown h G lines o i n k p ms a s = (s.members ∙ sym (ap (λ (x : List Member). with_roles x (lists.list x p)) same), s.acting ∙ (sym (acting_is G k p (journal h lines) same keys) ∙ ap (λ (f : ℕ). acting f k p (journal h lines)) o.factor))
   where
     last : ℕ
@@ -137,9 +135,9 @@ shown h G lines o i n k p ms a s = (s.members ∙ sym (ap (λ (x : List Member).
     keys : (m : ℕ) → contains (view_list G k p) m ≡ true → row_whole_key (row G.factor k m p (journal h lines)) ≡ state_key (G.row k m p)
     keys m e = end.keys m k p (still_entered h G lines o i m k ((t.sound.whole.known.cross n k).all_in s.exchanged m (listed_member G k p m e)))
 
-shows_map : (h : Header) (G : Ground) (lines : List Line) → IsJournal h G lines → (i : ℕ) (l : Line) → slice_get (journal h lines) i ≡ Some l → ShowsMap (journal h lines) l
+shows_map : (h : List Line) (G : Ground) (lines : List Line) → IsJournal h G lines → (i : ℕ) (l : Line) → slice_get (journal h lines) i ≡ Some l → ShowsMap (journal h lines) l
 shows_map h G lines o i (line.Map n k p ms a) e = shown h G lines o i n k p ms a (journal_fits h G lines o i (line.Map n k p ms a) e)
 shows_map h G lines o i l e = tt
 
-pub one_map_of : (h : Header) (G : Ground) (lines : List Line) → IsJournal h G lines → OneMap (journal h lines)
+pub one_map_of : (h : List Line) (G : Ground) (lines : List Line) → IsJournal h G lines → OneMap (journal h lines)
 one_map_of h G lines o = one_map (journal h lines) (shows_map h G lines o)

@@ -4,8 +4,8 @@ use Rattle.std.specs.Prelude.{nat_eq, nat_lt}
 use Rattle.std.specs.List.{list_all, range_with_len}
 use Rattle.std.specs.Cmp.Lexicographic.{pointwise}
 use Rattle.std.proofs.lemmas.Bool.Decides.{nat_tests}
-use Rattle.node_rules.specs.Stamps.{with_number}
-use Rattle.node_rules.specs.Tables.{contains}
+use Rattle.cluster_types.specs.Distinct.{contains}
+use Rattle.partition_lists.specs.Counts.{with_number}
 use Rattle.cluster_laws.proofs.At.{number_same, number_here, number_cases, and_left, and_right, and_both, or_cases, differ}
 
 -- each is above the one before it, and the first above this number
@@ -89,12 +89,12 @@ longer [] n e = refl
 longer (m ∷ ms) n e = go (n == m) (nat_lt n m) refl (longer ms n)
   where
     apart : (m == n) ≡ true → ⊥
-    apart z = differ (Rattle.cluster_laws.proofs.ReadingLines.or_left_true (m == n) (contains ms n) z) e
+    apart z = differ (Rattle.std.proofs.lemmas.Bool.or_left (m == n) (contains ms n) z) e
 
     go : (b c : Bool) → (n == m) ≡ b → (contains ms n ≡ false → length (with_number ms n) ≡ suc (length ms)) → length (cond b (m ∷ ms) (cond c (n ∷ m ∷ ms) (m ∷ with_number ms n))) ≡ suc (suc (length ms))
     go true c i rest = absurd (apart (subst (λ (y : ℕ). (m == y) ≡ true) (sym (number_same n m i)) (number_here m)))
     go false true i rest = refl
-    go false false i rest = ap suc (rest (Rattle.cluster_laws.proofs.ReadingLines.or_right_false (m == n) (contains ms n) e))
+    go false false i rest = ap suc (rest (Rattle.cluster_types.proofs.BoolFacts.neither_right (m == n) (contains ms n) e))
 
 -- ---- numbers without a gap
 

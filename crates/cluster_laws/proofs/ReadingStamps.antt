@@ -1,5 +1,5 @@
 -- The picture's stamps are of the keys that a reader finds: kept by each line.
-use Rattle.std.proofs.Common.{◌≡◌, ℕ, ◌==◌, Bool, true, false, cond, not, ◌&&◌, ◌||◌, List, [], ◌∷◌, ◌++◌, Option, Some, None, option_map, refl, sym, ap, ap₂, subst, ◌∙◌, ⊎_elim}
+use Rattle.std.proofs.Common.{◌≡◌, ℕ, ◌==◌, Bool, true, false, cond, not, ◌&&◌, ◌||◌, List, [], ◌∷◌, ◌++◌, Option, Some, None, option_map, refl, sym, ap, ap₂, subst, ◌∙◌, ⊎_elim, if◌then◌else◌}
 use Rattle.std.specs.List.{list_any, list_all}
 use Rattle.cluster_types.specs.declared.cluster_key.ClusterKey.{ClusterKey}
 use Rattle.cluster_types.specs.declared.copy_state.CopyState.{CopyState}
@@ -7,12 +7,12 @@ use Rattle.cluster_types.specs.declared.copy_state.CopyState.TheVariants.{Empty,
 use Rattle.cluster_types.specs.declared.member.Member.{Member}
 use Rattle.cluster_types.specs.Members.{ids_of}
 use Rattle.cluster_types.specs.Partitions.{partition_of}
+use Rattle.cluster_types.proofs.BoolFacts.{same_truth}
+use Rattle.partition_lists.specs.Acting.{is_empty}
+use Rattle.partition_lists.specs.Classes.{no_class}
+use Rattle.partition_lists.specs.Counts.{recounted, spoiled}
 use Rattle.journal_lines.specs.declared.line.Line.{Line}
 use Rattle.journal_lines.specs.declared.line.Line.TheVariants as line
-use Rattle.node_rules.specs.Keys.{same_key}
-use Rattle.node_rules.specs.Map.{is_empty}
-use Rattle.node_rules.specs.Stamps.{no_class, recounted, spoiled}
-use Rattle.node_rules.specs.Tables.{contains}
 use Rattle.journal_readings.specs.Lines.{is_enter}
 use Rattle.journal_readings.specs.Contents.{holds_any}
 use Rattle.journal_readings.specs.Views.{members}
@@ -24,7 +24,7 @@ use Rattle.cluster_laws.specs.Ground as ground
 use Rattle.cluster_laws.specs.Ground.{Ground, is_view_member, view_list, is_view_empty}
 use Rattle.cluster_laws.specs.Picture.{Seen, Picture}
 use Rattle.cluster_laws.specs.Effect.{Effect, Nothing, Row_came, Batch_acked, Told, Write_came, Write_acked, Answered, arrives, arrives_cut}
-use Rattle.cluster_laws.specs.Changes.{act, copy_count, restamped, recounted_if, stamp_if, whole_where_empty}
+use Rattle.cluster_laws.specs.Changes.{act, copy_count, restamped, recounted_if, whole_where_empty}
 use Rattle.cluster_laws.specs.Licences.{Ok, IsState, picture_after}
 use Rattle.cluster_laws.proofs.At.{numbers, changed_either, and_left, and_right, and_both, number_same, number_here, key_same, differ, no_some}
 use Rattle.cluster_laws.proofs.GroundLaws.{member_listed}
@@ -34,6 +34,9 @@ use Rattle.cluster_laws.proofs.ReadingSteps.{Contents_tied, Entered_tied}
 use Rattle.cluster_laws.proofs.ReadingViews.{state_empty, enter_ok}
 use Rattle.cluster_laws.proofs.ReadingTies.{Tied, members_of}
 use Rattle.cluster_laws.proofs.ReadingClaims.{replica_is, empty_everywhere}
+pub use Rattle.cluster_types.proofs.BoolFacts.{not_true as not_false}
+use Rattle.cluster_types.specs.ClusterKeys.{same_key}
+use Rattle.cluster_types.specs.Distinct.{contains}
 
 -- the key of a stamp
 abbrev pub key_of : Option (ClusterKey × ℕ) → Option ClusterKey
@@ -94,12 +97,7 @@ full_everywhere G ns j w t k p all ms e = subst (λ (x : List Member). list_all 
     listed : (l : List ℕ) (n : ℕ) → list_all (λ m. is_empty (G.row k m p)) l ≡ true → contains l n ≡ true → is_empty (G.row k n p) ≡ true
     listed [] n a c = differ c refl
     listed (m ∷ l) n a c = ⊎_elim (λ z. ap (λ (y : ℕ). is_empty (G.row k y p)) (sym (number_same m n z)) ∙ and_left (is_empty (G.row k m p)) (list_all (λ y. is_empty (G.row k y p)) l) a)
-        (λ z. listed l n (and_right (is_empty (G.row k m p)) (list_all (λ y. is_empty (G.row k y p)) l) a) z) (Rattle.cluster_laws.proofs.At.or_cases (m == n) (contains l n) c)
-
-same_truth : (a b : Bool) → (a ≡ true → b ≡ true) → (b ≡ true → a ≡ true) → a ≡ b
-same_truth true b f g = sym (f refl)
-same_truth false true f g = g refl
-same_truth false false f g = refl
+        (λ z. listed l n (and_right (is_empty (G.row k m p)) (list_all (λ y. is_empty (G.row k y p)) l) a) z) (Rattle.cluster_types.proofs.BoolFacts.or_cases (m == n) (contains l n) c)
 
 everywhere_is : (G : Ground) (ns : List ℕ) (j : List Line) (w : Picture) → Tied G ns j w → (k : ClusterKey) (p : ℕ) → ((m : ℕ) → is_view_member G k m ≡ true → (w.stay m k).entered ≡ true) → members k j ≡ G.members k → is_empty_everywhere k p j ≡ is_view_empty G k p
 everywhere_is G ns j w t k p all ms = same_truth (is_empty_everywhere k p j) (is_view_empty G k p) (empty_everywhere G ns j w t k p all ms) (full_everywhere G ns j w t k p all ms)
@@ -120,7 +118,7 @@ message_keeps_stamp G w (Write_came m k from nth d v) h n p = node_kept (λ (x :
     (restamped_key (w.node m) (partition_of d) (recounted_if (from == ground.view_master G k (partition_of d)) k _) (λ z. recounted_if_key (from == ground.view_master G k (partition_of d)) k _ z) p)
 message_keeps_stamp G w _ h n p = absurd h
 
-key_if : (b : Bool) (k : ClusterKey) (c : ℕ) (o : Option (ClusterKey × ℕ)) → key_of (stamp_if b (k, c) o) ≡ cond b (Some k) (key_of o)
+key_if : (b : Bool) (k : ClusterKey) (c : ℕ) (o : Option (ClusterKey × ℕ)) → key_of (if b then Some (k, c) else o) ≡ cond b (Some k) (key_of o)
 key_if true k c o = refl
 key_if false k c o = refl
 
@@ -182,10 +180,6 @@ stamped_whole n p j (Some k) = refl
 pub not_true : (b : Bool) → not b ≡ false → b ≡ true
 not_true true e = refl
 not_true false e = sym e
-
-pub not_false : (b : Bool) → not b ≡ true → b ≡ false
-not_false true e = sym e
-not_false false e = refl
 
 -- the state of a copy by its parts
 pub state_full : (factor n p : ℕ) (j : List Line) → holds_any n p j ≡ true → copy_state factor n p j ≡ stamped n p j (stamp factor n p j)

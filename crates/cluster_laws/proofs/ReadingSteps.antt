@@ -1,16 +1,16 @@
 -- The picture holds what a reader finds in the journal: kept by each line.
 use Rattle.std.proofs.Common.{◌≡◌, ℕ, ◌==◌, Bool, true, false, cond, ◌&&◌, ◌||◌, List, [], ◌∷◌, ◌++◌, Option, Some, None, refl, sym, ap, ap₂, subst, ◌∙◌, ⊎_elim}
 use Rattle.std.specs.List.{list_any}
+use Rattle.std.specs.Prelude.{bytes_eq}
 use Rattle.conflict_order.specs.declared.version.Version.{Version}
 use Rattle.cluster_types.specs.declared.cluster_key.ClusterKey.{ClusterKey}
 use Rattle.cluster_types.specs.ClusterKeys as keys
-use Rattle.cluster_types.specs.ClusterKeys.{key_lt}
+use Rattle.cluster_types.specs.ClusterKeys.{key_lt, same_key}
 use Rattle.cluster_types.specs.Partitions.{partition_of}
+use Rattle.cluster_types.specs.Distinct.{contains}
 use Rattle.journal_lines.specs.declared.line.Line.{Line}
 use Rattle.journal_lines.specs.declared.line.Line.TheVariants as line
-use Rattle.node_rules.specs.Keys.{same_key}
-use Rattle.node_rules.specs.Tables.{contains}
-use Rattle.journal_readings.specs.Lines.{same_digest, is_enter, is_exchanged}
+use Rattle.journal_readings.specs.Lines.{is_enter, is_exchanged}
 use Rattle.journal_readings.specs.Settings.{clock_of}
 use Rattle.journal_readings.specs.Contents.{content, applied, joined_if}
 use Rattle.journal_readings.specs.Views.{view, some_key}
@@ -41,8 +41,8 @@ drop_as w m q n d = go (m == n) refl
     go false i = refl
 
 pub content_tied : (G : Ground) (j : List Line) (w : Picture) (l : Line) → Contents_tied G j w → Contents_tied G (j ++ l ∷ []) (picture_after G w l)
-content_tied G j w (line.Apply m k t e v) h n d = content-more G.by n d j (line.Apply m k t e v) ∙ (ap (λ (o : Option Version). joined_if ((m == n) && same_digest e d) G.by o v) (h n d) ∙ sym (stored G.by w.node m _ e v n d refl))
-content_tied G j w (line.Merge m k e v) h n d = content-more G.by n d j (line.Merge m k e v) ∙ (ap (λ (o : Option Version). joined_if ((m == n) && same_digest e d) G.by o v) (h n d) ∙ sym (stored G.by w.node m _ e v n d refl))
+content_tied G j w (line.Apply m k t e v) h n d = content-more G.by n d j (line.Apply m k t e v) ∙ (ap (λ (o : Option Version). joined_if ((m == n) && bytes_eq e d) G.by o v) (h n d) ∙ sym (stored G.by w.node m _ e v n d refl))
+content_tied G j w (line.Merge m k e v) h n d = content-more G.by n d j (line.Merge m k e v) ∙ (ap (λ (o : Option Version). joined_if ((m == n) && bytes_eq e d) G.by o v) (h n d) ∙ sym (stored G.by w.node m _ e v n d refl))
 content_tied G j w (line.Drop m k q) h n d = content-more G.by n d j (line.Drop m k q) ∙ (ap (λ (o : Option Version). cond ((m == n) && (q == partition_of d)) None o) (h n d) ∙ sym (drop_as w m q n d))
 content_tied G j w (line.Clock m time) h n d = content-more G.by n d j (line.Clock m time) ∙ (h n d ∙ sym (node_kept (λ (x : Seen). x.content d) w.node m _ n refl))
 content_tied G j w (line.Enter m k ms) h n d = content-more G.by n d j (line.Enter m k ms) ∙ (h n d ∙ sym (node_kept (λ (x : Seen). x.content d) w.node m _ n refl))
@@ -86,7 +86,7 @@ abbrev pub Applied_tied : Ground → List Line → Picture → Type 0
 Applied_tied G j w = (d : List ℕ) → applied G.by d j ≡ w.applied d
 
 pub applied_tied : (G : Ground) (j : List Line) (w : Picture) (l : Line) → Applied_tied G j w → Applied_tied G (j ++ l ∷ []) (picture_after G w l)
-applied_tied G j w (line.Apply m k t e v) h d = applied-more G.by d j (line.Apply m k t e v) ∙ (ap (λ (o : Option Version). joined_if (same_digest e d) G.by o v) (h d) ∙ sym (version_as G.by w.applied e v d))
+applied_tied G j w (line.Apply m k t e v) h d = applied-more G.by d j (line.Apply m k t e v) ∙ (ap (λ (o : Option Version). joined_if (bytes_eq e d) G.by o v) (h d) ∙ sym (version_as G.by w.applied e v d))
 applied_tied G j w (line.Clock m time) h d = applied-more G.by d j (line.Clock m time) ∙ h d
 applied_tied G j w (line.Enter m k ms) h d = applied-more G.by d j (line.Enter m k ms) ∙ h d
 applied_tied G j w (line.Stop m) h d = applied-more G.by d j (line.Stop m) ∙ h d

@@ -1,17 +1,18 @@
 -- At every line of a journal the picture holds what a reader finds.
 use Rattle.std.proofs.Common.{◌≡◌, ℕ, zero, suc, true, List, [], ◌∷◌, ◌++◌, Option, Some, None, take, slice_get, refl, sym, ap, subst, ◌∙◌, append_assoc, append-nil}
+use Rattle.std.specs.List.{list_all}
 use Rattle.conflict_order.specs.declared.policy.Policy.{Policy}
 use Rattle.conflict_order.specs.declared.version.Version.{Version}
 use Rattle.conflict_order.specs.Join.{join}
 use Rattle.conflict_order.proofs.JoinLaws.{none_join}
 use Rattle.cluster_types.specs.declared.cluster_key.ClusterKey.{ClusterKey}
 use Rattle.cluster_types.specs.declared.member.Member.{Member}
-use Rattle.script_lang.specs.declared.script.HeaderLine.TheVariants as header
 use Rattle.journal_lines.specs.declared.line.Line.{Line}
-use Rattle.cluster_rules.specs.Opening.{Header, header_lines}
+use Rattle.journal_lines.specs.declared.line.Line.TheVariants as line
 use Rattle.journal_readings.specs.Settings.{nodes, clock_of}
 use Rattle.journal_readings.specs.Contents.{content, applied}
 use Rattle.journal_readings.specs.Entries.{entry, applied_in, fold_of}
+use Rattle.journal_readings.specs.Shape.{is_header}
 use Rattle.journal_readings.specs.Views.{view, members}
 use Rattle.cluster_laws.specs.Ground.{Ground, IsGround}
 use Rattle.cluster_laws.specs.Picture.{Picture, start}
@@ -107,38 +108,40 @@ kept_along G ns T step before (l ∷ ls) w (suc i) t ok f = subst (λ (x : List 
     (kept_along G ns T step (before ++ l ∷ []) ls (picture_after G w l) i (step before w l t ok.0 (f zero l refl)) ok.1 (λ o. f (suc o)))
 
 -- the header's lines do nothing to the picture
-licensed_header : (G : Ground) (h : Header) (ls : List Line) → Licensed G start ls → Licensed G start (header_lines h ++ ls)
-licensed_header G [] ls ok = ok
-licensed_header G (header.Script v ∷ h) ls ok = ((refl, tt), licensed_header G h ls ok)
-licensed_header G (header.Factor n ∷ h) ls ok = ((refl, tt), licensed_header G h ls ok)
-licensed_header G (header.Node n rack ∷ h) ls ok = ((refl, tt), licensed_header G h ls ok)
-licensed_header G (header.Policy by ∷ h) ls ok = ((refl, tt), licensed_header G h ls ok)
+licensed_header : (G : Ground) (h ls : List Line) → list_all is_header h ≡ true → Licensed G start ls → Licensed G start (h ++ ls)
+licensed_header G [] ls e ok = ok
+licensed_header G (line.Script v ∷ h) ls e ok = ((refl, tt), licensed_header G h ls e ok)
+licensed_header G (line.Factor n ∷ h) ls e ok = ((refl, tt), licensed_header G h ls e ok)
+licensed_header G (line.Node n rack ∷ h) ls e ok = ((refl, tt), licensed_header G h ls e ok)
+licensed_header G (line.Policy by ∷ h) ls e ok = ((refl, tt), licensed_header G h ls e ok)
+licensed_header G (l ∷ h) ls e ok = differ e refl
 
-fit_header : (G : Ground) (ns : List ℕ) (h : Header) (ls : List Line) → AllFit G ns start ls → AllFit G ns start (header_lines h ++ ls)
-fit_header G ns [] ls f i l e = f i l e
-fit_header G ns (header.Script v ∷ h) ls f zero l e = subst (FitsGround G ns start) (some_same e) tt
-fit_header G ns (header.Factor n ∷ h) ls f zero l e = subst (FitsGround G ns start) (some_same e) tt
-fit_header G ns (header.Node n rack ∷ h) ls f zero l e = subst (FitsGround G ns start)
-    (some_same e) tt
-fit_header G ns (header.Policy by ∷ h) ls f zero l e = subst (FitsGround G ns start)
-    (some_same e) tt
-fit_header G ns (header.Script v ∷ h) ls f (suc i) l e = fit_header G ns h ls f i l e
-fit_header G ns (header.Factor n ∷ h) ls f (suc i) l e = fit_header G ns h ls f i l e
-fit_header G ns (header.Node n rack ∷ h) ls f (suc i) l e = fit_header G ns h ls f i l e
-fit_header G ns (header.Policy by ∷ h) ls f (suc i) l e = fit_header G ns h ls f i l e
+fit_header : (G : Ground) (ns : List ℕ) (h ls : List Line) → list_all is_header h ≡ true → AllFit G ns start ls → AllFit G ns start (h ++ ls)
+fit_header G ns [] ls e f i l q = f i l q
+fit_header G ns (line.Script v ∷ h) ls e f zero l q = subst (FitsGround G ns start) (some_same q) tt
+fit_header G ns (line.Factor n ∷ h) ls e f zero l q = subst (FitsGround G ns start) (some_same q) tt
+fit_header G ns (line.Node n rack ∷ h) ls e f zero l q = subst (FitsGround G ns start)
+    (some_same q) tt
+fit_header G ns (line.Policy by ∷ h) ls e f zero l q = subst (FitsGround G ns start)
+    (some_same q) tt
+fit_header G ns (line.Script v ∷ h) ls e f (suc i) l q = fit_header G ns h ls e f i l q
+fit_header G ns (line.Factor n ∷ h) ls e f (suc i) l q = fit_header G ns h ls e f i l q
+fit_header G ns (line.Node n rack ∷ h) ls e f (suc i) l q = fit_header G ns h ls e f i l q
+fit_header G ns (line.Policy by ∷ h) ls e f (suc i) l q = fit_header G ns h ls e f i l q
+fit_header G ns (x ∷ h) ls e f i l q = differ e refl
 
 -- the lines of a journal are licensed, those of the header among them
-pub journal_licensed : (h : Header) (G : Ground) (lines : List Line) → IsJournal h G lines → Licensed G start (journal h lines)
-journal_licensed h G lines o = licensed_header G h lines o.licensed
+pub journal_licensed : (h : List Line) (G : Ground) (lines : List Line) → IsJournal h G lines → Licensed G start (journal h lines)
+journal_licensed h G lines o = licensed_header G h lines o.header o.licensed
 
-pub journal_fits : (h : Header) (G : Ground) (lines : List Line) → IsJournal h G lines → AllFit G (nodes (journal h lines)) start (journal h lines)
-journal_fits h G lines o = fit_header G (nodes (journal h lines)) h lines o.fits
+pub journal_fits : (h : List Line) (G : Ground) (lines : List Line) → IsJournal h G lines → AllFit G (nodes (journal h lines)) start (journal h lines)
+journal_fits h G lines o = fit_header G (nodes (journal h lines)) h lines o.header o.fits
 
 -- what each line keeps holds at every line of a journal
-pub journal_keeps : (h : Header) (G : Ground) (lines : List Line) → IsJournal h G lines → (T : List Line → Picture → Type 0) → Keeps G (nodes (journal h lines)) T → T [] start → (i : ℕ) → T (take i (journal h lines)) (picture G (journal h lines) i)
+pub journal_keeps : (h : List Line) (G : Ground) (lines : List Line) → IsJournal h G lines → (T : List Line → Picture → Type 0) → Keeps G (nodes (journal h lines)) T → T [] start → (i : ℕ) → T (take i (journal h lines)) (picture G (journal h lines) i)
 journal_keeps h G lines o T step t i = kept_along G (nodes (journal h lines)) T step [] (journal h lines) start i t (journal_licensed h G lines o) (journal_fits h G lines o)
 
-pub journal_tied : (h : Header) (G : Ground) (lines : List Line) → IsJournal h G lines → (i : ℕ) → Tied G (nodes (journal h lines)) (take i (journal h lines)) (picture G (journal h lines) i)
+pub journal_tied : (h : List Line) (G : Ground) (lines : List Line) → IsJournal h G lines → (i : ℕ) → Tied G (nodes (journal h lines)) (take i (journal h lines)) (picture G (journal h lines) i)
 journal_tied h G lines o i = journal_keeps h G lines o (Tied G (nodes (journal h lines))) (λ j w l t ok f. tied_step G o.ground (nodes (journal h lines)) j w l t ok f) (tied_start G (nodes (journal h lines))) i
 
 -- ---- what a member that is in the view tells

@@ -1,6 +1,7 @@
 -- The picture holds what a reader finds of each view: kept by each line.
 use Rattle.std.proofs.Common.{◌≡◌, ℕ, ◌==◌, Bool, true, false, cond, not, ◌&&◌, ◌||◌, List, [], ◌∷◌, ◌++◌, Option, Some, refl, sym, ap, ap₂, subst, subst₂, ◌∙◌, ◌⊎◌, ⊎_elim}
 use Rattle.std.specs.List.{list_any}
+use Rattle.std.specs.Prelude.{bytes_eq}
 use Rattle.conflict_order.specs.declared.policy.Policy.{Policy}
 use Rattle.conflict_order.specs.declared.version.Version.{Version}
 use Rattle.conflict_order.specs.Join.{join}
@@ -8,11 +9,11 @@ use Rattle.conflict_order.proofs.JoinLaws.{join_assoc}
 use Rattle.cluster_types.specs.declared.cluster_key.ClusterKey.{ClusterKey}
 use Rattle.cluster_types.specs.declared.copy_state.CopyState.{CopyState}
 use Rattle.cluster_types.specs.declared.copy_state.CopyState.TheVariants.{Empty, Part, Whole}
+use Rattle.cluster_types.specs.ClusterKeys.{same_key}
+use Rattle.partition_lists.specs.Acting.{is_empty}
 use Rattle.journal_lines.specs.declared.line.Line.{Line}
 use Rattle.journal_lines.specs.declared.line.Line.TheVariants as line
-use Rattle.node_rules.specs.Keys.{same_key}
-use Rattle.node_rules.specs.Map.{is_empty}
-use Rattle.journal_readings.specs.Lines.{same_digest, is_enter, is_settled_line, is_done_line}
+use Rattle.journal_readings.specs.Lines.{is_enter, is_settled_line, is_done_line}
 use Rattle.journal_readings.specs.Contents.{content, holds_any, joined_if}
 use Rattle.journal_readings.specs.Entries.{entry, applied_in}
 use Rattle.journal_readings.specs.Views.{members}
@@ -163,8 +164,8 @@ fold_tied G j w (line.Enter m l ms) s ok c en h k d = go (same_key l k) refl
         ap₂ (join G.by) more (applied_in-more G.by k d j x) ∙ (turned G.by e0 (content G.by m d j) a0 ∙ ap₂ (join G.by) (h k d ∙ ap (λ (y : ClusterKey). w.fold y d) (sym q)) (c m d))
 fold_tied G j w (line.Apply m l t e v) s ok c en h k d =
     ap₂ (join G.by) (no_entries G j (line.Apply m l t e v) k d (λ n. refl)) (applied_in-more G.by k d j (line.Apply m l t e v))
-    ∙ (joined_over G.by (same_key l k && same_digest e d) (joined G.by (λ n. entry G.by k n d j) (G.members k)) (applied_in G.by k d j) v
-    ∙ (ap (λ (o : Option Version). joined_if (same_key l k && same_digest e d) G.by o v) (h k d) ∙ sym (key_stored G.by w.fold l e v k d)))
+    ∙ (joined_over G.by (same_key l k && bytes_eq e d) (joined G.by (λ n. entry G.by k n d j) (G.members k)) (applied_in G.by k d j) v
+    ∙ (ap (λ (o : Option Version). joined_if (same_key l k && bytes_eq e d) G.by o v) (h k d) ∙ sym (key_stored G.by w.fold l e v k d)))
 fold_tied G j w (line.Clock m time) s ok c en h k d = same_fold G j (line.Clock m time) k d (λ n. refl) (applied_in-more G.by k d j (line.Clock m time)) ∙ h k d
 fold_tied G j w (line.Stop m) s ok c en h k d = same_fold G j (line.Stop m) k d (λ n. refl) (applied_in-more G.by k d j (line.Stop m)) ∙ h k d
 fold_tied G j w (line.Exchanged m l) s ok c en h k d = same_fold G j (line.Exchanged m l) k d (λ n. refl) (applied_in-more G.by k d j (line.Exchanged m l)) ∙ h k d
@@ -223,7 +224,7 @@ stay_cases P stay m l new n k here old = go (m == n) refl
 
 -- the node's write of the record in the transaction
 abbrev pub is_write : ClusterKey → ℕ → ℕ → List ℕ → Line → Bool
-is_write k n t d (line.Apply m l u c v) = (m == n) && (same_key l k && ((u == t) && same_digest c d))
+is_write k n t d (line.Apply m l u c v) = (m == n) && (same_key l k && ((u == t) && bytes_eq c d))
 is_write k n t d _ = false
 
 abbrev pub Writes_tied : List Line → Picture → Type 0
@@ -247,9 +248,9 @@ writes_tied G j w (line.Apply m l u c v) h n k t a = stay_either (λ (z : Stay).
     x = line.Apply m l u c v
 
     here : m ≡ n → l ≡ k → u ≡ t → c ≡ a.digest → is_write k n t a.digest x ≡ true
-    here i q y z = and_both (m == n) (same_key l k && ((u == t) && same_digest c a.digest)) (sym (ap (λ (b : ℕ). m == b) i) ∙ number_here m)
-        (and_both (same_key l k) ((u == t) && same_digest c a.digest) (sym (ap (same_key l) q) ∙ Rattle.cluster_laws.proofs.At.keys.here l)
-        (and_both (u == t) (same_digest c a.digest) (sym (ap (λ (b : ℕ). u == b) y) ∙ number_here u) (sym (ap (same_digest c) z) ∙ same_digest_itself c)))
+    here i q y z = and_both (m == n) (same_key l k && ((u == t) && bytes_eq c a.digest)) (sym (ap (λ (b : ℕ). m == b) i) ∙ number_here m)
+        (and_both (same_key l k) ((u == t) && bytes_eq c a.digest) (sym (ap (same_key l) q) ∙ Rattle.cluster_laws.proofs.At.keys.here l)
+        (and_both (u == t) (bytes_eq c a.digest) (sym (ap (λ (b : ℕ). u == b) y) ∙ number_here u) (sym (ap (bytes_eq c) z) ∙ same_digest_itself c)))
 writes_tied G j w (line.Enter m l ms) h n k t a = stay_either (λ (z : Stay). z.writes t ≡ Some a → list_any (is_write k n t a.digest) (j ++ line.Enter m l ms ∷ []) ≡ true) w.stay m l _ n k
     (λ i q e. no_some e) (λ e. still_written j w (line.Enter m l ms) h n k t a e)
 writes_tied G j w (line.Clock m time) h n k t a = same_writes j w (picture_after G w (line.Clock m time)) (line.Clock m time) (λ n k t. refl) h n k t a

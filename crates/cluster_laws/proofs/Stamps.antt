@@ -1,18 +1,19 @@
 -- The stamps of whole copies stay true, and members enter with what they tell.
-use Rattle.std.proofs.Common.{◌≡◌, ℕ, ◌≤◌, ◌==◌, Bool, true, false, cond, ◌&&◌, List, Option, Some, None, option_map, refl, sym, ap, ◌∙◌, subst, arith, ◌⊎◌, inl, inr, ⊎_elim}
+use Rattle.std.proofs.Common.{◌≡◌, ℕ, ◌≤◌, ◌==◌, Bool, true, false, cond, ◌&&◌, List, Option, Some, None, option_map, refl, sym, ap, ◌∙◌, subst, arith, ◌⊎◌, inl, inr, ⊎_elim, if◌then◌else◌}
 use Rattle.conflict_order.specs.declared.version.Version.{Version}
 use Rattle.conflict_order.specs.Join.{AtMost}
 use Rattle.conflict_order.proofs.OrderLaws.{AtMost_trans}
 use Rattle.cluster_types.specs.declared.cluster_key.ClusterKey.{ClusterKey}
 use Rattle.cluster_types.specs.Partitions.{partition_of}
-use Rattle.node_rules.specs.Keys.{same_key}
-use Rattle.node_rules.specs.Stamps.{no_class, count_of, recounted, spoiled}
-use Rattle.node_rules.specs.Tables.{contains}
+use Rattle.cluster_types.specs.ClusterKeys.{same_key}
+use Rattle.cluster_types.specs.Distinct.{contains}
+use Rattle.partition_lists.specs.Classes.{no_class}
+use Rattle.partition_lists.specs.Counts.{count_of, recounted, spoiled}
 use Rattle.cluster_laws.specs.Ground.{Ground, view_master, is_view_replica, is_view_empty}
 use Rattle.cluster_laws.specs.Stay.{Versions, Applied, Stay}
 use Rattle.cluster_laws.specs.Picture.{Seen, Owed, Picture, start}
 use Rattle.cluster_laws.specs.Effect.{Effect}
-use Rattle.cluster_laws.specs.Changes.{act, copy_count, stamp_if, recounted_if, heard, hearing, stay_after_write}
+use Rattle.cluster_laws.specs.Changes.{act, copy_count, recounted_if, heard, hearing, stay_after_write}
 use Rattle.cluster_laws.specs.Licences.{IsState}
 use Rattle.cluster_laws.proofs.At.{numbers, keys, changed_either, changed_here, changed_other, number_same, number_here, number_cases, key_same, key_cases, and_left, and_right, differ, some_same, no_some}
 use Rattle.cluster_laws.proofs.Allowed.{Allowed}
@@ -133,7 +134,7 @@ count_other G k n s t p ea en = go (view_master G k p == n)
 now_within : (G : Ground) (w v : Picture) (n : ℕ) (k : ClusterKey) (x : Seen) (s : Stay) → Within G w v n k x s → v.stay n k ≡ s → (w.node n).view ≡ Some k → Frame G w v → (p c : ℕ) → x.stamp p ≡ Some (k, c) → Stamped G v n k p c s
 now_within G w v n k _ _ (exchange ok) is view f p c = go (is_view_empty G k p && is_view_replica G k p n) refl
   where
-    go : (b : Bool) → (is_view_empty G k p && is_view_replica G k p n) ≡ b → stamp_if b (k, copy_count G k n (w.stay n k) p) ((w.node n).stamp p) ≡ Some (k, c) → Stamped G v n k p c (Rattle.cluster_laws.specs.Changes.stay_after_exchange G n k (w.node n).content (w.stay n k))
+    go : (b : Bool) → (is_view_empty G k p && is_view_replica G k p n) ≡ b → (if b then Some (k, copy_count G k n (w.stay n k) p) else (w.node n).stamp p) ≡ Some (k, c) → Stamped G v n k p c (Rattle.cluster_laws.specs.Changes.stay_after_exchange G n k (w.node n).content (w.stay n k))
     go true i e = record {
       counts = sym (ap (λ (y : ClusterKey × ℕ). y.1) (some_same e));
       rests = inr (record { all = and_left (is_view_empty G k p) (is_view_replica G k p n) i; node = n; exchanged = ap (λ (y : Stay). y.exchanged) is });

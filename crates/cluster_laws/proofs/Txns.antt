@@ -1,9 +1,9 @@
 -- Transactions and writes: what holds of a stay by the node's own lines.
 use Rattle.std.proofs.Common.{◌≡◌, ℕ, ◌+◌, ◌≤◌, Bool, true, List, Option, Some, None, option_map, refl, sym, ap, ◌∙◌, subst, arith, ◌⊎◌, inl, inr, ⊎_elim}
 use Rattle.conflict_order.specs.declared.version.Version.{Version}
+use Rattle.conflict_order.specs.Contents.{Write}
 use Rattle.cluster_types.specs.declared.cluster_key.ClusterKey.{ClusterKey}
 use Rattle.cluster_types.specs.Partitions.{partition_of}
-use Rattle.node_rules.specs.Transactions.{Write}
 use Rattle.cluster_laws.specs.Changed.{at_number}
 use Rattle.cluster_laws.specs.Ground.{Ground, other_view_replicas}
 use Rattle.cluster_laws.specs.Stay.{Versions, Running, Applied, Stay}

@@ -4,16 +4,16 @@ use Rattle.conflict_order.specs.declared.policy.Policy.{Policy}
 use Rattle.conflict_order.specs.declared.version.Version.{Version}
 use Rattle.conflict_order.specs.Join.{join}
 use Rattle.conflict_order.specs.Order.{is_newer}
+use Rattle.conflict_order.specs.Contents.{is_among}
 use Rattle.cluster_types.specs.declared.cluster_key.ClusterKey.{ClusterKey}
 use Rattle.cluster_types.specs.Distinct.{without}
 use Rattle.cluster_types.specs.Partitions.{partition_of}
 use Rattle.cluster_types.specs.Rows.{bit}
+use Rattle.cluster_types.specs.Copies.{is_of}
+use Rattle.partition_lists.specs.Counts.{with_number, count_of, recounted, spoiled}
 use Rattle.wire_messages.specs.declared.message.Batch.{Batch}
 use Rattle.wire_messages.specs.declared.message.Message.{Message}
 use Rattle.wire_messages.specs.declared.message.Message.TheVariants as message
-use Rattle.node_rules.specs.Batches.{is_among}
-use Rattle.node_rules.specs.Copies.{is_of}
-use Rattle.node_rules.specs.Stamps.{with_number, count_of, recounted, spoiled}
 use Rattle.cluster_laws.specs.Changed.{at_number, at_key, at_digest, at_stay, at_part, at_pair}
 use Rattle.cluster_laws.specs.Ground.{Ground, view_master, is_view_replica, other_view_replicas, is_view_empty, view_sends_to, asks}
 use Rattle.cluster_laws.specs.Stay.{Versions, Running, Stay, blank}
@@ -45,11 +45,6 @@ restamped x p change = at_number x.stamp p (option_map change (x.stamp p))
 abbrev pub copy_count : Ground → ClusterKey → ℕ → Stay → ℕ → ℕ
 copy_count G k n s p = if view_master G k p == n then s.applies p else count_of (s.numbers p)
 
--- the stamp where the test holds, and otherwise the one that was there
-abbrev pub stamp_if : Bool → ClusterKey × ℕ → Option (ClusterKey × ℕ) → Option (ClusterKey × ℕ)
-stamp_if true new old = Some new
-stamp_if false new old = old
-
 -- ---- views
 
 abbrev pub stay_at_entry : ℕ → Versions → Stay
@@ -78,7 +73,9 @@ to_hand_on G k n content r d = view_sends_to G k (partition_of d) n r && is_some
 -- a copy of a partition that is empty everywhere is whole, where the node is a replica
 abbrev pub whole_where_empty : Ground → ℕ → ClusterKey → Seen → Stay → ℕ → Option (ClusterKey × ℕ)
 whole_where_empty G n k x s p =
-    stamp_if (is_view_empty G k p && is_view_replica G k p n) (k, copy_count G k n s p) (x.stamp p)
+    if is_view_empty G k p && is_view_replica G k p n
+    then Some (k, copy_count G k n s p)
+    else x.stamp p
 
 abbrev pub stay_after_exchange : Ground → ℕ → ClusterKey → Versions → Stay → Stay
 stay_after_exchange G n k content s = record s {
@@ -325,16 +322,12 @@ abbrev pub recounted_if : Bool → ClusterKey → ℕ → ClusterKey × ℕ → 
 recounted_if true k n z = recounted k n z
 recounted_if false k n z = z
 
--- the merge is owed where the version is newer than what is held
-abbrev pub owes : Owed → Bool → Option Owed
-owes o true = Some o
-owes o false = None
-
 abbrev pub seen_after_count : Ground → ℕ → ClusterKey → ℕ → ℕ → Stay → Seen → Seen
 seen_after_count G n k from p s x = record x {
   stamp = restamped x p (recounted_if (from == view_master G k p) k (copy_count G k n s p));
 }
 
+-- a write came: its merge is owed where the version is newer than what is held
 abbrev pub takes_write : Ground → ℕ → ClusterKey → ℕ → ℕ → List ℕ → Version → Picture → Picture
 takes_write G n k from nth d v w = record w {
   node =
@@ -343,8 +336,9 @@ takes_write G n k from nth d v w = record w {
       (hearing G k from nth (partition_of d) (w.stay n k)) (w.node n));
   stay = at_stay w.stay n k (hearing G k from nth (partition_of d) (w.stay n k));
   owed =
-      owes (record { node = n; key = k; digest = d; version = v })
-      (is_newer G.by v ((w.node n).content d));
+      if is_newer G.by v ((w.node n).content d)
+      then Some (record { node = n; key = k; digest = d; version = v })
+      else None;
 }
 
 -- the transaction is as this now

@@ -3,22 +3,16 @@
 -- A view has one list of members, and each member enters it with one row of states. Here both are
 -- given for each key, so that the list master, the acting master and the classes of equal copies are
 -- functions of the key and the partition.
-use Rattle.std.specs.Prelude.{◌<◌, ℕ, ◌==◌, ◌&&◌, Bool, false, not, if◌then◌else◌, List, Option, find, filter, unwrap_or}
-use Rattle.std.specs.List.{list_all}
+use Rattle.std.specs.Prelude.{◌<◌, ℕ, ◌==◌, ◌&&◌, Bool, not, List}
 use Rattle.conflict_order.specs.declared.policy.Policy.{Policy}
 use Rattle.cluster_types.specs.declared.cluster_key.ClusterKey.{ClusterKey}
 use Rattle.cluster_types.specs.declared.copy_state.CopyState.{CopyState}
-use Rattle.cluster_types.specs.declared.copy_state.CopyState.TheVariants.{Empty, Part, Whole}
 use Rattle.cluster_types.specs.declared.member.Member.{Member}
-use Rattle.cluster_types.specs.ClusterKeys as keys
-use Rattle.cluster_types.specs.Distinct.{without}
+use Rattle.cluster_types.specs.Distinct.{without, contains}
 use Rattle.cluster_types.specs.Members.{ids_of}
+use Rattle.partition_lists.specs.Acting.{list_master, acting_by, all_empty_by}
+use Rattle.partition_lists.specs.Classes.{same_class_by, is_first_by, sends_by, asked_among}
 use Rattle.partition_lists.specs.Lists as lists
-use Rattle.node_rules.specs.Classes.{is_whole_with, is_that}
-use Rattle.node_rules.specs.Map as map
-use Rattle.node_rules.specs.Map.{is_empty, is_whole, whole_key}
-use Rattle.node_rules.specs.Stamps.{no_class}
-use Rattle.node_rules.specs.Tables.{contains}
 
 pub record Ground : Type 0 where
   -- how versions of one record compare
@@ -46,7 +40,7 @@ view_list G k p = lists.list (G.members k) p
 
 -- the list master
 unfoldable pub view_master : Ground → ClusterKey → ℕ → ℕ
-view_master G k p = map.list_master (view_list G k p)
+view_master G k p = list_master (view_list G k p)
 
 -- the replicas, in list order
 abbrev pub view_replicas : Ground → ClusterKey → ℕ → List ℕ
@@ -62,53 +56,34 @@ other_view_replicas G k p n = without (view_replicas G k p) n
 
 -- ---- the acting master
 
--- whether the member's copy is whole, and none in the list is whole under a greater key
-abbrev pub is_view_wholest : Ground → ClusterKey → ℕ → ℕ → Bool
-is_view_wholest G k p n =
-    is_whole (G.row k n p)
-    && list_all (λ m. not (keys.key_lt (whole_key (G.row k n p)) (whole_key (G.row k m p))))
-    (view_list G k p)
+-- the state of a member's copy of the partition as it entered the view
+abbrev pub view_state : Ground → ClusterKey → ℕ → ℕ → CopyState
+view_state G k p n = G.row k n p
 
--- the acting master: the first of the list whose copy is whole under the greatest key, and the list
--- master where no copy is whole
+-- the acting master
 unfoldable pub view_acting : Ground → ClusterKey → ℕ → ℕ
-view_acting G k p = unwrap_or (find (is_view_wholest G k p) (view_list G k p)) (view_master G k p)
+view_acting G k p = acting_by (view_list G k p) (view_state G k p)
 
 -- whether no member had a record of the partition as it entered
 unfoldable pub is_view_empty : Ground → ClusterKey → ℕ → Bool
-is_view_empty G k p = list_all (λ n. is_empty (G.row k n p)) (view_list G k p)
+is_view_empty G k p = all_empty_by (view_list G k p) (view_state G k p)
 
 -- ---- classes of equal copies
 
--- whether the second node is in the class of the first, which has this state
-abbrev pub is_in_view_class : Ground → ClusterKey → ℕ → ℕ → ℕ → CopyState → Bool
-is_in_view_class G k p a b Empty = false
-is_in_view_class G k p a b Part = a == b
-is_in_view_class G k p a b (Whole key writes) =
-    if writes == no_class then a == b else is_whole_with key writes (G.row k b p)
-
 -- whether the second node is in the class of the first
 unfoldable pub same_view_class : Ground → ClusterKey → ℕ → ℕ → ℕ → Bool
-same_view_class G k p a b = is_in_view_class G k p a b (G.row k a p)
-
--- the first of the list that is in the node's class; none where the node's copy was empty
-abbrev pub view_class_first : Ground → ClusterKey → ℕ → ℕ → Option ℕ
-view_class_first G k p n = find (same_view_class G k p n) (view_list G k p)
+same_view_class G k p a b = same_class_by (view_state G k p) a b
 
 -- whether the node is the first of its class
 unfoldable pub is_view_class_first : Ground → ClusterKey → ℕ → ℕ → Bool
-is_view_class_first G k p n = is_that (view_class_first G k p n) n
+is_view_class_first G k p n = is_first_by (view_list G k p) (view_state G k p) n
 
--- whether a node hands its records on to another: its copy isn't empty, it is the first of its class, and the
--- other is a replica, another node and not in that class
+-- whether a node hands its records on to another, which is a replica and another node
 unfoldable pub view_sends_to : Ground → ClusterKey → ℕ → ℕ → ℕ → Bool
 view_sends_to G k p from to =
     is_view_replica G k p to
-    && (not (from == to)
-    && (not (is_empty (G.row k from p))
-    && (is_view_class_first G k p from && not (same_view_class G k p from to))))
+    && (not (from == to) && sends_by (view_list G k p) (view_state G k p) from to)
 
 -- whom a node asks for their versions of a record: the firsts of all classes but its own, in list order
 unfoldable pub asks : Ground → ClusterKey → ℕ → ℕ → List ℕ
-asks G k p by = filter (λ n. is_view_class_first G k p n && not (same_view_class G k p by n))
-    (view_list G k p)
+asks G k p by = asked_among (view_list G k p) (view_state G k p) by

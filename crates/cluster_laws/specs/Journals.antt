@@ -1,14 +1,14 @@
 -- The journal of a run: the lines of its header, and then those of its steps.
-use Rattle.std.specs.Prelude.{◌≡◌, ℕ, true, false, Bool, IsTrue, List, [], ◌∷◌, ◌++◌, Some, None, slice_get}
+use Rattle.std.specs.Prelude.{◌≡◌, ℕ, true, IsTrue, List, [], ◌∷◌, ◌++◌, Some, None, slice_get}
+use Rattle.std.specs.List.{list_all}
 use Rattle.cluster_types.specs.declared.cluster_key.ClusterKey.{ClusterKey}
 use Rattle.cluster_types.specs.declared.member.Member.{Member}
-use Rattle.script_lang.specs.declared.script.HeaderLine.TheVariants as header
+use Rattle.cluster_types.specs.Distinct.{contains}
 use Rattle.journal_lines.specs.declared.line.Line.{Line}
 use Rattle.journal_lines.specs.declared.line.Line.TheVariants as line
-use Rattle.node_rules.specs.Tables.{contains}
-use Rattle.cluster_rules.specs.Opening.{Header, header_lines}
 use Rattle.journal_readings.specs.Settings.{policy_of, factor_of, nodes}
 use Rattle.journal_readings.specs.Maps.{with_roles}
+use Rattle.journal_readings.specs.Shape.{is_header}
 use Rattle.cluster_laws.specs.Ground.{Ground, IsGround, view_list, view_acting}
 use Rattle.cluster_laws.specs.Picture.{Packet, Picture, start}
 use Rattle.cluster_laws.specs.Licences.{Licensed}
@@ -16,9 +16,9 @@ use Rattle.journal_readings.specs.Examples.{one, key}
 use Rattle.cluster_laws.specs.Laws.{picture}
 use Rattle.cluster_laws.specs.Weaker.{lone_run}
 
--- the journal of a header and the lines of the steps
-abbrev pub journal : Header → List Line → List Line
-journal h lines = header_lines h ++ lines
+-- the journal of a header's lines and those of the steps
+abbrev pub journal : List Line → List Line → List Line
+journal header lines = header ++ lines
 
 -- the message that was sent under that number was sent to this endpoint
 abbrev pub IsFor : Picture → ℕ → ℕ → Type 0
@@ -43,9 +43,11 @@ FitsGround G declared w (line.Cut i a b size) = IsFor w i b
 FitsGround G declared w (line.Map n k p ms a) = ShowsGround G w n k p ms a
 FitsGround G declared w _ = Unit {0}
 
--- the lines are those of steps under that header, over that ground
-pub record IsJournal (h : Header) (G : Ground) (lines : List Line) : Type 0 where
+-- the lines are those of steps behind those of that header, over that ground
+pub record IsJournal (h : List Line) (G : Ground) (lines : List Line) : Type 0 where
   pub ground : IsGround G
+  -- the header has no other lines than a header's
+  pub header : list_all is_header h ≡ true
   -- the header says how versions compare and how many replicas there are
   pub by : G.by ≡ policy_of (journal h lines)
   pub factor : G.factor ≡ factor_of (journal h lines)
@@ -57,11 +59,11 @@ pub record IsJournal (h : Header) (G : Ground) (lines : List Line) : Type 0 wher
 -- it holds of every journal
 abbrev pub OfJournals : (List Line → Type 0) → Type 0
 OfJournals P =
-    (h : Header) (G : Ground) (lines : List Line) → IsJournal h G lines → P (journal h lines)
+    (h : List Line) (G : Ground) (lines : List Line) → IsJournal h G lines → P (journal h lines)
 
 -- the header of the node that runs alone
-abbrev pub lone_header : Header
-lone_header = header.Script 1 ∷ header.Node 1 None ∷ []
+abbrev pub lone_header : List Line
+lone_header = line.Script 1 ∷ line.Node 1 None ∷ []
 
 -- its run, and the map that it shows at the end
 abbrev pub shown_run : List Line

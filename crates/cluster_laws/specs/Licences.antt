@@ -6,7 +6,7 @@ use Rattle.std.specs.Prelude.{◌≡◌, ℕ, ◌+◌, Bool, true, false, List, 
 use Rattle.conflict_order.specs.declared.version.Version.{Version}
 use Rattle.conflict_order.specs.Join.{AtMost}
 use Rattle.conflict_order.specs.Next.{next}
-use Rattle.conflict_order.specs.Records.{Record}
+use Rattle.conflict_order.specs.Contents.{Record, Write}
 use Rattle.cluster_types.specs.declared.cluster_key.ClusterKey.{ClusterKey}
 use Rattle.cluster_types.specs.declared.copy_state.CopyState.{CopyState}
 use Rattle.cluster_types.specs.declared.copy_state.CopyState.TheVariants.{Empty, Part, Whole}
@@ -14,14 +14,13 @@ use Rattle.cluster_types.specs.ClusterKeys.{key_lt}
 use Rattle.cluster_types.specs.Partitions.{partition_of}
 use Rattle.cluster_types.specs.Rows.{bit}
 use Rattle.cluster_types.specs.StateRows.{state_of}
+use Rattle.cluster_types.specs.Distinct.{contains}
 use Rattle.wire_messages.specs.declared.message.Batch.{Batch}
 use Rattle.wire_messages.specs.declared.message.Message.{Message}
 use Rattle.wire_messages.specs.declared.message.Message.TheVariants as message
 use Rattle.wire_messages.specs.Decoding.{message_of}
 use Rattle.journal_lines.specs.declared.line.Line.{Line}
 use Rattle.journal_lines.specs.declared.line.Line.TheVariants as line
-use Rattle.node_rules.specs.Tables.{contains}
-use Rattle.node_rules.specs.Transactions.{Write}
 use Rattle.cluster_laws.specs.Ground.{Ground, is_view_member, view_master, view_acting, is_view_replica, is_view_empty}
 use Rattle.cluster_laws.specs.Stay.{Versions, Running, Stay}
 use Rattle.cluster_laws.specs.Picture.{Packet, Owed, Picture}

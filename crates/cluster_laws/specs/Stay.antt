@@ -5,9 +5,8 @@
 -- the stay of its view's key.
 use Rattle.std.specs.Prelude.{ℕ, Bool, false, List, [], Option, None}
 use Rattle.conflict_order.specs.declared.version.Version.{Version}
-use Rattle.conflict_order.specs.Records.{Record}
+use Rattle.conflict_order.specs.Contents.{Record, Write}
 use Rattle.wire_messages.specs.declared.message.Batch.{Batch}
-use Rattle.node_rules.specs.Transactions.{Write}
 
 -- a version for each digest, or none
 abbrev pub Versions : Type 0

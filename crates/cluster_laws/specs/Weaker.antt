@@ -11,6 +11,7 @@ use Rattle.cluster_types.specs.declared.copy_state.CopyState.TheVariants.{Empty,
 use Rattle.cluster_types.specs.declared.member.Member.{Member}
 use Rattle.cluster_types.specs.Partitions.{partition_of}
 use Rattle.cluster_types.specs.StateRows.{state_of}
+use Rattle.cluster_types.specs.ClusterKeys.{same_key}
 use Rattle.wire_messages.specs.declared.message.Batch.{Batch}
 use Rattle.wire_messages.specs.declared.message.Message.{Message}
 use Rattle.wire_messages.specs.declared.message.Message.TheVariants as message
@@ -20,7 +21,6 @@ use Rattle.wire_messages.specs.Numbers.{byte_field, flag_field}
 use Rattle.wire_messages.specs.Spelling.{spelling}
 use Rattle.journal_lines.specs.declared.line.Line.{Line}
 use Rattle.journal_lines.specs.declared.line.Line.TheVariants as line
-use Rattle.node_rules.specs.Keys.{same_key}
 use Rattle.journal_readings.specs.Examples.{digest, second, key, version, one, two, both}
 use Rattle.cluster_laws.specs.Ground.{Ground, IsGround, view_master, view_acting, is_view_replica, is_view_empty}
 use Rattle.cluster_laws.specs.Stay.{Running}

@@ -1,5 +1,5 @@
 -- What of a node's facts says whom it sends to, and that each line and each message keeps it.
-use Rattle.std.proofs.Common.{◌≡◌, ℕ, zero, suc, ◌==◌, ◌⊎◌, inl, inr, ⊎_elim, Bool, true, false, cond, not, ◌&&◌, ◌||◌, List, [], ◌∷◌, ◌++◌, take, Option, Some, None, map, refl, sym, ap, subst, ◌∙◌, arith, if◌then◌else◌}
+use Rattle.std.proofs.Common.{◌≡◌, ℕ, zero, suc, ◌==◌, ◌⊎◌, inl, inr, ⊎_elim, Bool, true, false, cond, not, ◌&&◌, ◌||◌, List, [], ◌∷◌, ◌++◌, take, Option, Some, None, map, refl, sym, ap, subst, ◌∙◌, if◌then◌else◌}
 use Rattle.std.specs.Prelude.{find, filter}
 use Rattle.conflict_order.specs.declared.want.Want.{Want}
 use Rattle.cluster_types.specs.declared.cluster_key.ClusterKey.{ClusterKey}
@@ -25,26 +25,19 @@ use Rattle.node_rules.specs.Facts.{Facts, view_key, members_of_view, list_at}
 use Rattle.node_rules.specs.Map.{row_state_at, list_master}
 use Rattle.node_rules.specs.Notes.{note, reached, sent, in_view, target_for}
 use Rattle.node_rules.specs.Notes as notes
+use Rattle.node_rules.specs.Senders.{view_key_of}
 use Rattle.node_rules.specs.Standing.{others, other_replicas, asked, asked_by_known, knows_settled}
 use Rattle.node_rules.specs.Tables.{contains, changed_if}
 use Rattle.node_rules.specs.Transactions as transactions
 use Rattle.node_rules.specs.Transactions.{Transaction, Transactions}
-use Rattle.key_laws.specs.Addressed.{Addressed, GoesBetween}
+use Rattle.key_laws.specs.Addressed.{Addressed, AddressedIf, GoesBetween}
 use Rattle.key_laws.specs.Sound.{NodeKeys, ViewStands, Grows}
 use Rattle.key_laws.specs.Traced.{Traced}
 use Rattle.key_laws.proofs.Frames.{num_same, num_eq, num_differ, never}
+pub use Rattle.std.proofs.lemmas.Bool.{or_left, or_right}
+pub use Rattle.cluster_types.proofs.BoolFacts.{or_cases, and_left, and_right}
 
 -- ---- lists of nodes
-
-pub or_left : (a b : Bool) → a ≡ true → (a || b) ≡ true
-or_left a b e = grind arith
-
-pub or_right : (a b : Bool) → b ≡ true → (a || b) ≡ true
-or_right a b e = grind arith
-
-pub or_cases : (a b : Bool) → (a || b) ≡ true → (a ≡ true) ⊎ (b ≡ true)
-or_cases true b e = inl refl
-or_cases false b e = inr e
 
 pub differ : {A : Type 0} {b : Bool} → b ≡ true → b ≡ false → A
 differ p q = absurd (never p q)
@@ -105,14 +98,6 @@ in_filter test (x ∷ xs) n e = go (test x) refl (in_filter test xs n) e
         → (contains (x ∷ xs) n ≡ true) × (test n ≡ true)
     go true i rest z = ⊎_elim (λ q. (or_left (x == n) (contains xs n) q, subst (λ (m : ℕ). test m ≡ true) (num_same x n q) i)) (λ q. (or_right (x == n) (contains xs n) (rest q).0, (rest q).1)) (or_cases (x == n) (contains (filter test xs) n) z)
     go false i rest z = (or_right (x == n) (contains xs n) (rest z).0, (rest z).1)
-
-pub and_left : (a b : Bool) → (a && b) ≡ true → a ≡ true
-and_left true b e = refl
-and_left false b e = e
-
-pub and_right : (a b : Bool) → (a && b) ≡ true → b ≡ true
-and_right true b e = e
-and_right false b e = differ refl (sym e)
 
 -- ---- whom a request asks
 
@@ -182,16 +167,12 @@ pub record NodeGoes (t : Traced) (f : Facts) : Type 0 where
 pub addressed_grows : (t u : Traced) → Grows t u → (a b : ℕ) (k : ClusterKey) → Addressed t a b k → Addressed u a b k
 addressed_grows t u g a b k h = record { list = h.list; listed = g.lists k h.list h.listed; sender = h.sender; receiver = h.receiver; differ = h.differ }
 
+addressed_if_grows : (t u : Traced) → Grows t u → (a b : ℕ) (o : Option ClusterKey) → AddressedIf t a b o → AddressedIf u a b o
+addressed_if_grows t u g a b None h = h
+addressed_if_grows t u g a b (Some k) h = addressed_grows t u g a b k h
+
 pub goes_grows : (t u : Traced) → Grows t u → (a b : ℕ) (m : Message) → GoesBetween t a b m → GoesBetween u a b m
-goes_grows t u g a b (message.State k wants row) h = addressed_grows t u g a b k h
-goes_grows t u g a b (message.Batch x) h = addressed_grows t u g a b x.key h
-goes_grows t u g a b (message.BatchAck k number) h = addressed_grows t u g a b k h
-goes_grows t u g a b (message.Progress k wants done handed settled) h = addressed_grows t u g a b k h
-goes_grows t u g a b (message.Repl k number nth d v) h = addressed_grows t u g a b k h
-goes_grows t u g a b (message.ReplAck k number) h = addressed_grows t u g a b k h
-goes_grows t u g a b (message.Ask k number d) h = addressed_grows t u g a b k h
-goes_grows t u g a b (message.Answer k number v) h = addressed_grows t u g a b k h
-goes_grows t u g a b _ h = h
+goes_grows t u g a b m h = addressed_if_grows t u g a b (view_key_of m) h
 
 out_grows : (t u : Traced) → Grows t u → (a b : ℕ) (o : Option Batch) → OutGoes t a b o → OutGoes u a b o
 out_grows t u g a b None h = h
@@ -305,7 +286,7 @@ reached_goes t f from (message.Progress key wants done handed settled) h = go (i
     go false = h
 reached_goes t f from (message.Repl key number nth d v) h = go (in_view f key) (from == list_master (list_at f (partition_of d)))
   where
-    go : (b c : Bool) → NodeGoes t (notes.if_view b (notes.write_counted_if f key (list_at f (partition_of d)) (partition_of d) nth c) f)
+    go : (b c : Bool) → NodeGoes t (if b then notes.write_counted_if f key (list_at f (partition_of d)) (partition_of d) nth c else f)
     go true true = record { targets = h.targets; waits = h.waits }
     go true false = h
     go false c = h

@@ -1,6 +1,6 @@
 -- Steps that are allowed: their marks are licensed, and their messages of a view go between two members of it.
 use Rattle.std.proofs.Common.{◌≡◌, ℕ, ◌+◌, ◌-◌, ◌==◌, Bool, true, false, ◌&&◌, List, [], ◌∷◌, Option, Some, None, map, refl, sym, ap, subst, ◌∙◌, arith, ⊎_elim}
-use Rattle.std.specs.Prelude.{All, slice_get, length, nat_lt, IsTrue}
+use Rattle.std.specs.Prelude.{All, slice_get, length, nat_lt, IsTrue, if◌then◌else◌}
 use Rattle.std.specs.List.{range_with_len}
 use Rattle.conflict_order.specs.declared.want.Want.{Want}
 use Rattle.conflict_order.specs.declared.want.Want.TheVariants as want
@@ -22,23 +22,24 @@ use Rattle.node_rules.specs.Map.{entry_of}
 use Rattle.node_rules.specs.Messages.{due_message_of, client}
 use Rattle.node_rules.specs.Notes.{in_view}
 use Rattle.node_rules.specs.Requests.{due_request, due_stop, due_start, map_refusal}
+use Rattle.node_rules.specs.Senders.{view_key_of}
 use Rattle.node_rules.specs.Shows.{due_map, due_show, map_if, map_line}
 use Rattle.node_rules.specs.Tick.{tick_of}
 use Rattle.cluster_rules.specs.declared.event.Event.{Event}
 use Rattle.cluster_rules.specs.declared.event.Event.TheVariants as event
 use Rattle.cluster_rules.specs.Allowed.{AreAllowed, names_known, ends_calm}
-use Rattle.cluster_rules.specs.DueEvents.{due_of, due_at_named, due_at_client, due_at_end, due_arrival, arriving, arriving_cut, delivery, unless_blocked, is_blocked, losing, written}
+use Rattle.cluster_rules.specs.DueEvents.{due_of, due_at_named, due_at_client, due_arrival, arriving, delivery, is_blocked, losing, written}
 use Rattle.journal_readings.specs.Lines.{has_node}
 use Rattle.cluster_rules.specs.Marks as marks
 use Rattle.cluster_rules.specs.Marks.{Mark, Begins, Writes}
 use Rattle.journal_readings.specs.Messages.{Posting}
-use Rattle.cluster_rules.specs.Network.{Network, landed, flying_at, posting_if}
+use Rattle.cluster_rules.specs.Network.{Network, landed, flying_at}
 use Rattle.cluster_rules.specs.NodeSteps.{AreOf}
 use Rattle.cluster_rules.specs.Opening.{Header}
 use Rattle.cluster_rules.specs.Steps.{Step, marks_of, all_marks, AreDue}
 use Rattle.cluster_rules.specs.World.{World, opened}
 use Rattle.cluster_rules.proofs.OwnLines.{tick_own, message_own, request_own, stop_own, start_own}
-use Rattle.key_laws.specs.Addressed.{Addressed, GoesBetween, IsOther, ComesFromOther}
+use Rattle.key_laws.specs.Addressed.{Addressed, AddressedIf, GoesBetween, IsOther, IsOtherIf, ComesFromOther}
 use Rattle.key_laws.specs.Licences.{LicensedMarks}
 use Rattle.key_laws.specs.Sound.{Sound, NodeKeys, ViewStands}
 use Rattle.key_laws.specs.Traced.{Traced, facts_of, traced_after, traced_after_all, untouched}
@@ -52,6 +53,7 @@ use Rattle.key_laws.proofs.Order.{same_is}
 use Rattle.key_laws.proofs.Quiet.{writes}
 use Rattle.key_laws.proofs.Runs.{AreIds, declared_ids, marks_nodes, AllBegun, world_of, steps_ok, start}
 use Rattle.key_laws.proofs.Wire.{read_map_ask}
+use Rattle.journal_lines.specs.declared.line.Line.TheVariants as line
 
 -- ---- a node that ticks has an id
 
@@ -109,7 +111,7 @@ arriving_go n t w net p same s h posted = go (message_of p.bytes) refl
           between = subst (λ (a : ℕ). GoesBetween t p.from a m) (sym (s.nodes p.to).me) (h.sent posted.place p m posted.stands r);
         })))
 
-    at_end : (m : Message) → message_of p.bytes ≡ Some m → (b : Bool) → AllGo t (due_at_end n w net p m b)
+    at_end : (m : Message) → message_of p.bytes ≡ Some m → (b : Bool) → AllGo t (if b then due_at_client m else written net p.to (due_message_of n (w.facts p.to) (w.clocks p.to) p.from m))
     at_end m r true = client_go t m
     at_end m r false = subst (λ (fs : ℕ → Facts). AllGo t (written net p.to (due_message_of n (fs p.to) (w.clocks p.to) p.from m))) (sym same) (node m r)
 
@@ -123,7 +125,7 @@ no_some e = absurd (grind arith)
 delivery_go : (t : Traced) (w : World) (i : ℕ) (lines : Posting → List Line) → ((p : Posting) → flying_at w.network i ≡ Some p → AllGo t (lines p)) → AllGo t (delivery w i lines (flying_at w.network i))
 delivery_go t w i lines h = go (flying_at w.network i) refl
   where
-    unless : (p : Posting) → flying_at w.network i ≡ Some p → (b : Bool) → AllGo t (unless_blocked i lines p b)
+    unless : (p : Posting) → flying_at w.network i ≡ Some p → (b : Bool) → AllGo t (if b then line.Blocked i ∷ [] else lines p)
     unless p e true = (tt, tt)
     unless p e false = h p e
 
@@ -141,7 +143,7 @@ posted_in t u i p same e =
 went_to : (t u : Traced) (i : ℕ) (p : Posting) → u.world.network.sent ≡ t.world.network.sent → flying_at t.world.network i ≡ Some p → WentTo u i p.to
 went_to t u i p same e = record { posting = p; stands = go (nat_lt 0 i) (flying_posted t.world.network i p e); end = refl }
   where
-    go : (b : Bool) → posting_if t.world.network i b ≡ Some p → posting_if u.world.network i b ≡ Some p
+    go : (b : Bool) → (if b then slice_get t.world.network.sent (i - 1) else None) ≡ Some p → (if b then slice_get u.world.network.sent (i - 1) else None) ≡ Some p
     go true e = subst (λ (xs : List Posting). slice_get xs (i - 1) ≡ Some p) (sym same) e
     go false e = no_some e
 
@@ -195,7 +197,7 @@ event_go n t (event.Cut i size) s h = delivery_go u t.world i _ (λ p e. (went_t
     u : Traced
     u = traced_after t (Begins (event.Cut i size))
 
-    go : (p : Posting) → flying_at t.world.network i ≡ Some p → (b : Bool) → AllGo u (arriving_cut n t.world (landed t.world.network i) p b)
+    go : (p : Posting) → flying_at t.world.network i ≡ Some p → (b : Bool) → AllGo u (if b then line.Short p.to ∷ [] else arriving n t.world (landed t.world.network i) p)
     go p e true = (tt, tt)
     go p e false = arriving_go n u t.world (landed t.world.network i) p refl s h (posted_in t u i p refl e)
 event_go n t (event.Map node from to) s h =
@@ -281,16 +283,12 @@ at_receiver t f a n k h x e = record { member = go f.exchange.view h.view e; oth
         let same : x.list ≡ v.members = same_list x.list v.members (sym x.listed ∙ ap t.lists (sym key) ∙ i.list) in
         subst (λ (ms : List Member). IsTrue (is_member ms a)) same x.sender
 
+comes_if : (t : Traced) (f : Facts) (a n : ℕ) (o : Option ClusterKey) → NodeKeys t n f → AddressedIf t a n o → IsOtherIf f a o
+comes_if t f a n None h x = tt
+comes_if t f a n (Some k) h x = at_receiver t f a n k h x
+
 comes_from : (t : Traced) (f : Facts) (a n : ℕ) (m : Message) → NodeKeys t n f → GoesBetween t a n m → ComesFromOther f a m
-comes_from t f a n (message.State k wants row) h x = at_receiver t f a n k h x
-comes_from t f a n (message.Batch b) h x = at_receiver t f a n b.key h x
-comes_from t f a n (message.BatchAck k number) h x = at_receiver t f a n k h x
-comes_from t f a n (message.Progress k wants done handed settled) h x = at_receiver t f a n k h x
-comes_from t f a n (message.Repl k number nth d v) h x = at_receiver t f a n k h x
-comes_from t f a n (message.ReplAck k number) h x = at_receiver t f a n k h x
-comes_from t f a n (message.Ask k number d) h x = at_receiver t f a n k h x
-comes_from t f a n (message.Answer k number v) h x = at_receiver t f a n k h x
-comes_from t f a n _ h x = tt
+comes_from t f a n m h x = comes_if t f a n (view_key_of m) h x
 
 pub comes_from_other : (n : ℕ) (h : Header) (ss : List Step) → All IsProperHeaderLine h → AreAllowed n (opened h) ss → (i : ℕ) (p : Posting) (m : Message)
     → slice_get (marks.after_all (opened h) (all_marks ss)).network.sent i ≡ Some p → message_of p.bytes ≡ Some m

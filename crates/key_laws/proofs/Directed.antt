@@ -1,6 +1,6 @@
 -- Each message of a view that is sent goes between two members of it: at every mark, and what is due of every event.
 use Rattle.std.proofs.Common.{◌≡◌, ℕ, ◌==◌, ⊎_elim, Bool, true, false, List, [], ◌∷◌, ◌++◌, Option, Some, None, refl, sym, ap, subst, ◌∙◌, ◌-◌, arith}
-use Rattle.std.specs.Prelude.{slice_get, option_and_then, nat_lt}
+use Rattle.std.specs.Prelude.{slice_get, option_and_then, nat_lt, if◌then◌else◌}
 use Rattle.wire_messages.specs.declared.message.Message.{Message}
 use Rattle.wire_messages.specs.declared.message.Message.TheVariants as message
 use Rattle.wire_messages.specs.Decoding.{message_of}
@@ -11,9 +11,9 @@ use Rattle.node_rules.specs.Notes.{note, reached, sent}
 use Rattle.cluster_rules.specs.declared.event.Event.{Event}
 use Rattle.cluster_rules.specs.declared.event.Event.TheVariants as event
 use Rattle.cluster_rules.specs.Marks as marks
-use Rattle.cluster_rules.specs.Marks.{Mark, Begins, Writes}
+use Rattle.cluster_rules.specs.Marks.{Mark, Begins, Writes, came_to_client, came_to_node}
 use Rattle.journal_readings.specs.Messages.{Posting, Arrival, arrived, arrived_cut}
-use Rattle.cluster_rules.specs.Network.{posting, posting_at, posting_if}
+use Rattle.cluster_rules.specs.Network.{posting, posting_at}
 use Rattle.cluster_rules.specs.World.{changed_at}
 use Rattle.node_rules.specs.Messages.{client}
 use Rattle.key_laws.specs.Addressed.{GoesBetween}
@@ -56,7 +56,7 @@ LineGoes t _ = Unit {0}
 posting_stays : (t u : Traced) → Grows t u → (i : ℕ) (p : Posting) → posting_at t.world.network i ≡ Some p → posting_at u.world.network i ≡ Some p
 posting_stays t u g i p e = go (nat_lt 0 i) e
   where
-    go : (b : Bool) → posting_if t.world.network i b ≡ Some p → posting_if u.world.network i b ≡ Some p
+    go : (b : Bool) → (if b then slice_get t.world.network.sent (i - 1) else None) ≡ Some p → (if b then slice_get u.world.network.sent (i - 1) else None) ≡ Some p
     go true e = g.sent (i - 1) p e
     go false e = absurd (grind (arith, e))
 
@@ -106,7 +106,7 @@ arrived_goes t (Some x) u same g h = go (x.to == client) same
     at_client (message.MapTable table) same = beside t u g (ap (λ (v : Traced). v.world.facts) same) (ap (λ (v : Traced). v.world.network.sent) same) h
     at_client _ same = beside t u g (ap (λ (v : Traced). v.world.facts) same) (ap (λ (v : Traced). v.world.network.sent) same) h
 
-    go : (b : Bool) → u ≡ record { world = marks.came_to t.world x b; lists = t.lists; entered = t.entered } → Directed u
+    go : (b : Bool) → u ≡ record { world = (if b then came_to_client t.world x.message else came_to_node t.world x); lists = t.lists; entered = t.entered } → Directed u
     go true same = at_client x.message same
     go false same =
         one_node t u x.to (reached (facts_of t x.to) x.from x.message) g (ap (λ (v : Traced). v.world.facts) same) (ap (λ (v : Traced). v.world.network.sent) same) h

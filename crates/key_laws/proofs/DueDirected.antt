@@ -1,6 +1,6 @@
 -- What is due of every event sends each message of a view to another member of it.
 use Rattle.std.proofs.Common.{◌≡◌, ℕ, zero, suc, ◌+◌, ◌==◌, Bool, true, false, ◌&&◌, List, [], ◌∷◌, ◌++◌, Option, Some, None, map, refl, sym, ap, subst, ◌∙◌}
-use Rattle.std.specs.Prelude.{filter, filter_map, flat_map}
+use Rattle.std.specs.Prelude.{filter, filter_map, flat_map, if◌then◌else◌}
 use Rattle.std.specs.List.{cons_option}
 use Rattle.conflict_order.specs.declared.want.Want.{Want}
 use Rattle.conflict_order.specs.declared.want.Want.TheVariants as want
@@ -17,11 +17,11 @@ use Rattle.journal_lines.specs.declared.line.Line.{Line}
 use Rattle.journal_lines.specs.declared.line.Line.TheVariants as line
 use Rattle.journal_lines.specs.declared.refusal.Refusal.{Refusal}
 use Rattle.node_rules.specs.Agreement as agreement
-use Rattle.node_rules.specs.Agreement.{Proposal, enters_alone}
-use Rattle.node_rules.specs.Batches.{Target, Targets, next_batch, batch_after, fresh_batch}
+use Rattle.node_rules.specs.Agreement.{Proposal, enters_alone, next_key}
+use Rattle.node_rules.specs.Batches.{Target, Targets, next_batch, batch_after, fresh_batch, has_number, out_to}
 use Rattle.node_rules.specs.ByParts.{entered_alone, exchanged_if}
 use Rattle.node_rules.specs.Copies.{is_nil}
-use Rattle.node_rules.specs.Effects.{Effects, to_each}
+use Rattle.node_rules.specs.Effects.{Effects, to_each, lines_and_sends, lines_only, nothing, sends_only, to_one}
 use Rattle.node_rules.specs.Exchange.{Exchange, View, exchange_key, members_of, is_view}
 use Rattle.node_rules.specs.Facts.{Facts, view_key, members_of_view, list_at}
 use Rattle.node_rules.specs.Hearing.{heard_ids}
@@ -30,17 +30,17 @@ use Rattle.node_rules.specs.Messages as due
 use Rattle.node_rules.specs.Messages.{due_message_of}
 use Rattle.node_rules.specs.Notes as notes
 use Rattle.node_rules.specs.Notes.{noted, neighbours, after_ages, reached, in_view, opening_transaction}
-use Rattle.node_rules.specs.Requests.{due_request, due_stop, due_start, asking, request_if, request_refusal, stop_if, start_if}
-use Rattle.node_rules.specs.Resolving.{repl, resolving_want}
-use Rattle.node_rules.specs.Settling.{settling_due, hand, settle, learn, drop, settling_at, settling_from, settling_if}
-use Rattle.node_rules.specs.Standing.{others, other_replicas, asked}
+use Rattle.node_rules.specs.Requests.{due_request, due_stop, due_start, asking, request_if, request_refusal}
+use Rattle.node_rules.specs.Resolving.{repl, resolving_want, resolving}
+use Rattle.node_rules.specs.Settling.{settling_due, hand, settle, learn, drop, settling_at, settling_from}
+use Rattle.node_rules.specs.Standing.{others, other_replicas, asked, knows_all_settled}
 use Rattle.node_rules.specs.Tables.{contains, only_if}
 use Rattle.node_rules.specs.Tick as tick
-use Rattle.node_rules.specs.Tick.{tick_of, propose, is_candidate, state, progress_message}
-use Rattle.node_rules.specs.Transactions.{Transaction, Write, transaction, answered}
+use Rattle.node_rules.specs.Tick.{tick_of, propose, is_candidate, state, progress_message, parts, parts_in_order, proposal_effects}
+use Rattle.node_rules.specs.Transactions.{Transaction, Write, transaction, answered, is_last_awaited}
 use Rattle.node_rules.proofs.NoteLaws.{noted-append}
 use Rattle.node_rules.proofs.TickParts.{alone_is, among_others_is}
-use Rattle.cluster_rules.specs.DueEvents.{sent_lines, full_unless, one_more_if, written}
+use Rattle.cluster_rules.specs.DueEvents.{sent_lines, written}
 use Rattle.cluster_rules.specs.Network.{Network, has_place}
 use Rattle.cluster_rules.specs.NodeSteps.{IsOf, AreOf}
 use Rattle.cluster_rules.proofs.OwnLines.{noted_me}
@@ -54,6 +54,16 @@ use Rattle.key_laws.proofs.DueViews.{view_known, found_row}
 use Rattle.key_laws.proofs.Frames.{num_eq}
 use Rattle.key_laws.proofs.Order.{same_is}
 use Rattle.key_laws.proofs.Wire.{any_propose, any_commit, read_accept, read_refuse, read_batch, read_batch_ack, read_progress, read_repl, read_repl_ack, read_ask, read_answer, read_table, read_state, read_heartbeat}
+use Rattle.cluster_types.specs.Endpoints.{client}
+use Rattle.node_rules.specs.BatchMessages.{merging, merging_all}
+use Rattle.node_rules.specs.ClientMessages.{map_table}
+use Rattle.node_rules.specs.Entering.{closing, entering}
+use Rattle.node_rules.specs.RowMessages.{finishes}
+use Rattle.node_rules.specs.StaleMessages.{spent, stale}
+use Rattle.node_rules.specs.TransactionMessages.{ack_of, answer_of}
+use Rattle.node_rules.specs.VoteMessages.{commit_effects}
+use Rattle.std.specs.FinMap as finite
+use Rattle.node_rules.specs.Standing as standing
 
 -- ---- lines
 
@@ -86,7 +96,7 @@ sent_go : (t : Traced) (a sent flying : ℕ) (ms : List (ℕ × Message)) → Se
 sent_go t a sent flying [] h = tt
 sent_go t a sent flying (m ∷ ms) h = (h.0, go (has_place flying) (λ f. sent_go t a (sent + 1) f ms h.1))
   where
-    go : (b : Bool) → ((f : ℕ) → AllGo t (sent_lines a (sent + 1) f ms)) → AllGo t (full_unless (sent + 1) b ++ sent_lines a (sent + 1) (one_more_if flying b) ms)
+    go : (b : Bool) → ((f : ℕ) → AllGo t (sent_lines a (sent + 1) f ms)) → AllGo t ((if b then [] else line.Full (sent + 1) ∷ []) ++ sent_lines a (sent + 1) (if b then flying + 1 else flying) ms)
     go true rest = rest (flying + 1)
     go false rest = (tt, rest flying)
 
@@ -171,7 +181,7 @@ batches_from t f (x ∷ xs) h outs a = go (next_batch (view_key f) f.store.conte
 batches_go : (t : Traced) (f : Facts) → Knows t f → SendsGo t f.me (tick.batches f).sends
 batches_go t f h = batches_from t f f.batches h h.outs h.goes.targets
 
-progress_go : (t : Traced) (n : ℕ) (f : Facts) (me : ℕ) (b : Bool) → IsPromisedKey t (view_key f) → ((to : ℕ) → contains (others f) to ≡ true → Addressed t me to (view_key f)) → SendsGo t me (tick.progress_if n f b).sends
+progress_go : (t : Traced) (n : ℕ) (f : Facts) (me : ℕ) (b : Bool) → IsPromisedKey t (view_key f) → ((to : ℕ) → contains (others f) to ≡ true → Addressed t me to (view_key f)) → SendsGo t me (if b then sends_only (to_each (standing.others f) (progress_message n f true)) else nothing).sends
 progress_go t n f me true known h = each_goes t me _ (others f) (λ to e. progress_goes t n f me to true known (h to e))
 progress_go t n f me false known h = tt
 
@@ -188,7 +198,7 @@ propose_go t f = go f.agreement.proposal
     to [] = tt
     to (n ∷ ns) = proposals_go t f.me (agreement.next_key f.me f.agreement) (neighbours f) (n ∷ ns)
 
-    new : (b : Bool) → SendsGo t f.me (tick.propose_new f b).sends
+    new : (b : Bool) → SendsGo t f.me (if b then proposal_effects f (next_key f.me f.agreement) (neighbours f) (agreement.others_among f.me (neighbours f)) else nothing).sends
     new true = to (agreement.others_among f.me (neighbours f))
     new false = tt
 
@@ -227,7 +237,7 @@ alone_now f set e = no_node (agreement.others_among f.me set) (and_right (agreem
 abbrev pub later : ℕ → Facts → Facts → List (ℕ × Message)
 later n g i = (tick.rows g).sends ++ ((tick.transactions g).sends ++ ((tick.batches g).sends ++ ((tick.progress n i).sends ++ [])))
 
-progress_none : (n : ℕ) (f : Facts) (b : Bool) → others f ≡ [] → (tick.progress_if n f b).sends ≡ []
+progress_none : (n : ℕ) (f : Facts) (b : Bool) → others f ≡ [] → (if b then sends_only (to_each (standing.others f) (progress_message n f true)) else nothing).sends ≡ []
 progress_none n f true e = ap (λ ns. to_each ns (progress_message n f true)) e
 progress_none n f false e = refl
 
@@ -266,7 +276,7 @@ settling_view (suc n) p f =
     ∙ settling_view n (p + 1) g
     ∙ settling_at_view (list_at f p) p f
 
-pub settled_view : (n : ℕ) (f : Facts) (b : Bool) → (noted None f (settling_if n f b)).exchange ≡ f.exchange
+pub settled_view : (n : ℕ) (f : Facts) (b : Bool) → (noted None f (if b then settling_from n 0 f else [])).exchange ≡ f.exchange
 settled_view n f true = settling_view n 0 f
 settled_view n f false = refl
 
@@ -309,7 +319,7 @@ tick_parts_go t n f h promised = sends_append t f.me _ _ (beat_go t f h promised
 pub tick_go : (t : Traced) (n : ℕ) (f : Facts) → NodeKeys t f.me f → NodeGoes t f → SendsGo t f.me (tick_of n f).sends
 tick_go t n f keys goes = go f.up
   where
-    go : (b : Bool) → SendsGo t f.me (tick.tick_if n f b).sends
+    go : (b : Bool) → SendsGo t f.me (if b then parts_in_order (parts n) f else lines_only (line.Down f.me ∷ [])).sends
     go true =
         let h : Knows t f = knows_of t f keys goes in
         tick_parts_go t n (after_ages f) (record { view = h.view; outs = h.outs; rows = h.rows; others = h.others; goes = record { targets = h.goes.targets; waits = h.goes.waits } }) keys.agrees.promised
@@ -357,12 +367,12 @@ message_go n t f clock from (message.Propose k ms) c = go (keys.key_lt k f.agree
     known : IsPromisedKey t k
     known = (c.sound.lists k ms c.says.1).known
 
-    go : (b : Bool) → SendsGo t f.me (due.vote_effects f from k b).sends
+    go : (b : Bool) → SendsGo t f.me (if b then sends_only (to_one from (message.Refuse k f.agreement.promised)) else lines_and_sends (only_if (line.Promise f.me k) (keys.key_lt f.agreement.promised k)) (to_one from (message.Accept k))).sends
     go true = (refuse_goes t f.me from k f.agreement.promised known c.keys.agrees.promised, tt)
     go false = (accept_goes t f.me from k known, tt)
 message_go n t f clock from (message.Accept k) c = go f.agreement.proposal (agreement.proposes f.agreement.proposal k)
   where
-    deep : (p : Proposal) (b : Bool) → SendsGo t f.me (due.commit_effects f p b).sends
+    deep : (p : Proposal) (b : Bool) → SendsGo t f.me (if b then commit_effects f p else nothing).sends
     deep p true = commits_go t f.me p.key p.members (agreement.others_among f.me p.members)
     deep p false = tt
 
@@ -372,35 +382,35 @@ message_go n t f clock from (message.Accept k) c = go f.agreement.proposal (agre
     go None b = tt
 message_go n t f clock from (message.Refuse k promised) c = go (agreement.proposes f.agreement.proposal k)
   where
-    go : (b : Bool) → SendsGo t f.me (due.unless_stale f b).sends
+    go : (b : Bool) → SendsGo t f.me (if b then nothing else stale f).sends
     go true = tt
     go false = tt
 message_go n t f clock from (message.Commit k ms) c = go (due.may_enter_view f k ms)
   where
-    go : (b : Bool) → SendsGo t f.me (due.entry_effects_if f k ms b).sends
+    go : (b : Bool) → SendsGo t f.me (if b then lines_only (entering f k ms) else stale f).sends
     go true = tt
     go false = tt
 message_go n t f clock from (message.State k wants row) c = go (in_view f k) refl
   where
-    answer : (b : Bool) → in_view f k ≡ true → SendsGo t f.me (due.answer_state f from b)
+    answer : (b : Bool) → in_view f k ≡ true → SendsGo t f.me (if b then to_one from (state f false) else [])
     answer true e = (state_goes t f from false (knows t f from (message.State k wants row) c) (subst (λ q. Addressed t f.me from q) (sym (view_is f k e)) (back t from f.me k c.between)), tt)
     answer false e = tt
 
-    go : (b : Bool) → in_view f k ≡ b → SendsGo t f.me (due.state_came f (reached f from (message.State k wants row)) from wants b).sends
+    go : (b : Bool) → in_view f k ≡ b → SendsGo t f.me (if b then lines_and_sends (only_if (line.Exchanged f.me (view_key f)) (finishes f (reached f from (message.State k wants row)))) (if wants then to_one from (state f false) else []) else stale f).sends
     go true e = answer wants e
     go false e = tt
 message_go n t f clock from (message.Batch b) c = go (in_view f b.key)
   where
-    go : (x : Bool) → SendsGo t f.me (due.batch_came f from b x).sends
+    go : (x : Bool) → SendsGo t f.me (if x then lines_and_sends (merging_all f b.records) (to_one from (message.BatchAck b.key b.number)) else stale f).sends
     go true = (read_batch_ack (λ x. GoesBetween t f.me from x) b.key b.number c.says.field (λ i. back t from f.me b.key c.between), tt)
     go false = tt
 message_go n t f clock from (message.BatchAck k number) c = go (in_view f k)
   where
-    deep : (b : Bool) → SendsGo t f.me (due.unless_spent f b).sends
+    deep : (b : Bool) → SendsGo t f.me (if b then nothing else spent f).sends
     deep true = tt
     deep false = tt
 
-    go : (b : Bool) → SendsGo t f.me (due.batch_ack_came f from number b).sends
+    go : (b : Bool) → SendsGo t f.me (if b then (if has_number (out_to f.batches from) number then nothing else spent f) else stale f).sends
     go true = deep _
     go false = tt
 message_go n t f clock from (message.Progress k wants done handed settled) c = go (in_view f k) refl
@@ -412,21 +422,21 @@ message_go n t f clock from (message.Progress k wants done handed settled) c = g
     same true = refl
     same false = refl
 
-    answer : (b : Bool) → view_key f ≡ k → SendsGo t f.me (due.answer_progress n now from b).sends
+    answer : (b : Bool) → view_key f ≡ k → SendsGo t f.me (if b then sends_only (to_one from (progress_message n now false)) else nothing).sends
     answer true e = (progress_goes t n now f.me from false (subst (λ q. IsPromisedKey t q) (sym (same (in_view f k) ∙ e)) c.says) (subst (λ q. Addressed t f.me from q) (sym (same (in_view f k) ∙ e)) (back t from f.me k c.between)), tt)
     answer false e = tt
 
-    go : (b : Bool) → in_view f k ≡ b → SendsGo t f.me (due.progress_effects_if n f now from wants b).sends
+    go : (b : Bool) → in_view f k ≡ b → SendsGo t f.me (if b then (if wants && knows_all_settled now n 0 then sends_only (to_one from (progress_message n now false)) else nothing) else stale f).sends
     go true e = answer _ (view_is f k e)
     go false e = tt
 message_go n t f clock from (message.Repl k number nth d v) c = go (in_view f k)
   where
-    go : (b : Bool) → SendsGo t f.me (due.repl_came f from k number d v b).sends
+    go : (b : Bool) → SendsGo t f.me (if b then lines_and_sends (merging f d v) (to_one from (message.ReplAck k number)) else stale f).sends
     go true = (read_repl_ack (λ x. GoesBetween t f.me from x) k number c.says.field (λ i. back t from f.me k c.between), tt)
     go false = tt
 message_go n t f clock from (message.ReplAck k number) c = go (in_view f k)
   where
-    deep : (x : Transaction) (b : Bool) → SendsGo t f.me (due.done_by f x from b).sends
+    deep : (x : Transaction) (b : Bool) → SendsGo t f.me (if b then lines_only (only_if (line.Done f.me (view_key f) x.number) (is_last_awaited x from)) else spent f).sends
     deep x true = tt
     deep x false = tt
 
@@ -434,21 +444,21 @@ message_go n t f clock from (message.ReplAck k number) c = go (in_view f k)
     ack None = tt
     ack (Some x) = deep x (Rattle.node_rules.specs.Transactions.awaits_ack x from)
 
-    go : (b : Bool) → SendsGo t f.me (due.repl_ack_came f from number b).sends
+    go : (b : Bool) → SendsGo t f.me (if b then ack_of f from (transaction f.transactions number) else stale f).sends
     go true = ack (transaction f.transactions number)
     go false = tt
 message_go n t f clock from (message.Ask k number d) c = go (in_view f k)
   where
-    go : (b : Bool) → SendsGo t f.me (due.ask_came f from k number d b).sends
+    go : (b : Bool) → SendsGo t f.me (if b then sends_only (to_one from (message.Answer k number (finite.get f.store.content d))) else stale f).sends
     go true = (read_answer (λ x. GoesBetween t f.me from x) k number _ c.says.field (λ i w. back t from f.me k c.between), tt)
     go false = tt
 message_go n t f clock from (message.Answer k number v) c = go (in_view f k)
   where
-    last : (x : Transaction) (b : Bool) → SendsGo t f.me (due.resolving_if f clock x b).sends
+    last : (x : Transaction) (b : Bool) → SendsGo t f.me (if b then resolving f clock (list_at f (partition_of x.digest)) x else nothing).sends
     last x true = resolving_go t f clock x x.want (knows t f from (message.Answer k number v) c)
     last x false = tt
 
-    deep : (x : Transaction) (b : Bool) → SendsGo t f.me (due.answered_by f clock x from v b).sends
+    deep : (x : Transaction) (b : Bool) → SendsGo t f.me (if b then (if is_last_awaited x from then resolving f clock (list_at f (partition_of (answered f.store.by from v x).digest)) (answered f.store.by from v x) else nothing) else spent f).sends
     deep x true = last (answered f.store.by from v x) (Rattle.node_rules.specs.Transactions.is_last_awaited x from)
     deep x false = tt
 
@@ -456,12 +466,12 @@ message_go n t f clock from (message.Answer k number v) c = go (in_view f k)
     answer None = tt
     answer (Some x) = deep x (Rattle.node_rules.specs.Transactions.awaits_answer x from)
 
-    go : (b : Bool) → SendsGo t f.me (due.answer_effects_if f clock from number v b).sends
+    go : (b : Bool) → SendsGo t f.me (if b then answer_of f clock from v (transaction f.transactions number) else stale f).sends
     go true = answer (transaction f.transactions number)
     go false = tt
 message_go n t f clock from message.MapAsk c = go f.exchange.exchanged
   where
-    go : (b : Bool) → SendsGo t f.me (due.table_if f b).sends
+    go : (b : Bool) → SendsGo t f.me (if b then sends_only (to_one client (message.MapTable (map_table f))) else nothing).sends
     go true = (read_table (λ x. GoesBetween t f.me due.client x) (due.map_table f) (view_known t f.me f c.keys).field (λ y e. tt), tt)
     go false = tt
 message_go n t f clock from _ c = tt
@@ -488,13 +498,13 @@ request_go t f clock d w keys goes = go (request_refusal f (list_at f (partition
 pub stop_go : (t : Traced) (a : ℕ) (f : Facts) → SendsGo t a (due_stop f).sends
 stop_go t a f = go f.up
   where
-    go : (b : Bool) → SendsGo t a (stop_if f b).sends
+    go : (b : Bool) → SendsGo t a (if b then lines_only (closing f ++ line.Stop f.me ∷ []) else lines_only (line.Down f.me ∷ [])).sends
     go true = tt
     go false = tt
 
 pub start_go : (t : Traced) (a : ℕ) (f : Facts) → SendsGo t a (due_start f).sends
 start_go t a f = go f.up
   where
-    go : (b : Bool) → SendsGo t a (start_if f b).sends
+    go : (b : Bool) → SendsGo t a (if b then lines_only (line.Up f.me ∷ []) else lines_only (line.Start f.me ∷ [])).sends
     go true = tt
     go false = tt

@@ -1,6 +1,6 @@
 -- What is due of every event may stand.
 use Rattle.std.proofs.Common.{◌≡◌, ℕ, ◌+◌, ◌==◌, nat_lt, nat_le, Bool, true, false, List, [], ◌∷◌, map, length, Option, Some, None, refl, sym, subst, arith, if◌then◌else◌}
-use Rattle.std.specs.Prelude.{option_and_then, option_map}
+use Rattle.std.specs.Prelude.{option_and_then, option_map, slice_get, ◌++◌, ◌-◌}
 use Rattle.std.proofs.lemmas.Bool.Decides.{nat_tests}
 use Rattle.conflict_order.specs.declared.want.Want.{Want}
 use Rattle.conflict_order.specs.declared.want.Want.TheVariants as want
@@ -11,23 +11,23 @@ use Rattle.wire_messages.specs.Nodes.{IsId}
 use Rattle.journal_lines.specs.declared.line.Line.{Line}
 use Rattle.journal_lines.specs.declared.line.Line.TheVariants as line
 use Rattle.journal_lines.specs.declared.refusal.Refusal.{Refusal}
-use Rattle.node_rules.specs.Effects.{sends_only, to_one}
+use Rattle.node_rules.specs.Effects.{sends_only, to_one, lines_only}
 use Rattle.node_rules.specs.Entering.{closing}
 use Rattle.node_rules.specs.Facts.{Facts, view_key, list_at}
 use Rattle.node_rules.specs.Map.{entry_of}
 use Rattle.node_rules.specs.Messages.{due_message_of, client}
 use Rattle.node_rules.specs.Notes.{reached, opening_transaction}
-use Rattle.node_rules.specs.Requests.{map_refusal, request_refusal, asking, opening_effects, request_if, due_request, stop_if, start_if, view_refusal, up_refusal, refusal_after}
+use Rattle.node_rules.specs.Requests.{map_refusal, request_refusal, asking, opening_effects, request_if, due_request, view_refusal, refusal_after}
 use Rattle.node_rules.specs.Shows.{map_line, map_if, due_map, due_show}
 use Rattle.node_rules.specs.Tick.{tick_of}
 use Rattle.node_rules.specs.Transactions.{Transaction}
 use Rattle.cluster_rules.specs.declared.event.Event.{Event}
 use Rattle.cluster_rules.specs.declared.event.Event.TheVariants as event
-use Rattle.cluster_rules.specs.DueEvents.{written, due_at_named, due_at_client, due_at_end, due_arrival, arriving, arriving_cut, unless_blocked, is_blocked, delivery, losing, due_of}
-use Rattle.cluster_rules.specs.Marks.{Begins, came_to}
+use Rattle.cluster_rules.specs.DueEvents.{written, due_at_named, due_at_client, due_arrival, arriving, is_blocked, delivery, losing, due_of}
+use Rattle.cluster_rules.specs.Marks.{Begins, came_to_client, came_to_node}
 use Rattle.journal_readings.specs.Messages.{Posting, Arrival, arrived, arrived_cut}
 use Rattle.node_rules.specs.Client.{node_for}
-use Rattle.cluster_rules.specs.Network.{Network, posting_at, posting_if, flying_at, flying_if, is_flying, landed}
+use Rattle.cluster_rules.specs.Network.{Network, posting_at, flying_at, is_flying, landed}
 use Rattle.cluster_rules.specs.World.{World}
 use Rattle.cluster_types.specs.Partitions.{partition_of}
 use Rattle.node_rules.specs.Exchange.{View}
@@ -42,6 +42,7 @@ use Rattle.key_laws.proofs.Quiet.{writes, licensed_both, QuietLines, Calmly, qui
 use Rattle.key_laws.proofs.DueViews.{view_known, ask_posts, view_visited, closing_quiet}
 use Rattle.key_laws.proofs.DueTick.{tick_ok}
 use Rattle.key_laws.proofs.DueMessages.{resolving_quiet, message_ok}
+use Rattle.journal_lines.specs.declared.refusal.Refusal.TheVariants as refusal
 
 -- ---- requests
 
@@ -69,7 +70,7 @@ mapped t f h e = up f.up e
     view None s i = some _ i
     view (Some v) s i = view_visited t f.me f v h s
 
-    up : (b : Bool) → up_refusal f b ≡ None → Visited t f.me (view_key f)
+    up : (b : Bool) → (if b then view_refusal f f.exchange.view else Some refusal.Down) ≡ None → Visited t f.me (view_key f)
     up true i = view f.exchange.view refl i
     up false i = some _ i
 
@@ -88,13 +89,13 @@ request_quiet t n f clock d w h = request_if_quiet t n f clock (list_at f (parti
 
 -- ---- a stop, a start, and what is shown
 
-stop_ok : (t : Traced) (n : ℕ) (net : Network) (f : Facts) (b : Bool) → Sound t → IsPromisedKey t (view_key f) → LicensedMarks t (writes (written net n (stop_if f b)))
+stop_ok : (t : Traced) (n : ℕ) (net : Network) (f : Facts) (b : Bool) → Sound t → IsPromisedKey t (view_key f) → LicensedMarks t (writes (written net n (if b then lines_only (closing f ++ line.Stop f.me ∷ []) else lines_only (line.Down f.me ∷ []))))
 stop_ok t n net f true s h =
     let c : Calmly t (closing f) = quietly t (closing f) s (closing_quiet t f h) in
-    written_ok t n net (stop_if f true) (licensed_both t (closing f) (line.Stop f.me ∷ []) c.ok (tt, tt)) s tt
-stop_ok t n net f false s h = quiet_ok t n net (stop_if f false) s (record { lines = (tt, tt); posts = tt })
+    written_ok t n net (if true then lines_only (closing f ++ line.Stop f.me ∷ []) else lines_only (line.Down f.me ∷ [])) (licensed_both t (closing f) (line.Stop f.me ∷ []) c.ok (tt, tt)) s tt
+stop_ok t n net f false s h = quiet_ok t n net (if false then lines_only (closing f ++ line.Stop f.me ∷ []) else lines_only (line.Down f.me ∷ [])) s (record { lines = (tt, tt); posts = tt })
 
-start_quiet : (t : Traced) (n : ℕ) (f : Facts) (b : Bool) → Quiet t n (start_if f b)
+start_quiet : (t : Traced) (n : ℕ) (f : Facts) (b : Bool) → Quiet t n (if b then lines_only (line.Up f.me ∷ []) else lines_only (line.Start f.me ∷ []))
 start_quiet t n f true = record { lines = (tt, tt); posts = tt }
 start_quiet t n f false = record { lines = (tt, tt); posts = tt }
 
@@ -108,19 +109,19 @@ map_quiet t f from to None h = map_from t f _ (h refl)
 
 -- ---- arrivals
 
-client_ok : (t : Traced) (x : Arrival) → Says t x.from x.message → Sound t → LicensedMarks (record { world = came_to t.world x true; lists = t.lists; entered = t.entered }) (writes (due_at_client x.message))
+client_ok : (t : Traced) (x : Arrival) → Says t x.from x.message → Sound t → LicensedMarks (record { world = came_to_client t.world x.message; lists = t.lists; entered = t.entered }) (writes (due_at_client x.message))
 client_ok t x says s = go x.from x.message says
   where
-    go : (from : ℕ) (m : Message) → Says t from m → LicensedMarks (record { world = came_to t.world (record { from = from; to = x.to; message = m }) true; lists = t.lists; entered = t.entered }) (writes (due_at_client m))
+    go : (from : ℕ) (m : Message) → Says t from m → LicensedMarks (record { world = came_to_client t.world m; lists = t.lists; entered = t.entered }) (writes (due_at_client m))
     go from (message.MapTable table) says = (record { bound = says.bound; field = says.field }, tt)
     go from _ says = (tt, tt)
 
 node_ok : (n : ℕ) (t : Traced) (net : Network) (clock : ℕ) (p : Posting) (m : Message) → Sound t → WasPosted t p → message_of p.bytes ≡ Some m
-    → LicensedMarks (record { world = came_to t.world (record { from = p.from; to = p.to; message = m }) false; lists = t.lists; entered = t.entered }) (writes (written net p.to (due_message_of n (facts_of t p.to) clock p.from m)))
+    → LicensedMarks (record { world = came_to_node t.world (record { from = p.from; to = p.to; message = m }); lists = t.lists; entered = t.entered }) (writes (written net p.to (due_message_of n (facts_of t p.to) clock p.from m)))
 node_ok n t net clock p m s posted e =
     let f : Facts = facts_of t p.to in
     let x : Arrival = record { from = p.from; to = p.to; message = m } in
-    let u : Traced = record { world = came_to t.world x false; lists = t.lists; entered = t.entered } in
+    let u : Traced = record { world = came_to_node t.world x; lists = t.lists; entered = t.entered } in
     let says : Says t p.from m = s.sent posted.place p m posted.stands e in
     let k : Keeps t u = kept_node t x says s in
     let me : f.me ≡ p.to = (s.nodes p.to).me in
@@ -142,7 +143,7 @@ arrival_ok n t e net p s posted = go (message_of p.bytes) refl
     u = traced_after t (Begins e)
 
     at_end : (m : Message) → message_of p.bytes ≡ Some m → (b : Bool)
-        → LicensedMarks (record { world = came_to u.world (record { from = p.from; to = p.to; message = m }) b; lists = u.lists; entered = u.entered }) (writes (due_at_end n t.world net p m b))
+        → LicensedMarks (record { world = (if b then came_to_client u.world m else came_to_node u.world (record { from = p.from; to = p.to; message = m })); lists = u.lists; entered = u.entered }) (writes (if b then due_at_client m else written net p.to (due_message_of n (t.world.facts p.to) (t.world.clocks p.to) p.from m)))
     at_end m r true = client_ok u (record { from = p.from; to = p.to; message = m }) (s.sent posted.place p m posted.stands r) s
     at_end m r false = node_ok n u net (t.world.clocks p.to) p m s posted r
 
@@ -153,14 +154,14 @@ arrival_ok n t e net p s posted = go (message_of p.bytes) refl
 pub flying_posted : (net : Network) (i : ℕ) (p : Posting) → flying_at net i ≡ Some p → posting_at net i ≡ Some p
 flying_posted net i p e = go (is_flying net i) e
   where
-    go : (b : Bool) → flying_if net i b ≡ Some p → posting_at net i ≡ Some p
+    go : (b : Bool) → (if b then posting_at net i else None) ≡ Some p → posting_at net i ≡ Some p
     go true e = e
     go false e = absurd (grind arith)
 
 landed_posted : (net : Network) (i : ℕ) (p : Posting) → posting_at net i ≡ Some p → posting_at (landed net i) i ≡ Some p
 landed_posted net i p e = go (nat_lt 0 i) e
   where
-    go : (b : Bool) → posting_if net i b ≡ Some p → posting_if (landed net i) i b ≡ Some p
+    go : (b : Bool) → (if b then slice_get net.sent (i - 1) else None) ≡ Some p → (if b then slice_get (landed net i).sent (i - 1) else None) ≡ Some p
     go true e = e
     go false e = e
 
@@ -172,7 +173,7 @@ came_at u b i p ls e h = subst (λ o. LicensedMarks (arrived_in u (b o)) (writes
 delivery_ok : (t u : Traced) (i : ℕ) (lines : Posting → List Line) → ((p : Posting) → posting_at t.world.network i ≡ Some p → LicensedMarks u (writes (lines p))) → LicensedMarks u (writes (delivery t.world i lines (flying_at t.world.network i)))
 delivery_ok t u i lines h = go (flying_at t.world.network i) refl
   where
-    blocked : (p : Posting) → posting_at t.world.network i ≡ Some p → (b : Bool) → LicensedMarks u (writes (unless_blocked i lines p b))
+    blocked : (p : Posting) → posting_at t.world.network i ≡ Some p → (b : Bool) → LicensedMarks u (writes (if b then line.Blocked i ∷ [] else lines p))
     blocked p e true = (tt, tt)
     blocked p e false = h p e
 
@@ -202,7 +203,7 @@ cut_ok n t i size s = delivery_ok t u i _ (λ p e. (tt, came_at u (option_and_th
     u = traced_after t (Begins (event.Cut i size))
 
     whole : (p : Posting) → posting_at t.world.network i ≡ Some p → (b : Bool) → nat_lt size (length p.bytes) ≡ b
-        → LicensedMarks (arrived_in u (arrived_cut p.to size p)) (writes (arriving_cut n t.world (landed t.world.network i) p b))
+        → LicensedMarks (arrived_in u (arrived_cut p.to size p)) (writes (if b then line.Short p.to ∷ [] else arriving n t.world (landed t.world.network i) p))
     whole p e true short = (tt, tt)
     whole p e false long =
         subst (λ c. LicensedMarks (arrived_in u (if c then arrived p.to p else None)) (writes (arriving n t.world (landed t.world.network i) p))) (sym (long_enough size (length p.bytes) long))

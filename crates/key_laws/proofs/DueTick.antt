@@ -1,5 +1,5 @@
 -- What is due of a tick may stand.
-use Rattle.std.proofs.Common.{◌≡◌, ℕ, ◌+◌, ◌<◌, ◌^◌, ◌&&◌, nat_lt, Bool, true, false, List, [], ◌∷◌, ◌++◌, Option, Some, None, refl, sym, ap, subst, ◌∙◌, arith, inl}
+use Rattle.std.proofs.Common.{◌≡◌, ℕ, ◌+◌, ◌<◌, ◌^◌, ◌&&◌, nat_lt, Bool, true, false, List, [], ◌∷◌, ◌++◌, Option, Some, None, refl, sym, ap, subst, ◌∙◌, arith, inl, if◌then◌else◌}
 use Rattle.std.proofs.lemmas.Bool.Decides.{nat_tests}
 use Rattle.conflict_order.specs.declared.want.Want.{Want}
 use Rattle.cluster_types.specs.declared.cluster_key.ClusterKey.{ClusterKey}
@@ -13,8 +13,8 @@ use Rattle.journal_lines.specs.declared.line.Line.{Line}
 use Rattle.journal_lines.specs.declared.line.Line.TheVariants as line
 use Rattle.node_rules.specs.Agreement as agreement
 use Rattle.node_rules.specs.Agreement.{Agreement, Proposal, next_key, has_round, seen_round}
-use Rattle.node_rules.specs.Effects.{Effects, nothing}
-use Rattle.node_rules.specs.Entering.{closing, exchanging, entering}
+use Rattle.node_rules.specs.Effects.{Effects, nothing, lines_only, sends_only, to_each}
+use Rattle.node_rules.specs.Entering.{closing, entering}
 use Rattle.cluster_types.specs.Partitions.{partition_count}
 use Rattle.node_rules.specs.Copies.{Store}
 use Rattle.node_rules.specs.Exchange.{is_single}
@@ -23,12 +23,12 @@ use Rattle.node_rules.specs.Hearing.{heard_ids}
 use Rattle.node_rules.specs.Notes.{note, noted, neighbours, after_ages}
 use Rattle.node_rules.specs.Settling.{settling_due}
 use Rattle.node_rules.specs.Standing.{others}
-use Rattle.node_rules.specs.Tick.{parts, parts_in_order, propose_again, proposal_effects, propose_new, propose_with, propose, is_candidate, beat, rows, transactions, batches, progress, progress_if, tick_if, tick_of, settlings}
+use Rattle.node_rules.specs.Tick.{parts, parts_in_order, propose_again, proposal_effects, propose_with, propose, is_candidate, beat, rows, transactions, batches, progress, tick_of, settlings, progress_message}
 use Rattle.cluster_rules.specs.DueEvents.{written}
 use Rattle.cluster_rules.specs.Marks.{Writes}
 use Rattle.cluster_rules.specs.Network.{Network}
 use Rattle.key_laws.specs.Order.{KeyAtMost}
-use Rattle.key_laws.specs.Traced.{Traced, facts_of, traced_after, traced_after_all, promised_by, listed_if}
+use Rattle.key_laws.specs.Traced.{Traced, facts_of, traced_after, traced_after_all, with_list}
 use Rattle.key_laws.specs.Licences.{IsPromisedKey, Says, MaySendKey, MayPromise, LicensedMarks}
 use Rattle.key_laws.proofs.Order.{at_most_below, below_next, same_self}
 use Rattle.key_laws.specs.Sound.{GoodList, Proposed, ProposalStands, Outs, RowsKnown, StampsKnown, NodeKeys, Listed, Sound, Grows}
@@ -39,6 +39,7 @@ use Rattle.key_laws.proofs.Kept.{Keeps, kept_line, kept_all, outs_new}
 use Rattle.key_laws.proofs.Wire.{read_heartbeat, read_propose}
 use Rattle.key_laws.proofs.Quiet.{writes, licensed_both, after_both, QuietLines, quiet_append, Calmly, quietly, MayPost, Posts, posts_of, each_posts, posts_append, posts_stay, same_of, written_ok}
 use Rattle.key_laws.proofs.DueViews.{view_known, all_view_stays, settling_of_view, closed_store, promised_known, entering_ok, transactions_posts, batches_posts, rows_posts, progress_if_posts, settling_quiet, closed_me, entering_visits}
+use Rattle.node_rules.specs.Tables.{only_if}
 
 -- ---- a proposal
 
@@ -107,25 +108,25 @@ promised_next t f s here id round =
       keeps = kept_line t l ok s;
       promised = at_here t.world.facts f.me f.me _ refl (λ (g : Facts). k ≡ g.agreement.promised) refl;
       above = at_here t.world.facts f.me f.me _ refl (λ (g : Facts). IsBelow g.agreement.last k) (at_most_below ordered ok.above);
-      list = subst (λ b. promised_by t.lists k (neighbours (facts_of t f.me)) b k ≡ Some (neighbours f)) (sym (num_eq f.me f.me refl))
-          (ap (λ b. listed_if k (neighbours (facts_of t f.me)) (t.lists k) b) (same_self k) ∙ ap (λ (g : Facts). Some (neighbours g)) here);
+      list = subst (λ b. (if b then with_list t.lists k (neighbours (facts_of t f.me)) else t.lists) k ≡ Some (neighbours f)) (sym (num_eq f.me f.me refl))
+          (ap (λ b. (if b then Some (neighbours (facts_of t f.me)) else t.lists k)) (same_self k) ∙ ap (λ (g : Facts). Some (neighbours g)) here);
     }
 
 -- the facts after an entry
-entered_known : (t : Traced) (g : Facts) (n : ℕ) (k : ClusterKey) (ms : List Member) (b : Bool) → IsPromisedKey t k → IsPromisedKey t (view_key (noted None (note None g (line.Enter n k ms)) (exchanging n k b)))
+entered_known : (t : Traced) (g : Facts) (n : ℕ) (k : ClusterKey) (ms : List Member) (b : Bool) → IsPromisedKey t k → IsPromisedKey t (view_key (noted None (note None g (line.Enter n k ms)) (only_if (line.Exchanged n k) b)))
 entered_known t g n k ms true h = h
 entered_known t g n k ms false h = h
 
-entered_outs : (t : Traced) (g : Facts) (n : ℕ) (k : ClusterKey) (ms : List Member) (b : Bool) → Outs t (noted None (note None g (line.Enter n k ms)) (exchanging n k b)).batches
+entered_outs : (t : Traced) (g : Facts) (n : ℕ) (k : ClusterKey) (ms : List Member) (b : Bool) → Outs t (noted None (note None g (line.Enter n k ms)) (only_if (line.Exchanged n k) b)).batches
 entered_outs t g n k ms true = outs_new t (note None g (line.Enter n k ms)) (others (note None g (line.Enter n k ms)))
 entered_outs t g n k ms false = tt
 
-entered_rows : (t : Traced) (g : Facts) (n : ℕ) (k : ClusterKey) (ms : List Member) (b : Bool) → StampsKnown t g.store.stamps → RowsKnown t (noted None (note None g (line.Enter n k ms)) (exchanging n k b)).exchange.rows
+entered_rows : (t : Traced) (g : Facts) (n : ℕ) (k : ClusterKey) (ms : List Member) (b : Bool) → StampsKnown t g.store.stamps → RowsKnown t (noted None (note None g (line.Enter n k ms)) (only_if (line.Exchanged n k) b)).exchange.rows
 entered_rows t g n k ms true h = (row_known t g.store partition_count 0 h, tt)
 entered_rows t g n k ms false h = (row_known t g.store partition_count 0 h, tt)
 
 entered_finished : (t : Traced) (g : Facts) (n : ℕ) (k : ClusterKey) (ms : List Member) (b : Bool) → t.entered g.me k ≡ true
-    → t.entered (noted None (note None g (line.Enter n k ms)) (exchanging n k b)).me (view_key (noted None (note None g (line.Enter n k ms)) (exchanging n k b))) ≡ true
+    → t.entered (noted None (note None g (line.Enter n k ms)) (only_if (line.Exchanged n k) b)).me (view_key (noted None (note None g (line.Enter n k ms)) (only_if (line.Exchanged n k) b))) ≡ true
 entered_finished t g n k ms true h = h
 entered_finished t g n k ms false h = h
 
@@ -149,8 +150,8 @@ alone_ok t f s here id round =
     let g : Facts = note None f l in
     let to : Grows t v = grows_on t u v p.keeps.grows (kept_all u (writes (entering f k ms)) entry p.keeps.sound).grows in
     let stamps : StampsKnown v f.store.stamps = (node_grows t v to f.me f (keys_here t f s here)).stamps in
-    let e : noted None g (entering f k ms) ≡ noted None (note None (noted None g (closing f)) (line.Enter f.me k ms)) (exchanging f.me k (is_single ms)) =
-    noted_append None g (closing f) (line.Enter f.me k ms ∷ exchanging f.me k (is_single ms)) in
+    let e : noted None g (entering f k ms) ≡ noted None (note None (noted None g (closing f)) (line.Enter f.me k ms)) (only_if (line.Exchanged f.me k) (is_single ms)) =
+    noted_append None g (closing f) (line.Enter f.me k ms ∷ only_if (line.Exchanged f.me k) (is_single ms)) in
     record {
       ok = (p.ok, entry);
       posts = tt;
@@ -189,7 +190,7 @@ propose_ok t f s here id = go f.agreement.proposal refl
     second true b e = e
     second false b e = absurd (grind arith)
 
-    new : (b : Bool) → (is_candidate f && has_round f.agreement) ≡ b → Proposing t f (propose_new f b)
+    new : (b : Bool) → (is_candidate f && has_round f.agreement) ≡ b → Proposing t f (if b then proposal_effects f (next_key f.me f.agreement) (neighbours f) (agreement.others_among f.me (neighbours f)) else nothing)
     new true e = to (agreement.others_among f.me (neighbours f)) (second (is_candidate f) (has_round f.agreement) e)
     new false e = nothing_ok t f s here
 
@@ -212,7 +213,7 @@ record Parts (t : Traced) (f : Facts) (e : Effects) : Type 0 where
 abbrev all_sends : ℕ → Facts → Effects → Facts → Facts → List (ℕ × Message)
 all_sends n f fe g i = (beat f).sends ++ (fe.sends ++ ((rows g).sends ++ ((transactions g).sends ++ ((batches g).sends ++ ((progress n i).sends ++ [])))))
 
-progress_lines : (t : Traced) (n : ℕ) (f : Facts) (b : Bool) → QuietLines t (progress_if n f b).lines
+progress_lines : (t : Traced) (n : ℕ) (f : Facts) (b : Bool) → QuietLines t (if b then sends_only (to_each (others f) (progress_message n f true)) else nothing).lines
 progress_lines t n f true = tt
 progress_lines t n f false = tt
 
@@ -263,6 +264,6 @@ tick_ok t net f n s here id = go f.up
     all : Parts u f1 (parts_in_order (beat ∷ propose ∷ rows ∷ transactions ∷ batches ∷ settlings n ∷ progress n ∷ []) f1)
     all = parts_ok u f1 n first.sound here1 id (propose f1) refl (propose_ok u f1 first.sound here1 id)
 
-    go : (b : Bool) → LicensedMarks t (writes (written net f.me (tick_if n f b)))
+    go : (b : Bool) → LicensedMarks t (writes (written net f.me (if b then parts_in_order (parts n) f else lines_only (line.Down f.me ∷ []))))
     go true = written_ok t f.me net (parts_in_order (parts n) f) (tt, all.ok) s all.posts
-    go false = written_ok t f.me net (tick_if n f false) (tt, tt) s tt
+    go false = written_ok t f.me net (if false then parts_in_order (parts n) f else lines_only (line.Down f.me ∷ [])) (tt, tt) s tt

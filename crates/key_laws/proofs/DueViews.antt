@@ -1,6 +1,6 @@
 -- What is due of a node with its view's key is quiet; and an entry that is due may stand.
 use Rattle.std.proofs.Common.{◌≡◌, ℕ, zero, suc, ◌+◌, ◌==◌, Bool, true, false, cond, List, [], ◌∷◌, ◌++◌, map, Option, Some, None, refl, sym, ap, subst, ◌∙◌, inl}
-use Rattle.std.specs.Prelude.{flat_map, filter_map, find, option_map, unwrap_or}
+use Rattle.std.specs.Prelude.{flat_map, filter_map, find, option_map, unwrap_or, if◌then◌else◌}
 use Rattle.std.specs.List.{cons_option}
 use Rattle.conflict_order.specs.declared.want.Want.{Want}
 use Rattle.cluster_types.specs.declared.cluster_key.ClusterKey.{ClusterKey}
@@ -13,16 +13,16 @@ use Rattle.journal_lines.specs.declared.line.Line.TheVariants as line
 use Rattle.node_rules.specs.Agreement.{Agreement}
 use Rattle.node_rules.specs.Batches.{Target, Targets, batch_after, fresh_batch, next_batch}
 use Rattle.node_rules.specs.Copies.{Content}
-use Rattle.node_rules.specs.Entering.{ending, closing, exchanging, entering}
+use Rattle.node_rules.specs.Entering.{ending, closing, entering}
 use Rattle.node_rules.specs.declared.member_row.MemberRow.{MemberRow}
 use Rattle.node_rules.specs.Map.{row_of_member}
 use Rattle.node_rules.specs.Exchange.{View, is_single, exchange_key, is_view}
 use Rattle.node_rules.specs.Facts.{Facts, view_key, list_at}
 use Rattle.node_rules.specs.Notes.{note, noted, in_view}
 use Rattle.node_rules.specs.Resolving.{repl}
-use Rattle.node_rules.specs.Settling.{hand, settle, learn, drop, lines_then, settling_at, settling_from, settling_if, settling_due, may_hand, may_settle}
+use Rattle.node_rules.specs.Settling.{hand, settle, learn, drop, lines_then, settling_at, settling_from, settling_due, may_hand, may_settle}
 use Rattle.node_rules.specs.Standing.{is_to_learn, is_to_drop, others}
-use Rattle.node_rules.specs.Tick.{sends_again, transactions, batch_to, batches, state, own_row_in, rows, progress_message, progress_if}
+use Rattle.node_rules.specs.Tick.{sends_again, transactions, batch_to, batches, state, own_row_in, rows, progress_message}
 use Rattle.node_rules.specs.Transactions.{Transaction, Write}
 use Rattle.node_rules.specs.Tables.{only_if}
 use Rattle.cluster_rules.specs.Marks.{Writes, Begins, Mark}
@@ -37,6 +37,7 @@ use Rattle.key_laws.proofs.KeptNodes.{Lawful, just_entered, or_later}
 use Rattle.key_laws.proofs.Kept.{Keeps, kept_line}
 use Rattle.key_laws.proofs.Wire.{read_state, read_ask, read_repl, read_batch, read_progress}
 use Rattle.key_laws.proofs.Quiet.{writes, licensed_both, QuietLine, QuietLines, Calmly, quietly, MayPost, Posts, posts_of, each_posts, posts_append, after_both}
+use Rattle.node_rules.specs.Effects.{nothing, sends_only, to_each}
 
 -- ---- the view's key
 
@@ -167,7 +168,7 @@ settling_from_of_view (suc n) p f =
 pub settling_of_view : (n : ℕ) (f : Facts) → AllOfView f.me (view_key f) (settling_due n f)
 settling_of_view n f = go f.exchange.exchanged
   where
-    go : (b : Bool) → AllOfView f.me (view_key f) (settling_if n f b)
+    go : (b : Bool) → AllOfView f.me (view_key f) (if b then settling_from n 0 f else [])
     go true = settling_from_of_view n 0 f
     go false = tt
 
@@ -175,7 +176,7 @@ settling_of_view n f = go f.exchange.exchanged
 pub settling_quiet : (t : Traced) (n : ℕ) (f : Facts) → IsPromisedKey t (view_key f) → (f.exchange.exchanged ≡ true → t.entered f.me (view_key f) ≡ true) → QuietLines t (settling_due n f)
 settling_quiet t n f known entered = go f.exchange.exchanged refl
   where
-    go : (b : Bool) → f.exchange.exchanged ≡ b → QuietLines t (settling_if n f b)
+    go : (b : Bool) → f.exchange.exchanged ≡ b → QuietLines t (if b then settling_from n 0 f else [])
     go true e = all_quiet t f.me (view_key f) (settling_from n 0 f) (record { known = known; entered = entered e }) (settling_from_of_view n 0 f)
     go false e = tt
 
@@ -216,7 +217,7 @@ closed_me q f g = closing_me q g f.me (view_key f) f.transactions.running
 pub closed_store : (q : Option Want) (f g : Facts) → (noted q g (closing f)).store ≡ g.store
 closed_store q f g = closing_store q g f.me (view_key f) f.transactions.running
 
-exchanging_ok : (t : Traced) (me : ℕ) (k : ClusterKey) (b : Bool) → MayFinishExchange t me k → LicensedMarks t (writes (exchanging me k b))
+exchanging_ok : (t : Traced) (me : ℕ) (k : ClusterKey) (b : Bool) → MayFinishExchange t me k → LicensedMarks t (writes (only_if (line.Exchanged me k) b))
 exchanging_ok t me k true h = (h, tt)
 exchanging_ok t me k false h = tt
 
@@ -236,7 +237,7 @@ entering_ok t f k ms s known h =
     } in
     let l : Line = line.Enter f.me k ms in
     let entered : Keeps u (traced_after u (Writes l)) = kept_line u l ok c.keeps.sound in
-    licensed_both t (closing f) (l ∷ exchanging f.me k (is_single ms)) c.ok (
+    licensed_both t (closing f) (l ∷ only_if (line.Exchanged f.me k) (is_single ms)) c.ok (
       ok,
       exchanging_ok (traced_after u (Writes l)) f.me k (is_single ms) (record {
         visited = record { known = known_grows u _ entered.grows k (promised_known u f.me k c.keeps.sound promised); entered = just_entered u f.me k ms };
@@ -253,8 +254,8 @@ entered_stays t (Writes l ∷ ms) n k h = entered_stays (traced_after t (Writes 
 pub entering_visits : (t : Traced) (f : Facts) (k : ClusterKey) (ms : List Member) → (traced_after_all t (writes (entering f k ms))).entered f.me k ≡ true
 entering_visits t f k ms =
     let u : Traced = traced_after_all t (writes (closing f)) in
-    subst (λ (x : Traced). x.entered f.me k ≡ true) (sym (after_both t (closing f) (line.Enter f.me k ms ∷ exchanging f.me k (is_single ms))))
-    (entered_stays (traced_after u (Writes (line.Enter f.me k ms))) (writes (exchanging f.me k (is_single ms))) f.me k (just_entered u f.me k ms))
+    subst (λ (x : Traced). x.entered f.me k ≡ true) (sym (after_both t (closing f) (line.Enter f.me k ms ∷ only_if (line.Exchanged f.me k) (is_single ms))))
+    (entered_stays (traced_after u (Writes (line.Enter f.me k ms))) (writes (only_if (line.Exchanged f.me k) (is_single ms))) f.me k (just_entered u f.me k ms))
 
 -- ---- messages of the view
 
@@ -316,6 +317,6 @@ batches_posts t n f h outs = batches_from t n (view_key f) f.store.content f.bat
 pub rows_posts : (t : Traced) (n : ℕ) (f : Facts) → IsPromisedKey t (view_key f) → RowsKnown t f.exchange.rows → Posts t n (rows f).sends
 rows_posts t n f h known = each_posts t n _ _ (state_posts t n f true h known)
 
-pub progress_if_posts : (t : Traced) (n k : ℕ) (f : Facts) (b : Bool) → IsPromisedKey t (view_key f) → Posts t n (progress_if k f b).sends
+pub progress_if_posts : (t : Traced) (n k : ℕ) (f : Facts) (b : Bool) → IsPromisedKey t (view_key f) → Posts t n (if b then sends_only (to_each (others f) (progress_message k f true)) else nothing).sends
 progress_if_posts t n k f true h = each_posts t n _ (others f) (progress_posts t n k f true h)
 progress_if_posts t n k f false h = tt

@@ -25,8 +25,8 @@ use Rattle.node_rules.specs.Notes.{sent, target_for, exchanged}
 use Rattle.cluster_rules.specs.declared.event.Event.{Event}
 use Rattle.cluster_rules.specs.declared.event.Event.TheVariants as event
 use Rattle.journal_readings.specs.Messages.{Posting, Arrival, arrived, arrived_cut}
-use Rattle.cluster_rules.specs.Network.{posting_at, posting_if, posting}
-use Rattle.cluster_rules.specs.Marks.{Mark, Begins, Writes, came, came_to, sent_by, posted_by}
+use Rattle.cluster_rules.specs.Network.{posting_at, posting}
+use Rattle.cluster_rules.specs.Marks.{Mark, Begins, Writes, came, sent_by, posted_by, came_to_client, came_to_node}
 use Rattle.node_rules.specs.Messages.{client}
 use Rattle.key_laws.specs.Order.{KeyAtMost}
 use Rattle.key_laws.specs.Traced.{Traced, facts_of, traced_after, traced_after_all}
@@ -52,7 +52,7 @@ pub record WasPosted (t : Traced) (p : Posting) : Type 0 where
 pub was_posted : (t : Traced) (i : ℕ) (p : Posting) → posting_at t.world.network i ≡ Some p → WasPosted t p
 was_posted t i p e = go (nat_lt 0 i) e
   where
-    go : (b : Bool) → posting_if t.world.network i b ≡ Some p → WasPosted t p
+    go : (b : Bool) → (if b then slice_get t.world.network.sent (i - 1) else None) ≡ Some p → WasPosted t p
     go true e = record { place = i - 1; stands = e }
     go false e = absurd (grind arith)
 
@@ -85,22 +85,22 @@ kept_table t x k h =
 unchanged : (t : Traced) → Sound t → Keeps t t
 unchanged t h = record { sound = h; grows = same_grows t }
 
-arrived_at_client : (t : Traced) (x : Arrival) → Says t x.from x.message → Sound t → Keeps t (record { world = came_to t.world x true; lists = t.lists; entered = t.entered })
+arrived_at_client : (t : Traced) (x : Arrival) → Says t x.from x.message → Sound t → Keeps t (record { world = came_to_client t.world x.message; lists = t.lists; entered = t.entered })
 arrived_at_client t x s h = go x.from x.message s
   where
-    go : (from : ℕ) (m : Message) → Says t from m → Keeps t (record { world = came_to t.world (record { from = from; to = x.to; message = m }) true; lists = t.lists; entered = t.entered })
+    go : (from : ℕ) (m : Message) → Says t from m → Keeps t (record { world = came_to_client t.world m; lists = t.lists; entered = t.entered })
     go from (message.MapTable table) s = kept_table t table s h
     go from _ s = unchanged t h
 
 -- at a node
-pub kept_node : (t : Traced) (x : Arrival) → Says t x.from x.message → Sound t → Keeps t (record { world = came_to t.world x false; lists = t.lists; entered = t.entered })
+pub kept_node : (t : Traced) (x : Arrival) → Says t x.from x.message → Sound t → Keeps t (record { world = came_to_node t.world x; lists = t.lists; entered = t.entered })
 kept_node t x s h = record { sound = kept_reached t x.to x.from x.message s h; grows = reached_grows t x.to x.from x.message s h }
 
 pub kept_arrival : (t : Traced) (x : Option Arrival) → Told t x → Sound t → Keeps t (arrived_in t x)
 kept_arrival t None s h = unchanged t h
 kept_arrival t (Some x) s h = go (x.to == client)
   where
-    go : (b : Bool) → Keeps t (record { world = came_to t.world x b; lists = t.lists; entered = t.entered })
+    go : (b : Bool) → Keeps t (record { world = (if b then came_to_client t.world x.message else came_to_node t.world x); lists = t.lists; entered = t.entered })
     go true = arrived_at_client t x s h
     go false = kept_node t x s h
 
@@ -165,16 +165,16 @@ kept_posted t i p s h =
 
 -- the proposal of a message that is sent stands
 proposing_agrees : (t : Traced) (n : ℕ) (a : Agreement) (k : ClusterKey) (ms : List Member) (b : Bool) → Agrees t n a
-    → k ≡ a.promised → IsBelow a.last k → k.principal ≡ n → t.lists k ≡ Some ms → Agrees t n (agreement.proposed_if a (proposal_of n k ms) b)
+    → k ≡ a.promised → IsBelow a.last k → k.principal ≡ n → t.lists k ≡ Some ms → Agrees t n (if b then a else record a { proposal = Some (proposal_of n k ms) })
 proposing_agrees t n a k ms true h promised above own list = h
 proposing_agrees t n a k ms false h promised above own list =
     record { ordered = h.ordered; promised = h.promised; last = h.last; proposal = record { key = promised; above = above; own = own; list = list } }
 
-proposing_promised : (a : Agreement) (p : Proposal) (b : Bool) → a.promised ≡ (agreement.proposed_if a p b).promised
+proposing_promised : (a : Agreement) (p : Proposal) (b : Bool) → a.promised ≡ (if b then a else record a { proposal = Some p }).promised
 proposing_promised a p true = refl
 proposing_promised a p false = refl
 
-proposing_last : (a : Agreement) (p : Proposal) (b : Bool) → a.last ≡ (agreement.proposed_if a p b).last
+proposing_last : (a : Agreement) (p : Proposal) (b : Bool) → a.last ≡ (if b then a else record a { proposal = Some p }).last
 proposing_last a p true = refl
 proposing_last a p false = refl
 
@@ -190,7 +190,7 @@ kept_proposing t n to k ms s ok h =
     record {
       sound = kept_moved t n new le h (record {
         me = old.me;
-        agrees = subst (λ (x : ℕ). Agrees u n (agreement.proposed_if f.agreement (proposal_of x k ms) b)) (sym old.me) (proposing_agrees u n f.agreement k ms b old.agrees ok.promised ok.above s.0 s.1);
+        agrees = subst (λ (x : ℕ). Agrees u n (if b then f.agreement else record f.agreement { proposal = Some (proposal_of x k ms) })) (sym old.me) (proposing_agrees u n f.agreement k ms b old.agrees ok.promised ok.above s.0 s.1);
         view = subst (λ last. ViewStands u n last f.exchange.view) (proposing_last f.agreement (proposal_of f.me k ms) b) old.view;
         hears = old.hears;
         outs = old.outs;

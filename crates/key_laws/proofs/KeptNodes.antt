@@ -1,6 +1,6 @@
 -- The invariant is kept by what a node's tick, stop, promise and entry do, and by what reaches it.
-use Rattle.std.proofs.Common.{◌≡◌, ℕ, ◌==◌, Bool, true, false, List, [], ◌∷◌, Option, Some, None, refl, sym, ap, subst, ◌∙◌, arith, inr, ⊎_elim, ◌||◌, ◌&&◌}
-use Rattle.std.specs.Prelude.{IsTrue}
+use Rattle.std.proofs.Common.{◌≡◌, ℕ, ◌==◌, Bool, true, false, List, [], ◌∷◌, Option, Some, None, refl, sym, ap, subst, ◌∙◌, arith, inr, ⊎_elim, ◌&&◌}
+use Rattle.std.specs.Prelude.{IsTrue, if◌then◌else◌, ◌++◌}
 use Rattle.cluster_types.specs.declared.cluster_key.ClusterKey.{ClusterKey}
 use Rattle.cluster_types.specs.declared.member.Member.{Member}
 use Rattle.cluster_types.specs.ClusterKeys.{IsBelow}
@@ -10,14 +10,14 @@ use Rattle.wire_messages.specs.Keys.{IsKeyField}
 use Rattle.wire_messages.specs.Nodes.{IsId}
 use Rattle.journal_lines.specs.declared.line.Line.TheVariants as line
 use Rattle.node_rules.specs.Agreement as agreement
-use Rattle.node_rules.specs.Agreement.{Agreement, Proposal, kept_if, proposes, accepted_by, without_missing, proposes_set}
+use Rattle.node_rules.specs.Agreement.{Agreement, Proposal, proposes, accepted_by, without_missing, proposes_set}
 use Rattle.node_rules.specs.Batches as batches
 use Rattle.node_rules.specs.Batches.{Target, Targets, acked_out, without_batch}
 use Rattle.node_rules.specs.Tables.{changed_if}
 use Rattle.wire_messages.specs.declared.message.Batch.{Batch}
 use Rattle.node_rules.specs.Copies.{Row}
 use Rattle.node_rules.specs.declared.member_row.MemberRow.{MemberRow}
-use Rattle.node_rules.specs.Exchange.{is_member, with_row_if}
+use Rattle.node_rules.specs.Exchange.{is_member}
 use Rattle.node_rules.specs.Facts.{Facts}
 use Rattle.node_rules.specs.Keys.{same_key}
 use Rattle.node_rules.specs.Notes.{neighbours, after_ages, stopped, entered, own_row, reached, in_view, row_came, batch_acked, progress_came, write_came, write_counted_if, write_acked, answer_came}
@@ -26,7 +26,7 @@ use Rattle.node_rules.specs.Map.{list_master, lacks}
 use Rattle.cluster_types.specs.Partitions.{partition_count}
 use Rattle.journal_readings.specs.Lines.{is_enter}
 use Rattle.key_laws.specs.Order.{KeyAtMost}
-use Rattle.key_laws.specs.Traced.{Traced, facts_of, listed_if, promised_by, entered_after}
+use Rattle.key_laws.specs.Traced.{Traced, facts_of, entered_after, with_list}
 use Rattle.key_laws.specs.Licences.{IsPromisedKey, RowOf, Says, WasPosted, MayPromise, MayEnterKey}
 use Rattle.key_laws.proofs.Order.{at_most_refl, at_most_eq, below_at_most, at_most_below, not_below, same_is, same_self}
 use Rattle.key_laws.specs.Sound.{GoodList, ProposalStands, Agrees, ViewStands, OutKnown, Outs, RowsKnown, NodeKeys, Listed, Sound, Grows}
@@ -34,19 +34,21 @@ use Rattle.key_laws.proofs.Growth.{same_grows, known_grows, row_grows, says_grow
 use Rattle.key_laws.proofs.Frames.{at_here, at_each, moved, moved_grows, kept_moved, SameKeys, same_keys, never, num_eq}
 use Rattle.key_laws.proofs.StampLaws.{stamps_changed, recounted_known, row_known}
 use Rattle.key_laws.proofs.Neighbours.{by_test, neighbours_good, aged_hears, beat_hears}
+pub use Rattle.std.proofs.lemmas.Bool.{or_right as or_later}
+use Rattle.std.proofs.lemmas.Bool.{or_left as or_now}
 
 -- ---- proposals
 
-stands_if : (t : Traced) (n : ℕ) (promised last : ClusterKey) (b : Bool) (p : Option Proposal) → ProposalStands t n promised last p → ProposalStands t n promised last (kept_if b p)
+stands_if : (t : Traced) (n : ℕ) (promised last : ClusterKey) (b : Bool) (p : Option Proposal) → ProposalStands t n promised last p → ProposalStands t n promised last (if b then p else None)
 stands_if t n promised last true p h = h
 stands_if t n promised last false p h = tt
 
 -- the proposal that stays under a new promise is of that promise
-stands_promised : (t : Traced) (n : ℕ) (promised last k : ClusterKey) (p : Option Proposal) → ProposalStands t n promised last p → ProposalStands t n k last (kept_if (proposes p k) p)
+stands_promised : (t : Traced) (n : ℕ) (promised last k : ClusterKey) (p : Option Proposal) → ProposalStands t n promised last p → ProposalStands t n k last (if proposes p k then p else None)
 stands_promised t n promised last k None h = tt
 stands_promised t n promised last k (Some p) h = go (same_key p.key k) refl
   where
-    go : (b : Bool) → same_key p.key k ≡ b → ProposalStands t n k last (kept_if b (Some p))
+    go : (b : Bool) → same_key p.key k ≡ b → ProposalStands t n k last (if b then Some p else None)
     go true e = record { key = same_is p.key k e; above = h.above; own = h.own; list = h.list }
     go false e = tt
 
@@ -60,19 +62,19 @@ agrees_with t n a p h s = record { ordered = h.ordered; promised = h.promised; l
 agrees_seeing : (t : Traced) (n : ℕ) (a : Agreement) (k : ClusterKey) → Agrees t n a → Agrees t n (agreement.seeing a k)
 agrees_seeing t n a k h = record { ordered = h.ordered; promised = h.promised; last = h.last; proposal = h.proposal }
 
-agrees_accepting : (t : Traced) (n : ℕ) (a : Agreement) (from : ℕ) (b : Bool) → Agrees t n a → Agrees t n (agreement.accepting_if a from b)
+agrees_accepting : (t : Traced) (n : ℕ) (a : Agreement) (from : ℕ) (b : Bool) → Agrees t n a → Agrees t n (if b then record a { proposal = accepted_by a.proposal from } else a)
 agrees_accepting t n a from true h = agrees_with t n a (accepted_by a.proposal from) h (stands_accepted t n a.promised a.last from a.proposal h.proposal)
 agrees_accepting t n a from false h = h
 
-agrees_refused : (t : Traced) (n : ℕ) (a : Agreement) (b : Bool) → Agrees t n a → Agrees t n (agreement.refused_if a b)
+agrees_refused : (t : Traced) (n : ℕ) (a : Agreement) (b : Bool) → Agrees t n a → Agrees t n (if b then record a { proposal = None } else a)
 agrees_refused t n a true h = agrees_with t n a None h tt
 agrees_refused t n a false h = h
 
-pub accepting_keeps : (a : Agreement) (from : ℕ) (b : Bool) → (a.promised ≡ (agreement.accepting_if a from b).promised) × (a.last ≡ (agreement.accepting_if a from b).last)
+pub accepting_keeps : (a : Agreement) (from : ℕ) (b : Bool) → (a.promised ≡ (if b then record a { proposal = accepted_by a.proposal from } else a).promised) × (a.last ≡ (if b then record a { proposal = accepted_by a.proposal from } else a).last)
 accepting_keeps a from true = (refl, refl)
 accepting_keeps a from false = (refl, refl)
 
-refused_keeps : (a : Agreement) (b : Bool) → (a.promised ≡ (agreement.refused_if a b).promised) × (a.last ≡ (agreement.refused_if a b).last)
+refused_keeps : (a : Agreement) (b : Bool) → (a.promised ≡ (if b then record a { proposal = None } else a).promised) × (a.last ≡ (if b then record a { proposal = None } else a).last)
 refused_keeps a true = (refl, refl)
 refused_keeps a false = (refl, refl)
 
@@ -98,7 +100,7 @@ outs_acked t from number (x ∷ xs) h = (go (x.node == from), outs_acked t from 
     go true = out_acked t x number x.out h.0
     go false = h.0
 
-rows_with : (t : Traced) (rs : List MemberRow) (n : ℕ) (row : Row) (b : Bool) → RowOf (λ k. IsPromisedKey t k) row → RowsKnown t rs → RowsKnown t (with_row_if rs n row b)
+rows_with : (t : Traced) (rs : List MemberRow) (n : ℕ) (row : Row) (b : Bool) → RowOf (λ k. IsPromisedKey t k) row → RowsKnown t rs → RowsKnown t (if b then rs ++ record { node = n; row = row } ∷ [] else rs)
 rows_with t [] n row true k h = (k, tt)
 rows_with t (r ∷ rs) n row true k h = (h.0, rows_with t rs n row true k h.1)
 rows_with t rs n row false k h = h
@@ -259,14 +261,6 @@ entered_in t n k ms = record {
   entered = entered_after t (line.Enter n k ms);
 }
 
-pub or_later : (a b : Bool) → b ≡ true → (a || b) ≡ true
-or_later true b e = refl
-or_later false b e = e
-
-or_now : (a b : Bool) → a ≡ true → (a || b) ≡ true
-or_now true b e = refl
-or_now false b e = absurd (never e refl)
-
 pub enter_grows : (t : Traced) (n : ℕ) (k : ClusterKey) (ms : List Member) → Grows t (entered_in t n k ms)
 enter_grows t n k ms = record {
   promised = (moved_grows t n (entered (facts_of t n) k ms (own_row (facts_of t n))) (at_most_refl _)).promised;
@@ -308,7 +302,7 @@ kept_enter t n k ms h ok =
 abbrev pub promised_in : Traced → ℕ → ClusterKey → Bool → Traced
 promised_in t n k own = record {
   world = (moved t n (record (facts_of t n) { agreement = agreement.promising (facts_of t n).agreement k })).world;
-  lists = promised_by t.lists k (neighbours (facts_of t n)) own;
+  lists = (if own then with_list t.lists k (neighbours (facts_of t n)) else t.lists);
   entered = t.entered;
 }
 
@@ -321,7 +315,7 @@ pub record Own (n : ℕ) (k : ClusterKey) : Type 0 where
 unlisted : (t : Traced) (n : ℕ) (k : ClusterKey) (ms : List Member) → Sound t → IsBelow (facts_of t n).agreement.promised k → k.principal ≡ n → t.lists k ≡ Some ms → ⊥
 unlisted t n k ms h above own e = not_below above (subst (λ (x : ℕ). KeyAtMost k (facts_of t x).agreement.promised) own (h.lists k ms e).known.bound)
 
-other_stays : (t : Traced) (n : ℕ) (k q : ClusterKey) (new ms : List Member) → Sound t → IsBelow (facts_of t n).agreement.promised k → k.principal ≡ n → t.lists q ≡ Some ms → (b : Bool) → same_key k q ≡ b → listed_if k new (t.lists q) b ≡ Some ms
+other_stays : (t : Traced) (n : ℕ) (k q : ClusterKey) (new ms : List Member) → Sound t → IsBelow (facts_of t n).agreement.promised k → k.principal ≡ n → t.lists q ≡ Some ms → (b : Bool) → same_key k q ≡ b → (if b then Some new else t.lists q) ≡ Some ms
 other_stays t n k q new ms h above own e true s = absurd (unlisted t n k ms h above own (ap t.lists (same_is k q s) ∙ e))
 other_stays t n k q new ms h above own e false s = e
 
@@ -358,7 +352,7 @@ own_known t n k b own = record {
   field = inr own.field;
 }
 
-listed_after : (t u : Traced) (n : ℕ) (k q : ClusterKey) (ms : List Member) → Sound t → Grows t u → Listed u k (neighbours (facts_of t n)) → (b : Bool) → same_key k q ≡ b → listed_if k (neighbours (facts_of t n)) (t.lists q) b ≡ Some ms → Listed u q ms
+listed_after : (t u : Traced) (n : ℕ) (k q : ClusterKey) (ms : List Member) → Sound t → Grows t u → Listed u k (neighbours (facts_of t n)) → (b : Bool) → same_key k q ≡ b → (if b then Some (neighbours (facts_of t n)) else t.lists q) ≡ Some ms → Listed u q ms
 listed_after t u n k q ms h g here true s e = subst (λ x. Listed u x ms) (same_is k q s) (subst (λ xs. Listed u k xs) (same_list _ _ e) here)
   where
     same_list : (a b : List Member) → Some a ≡ Some b → a ≡ b

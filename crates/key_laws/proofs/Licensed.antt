@@ -10,6 +10,7 @@ use Rattle.cluster_types.specs.declared.member.Member.{Member}
 use Rattle.cluster_types.specs.ClusterKeys as keys
 use Rattle.cluster_types.specs.ClusterKeys.{IsBelow, key_lt}
 use Rattle.cluster_types.specs.Members.{ids_of}
+use Rattle.cluster_types.proofs.BoolFacts.{and_both as both}
 use Rattle.wire_messages.specs.declared.message.Message.{Message}
 use Rattle.wire_messages.specs.declared.message.Message.TheVariants as message
 use Rattle.wire_messages.specs.Decoding.{message_of}
@@ -249,10 +250,6 @@ line_known t l s ok = by_word l ok (kept_line t l ok s)
 -- a front of licensed marks with the mark behind it
 front_with : (t : Traced) (ms : List Mark) (q : ℕ) (m : Mark) → LicensedMarks t ms → slice_get ms q ≡ Some m → LicensedMarks t (take q ms ++ m ∷ [])
 front_with t ms q m ok e = licensed_append t (take q ms) (m ∷ []) (licensed_front t ms q ok) (licensed_at t ms q m ok e, tt)
-
-both : (a b : Bool) → a ≡ true → b ≡ true → (a && b) ≡ true
-both true b e f = f
-both false b e f = e
 
 each_promised : (u : Traced) (ls : List Line) → ((n : ℕ) → promised_key n ls ≡ (facts_of u n).agreement.promised) → (ks : List ClusterKey) → AllKnown u ks → list_all (is_promised ls) ks ≡ true
 each_promised u ls read [] h = refl

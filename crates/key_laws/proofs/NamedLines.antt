@@ -1,6 +1,6 @@
 -- The lines that are due of a node name nodes that it knows of.
 use Rattle.std.proofs.Common.{◌≡◌, ℕ, zero, suc, ◌+◌, ◌==◌, Bool, true, false, cond, List, [], ◌∷◌, ◌++◌, Option, Some, None, map, refl, sym, ap, subst, ◌∙◌, arith, ⊎_elim, inr, ◌-◌}
-use Rattle.std.specs.Prelude.{find, filter, nat_lt}
+use Rattle.std.specs.Prelude.{find, filter, nat_lt, if◌then◌else◌, ◌&&◌}
 use Rattle.std.specs.List.{range_with_len}
 use Rattle.std.specs.Ordering.{nat_cmp}
 use Rattle.std.specs.FinMap.{put}
@@ -19,8 +19,8 @@ use Rattle.journal_lines.specs.declared.refusal.Refusal.{Refusal}
 use Rattle.wire_messages.specs.declared.message.Message.{Message}
 use Rattle.wire_messages.specs.declared.message.Message.TheVariants as message
 use Rattle.node_rules.specs.Agreement as agreement
-use Rattle.node_rules.specs.Agreement.{Proposal}
-use Rattle.node_rules.specs.Entering.{ending, exchanging, closing, entering}
+use Rattle.node_rules.specs.Agreement.{Proposal, next_key}
+use Rattle.node_rules.specs.Entering.{ending, closing, entering}
 use Rattle.node_rules.specs.Exchange.{View, is_member, members_of, first_missing}
 use Rattle.node_rules.specs.Facts.{Facts, view_key, members_of_view, list_at}
 use Rattle.node_rules.specs.Hearing.{Heard, heard_ids, neighbours_of, aged, older, names, member_of, timeout}
@@ -28,21 +28,34 @@ use Rattle.node_rules.specs.Map.{lacks, entry_of}
 use Rattle.node_rules.specs.Messages as due
 use Rattle.node_rules.specs.Messages.{due_message_of}
 use Rattle.node_rules.specs.Notes.{noted, neighbours, opening_transaction, reached, in_view, after_ages}
-use Rattle.node_rules.specs.Requests.{due_request, due_stop, due_start, asking, request_refusal, refusal_after, acting_refusal, busy_refusal, map_refusal, up_refusal, view_refusal, exchange_refusal, request_if, stop_if, start_if}
-use Rattle.node_rules.specs.Resolving.{resolving_want, done_if}
-use Rattle.node_rules.specs.Settling.{hand, settle, learn, drop, lines_then, settling_at, settling_from, settling_if}
+use Rattle.node_rules.specs.Requests.{due_request, due_stop, due_start, asking, request_refusal, refusal_after, acting_refusal, busy_refusal, map_refusal, view_refusal, exchange_refusal, request_if}
+use Rattle.node_rules.specs.Resolving.{resolving_want, resolving}
+use Rattle.node_rules.specs.Settling.{hand, settle, learn, drop, lines_then, settling_at, settling_from}
 use Rattle.node_rules.specs.Shows.{with_roles, map_line, map_if, due_map, due_show}
-use Rattle.node_rules.specs.Standing.{acts}
+use Rattle.node_rules.specs.Standing.{acts, knows_all_settled, others}
 use Rattle.node_rules.specs.Tables.{Table, contains, table_with, only_if}
 use Rattle.node_rules.specs.Tick as tick
-use Rattle.node_rules.specs.Tick.{Part, parts_in_order, tick_of}
-use Rattle.node_rules.specs.Transactions.{Transaction, Write, answered, is_last_awaited, transaction_on}
+use Rattle.node_rules.specs.Tick.{Part, parts_in_order, tick_of, parts, progress_message, proposal_effects, state}
+use Rattle.node_rules.specs.Transactions.{Transaction, Write, answered, is_last_awaited, transaction_on, transaction}
 use Rattle.cluster_rules.proofs.OwnLines.{noted_me}
 use Rattle.key_laws.specs.Ends.{AllNodes, CauseNames, LineNames, AllName}
 use Rattle.key_laws.proofs.Addressed.{differ, or_cases, or_left, or_right, member_id}
 use Rattle.key_laws.proofs.Frames.{num_eq, num_same}
 use Rattle.key_laws.proofs.Neighbours.{by_test, put_cases}
 use Rattle.key_laws.proofs.TableReads.{Each, each_listed, member_listed, acting_in, named_in}
+use Rattle.cluster_types.specs.Endpoints.{client}
+use Rattle.node_rules.specs.BatchMessages.{merging, merging_all}
+use Rattle.node_rules.specs.Batches.{has_number, out_to}
+use Rattle.node_rules.specs.ClientMessages.{map_table}
+use Rattle.node_rules.specs.Effects.{lines_and_sends, lines_only, nothing, sends_only, to_each, to_one}
+use Rattle.node_rules.specs.RowMessages.{finishes}
+use Rattle.node_rules.specs.StaleMessages.{spent, stale}
+use Rattle.node_rules.specs.TransactionMessages.{ack_of, answer_of}
+use Rattle.node_rules.specs.VoteMessages.{commit_effects}
+use Rattle.std.specs.FinMap as finite
+use Rattle.cluster_types.specs.ClusterKeys as keys
+use Rattle.journal_lines.specs.declared.line.Line.TheVariants as line
+use Rattle.journal_lines.specs.declared.refusal.Refusal.TheVariants as refusal
 
 -- ---- lists of nodes
 
@@ -159,7 +172,7 @@ closing_name : (P : ℕ → Type 0) (n : ℕ) (key : ClusterKey) (ts : List Tran
 closing_name P n key [] h = tt
 closing_name P n key (t ∷ ts) h = (ending_name P n key t.number t.applied h, closing_name P n key ts h)
 
-exchanging_name : (P : ℕ → Type 0) (n : ℕ) (key : ClusterKey) (b : Bool) → P n → AllName P (exchanging n key b)
+exchanging_name : (P : ℕ → Type 0) (n : ℕ) (key : ClusterKey) (b : Bool) → P n → AllName P (only_if (line.Exchanged n key) b)
 exchanging_name P n key true h = (h, tt)
 exchanging_name P n key false h = tt
 
@@ -175,7 +188,7 @@ propose_name P f h i = go f.agreement.proposal
     deep [] = (h, entering_name P f (agreement.next_key f.me f.agreement) (neighbours f) h i)
     deep (n ∷ ns) = (h, tt)
 
-    new : (b : Bool) → AllName P (tick.propose_new f b).lines
+    new : (b : Bool) → AllName P (if b then proposal_effects f (next_key f.me f.agreement) (neighbours f) (agreement.others_among f.me (neighbours f)) else nothing).lines
     new true = deep (agreement.others_among f.me (neighbours f))
     new false = tt
 
@@ -195,11 +208,11 @@ settling_from_name P zero p f me = tt
 settling_from_name P (suc n) p f me =
     then_name P f (settling_at (list_at f p) p f) (settling_from n (p + 1)) me (settling_at_name P (list_at f p) p f me) (λ g a. settling_from_name P n (p + 1) g a)
 
-settling_name : (P : ℕ → Type 0) (n : ℕ) (f : Facts) (b : Bool) → P f.me → AllName P (settling_if n f b)
+settling_name : (P : ℕ → Type 0) (n : ℕ) (f : Facts) (b : Bool) → P f.me → AllName P (if b then settling_from n 0 f else [])
 settling_name P n f true me = settling_from_name P n 0 f me
 settling_name P n f false me = tt
 
-progress_name : (P : ℕ → Type 0) (n : ℕ) (f : Facts) (b : Bool) → AllName P (tick.progress_if n f b).lines
+progress_name : (P : ℕ → Type 0) (n : ℕ) (f : Facts) (b : Bool) → AllName P (if b then sends_only (to_each (others f) (progress_message n f true)) else nothing).lines
 progress_name P n f true = tt
 progress_name P n f false = tt
 
@@ -220,7 +233,7 @@ tick_name P n f h = go f.up
     later : List Part
     later = tick.rows ∷ tick.transactions ∷ tick.batches ∷ tick.settlings n ∷ tick.progress n ∷ []
 
-    go : (b : Bool) → AllName P (tick.tick_if n f b).lines
+    go : (b : Bool) → AllName P (if b then parts_in_order (parts n) f else lines_only (line.Down f.me ∷ [])).lines
     go true = (
       h.me,
       then_name P g (tick.propose g).lines (λ k. (parts_in_order later k).lines) h.me
@@ -258,7 +271,7 @@ map_cause P f h = go f.up
     in_view_of (Some v) e = missing (first_missing f.exchange.rows v.members) (missing_is P (lacks f.exchange.rows) (ids_of v.members)
         (all_members P v.members (λ n m. h.members n (ap (λ (o : Option View). is_member (members_of o) n) e ∙ m))))
 
-    go : (b : Bool) → CauseIf P (up_refusal f b)
+    go : (b : Bool) → CauseIf P (if b then view_refusal f f.exchange.view else Some refusal.Down)
     go true = in_view_of f.exchange.view refl
     go false = tt
 
@@ -270,7 +283,7 @@ in_list P f p h e = go f.up e
     in_view_of None i e = cc
     in_view_of (Some v) i e = member_listed (members_of_view f) p f.me (member_id (members_of_view f) f.me ∙ ap (λ (o : Option View). is_member (members_of o) f.me) i ∙ h.among v i)
 
-    go : (b : Bool) → up_refusal f b ≡ None → contains (list_at f p) f.me ≡ true
+    go : (b : Bool) → (if b then view_refusal f f.exchange.view else Some refusal.Down) ≡ None → contains (list_at f p) f.me ≡ true
     go true e = in_view_of f.exchange.view refl e
     go false e = cc
 
@@ -312,11 +325,11 @@ show_name P f d h = (h, tt)
 
 -- ---- messages
 
-voting_name : (P : ℕ → Type 0) (f : Facts) (from : ℕ) (key : ClusterKey) (b : Bool) → P f.me → AllName P (due.vote_effects f from key b).lines
+voting_name : (P : ℕ → Type 0) (f : Facts) (from : ℕ) (key : ClusterKey) (b : Bool) → P f.me → AllName P (if b then sends_only (to_one from (message.Refuse key f.agreement.promised)) else lines_and_sends (only_if (line.Promise f.me key) (keys.key_lt f.agreement.promised key)) (to_one from (message.Accept key))).lines
 voting_name P f from key true h = tt
 voting_name P f from key false h = one_if P _ _ h
 
-committing_name : (P : ℕ → Type 0) (f : Facts) (p : Proposal) (b : Bool) → P f.me → AllMembers P p.members → AllName P (due.commit_effects f p b).lines
+committing_name : (P : ℕ → Type 0) (f : Facts) (p : Proposal) (b : Bool) → P f.me → AllMembers P p.members → AllName P (if b then commit_effects f p else nothing).lines
 committing_name P f p true h i = entering_name P f p.key p.members h i
 committing_name P f p false h i = tt
 
@@ -325,19 +338,19 @@ counting_name P f from key (Some p) true h i = committing_name P f p _ h (i p re
 counting_name P f from key (Some p) false h i = (inr h, tt)
 counting_name P f from key None b h i = (inr h, tt)
 
-stale_name : (P : ℕ → Type 0) (f : Facts) (b : Bool) → P f.me → AllName P (due.unless_stale f b).lines
+stale_name : (P : ℕ → Type 0) (f : Facts) (b : Bool) → P f.me → AllName P (if b then nothing else stale f).lines
 stale_name P f true h = tt
 stale_name P f false h = (inr h, tt)
 
-spent_name : (P : ℕ → Type 0) (f : Facts) (b : Bool) → P f.me → AllName P (due.unless_spent f b).lines
+spent_name : (P : ℕ → Type 0) (f : Facts) (b : Bool) → P f.me → AllName P (if b then nothing else spent f).lines
 spent_name P f true h = tt
 spent_name P f false h = (inr h, tt)
 
-commit_name : (P : ℕ → Type 0) (f : Facts) (key : ClusterKey) (ms : List Member) (b : Bool) → P f.me → AllMembers P ms → AllName P (due.entry_effects_if f key ms b).lines
+commit_name : (P : ℕ → Type 0) (f : Facts) (key : ClusterKey) (ms : List Member) (b : Bool) → P f.me → AllMembers P ms → AllName P (if b then lines_only (entering f key ms) else stale f).lines
 commit_name P f key ms true h i = entering_name P f key ms h i
 commit_name P f key ms false h i = (inr h, tt)
 
-state_name : (P : ℕ → Type 0) (f now : Facts) (from : ℕ) (wants b : Bool) → P f.me → AllName P (due.state_came f now from wants b).lines
+state_name : (P : ℕ → Type 0) (f now : Facts) (from : ℕ) (wants b : Bool) → P f.me → AllName P (if b then lines_and_sends (only_if (line.Exchanged f.me (view_key f)) (finishes f now)) (if wants then to_one from (state f false) else []) else stale f).lines
 state_name P f now from wants true h = one_if P _ _ h
 state_name P f now from wants false h = (inr h, tt)
 
@@ -345,18 +358,18 @@ merging_name : (P : ℕ → Type 0) (f : Facts) (rs : List (List ℕ × Version)
 merging_name P f [] h = tt
 merging_name P f (r ∷ rs) h = then_name P f (due.merging f r.0 r.1) (λ g. due.merging_all g rs) h (one_if P _ _ h) (λ g a. merging_name P g rs a)
 
-progressed_name : (P : ℕ → Type 0) (n : ℕ) (f now : Facts) (from : ℕ) (wants b : Bool) → P f.me → AllName P (due.progress_effects_if n f now from wants b).lines
+progressed_name : (P : ℕ → Type 0) (n : ℕ) (f now : Facts) (from : ℕ) (wants b : Bool) → P f.me → AllName P (if b then (if wants && knows_all_settled now n 0 then sends_only (to_one from (progress_message n now false)) else nothing) else stale f).lines
 progressed_name P n f now from wants true h = go _
   where
-    go : (c : Bool) → AllName P (due.answer_progress n now from c).lines
+    go : (c : Bool) → AllName P (if c then sends_only (to_one from (progress_message n now false)) else nothing).lines
     go true = tt
     go false = tt
 progressed_name P n f now from wants false h = (inr h, tt)
 
-acked_name : (P : ℕ → Type 0) (f : Facts) (from number : ℕ) (b : Bool) → P f.me → AllName P (due.repl_ack_came f from number b).lines
+acked_name : (P : ℕ → Type 0) (f : Facts) (from number : ℕ) (b : Bool) → P f.me → AllName P (if b then ack_of f from (transaction f.transactions number) else stale f).lines
 acked_name P f from number true h = go _
   where
-    deep : (t : Transaction) (c : Bool) → AllName P (due.done_by f t from c).lines
+    deep : (t : Transaction) (c : Bool) → AllName P (if c then lines_only (only_if (line.Done f.me (view_key f) t.number) (is_last_awaited t from)) else spent f).lines
     deep t true = one_if P _ _ h
     deep t false = (inr h, tt)
 
@@ -365,7 +378,7 @@ acked_name P f from number true h = go _
     go (Some t) = deep t _
 acked_name P f from number false h = (inr h, tt)
 
-done_name : (P : ℕ → Type 0) (f : Facts) (number : ℕ) (b : Bool) → P f.me → AllName P (done_if f number b)
+done_name : (P : ℕ → Type 0) (f : Facts) (number : ℕ) (b : Bool) → P f.me → AllName P (only_if (line.Done f.me (view_key f) number) b)
 done_name P f number true h = (h, tt)
 done_name P f number false h = tt
 
@@ -374,14 +387,14 @@ resolving_name P f clock l t want.Get h = (h, tt)
 resolving_name P f clock l t (want.Put bytes) h = (h, done_name P f t.number _ h)
 resolving_name P f clock l t want.Del h = (h, done_name P f t.number _ h)
 
-answered_name : (P : ℕ → Type 0) (f : Facts) (clock from number : ℕ) (v : Option Version) (b : Bool) → P f.me → AllName P (due.answer_effects_if f clock from number v b).lines
+answered_name : (P : ℕ → Type 0) (f : Facts) (clock from number : ℕ) (v : Option Version) (b : Bool) → P f.me → AllName P (if b then answer_of f clock from v (transaction f.transactions number) else stale f).lines
 answered_name P f clock from number v true h = go _
   where
-    last : (t : Transaction) (c : Bool) → AllName P (due.resolving_if f clock t c).lines
+    last : (t : Transaction) (c : Bool) → AllName P (if c then resolving f clock (list_at f (partition_of t.digest)) t else nothing).lines
     last t true = resolving_name P f clock _ t t.want h
     last t false = tt
 
-    deep : (t : Transaction) (c : Bool) → AllName P (due.answered_by f clock t from v c).lines
+    deep : (t : Transaction) (c : Bool) → AllName P (if c then (if is_last_awaited t from then resolving f clock (list_at f (partition_of (answered f.store.by from v t).digest)) (answered f.store.by from v t) else nothing) else spent f).lines
     deep t true = last (answered f.store.by from v t) (is_last_awaited t from)
     deep t false = (inr h, tt)
 
@@ -404,30 +417,30 @@ message_name P n f clock from (message.Commit key ms) h i = commit_name P f key 
 message_name P n f clock from (message.State key wants row) h i = state_name P f (reached f from (message.State key wants row)) from wants (in_view f key) h.me
 message_name P n f clock from (message.Batch b) h i = go (in_view f b.key)
   where
-    go : (c : Bool) → AllName P (due.batch_came f from b c).lines
+    go : (c : Bool) → AllName P (if c then lines_and_sends (merging_all f b.records) (to_one from (message.BatchAck b.key b.number)) else stale f).lines
     go true = merging_name P f b.records h.me
     go false = (inr h.me, tt)
 message_name P n f clock from (message.BatchAck key number) h i = go (in_view f key)
   where
-    go : (c : Bool) → AllName P (due.batch_ack_came f from number c).lines
+    go : (c : Bool) → AllName P (if c then (if has_number (out_to f.batches from) number then nothing else spent f) else stale f).lines
     go true = spent_name P f _ h.me
     go false = (inr h.me, tt)
 message_name P n f clock from (message.Progress key wants done handed settled) h i = progressed_name P n f (reached f from (message.Progress key wants done handed settled)) from wants (in_view f key) h.me
 message_name P n f clock from (message.Repl key t nth d v) h i = go (in_view f key)
   where
-    go : (c : Bool) → AllName P (due.repl_came f from key t d v c).lines
+    go : (c : Bool) → AllName P (if c then lines_and_sends (merging f d v) (to_one from (message.ReplAck key t)) else stale f).lines
     go true = one_if P _ _ h.me
     go false = (inr h.me, tt)
 message_name P n f clock from (message.ReplAck key t) h i = acked_name P f from t (in_view f key) h.me
 message_name P n f clock from (message.Ask key t d) h i = go (in_view f key)
   where
-    go : (c : Bool) → AllName P (due.ask_came f from key t d c).lines
+    go : (c : Bool) → AllName P (if c then sends_only (to_one from (message.Answer key t (finite.get f.store.content d))) else stale f).lines
     go true = tt
     go false = (inr h.me, tt)
 message_name P n f clock from (message.Answer key t v) h i = answered_name P f clock from t v (in_view f key) h.me
 message_name P n f clock from message.MapAsk h i = go f.exchange.exchanged
   where
-    go : (c : Bool) → AllName P (due.table_if f c).lines
+    go : (c : Bool) → AllName P (if c then sends_only (to_one client (message.MapTable (map_table f))) else nothing).lines
     go true = tt
     go false = tt
 message_name P n f clock from _ h i = (inr h.me, tt)
@@ -451,13 +464,13 @@ request_name P f clock d w h = go (request_refusal f (list_at f (partition_of d)
 pub stop_name : (P : ℕ → Type 0) (f : Facts) → P f.me → AllName P (due_stop f).lines
 stop_name P f h = go f.up
   where
-    go : (b : Bool) → AllName P (stop_if f b).lines
+    go : (b : Bool) → AllName P (if b then lines_only (closing f ++ line.Stop f.me ∷ []) else lines_only (line.Down f.me ∷ [])).lines
     go true = name_append P (closing f) _ (closing_name P f.me (view_key f) f.transactions.running h) (h, tt)
     go false = (h, tt)
 
 pub start_name : (P : ℕ → Type 0) (f : Facts) → P f.me → AllName P (due_start f).lines
 start_name P f h = go f.up
   where
-    go : (b : Bool) → AllName P (start_if f b).lines
+    go : (b : Bool) → AllName P (if b then lines_only (line.Up f.me ∷ []) else lines_only (line.Start f.me ∷ [])).lines
     go true = (h, tt)
     go false = (h, tt)

@@ -1,6 +1,6 @@
 -- What is due of every event is sent to other nodes that its sender knows of, or as a table to the client.
 use Rattle.std.proofs.Common.{◌≡◌, ℕ, ◌+◌, ◌==◌, Bool, true, false, ◌&&◌, List, [], ◌∷◌, ◌++◌, Option, Some, None, refl, sym, subst, ◌∙◌, inl, inr}
-use Rattle.std.specs.Prelude.{filter, filter_map, flat_map}
+use Rattle.std.specs.Prelude.{filter, filter_map, flat_map, if◌then◌else◌}
 use Rattle.std.specs.List.{cons_option}
 use Rattle.conflict_order.specs.declared.want.Want.{Want}
 use Rattle.conflict_order.specs.declared.want.Want.TheVariants as want
@@ -15,11 +15,11 @@ use Rattle.wire_messages.specs.Decoding.{message_of}
 use Rattle.wire_messages.specs.Spelling.{spelling}
 use Rattle.journal_lines.specs.declared.refusal.Refusal.{Refusal}
 use Rattle.node_rules.specs.Agreement as agreement
-use Rattle.node_rules.specs.Agreement.{Proposal, enters_alone}
-use Rattle.node_rules.specs.Batches.{Target, Targets, next_batch}
+use Rattle.node_rules.specs.Agreement.{Proposal, enters_alone, next_key}
+use Rattle.node_rules.specs.Batches.{Target, Targets, next_batch, has_number, out_to}
 use Rattle.node_rules.specs.ByParts.{entered_alone}
 use Rattle.node_rules.specs.Copies.{is_nil}
-use Rattle.node_rules.specs.Effects.{to_each}
+use Rattle.node_rules.specs.Effects.{to_each, lines_and_sends, lines_only, nothing, sends_only, to_one}
 use Rattle.node_rules.specs.Exchange.{is_member}
 use Rattle.node_rules.specs.Facts.{Facts, view_key, members_of_view, list_at}
 use Rattle.node_rules.specs.Hearing.{aged}
@@ -27,13 +27,13 @@ use Rattle.node_rules.specs.Map.{lacks}
 use Rattle.node_rules.specs.Messages as due
 use Rattle.node_rules.specs.Messages.{due_message_of}
 use Rattle.node_rules.specs.Notes.{noted, neighbours, after_ages, reached, in_view, opening_transaction}
-use Rattle.node_rules.specs.Requests.{due_request, due_stop, due_start, asking, request_if, request_refusal, stop_if, start_if}
-use Rattle.node_rules.specs.Resolving.{repl, resolving_want}
+use Rattle.node_rules.specs.Requests.{due_request, due_stop, due_start, asking, request_if, request_refusal}
+use Rattle.node_rules.specs.Resolving.{repl, resolving_want, resolving}
 use Rattle.node_rules.specs.Settling.{settling_due}
-use Rattle.node_rules.specs.Standing.{others, other_replicas, asked}
-use Rattle.node_rules.specs.Tables.{contains}
+use Rattle.node_rules.specs.Standing.{others, other_replicas, asked, knows_all_settled}
+use Rattle.node_rules.specs.Tables.{contains, only_if}
 use Rattle.node_rules.specs.Tick as tick
-use Rattle.node_rules.specs.Tick.{tick_of, propose, is_candidate, state}
+use Rattle.node_rules.specs.Tick.{tick_of, propose, is_candidate, state, parts, parts_in_order, progress_message, proposal_effects}
 use Rattle.node_rules.specs.Transactions.{Transaction, Write, transaction, answered, awaits_ack, awaits_answer, is_last_awaited}
 use Rattle.node_rules.proofs.TickParts.{alone_is, among_others_is}
 use Rattle.cluster_rules.proofs.OwnLines.{noted_me}
@@ -45,6 +45,17 @@ use Rattle.key_laws.proofs.DueDirected.{Alone, alone_in, alone_now, later, nothi
 use Rattle.key_laws.proofs.Frames.{num_eq}
 use Rattle.key_laws.proofs.NamedLines.{Aware, member_is, neighbours_are, heard_aged}
 use Rattle.key_laws.proofs.TableReads.{is_table, others_tell, table_tells}
+use Rattle.node_rules.specs.BatchMessages.{merging, merging_all}
+use Rattle.node_rules.specs.ClientMessages.{map_table}
+use Rattle.node_rules.specs.Entering.{closing, entering}
+use Rattle.node_rules.specs.RowMessages.{finishes}
+use Rattle.node_rules.specs.StaleMessages.{spent, stale}
+use Rattle.node_rules.specs.TransactionMessages.{ack_of, answer_of}
+use Rattle.node_rules.specs.VoteMessages.{commit_effects}
+use Rattle.cluster_types.specs.Endpoints as endpoints
+use Rattle.std.specs.FinMap as finite
+use Rattle.journal_lines.specs.declared.line.Line.TheVariants as line
+use Rattle.node_rules.specs.Standing as standing
 
 -- ---- where messages go
 
@@ -122,7 +133,7 @@ batches_from P t f (x ∷ xs) h a = go (next_batch (view_key f) f.store.content 
     go None rest = rest
     go (Some b) rest = (one_right P f.me x.node (message.Batch b) refl (h.others x.node a.0.other), rest)
 
-progress_right : (P : ℕ → Type 0) (n : ℕ) (f : Facts) (me : ℕ) (b : Bool) → ((to : ℕ) → contains (others f) to ≡ true → Other P me to) → AllRight P me (tick.progress_if n f b).sends
+progress_right : (P : ℕ → Type 0) (n : ℕ) (f : Facts) (me : ℕ) (b : Bool) → ((to : ℕ) → contains (others f) to ≡ true → Other P me to) → AllRight P me (if b then sends_only (to_each (standing.others f) (progress_message n f true)) else nothing).sends
 progress_right P n f me true h = each_right P me _ (others f) refl h
 progress_right P n f me false h = tt
 
@@ -133,7 +144,7 @@ propose_right P f h i = go f.agreement.proposal refl
     to [] a = tt
     to (n ∷ ns) a = each_right P f.me _ (n ∷ ns) refl a
 
-    new : (b : Bool) → AllRight P f.me (tick.propose_new f b).sends
+    new : (b : Bool) → AllRight P f.me (if b then proposal_effects f (next_key f.me f.agreement) (neighbours f) (agreement.others_among f.me (neighbours f)) else nothing).sends
     new true = to (agreement.others_among f.me (neighbours f)) i
     new false = tt
 
@@ -172,7 +183,7 @@ tick_parts_right P t n f h peers proposed = right_append P f.me _ _ (each_right 
 pub aged_proposal : (f : Facts) (p : Proposal) → (after_ages f).agreement.proposal ≡ Some p → f.agreement.proposal ≡ Some p
 aged_proposal f p e = go (agreement.proposes_set f.agreement.proposal (neighbours (after_ages f))) e
   where
-    go : (b : Bool) → agreement.kept_if b f.agreement.proposal ≡ Some p → f.agreement.proposal ≡ Some p
+    go : (b : Bool) → (if b then f.agreement.proposal else None) ≡ Some p → f.agreement.proposal ≡ Some p
     go true e = e
     go false e = cc
 
@@ -185,7 +196,7 @@ tick_right P t n f h = go f.up
     near : (n : ℕ) → is_member (neighbours g) n ≡ true → P n
     near n e = member_is P (neighbours g) n (neighbours_are P f.me f.role (aged f.hearing.heard) h.aware.me (heard_aged (λ n r. P n) f.hearing.heard h.aware.heard)) e
 
-    go : (b : Bool) → AllRight P f.me (tick.tick_if n f b).sends
+    go : (b : Bool) → AllRight P f.me (if b then parts_in_order (parts n) f else lines_only (line.Down f.me ∷ [])).sends
     go true =
         tick_parts_right P t n g (record { others = (aims_of P t f h).others; goes = record { targets = h.goes.targets; waits = h.goes.waits } }) h.peers
         (propose_right P g (λ p e to c. others_are P f.me p.members (λ n m. member_is P p.members n (h.aware.proposal p (aged_proposal f p e)) m) to ((h.missing p (aged_proposal f p e)).each to c)) (others_are P f.me (neighbours g) near))
@@ -217,12 +228,12 @@ pub message_right : (P : ℕ → Type 0) (n : ℕ) (t : Traced) (f : Facts) (clo
 message_right P n t f clock from (message.Heartbeat view promised hears role) c = tt
 message_right P n t f clock from (message.Propose k ms) c = go (keys.key_lt k f.agreement.promised)
   where
-    go : (b : Bool) → AllRight P f.me (due.vote_effects f from k b).sends
+    go : (b : Bool) → AllRight P f.me (if b then sends_only (to_one from (message.Refuse k f.agreement.promised)) else lines_and_sends (only_if (line.Promise f.me k) (keys.key_lt f.agreement.promised k)) (to_one from (message.Accept k))).sends
     go true = (one_right P f.me from _ refl (c.from_other refl), tt)
     go false = (one_right P f.me from _ refl (c.from_other refl), tt)
 message_right P n t f clock from (message.Accept k) c = go f.agreement.proposal refl (agreement.proposes f.agreement.proposal k)
   where
-    deep : (p : Proposal) → f.agreement.proposal ≡ Some p → (b : Bool) → AllRight P f.me (due.commit_effects f p b).sends
+    deep : (p : Proposal) → f.agreement.proposal ≡ Some p → (b : Bool) → AllRight P f.me (if b then commit_effects f p else nothing).sends
     deep p e true = each_right P f.me _ (agreement.others_among f.me p.members) refl (others_are P f.me p.members (λ n m. member_is P p.members n (c.knows.aware.proposal p e) m))
     deep p e false = tt
 
@@ -232,35 +243,35 @@ message_right P n t f clock from (message.Accept k) c = go f.agreement.proposal 
     go None e b = tt
 message_right P n t f clock from (message.Refuse k promised) c = go (agreement.proposes f.agreement.proposal k)
   where
-    go : (b : Bool) → AllRight P f.me (due.unless_stale f b).sends
+    go : (b : Bool) → AllRight P f.me (if b then nothing else stale f).sends
     go true = tt
     go false = tt
 message_right P n t f clock from (message.Commit k ms) c = go (due.may_enter_view f k ms)
   where
-    go : (b : Bool) → AllRight P f.me (due.entry_effects_if f k ms b).sends
+    go : (b : Bool) → AllRight P f.me (if b then lines_only (entering f k ms) else stale f).sends
     go true = tt
     go false = tt
 message_right P n t f clock from (message.State k wants row) c = go (in_view f k)
   where
-    answer : (b : Bool) → AllRight P f.me (due.answer_state f from b)
+    answer : (b : Bool) → AllRight P f.me (if b then to_one from (state f false) else [])
     answer true = (one_right P f.me from _ refl (c.from_other refl), tt)
     answer false = tt
 
-    go : (b : Bool) → AllRight P f.me (due.state_came f (reached f from (message.State k wants row)) from wants b).sends
+    go : (b : Bool) → AllRight P f.me (if b then lines_and_sends (only_if (line.Exchanged f.me (view_key f)) (finishes f (reached f from (message.State k wants row)))) (if wants then to_one from (state f false) else []) else stale f).sends
     go true = answer wants
     go false = tt
 message_right P n t f clock from (message.Batch b) c = go (in_view f b.key)
   where
-    go : (x : Bool) → AllRight P f.me (due.batch_came f from b x).sends
+    go : (x : Bool) → AllRight P f.me (if x then lines_and_sends (merging_all f b.records) (to_one from (message.BatchAck b.key b.number)) else stale f).sends
     go true = (one_right P f.me from _ refl (c.from_other refl), tt)
     go false = tt
 message_right P n t f clock from (message.BatchAck k number) c = go (in_view f k)
   where
-    deep : (b : Bool) → AllRight P f.me (due.unless_spent f b).sends
+    deep : (b : Bool) → AllRight P f.me (if b then nothing else spent f).sends
     deep true = tt
     deep false = tt
 
-    go : (b : Bool) → AllRight P f.me (due.batch_ack_came f from number b).sends
+    go : (b : Bool) → AllRight P f.me (if b then (if has_number (out_to f.batches from) number then nothing else spent f) else stale f).sends
     go true = deep _
     go false = tt
 message_right P n t f clock from (message.Progress k wants done handed settled) c = go (in_view f k)
@@ -268,21 +279,21 @@ message_right P n t f clock from (message.Progress k wants done handed settled) 
     now : Facts
     now = reached f from (message.Progress k wants done handed settled)
 
-    answer : (b : Bool) → AllRight P f.me (due.answer_progress n now from b).sends
+    answer : (b : Bool) → AllRight P f.me (if b then sends_only (to_one from (progress_message n now false)) else nothing).sends
     answer true = (one_right P f.me from _ refl (c.from_other refl), tt)
     answer false = tt
 
-    go : (b : Bool) → AllRight P f.me (due.progress_effects_if n f now from wants b).sends
+    go : (b : Bool) → AllRight P f.me (if b then (if wants && knows_all_settled now n 0 then sends_only (to_one from (progress_message n now false)) else nothing) else stale f).sends
     go true = answer _
     go false = tt
 message_right P n t f clock from (message.Repl k number nth d v) c = go (in_view f k)
   where
-    go : (b : Bool) → AllRight P f.me (due.repl_came f from k number d v b).sends
+    go : (b : Bool) → AllRight P f.me (if b then lines_and_sends (merging f d v) (to_one from (message.ReplAck k number)) else stale f).sends
     go true = (one_right P f.me from _ refl (c.from_other refl), tt)
     go false = tt
 message_right P n t f clock from (message.ReplAck k number) c = go (in_view f k)
   where
-    deep : (x : Transaction) (b : Bool) → AllRight P f.me (due.done_by f x from b).sends
+    deep : (x : Transaction) (b : Bool) → AllRight P f.me (if b then lines_only (only_if (line.Done f.me (view_key f) x.number) (is_last_awaited x from)) else spent f).sends
     deep x true = tt
     deep x false = tt
 
@@ -290,21 +301,21 @@ message_right P n t f clock from (message.ReplAck k number) c = go (in_view f k)
     ack None = tt
     ack (Some x) = deep x (awaits_ack x from)
 
-    go : (b : Bool) → AllRight P f.me (due.repl_ack_came f from number b).sends
+    go : (b : Bool) → AllRight P f.me (if b then ack_of f from (transaction f.transactions number) else stale f).sends
     go true = ack (transaction f.transactions number)
     go false = tt
 message_right P n t f clock from (message.Ask k number d) c = go (in_view f k)
   where
-    go : (b : Bool) → AllRight P f.me (due.ask_came f from k number d b).sends
+    go : (b : Bool) → AllRight P f.me (if b then sends_only (to_one from (message.Answer k number (finite.get f.store.content d))) else stale f).sends
     go true = (one_right P f.me from _ refl (c.from_other refl), tt)
     go false = tt
 message_right P n t f clock from (message.Answer k number v) c = go (in_view f k)
   where
-    last : (x : Transaction) (b : Bool) → AllRight P f.me (due.resolving_if f clock x b).sends
+    last : (x : Transaction) (b : Bool) → AllRight P f.me (if b then resolving f clock (list_at f (partition_of x.digest)) x else nothing).sends
     last x true = resolving_right P t f clock x x.want (aims_of P t f c.knows)
     last x false = tt
 
-    deep : (x : Transaction) (b : Bool) → AllRight P f.me (due.answered_by f clock x from v b).sends
+    deep : (x : Transaction) (b : Bool) → AllRight P f.me (if b then (if is_last_awaited x from then resolving f clock (list_at f (partition_of (answered f.store.by from v x).digest)) (answered f.store.by from v x) else nothing) else spent f).sends
     deep x true = last (answered f.store.by from v x) (is_last_awaited x from)
     deep x false = tt
 
@@ -312,12 +323,12 @@ message_right P n t f clock from (message.Answer k number v) c = go (in_view f k
     answer None = tt
     answer (Some x) = deep x (awaits_answer x from)
 
-    go : (b : Bool) → AllRight P f.me (due.answer_effects_if f clock from number v b).sends
+    go : (b : Bool) → AllRight P f.me (if b then answer_of f clock from v (transaction f.transactions number) else stale f).sends
     go true = answer (transaction f.transactions number)
     go false = tt
 message_right P n t f clock from message.MapAsk c = go f.exchange.exchanged
   where
-    go : (b : Bool) → AllRight P f.me (due.table_if f b).sends
+    go : (b : Bool) → AllRight P f.me (if b then sends_only (to_one endpoints.client (message.MapTable (map_table f))) else nothing).sends
     go true = (record { receiver = inl refl; differ = c.client; tells = table_tells P t f c.sound c.keys c.knows.aware.members }, tt)
     go false = tt
 message_right P n t f clock from _ c = tt
@@ -344,13 +355,13 @@ request_right P t f clock d w k = go (request_refusal f (list_at f (partition_of
 pub stop_right : (P : ℕ → Type 0) (a : ℕ) (f : Facts) → AllRight P a (due_stop f).sends
 stop_right P a f = go f.up
   where
-    go : (b : Bool) → AllRight P a (stop_if f b).sends
+    go : (b : Bool) → AllRight P a (if b then lines_only (closing f ++ line.Stop f.me ∷ []) else lines_only (line.Down f.me ∷ [])).sends
     go true = tt
     go false = tt
 
 pub start_right : (P : ℕ → Type 0) (a : ℕ) (f : Facts) → AllRight P a (due_start f).sends
 start_right P a f = go f.up
   where
-    go : (b : Bool) → AllRight P a (start_if f b).sends
+    go : (b : Bool) → AllRight P a (if b then lines_only (line.Up f.me ∷ []) else lines_only (line.Start f.me ∷ [])).sends
     go true = tt
     go false = tt

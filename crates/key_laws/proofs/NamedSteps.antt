@@ -32,12 +32,12 @@ use Rattle.node_rules.specs.Tick.{tick_of}
 use Rattle.cluster_rules.specs.declared.event.Event.{Event}
 use Rattle.cluster_rules.specs.declared.event.Event.TheVariants as event
 use Rattle.cluster_rules.specs.Allowed.{AreAllowed, names_known, ends_calm}
-use Rattle.cluster_rules.specs.DueEvents.{due_of, due_at_named, due_at_client, due_at_end, due_arrival, arriving, arriving_cut, delivery, unless_blocked, is_blocked, losing, written, sent_lines, full_unless, one_more_if}
+use Rattle.cluster_rules.specs.DueEvents.{due_of, due_at_named, due_at_client, due_arrival, arriving, delivery, is_blocked, losing, written, sent_lines}
 use Rattle.journal_readings.specs.Lines.{has_node}
 use Rattle.cluster_rules.specs.Marks.{Begins, Writes}
 use Rattle.journal_readings.specs.Messages.{Posting}
 use Rattle.cluster_rules.specs.Network.{Network, landed, flying_at, has_place, are_apart}
-use Rattle.cluster_rules.specs.Opening.{Header, declared_nodes, rack_in, rack_if}
+use Rattle.cluster_rules.specs.Opening.{Header, declared_nodes, rack_in}
 use Rattle.cluster_rules.specs.Steps.{Step, marks_of, all_marks, all_lines}
 use Rattle.cluster_rules.specs.World.{World, opened, is_up, members_now}
 use Rattle.key_laws.specs.Ends.{IsOneOf, IsEnd, TableNames, FromNode, GoesRight, AllNodes, AllName}
@@ -55,6 +55,7 @@ use Rattle.key_laws.proofs.Peopled.{Neighbour, peers_of, AllTables, Peopled, sen
 use Rattle.key_laws.proofs.Quiet.{writes}
 use Rattle.key_laws.proofs.Runs.{of_first, of_others, AreIds, declared_ids, marks_nodes, AllBegun, world_of, start}
 use Rattle.key_laws.proofs.TableReads.{others_tell}
+use Rattle.journal_lines.specs.declared.line.Line.TheVariants as line
 
 -- ---- who is declared
 
@@ -132,7 +133,7 @@ knows_of ns t n s d h one = record {
 
 -- ---- lines of what an endpoint does
 
-full_name : (P : ℕ → Type 0) (i : ℕ) (b : Bool) → AllName P (full_unless i b)
+full_name : (P : ℕ → Type 0) (i : ℕ) (b : Bool) → AllName P (if b then [] else line.Full i ∷ [])
 full_name P i true = tt
 full_name P i false = (tt, tt)
 
@@ -143,7 +144,7 @@ AllGoRight P from (m ∷ ms) = GoesRight P from m.0 (spelling m.1) × AllGoRight
 
 sent_name : (P : ℕ → Type 0) (from sent flying : ℕ) (ms : List (ℕ × Message)) → AllGoRight P from ms → AllName P (sent_lines from sent flying ms)
 sent_name P from sent flying [] h = tt
-sent_name P from sent flying (m ∷ ms) h = (h.0, name_append P (full_unless _ (has_place flying)) _ (full_name P _ (has_place flying)) (sent_name P from (sent + 1) (one_more_if flying (has_place flying)) ms h.1))
+sent_name P from sent flying (m ∷ ms) h = (h.0, name_append P (if has_place flying then [] else line.Full _ ∷ []) _ (full_name P _ (has_place flying)) (sent_name P from (sent + 1) (if has_place flying then flying + 1 else flying) ms h.1))
 
 from_node : (P : ℕ → Type 0) (me : ℕ) (ms : List (ℕ × Message)) → P me → AllRight P me ms → AllGoRight P me ms
 from_node P me [] one h = tt
@@ -238,7 +239,7 @@ arriving_named n ns t w net p ids same free s dir h posted = go (message_of p.by
           client = λ e. no_client ns p.to ids one (sym (h.nodes p.to).me ∙ e);
         }))
 
-    at_end : (m : Message) → message_of p.bytes ≡ Some m → (b : Bool) → (p.to == client) ≡ b → AllName (IsOneOf ns) (due_at_end n w net p m b)
+    at_end : (m : Message) → message_of p.bytes ≡ Some m → (b : Bool) → (p.to == client) ≡ b → AllName (IsOneOf ns) (if b then due_at_client m else written net p.to (due_message_of n (w.facts p.to) (w.clocks p.to) p.from m))
     at_end m r true e = table_taken ns m
     at_end m r false e = subst (λ (fs : ℕ → Facts). AllName (IsOneOf ns) (written net p.to (due_message_of n (fs p.to) (w.clocks p.to) p.from m))) (sym same)
         (node m r ((h.nodes p.to).up (ap (λ (fs : ℕ → Facts). (fs p.to).up) (sym same) ∙ runs_there w p free e)))
@@ -257,7 +258,7 @@ to_end P a b bytes g = ⊎_elim (λ x. x.receiver) (λ x. inr x.receiver) g.ends
 delivery_named : (ns : List ℕ) (w : World) (i : ℕ) (lines : Posting → List Line) → ((p : Posting) → flying_at w.network i ≡ Some p → is_blocked w p ≡ false → AllName (IsOneOf ns) (lines p)) → AllName (IsOneOf ns) (delivery w i lines (flying_at w.network i))
 delivery_named ns w i lines h = go (flying_at w.network i) refl
   where
-    unless : (p : Posting) → flying_at w.network i ≡ Some p → (b : Bool) → is_blocked w p ≡ b → AllName (IsOneOf ns) (unless_blocked i lines p b)
+    unless : (p : Posting) → flying_at w.network i ≡ Some p → (b : Bool) → is_blocked w p ≡ b → AllName (IsOneOf ns) (if b then line.Blocked i ∷ [] else lines p)
     unless p e true q = (tt, tt)
     unless p e false q = h p e q
 
@@ -332,7 +333,7 @@ event_named n ns t (event.Cut i size) ids all k s d h = delivery_named ns t.worl
     right : (p : Posting) → flying_at t.world.network i ≡ Some p → GoesRight (IsOneOf ns) p.from p.to p.bytes
     right p e = let posted : WasPosted u p = posted_in t u i p refl e in h.sent posted.place p posted.stands
 
-    go : (p : Posting) → flying_at t.world.network i ≡ Some p → is_blocked t.world p ≡ false → (b : Bool) → AllName (IsOneOf ns) (arriving_cut n t.world (landed t.world.network i) p b)
+    go : (p : Posting) → flying_at t.world.network i ≡ Some p → is_blocked t.world p ≡ false → (b : Bool) → AllName (IsOneOf ns) (if b then line.Short p.to ∷ [] else arriving n t.world (landed t.world.network i) p)
     go p e free true = (to_end (IsOneOf ns) p.from p.to p.bytes (right p e), tt)
     go p e free false = arriving_named n ns u t.world (landed t.world.network i) p ids refl free s d h (posted_in t u i p refl e)
 event_named n ns t (event.Map node from to) ids all k s d h =
@@ -388,7 +389,7 @@ declared_rack : (n : ℕ) (h : Header) → All IsProperHeaderLine h → unwrap_o
 declared_rack n [] p = lit< tt
 declared_rack n (x ∷ h) p = go x (of_first IsProperHeaderLine x h p) (declared_rack n h (of_others IsProperHeaderLine x h p))
   where
-    with_rack : (o : Option ℕ) → IsRack o → (b : Bool) → unwrap_or (slice_get (filter_map (rack_in n) h) 0) 0 < 2 ^ 8 → unwrap_or (slice_get (cons_option (rack_if o b) (filter_map (rack_in n) h)) 0) 0 < 2 ^ 8
+    with_rack : (o : Option ℕ) → IsRack o → (b : Bool) → unwrap_or (slice_get (filter_map (rack_in n) h) 0) 0 < 2 ^ 8 → unwrap_or (slice_get (cons_option (if b then o else None) (filter_map (rack_in n) h)) 0) 0 < 2 ^ 8
     with_rack None q true rest = rest
     with_rack (Some rack) q true rest = q
     with_rack o q false rest = rest

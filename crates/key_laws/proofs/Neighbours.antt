@@ -6,6 +6,7 @@ use mathlib.Core.List.{reverse_aux}
 use Rattle.std.proofs.lemmas.Bool.Decides.{nat_tests}
 use Rattle.std.specs.Ordering.{nat_cmp}
 use Rattle.std.specs.FinMap.{put}
+use Rattle.std.proofs.lemmas.Bool.{or_left as either, or_right as or_later}
 use Rattle.cluster_types.specs.declared.member.Member.{Member}
 use Rattle.cluster_types.specs.declared.member.Role.{Role}
 use Rattle.wire_messages.specs.Nodes.{IsId}
@@ -104,12 +105,6 @@ fit_put k v (e ∷ es) lt h = put_cases (λ xs. FitTable xs) k v e es (λ _. (lt
 
 abbrev has : {X : Type 0} → ℕ → Table X → Bool
 has n es = list_any (λ e. e.0 == n) es
-
-either : (a b : Bool) → a ≡ true → (a || b) ≡ true
-either a b e = grind arith
-
-or_later : (a b : Bool) → b ≡ true → (a || b) ≡ true
-or_later a b e = grind (arith, nat_tests)
 
 has_put : {X : Type 0} (k : ℕ) (v : X) (es : Table X) → has k (put nat_cmp k v es) ≡ true
 has_put k v [] = either (k == k) false (grind (arith, nat_tests))

@@ -17,7 +17,7 @@ use Rattle.wire_messages.proofs.DecodingLaws.{what_is_read}
 use Rattle.journal_lines.specs.declared.line.Line.{Line}
 use Rattle.journal_lines.specs.declared.line.Line.TheVariants as line
 use Rattle.node_rules.specs.Agreement as agreement
-use Rattle.node_rules.specs.Agreement.{Agreement, Proposal, proposes, proposal_of}
+use Rattle.node_rules.specs.Agreement.{Agreement, Proposal, proposes, proposal_of, accepted_by}
 use Rattle.node_rules.specs.Exchange.{is_member}
 use Rattle.node_rules.specs.Facts.{Facts, list_at}
 use Rattle.node_rules.specs.Hearing.{Heard}
@@ -29,13 +29,13 @@ use Rattle.node_rules.specs.Tables.{Table}
 use Rattle.cluster_rules.specs.declared.event.Event.{Event}
 use Rattle.cluster_rules.specs.declared.event.Event.TheVariants as event
 use Rattle.cluster_rules.specs.Marks as marks
-use Rattle.cluster_rules.specs.Marks.{Begins, Writes}
+use Rattle.cluster_rules.specs.Marks.{Begins, Writes, came_to_client, came_to_node}
 use Rattle.journal_readings.specs.Messages.{Posting, Arrival, arrived, arrived_cut}
 use Rattle.cluster_rules.specs.Network.{posting, posting_at}
 use Rattle.cluster_rules.specs.World.{World, changed_at}
 use Rattle.node_rules.specs.Messages.{client}
 use Rattle.key_laws.specs.Ends.{is_map_ask, IsOneOf, TableNames, TellsIf, FromNode, GoesRight, LineNames}
-use Rattle.key_laws.specs.Traced.{Traced, facts_of, traced_after, listed_if, promised_by}
+use Rattle.key_laws.specs.Traced.{Traced, facts_of, traced_after, with_list}
 use Rattle.key_laws.proofs.Addressed.{Among, among_without}
 use Rattle.key_laws.proofs.Directed.{WentTo, LineGoes}
 use Rattle.key_laws.proofs.Frames.{at_each}
@@ -82,7 +82,7 @@ no_proposal {p} {A} e = cc
 none_missing : (me : ℕ) (a : Agreement) → a.proposal ≡ None → Missing me a
 none_missing me a e = record { each = λ p i. no_proposal (sym e ∙ i) }
 
-kept_missing : (me : ℕ) (a b : Agreement) (test : Bool) → b.proposal ≡ agreement.kept_if test a.proposal → Missing me a → Missing me b
+kept_missing : (me : ℕ) (a b : Agreement) (test : Bool) → b.proposal ≡ (if test then a.proposal else None) → Missing me a → Missing me b
 kept_missing me a b true e h = record { each = λ p i. h.each p (sym e ∙ i) }
 kept_missing me a b false e h = none_missing me b e
 
@@ -99,21 +99,21 @@ accepted_missing me a from k h = go (proposes a.proposal k)
     one None e p i = no_proposal i
     one (Some q) e p i = subst (λ (x : Proposal). Among (agreement.others_among me x.members) x.missing) (some_same i) (among_without (agreement.others_among me q.members) q.missing from (h.each q e))
 
-    go : (b : Bool) → Missing me (agreement.accepting_if a from b)
+    go : (b : Bool) → Missing me (if b then record a { proposal = accepted_by a.proposal from } else a)
     go true = record { each = one a.proposal refl }
     go false = h
 
 refused_missing : (me : ℕ) (a : Agreement) (k promised : ClusterKey) → Missing me a → Missing me (agreement.seeing (agreement.refused a k) promised)
 refused_missing me a k promised h = go (proposes a.proposal k)
   where
-    go : (b : Bool) → Missing me (agreement.seeing (agreement.refused_if a b) promised)
+    go : (b : Bool) → Missing me (agreement.seeing (if b then record a { proposal = None } else a) promised)
     go true = none_missing me _ refl
     go false = same_missing me a _ refl h
 
 proposed_missing : (me : ℕ) (a : Agreement) (k : ClusterKey) (ms : List Member) → Missing me a → Missing me (agreement.proposing a me k ms)
 proposed_missing me a k ms h = go (proposes a.proposal k)
   where
-    go : (b : Bool) → Missing me (agreement.proposed_if a (proposal_of me k ms) b)
+    go : (b : Bool) → Missing me (if b then a else record a { proposal = Some (proposal_of me k ms) })
     go true = h
     go false = record { each = λ p i. subst (λ (x : Proposal). Among (agreement.others_among me x.members) x.missing) (some_same i) (record { each = λ n e. e }) }
 
@@ -241,7 +241,7 @@ came_stays ns t b p to g h = go (message_of p.bytes) refl
     go None e = (h.nodes, h.tables)
     go (Some m) e = by_end (b == client)
       where
-        by_end : (q : Bool) → Stays ns t (marks.came_to t.world (record { from = p.from; to = b; message = m }) q)
+        by_end : (q : Bool) → Stays ns t (if q then came_to_client t.world m else came_to_node t.world (record { from = p.from; to = b; message = m }))
         by_end true = at_client m (subst (TellsIf (IsOneOf ns)) e g.tells)
         by_end false = (one ns t.world.facts b (reached (t.world.facts b) p.from m) h.nodes (reached_ends ns b (t.world.facts b) p.from m (what_is_read p.bytes m e).0 (λ k. subst (FromNode (IsOneOf ns) p.from) to (sender_of ns p m e g k)) (h.nodes b)), h.tables)
 
@@ -265,7 +265,7 @@ came_sent t (Some x) = go (x.to == client)
     at_client (message.MapTable y) = refl
     at_client _ = refl
 
-    go : (q : Bool) → (marks.came_to t.world x q).network.sent ≡ t.world.network.sent
+    go : (q : Bool) → (if q then came_to_client t.world x.message else came_to_node t.world x).network.sent ≡ t.world.network.sent
     go true = at_client x.message
     go false = refl
 
@@ -300,31 +300,31 @@ no_start ns n l e m same = absurd (never (ap is_start same))
     never t = grind (arith, t, e)
 
 -- a key of the node's own is promised for its neighbours
-promised_lists : (ns : List ℕ) (t : Traced) (n : ℕ) (j : ClusterKey) → IsOneOf ns n → Peopled ns t → (k : ClusterKey) (ms : List Member) (m : ℕ) → promised_by t.lists j (neighbours (facts_of t n)) (j.principal == n) k ≡ Some ms → is_member ms m ≡ true → IsOneOf ns m
+promised_lists : (ns : List ℕ) (t : Traced) (n : ℕ) (j : ClusterKey) → IsOneOf ns n → Peopled ns t → (k : ClusterKey) (ms : List Member) (m : ℕ) → (if j.principal == n then with_list t.lists j (neighbours (facts_of t n)) else t.lists) k ≡ Some ms → is_member ms m ≡ true → IsOneOf ns m
 promised_lists ns t n j d h k ms m e i = go (j.principal == n) e
   where
     near : (m : ℕ) → is_member (neighbours (facts_of t n)) m ≡ true → IsOneOf ns m
     near m e = member_is (IsOneOf ns) (neighbours (facts_of t n)) m (neighbours_are (IsOneOf ns) (facts_of t n).me (facts_of t n).role (facts_of t n).hearing.heard (subst (IsOneOf ns) (sym (h.nodes n).me) d) (heard_weak (Neighbour ns n) (λ m r. IsOneOf ns m) (λ m r x. x.node) (facts_of t n).hearing.heard (h.nodes n).heard)) e
 
-    listed : (b : Bool) → listed_if j (neighbours (facts_of t n)) (t.lists k) b ≡ Some ms → IsOneOf ns m
+    listed : (b : Bool) → (if b then Some (neighbours (facts_of t n)) else t.lists k) ≡ Some ms → IsOneOf ns m
     listed true q = near m (ap (λ (xs : List Member). is_member xs m) (some_same q) ∙ i)
     listed false q = h.lists k ms m q i
 
-    go : (b : Bool) → promised_by t.lists j (neighbours (facts_of t n)) b k ≡ Some ms → IsOneOf ns m
+    go : (b : Bool) → (if b then with_list t.lists j (neighbours (facts_of t n)) else t.lists) k ≡ Some ms → IsOneOf ns m
     go true q = listed (same_key j k) q
     go false q = h.lists k ms m q i
 
-promised_racks : (ns : List ℕ) (t : Traced) (n : ℕ) (j : ClusterKey) → Peopled ns t → (k : ClusterKey) (ms : List Member) → promised_by t.lists j (neighbours (facts_of t n)) (j.principal == n) k ≡ Some ms → MembersAs FitsRack ms
+promised_racks : (ns : List ℕ) (t : Traced) (n : ℕ) (j : ClusterKey) → Peopled ns t → (k : ClusterKey) (ms : List Member) → (if j.principal == n then with_list t.lists j (neighbours (facts_of t n)) else t.lists) k ≡ Some ms → MembersAs FitsRack ms
 promised_racks ns t n j h k ms e = go (j.principal == n) e
   where
     near : MembersAs FitsRack (neighbours (facts_of t n))
     near = neighbours_as FitsRack (facts_of t n).me (facts_of t n).role (facts_of t n).hearing.heard (h.nodes n).rack (heard_weak (Neighbour ns n) FitsRack (λ m r x. x.rack) (facts_of t n).hearing.heard (h.nodes n).heard)
 
-    listed : (b : Bool) → listed_if j (neighbours (facts_of t n)) (t.lists k) b ≡ Some ms → MembersAs FitsRack ms
+    listed : (b : Bool) → (if b then Some (neighbours (facts_of t n)) else t.lists k) ≡ Some ms → MembersAs FitsRack ms
     listed true q = subst (MembersAs FitsRack) (some_same q) near
     listed false q = h.racks k ms q
 
-    go : (b : Bool) → promised_by t.lists j (neighbours (facts_of t n)) b k ≡ Some ms → MembersAs FitsRack ms
+    go : (b : Bool) → (if b then with_list t.lists j (neighbours (facts_of t n)) else t.lists) k ≡ Some ms → MembersAs FitsRack ms
     go true q = listed (same_key j k) q
     go false q = h.racks k ms q
 

@@ -1,5 +1,5 @@
 -- Lines and messages that leave what a node has promised and entered: what they say stays true.
-use Rattle.std.proofs.Common.{◌≡◌, ℕ, ◌+◌, Bool, true, false, List, [], ◌∷◌, ◌++◌, map, length, Option, Some, None, refl, sym, ap, subst, ◌∙◌}
+use Rattle.std.proofs.Common.{◌≡◌, ℕ, ◌+◌, Bool, true, false, List, [], ◌∷◌, ◌++◌, map, length, Option, Some, None, refl, sym, ap, subst, ◌∙◌, if◌then◌else◌}
 use Rattle.cluster_types.specs.ClusterKeys.{IsBelow}
 use Rattle.wire_messages.specs.declared.message.Message.{Message}
 use Rattle.wire_messages.specs.declared.message.Message.TheVariants as message
@@ -12,7 +12,7 @@ use Rattle.node_rules.specs.Agreement.{Agreement, Proposal, proposes, proposal_o
 use Rattle.node_rules.specs.Effects.{Effects, to_each}
 use Rattle.node_rules.specs.Facts.{Facts}
 use Rattle.node_rules.specs.Notes.{note, sent}
-use Rattle.cluster_rules.specs.DueEvents.{sent_lines, full_unless, one_more_if, written}
+use Rattle.cluster_rules.specs.DueEvents.{sent_lines, written}
 use Rattle.cluster_rules.specs.Marks.{Mark, Writes, by_node, sent_by}
 use Rattle.cluster_rules.specs.Network.{Network, has_place, posting}
 use Rattle.cluster_rules.specs.World.{World, changed_at}
@@ -214,7 +214,7 @@ pub posts_append : (t : Traced) (n : ℕ) (a b : List (ℕ × Message)) → Post
 posts_append t n [] b h i = i
 posts_append t n (m ∷ a) b h i = (h.0, posts_append t n a b h.1 i)
 
-proposed_same : (a : Agreement) (p : Proposal) (b : Bool) → ((agreement.proposed_if a p b).promised ≡ a.promised) × ((agreement.proposed_if a p b).last ≡ a.last)
+proposed_same : (a : Agreement) (p : Proposal) (b : Bool) → ((if b then a else record a { proposal = Some p }).promised ≡ a.promised) × ((if b then a else record a { proposal = Some p }).last ≡ a.last)
 proposed_same a p true = (refl, refl)
 proposed_same a p false = (refl, refl)
 
@@ -248,7 +248,7 @@ posts_ok t n before flying (m ∷ ms) s h =
     (ok, full (has_place flying) u first.sound (λ v f. posts_ok v n (before + 1) f ms) left)
   where
     full : (b : Bool) (u : Traced) → Sound u → ((v : Traced) (f : ℕ) → Sound v → Posts v n ms → LicensedMarks v (writes (sent_lines n (before + 1) f ms))) → Posts u n ms
-        → LicensedMarks u (writes (full_unless (before + 1) b ++ sent_lines n (before + 1) (one_more_if flying b) ms))
+        → LicensedMarks u (writes ((if b then [] else line.Full (before + 1) ∷ []) ++ sent_lines n (before + 1) (if b then flying + 1 else flying) ms))
     full true u s next h = next u (flying + 1) s h
     full false u s next h =
         let k : Keeps u (traced_after u (Writes (line.Full (before + 1)))) = kept_line u (line.Full (before + 1)) tt s in

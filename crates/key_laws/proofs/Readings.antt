@@ -1,7 +1,8 @@
 -- The readings of a node's keys are what the world says of it.
-use Rattle.std.proofs.Common.{◌≡◌, ℕ, ◌==◌, ◌||◌, ◌&&◌, Bool, true, false, List, [], ◌∷◌, Option, Some, None, refl, sym, ap, subst, ◌∙◌, if◌then◌else◌}
+use Rattle.std.proofs.Common.{◌≡◌, ℕ, ◌==◌, ◌||◌, Bool, true, false, List, [], ◌∷◌, Option, Some, None, refl, sym, ap, subst, ◌∙◌, if◌then◌else◌}
 use Rattle.std.specs.Prelude.{fold}
 use Rattle.std.specs.List.{list_any}
+use Rattle.std.proofs.lemmas.Bool.{and_parts as both_true}
 use Rattle.cluster_types.specs.declared.cluster_key.ClusterKey.{ClusterKey}
 use Rattle.cluster_types.specs.declared.member.Member.{Member}
 use Rattle.cluster_types.specs.ClusterKeys.{IsBelow}
@@ -12,7 +13,7 @@ use Rattle.journal_lines.specs.declared.line.Line.{Line}
 use Rattle.journal_lines.specs.declared.line.Line.TheVariants as line
 use Rattle.node_rules.specs.Facts.{Facts}
 use Rattle.node_rules.specs.Notes.{note, reached, sent}
-use Rattle.cluster_rules.specs.Marks.{Mark, Begins, Writes, came_to, sent_by, lines_among, by_node}
+use Rattle.cluster_rules.specs.Marks.{Mark, Begins, Writes, sent_by, lines_among, by_node, came_to_client, came_to_node}
 use Rattle.journal_readings.specs.Lines.{is_enter, same_key}
 use Rattle.journal_readings.specs.Messages.{Arrival}
 use Rattle.cluster_rules.specs.Network.{posting}
@@ -47,7 +48,7 @@ came_stay : (t : Traced) (x : Option Arrival) → Told t x → Sound t → (n : 
 came_stay t None s h n = record { promised = refl; last = refl }
 came_stay t (Some x) s h n = go (x.to == client)
   where
-    at_client : (m : Message) → Stay t (record { world = came_to t.world (record { from = x.from; to = x.to; message = m }) true; lists = t.lists; entered = t.entered }) n
+    at_client : (m : Message) → Stay t (record { world = came_to_client t.world m; lists = t.lists; entered = t.entered }) n
     at_client (message.MapTable table) = record { promised = refl; last = refl }
     at_client _ = record { promised = refl; last = refl }
 
@@ -57,7 +58,7 @@ came_stay t (Some x) s h n = go (x.to == client)
     at_node : ((facts_of t n).agreement.promised ≡ (changed_at t.world.facts x.to (reached (facts_of t x.to) x.from x.message) n).agreement.promised) × ((facts_of t n).agreement.last ≡ (changed_at t.world.facts x.to (reached (facts_of t x.to) x.from x.message) n).agreement.last)
     at_node = moved_stay t.world x.to (reached (facts_of t x.to) x.from x.message) r.promised r.last n
 
-    go : (b : Bool) → Stay t (record { world = came_to t.world x b; lists = t.lists; entered = t.entered }) n
+    go : (b : Bool) → Stay t (record { world = (if b then came_to_client t.world x.message else came_to_node t.world x); lists = t.lists; entered = t.entered }) n
     go true = at_client x.message
     go false = record { promised = at_node.0; last = at_node.1 }
 
@@ -173,10 +174,6 @@ last_rises_all t (m ∷ ms) ok s n = at_most_trans (last_rises t m ok.0 s n) (la
 either_way : {A : Type 0} (a b : Bool) → (a || b) ≡ true → (a ≡ true → A) → (b ≡ true → A) → A
 either_way true b e f g = f refl
 either_way false b e f g = g e
-
-both_true : (a b : Bool) → (a && b) ≡ true → (a ≡ true) × (b ≡ true)
-both_true true b e = (refl, e)
-both_true false b e = absurd (never e refl)
 
 -- the node's last key is the one that it has just entered
 just_entered : (t : Traced) (l : Line) → Sound t → (n : ℕ) (k : ClusterKey) → is_enter k n l ≡ true → KeyAtMost k (facts_of (traced_after t (Writes l)) n).agreement.last

@@ -13,7 +13,7 @@ use Rattle.script_lang.specs.declared.script.Command.TheVariants as command
 use Rattle.script_lang.specs.declared.script.HeaderLine.{HeaderLine}
 use Rattle.script_lang.specs.declared.script.HeaderLine.TheVariants as header
 use Rattle.script_lang.specs.declared.script.Script.{Script}
-use Rattle.script_lang.specs.Proper.{IsNode, IsProperHeaderLine, IsProperCommand}
+use Rattle.script_lang.specs.Proper.{IsProperHeaderLine, IsProperCommand}
 use Rattle.wire_messages.specs.declared.message.Message.{Message}
 use Rattle.wire_messages.specs.declared.message.Message.TheVariants as message
 use Rattle.wire_messages.specs.Nodes.{IsId}
@@ -23,7 +23,7 @@ use Rattle.cluster_rules.specs.declared.event.Event.{Event}
 use Rattle.cluster_rules.specs.declared.event.Event.TheVariants as event
 use Rattle.journal_readings.specs.Claims.{KeysRise}
 use Rattle.cluster_rules.specs.Marks as marks
-use Rattle.cluster_rules.specs.Marks.{Mark, Begins, Writes, lines_among}
+use Rattle.cluster_rules.specs.Marks.{Mark, Begins, Writes, lines_among, came_to_client, came_to_node}
 use Rattle.journal_readings.specs.Messages.{Arrival, arrived, arrived_cut}
 use Rattle.cluster_rules.specs.Network.{posting_at}
 use Rattle.cluster_rules.specs.Opening.{Header, declared_policy, header_lines, declared_nodes, node_in}
@@ -79,15 +79,12 @@ of_first P x xs h = h 0 x (omega arith)
 pub of_others : {A : Type 0} (P : A → Type 0) (x : A) (xs : List A) → All P (x ∷ xs) → All P xs
 of_others P x xs h k d within = h (suc k) d (omega (arith, within))
 
-pub node_id : (n : ℕ) → IsNode n → IsId n
-node_id n h = record { positive = h.positive; fits = h.fits }
-
 pub declared_ids : (h : Header) → All IsProperHeaderLine h → AreIds (declared_nodes h)
 declared_ids [] p = tt
 declared_ids (l ∷ h) p = go l (of_first IsProperHeaderLine l h p) (declared_ids h (of_others IsProperHeaderLine l h p))
   where
     go : (l : HeaderLine) → IsProperHeaderLine l → AreIds (declared_nodes h) → AreIds (cons_option (node_in l) (declared_nodes h))
-    go (header.Node n rack) q rest = (node_id n q.0, rest)
+    go (header.Node n rack) q rest = (q.0, rest)
     go (header.Script version) q rest = rest
     go (header.Factor factor) q rest = rest
     go (header.Policy policy) q rest = rest
@@ -102,7 +99,7 @@ came_nodes w (Some x) = go (x.to == client)
     at_client (message.MapTable table) = refl
     at_client _ = refl
 
-    go : (b : Bool) → (marks.came_to w x b).nodes ≡ w.nodes
+    go : (b : Bool) → (if b then came_to_client w x.message else came_to_node w x).nodes ≡ w.nodes
     go true = at_client x.message
     go false = refl
 
@@ -178,7 +175,7 @@ begun_command n w command.Flow x ids p h = subst (λ (y : Played). AllBegun y.st
 begun_command n w command.Round x ids p h = subst (λ (y : Played). AllBegun y.steps) (sym h) (begun_round n w ids)
 begun_command n w command.Calm x ids p h =
     subst (λ (y : Played). AllBegun y.steps) (sym h.played) (begun_append (rounds n h.number w).steps (play n (event.Calmed h.number) (rounds n h.number w).world).steps (begun_rounds n h.number w ids) (tt, tt))
-begun_command n w (command.Tick node) x ids p h = by_event n w (event.Tick node) x h (node_id node p)
+begun_command n w (command.Tick node) x ids p h = by_event n w (event.Tick node) x h p
 begun_command n w c x ids p h = by_event n w _ x h tt
 
 begun_commands : (n : ℕ) (cs : List Command) (w : World) (x : Played) → AreIds w.nodes → All IsProperCommand cs → PlaysAll n w cs x → AllBegun x.steps

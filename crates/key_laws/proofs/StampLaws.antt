@@ -10,10 +10,11 @@ use Rattle.cluster_types.specs.declared.copy_state.CopyState.TheVariants.{Empty,
 use Rattle.node_rules.specs.Copies.{Store, Stamp, Stamps, Row, digests_of, state_with, store_state, with_state, row_from}
 use Rattle.node_rules.specs.Facts.{Facts, list_at}
 use Rattle.node_rules.specs.Keys.{same_key}
-use Rattle.node_rules.specs.Notes.{stamped_if, stamped_at, stamped_from, count_in}
+use Rattle.node_rules.specs.Notes.{stamped_if, stamped_at, count_in}
 use Rattle.node_rules.specs.Stamps.{recounted, spoiled, changed_stamps, no_class}
 use Rattle.node_rules.specs.Standing.{is_all_empty, is_own_replica}
 use Rattle.std.specs.Prelude.{◌&&◌}
+use Rattle.node_rules.specs.ViewNotes.{stamped_from}
 use Rattle.key_laws.specs.Traced.{Traced}
 use Rattle.key_laws.specs.Licences.{IsPromisedKey, CopyOf, RowOf}
 use Rattle.key_laws.specs.Sound.{StampsKnown}

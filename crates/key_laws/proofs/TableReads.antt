@@ -23,9 +23,10 @@ use Rattle.wire_messages.proofs.DecodingLaws.{what_is_read, read_back}
 use Rattle.node_rules.specs.Exchange.{View, is_member, members_of, exchange_key}
 use Rattle.node_rules.specs.Facts.{Facts, view_key, members_of_view, list_at}
 use Rattle.node_rules.specs.Map.{list_master, row_state_at}
-use Rattle.node_rules.specs.Messages.{map_table, named_from, moved_from}
+use Rattle.node_rules.specs.Messages.{map_table}
 use Rattle.node_rules.specs.Standing.{named, named_by, has_moved, acting_at}
 use Rattle.node_rules.specs.Tables.{contains}
+use Rattle.node_rules.specs.ClientMessages.{named_from, moved_from}
 use Rattle.key_laws.specs.Ends.{TableNames, Tells, TellsIf, AllNodes}
 use Rattle.key_laws.specs.Sound.{Entered, NodeKeys, ViewStands, Listed, Sound}
 use Rattle.key_laws.specs.Traced.{Traced}

@@ -1,5 +1,5 @@
 -- A world with its history: for which members each key was first promised, and who has entered which view.
-use Rattle.std.specs.Prelude.{ℕ, ◌==◌, Bool, true, false, List, [], ◌∷◌, Option, Some, None, ◌||◌}
+use Rattle.std.specs.Prelude.{ℕ, ◌==◌, Bool, false, List, [], ◌∷◌, Option, Some, None, ◌||◌, if◌then◌else◌}
 use Rattle.cluster_types.specs.declared.cluster_key.ClusterKey.{ClusterKey}
 use Rattle.cluster_types.specs.declared.member.Member.{Member}
 use Rattle.journal_lines.specs.declared.line.Line.{Line}
@@ -26,23 +26,14 @@ pub record Traced : Type 0 where
 abbrev pub facts_of : Traced → ℕ → Facts
 facts_of t n = t.world.facts n
 
-abbrev pub listed_if : ClusterKey → List Member → Option (List Member) → Bool → Option (List Member)
-listed_if k ms old true = Some ms
-listed_if k ms old false = old
-
 -- the lists with these members at the key
 abbrev pub with_list : Lists → ClusterKey → List Member → Lists
-with_list lists k ms q = listed_if k ms (lists q) (same_key k q)
-
--- the lists after a promise, where the test says whether it is of a key of the node's own
-abbrev pub promised_by : Lists → ClusterKey → List Member → Bool → Lists
-promised_by lists k ms true = with_list lists k ms
-promised_by lists k ms false = lists
+with_list lists k ms q = if same_key k q then Some ms else lists q
 
 -- a node that promises a key of its own does so for its neighbours
 abbrev pub lists_after : Traced → Line → Lists
 lists_after t (line.Promise n k) =
-    promised_by t.lists k (neighbours (facts_of t n)) (k.principal == n)
+    if k.principal == n then with_list t.lists k (neighbours (facts_of t n)) else t.lists
 lists_after t _ = t.lists
 
 -- who has entered which view, with the line

@@ -1,5 +1,5 @@
 -- Messages of the agreement, and the client's question.
-use Rattle.std.proofs.Common.{◌≡◌, ℕ, Bool, true, false, List, [], ◌∷◌, Option, Some, None, refl, sym, subst, inl, inr}
+use Rattle.std.proofs.Common.{◌≡◌, ℕ, Bool, true, false, List, [], ◌∷◌, Option, Some, None, refl, sym, subst, inl, inr, if◌then◌else◌}
 use Rattle.conflict_order.specs.declared.policy.Policy.{Policy}
 use Rattle.cluster_types.specs.declared.cluster_key.ClusterKey.{ClusterKey}
 use Rattle.cluster_types.specs.declared.member.Member.{Member}
@@ -9,13 +9,13 @@ use Rattle.journal_lines.specs.declared.line.Line.TheVariants as line
 use Rattle.wire_messages.specs.declared.message.Message.TheVariants as message
 use Rattle.node_rules.specs.Agreement.{Proposal, proposes, without_missing, others_among}
 use Rattle.node_rules.specs.Copies.{is_nil}
-use Rattle.node_rules.specs.Effects.{to_each}
+use Rattle.node_rules.specs.Effects.{to_each, lines_and_sends, lines_only, nothing, sends_only, to_one}
 use Rattle.node_rules.specs.Entering.{entering}
 use Rattle.node_rules.specs.Exchange.{is_member}
 use Rattle.node_rules.specs.Facts.{Facts}
 use Rattle.node_rules.specs.Keys.{same_key}
 use Rattle.node_rules.specs.Messages as due
-use Rattle.node_rules.specs.Messages.{vote_effects, commit_effects, accept_effects, entry_effects_if, may_enter_view, unless_stale, table_if, map_table, due_propose, due_accept, due_refuse, due_commit, due_map_ask}
+use Rattle.node_rules.specs.Messages.{commit_effects, accept_effects, may_enter_view, map_table, due_propose, due_accept, due_refuse, due_commit, due_map_ask}
 use Rattle.node_rules.specs.Notes.{reached}
 use Rattle.cluster_rules.specs.Marks.{Writes}
 use Rattle.cluster_laws.proofs.At.{and_right}
@@ -34,6 +34,9 @@ use Rattle.run_laws.proofs.EnteringSteps.{Entering, entering_go}
 use Rattle.run_laws.proofs.NodeSteps.{NodeGo}
 use Rattle.run_laws.specs.Spelled.{AreReadInRange}
 use Rattle.run_laws.proofs.Turns.{Elsewhere, elsewhere_on, ended_but, here, away}
+use Rattle.cluster_types.specs.Endpoints.{client}
+use Rattle.node_rules.specs.StaleMessages.{stale}
+use Rattle.cluster_types.specs.ClusterKeys as keys
 
 -- ---- what these are read as
 
@@ -65,8 +68,8 @@ propose_go {by} {factor} {z0} {z} {f} {clock} {from} {k} {ms} a read = go (key_l
     accepts true r = record { due = ((a.owes, λ i. subst (λ (m : ℕ). IsDeclared z m) i (a.law_of.lists k ms k.principal a.says.1 (a.listed k ms a.says.1).good.led)), tt); sent = refl; sends = each_plain _ f.me (message.Accept k) (from ∷ []) refl (λ x. tt) (λ q. accept_reads k l.known.field) r; ends = promise_ends z0 z f.me k a.before a.elsewhere a.owes a.stays (subst (λ (g : Facts). Rests g) (sym a.is) a.rests) }
     accepts false r = record { due = tt; sent = refl; sends = each_plain z f.me (message.Accept k) (from ∷ []) refl (λ x. tt) (λ q. accept_reads k l.known.field) r; ends = ended_at a a.owes a.rests }
 
-    go : (b : Bool) → AreReadInRange (vote_effects f from k b).sends
-        → NodeGo z f.me (vote_effects f from k b)
+    go : (b : Bool) → AreReadInRange (if b then sends_only (to_one from (message.Refuse k f.agreement.promised)) else lines_and_sends (only_if (line.Promise f.me k) (keys.key_lt f.agreement.promised k)) (to_one from (message.Accept k))).sends
+        → NodeGo z f.me (if b then sends_only (to_one from (message.Refuse k f.agreement.promised)) else lines_and_sends (only_if (line.Promise f.me k) (keys.key_lt f.agreement.promised k)) (to_one from (message.Accept k)))
     go true r = record { due = tt; sent = refl; sends = each_plain z f.me (message.Refuse k f.agreement.promised) (from ∷ []) refl (λ x. tt) (λ q. refuse_reads k f.agreement.promised l.known.field a.keys.agrees.promised.field) r; ends = ended_at a a.owes a.rests }
     go false r = accepts (key_lt f.agreement.promised k) r
 
@@ -81,7 +84,7 @@ accept_go {by} {factor} {z0} {z} {f} {clock} {from} {k} a read = go f.agreement.
     ends : Ended z
     ends = ended_at a a.owes a.rests
 
-    enters : (p : Proposal) → f.agreement.proposal ≡ Some p → (b : Bool) → AreReadInRange (commit_effects f p b).sends → NodeGo z f.me (commit_effects f p b)
+    enters : (p : Proposal) → f.agreement.proposal ≡ Some p → (b : Bool) → AreReadInRange (if b then commit_effects f p else nothing).sends → NodeGo z f.me (if b then commit_effects f p else nothing)
     enters p e false r = nothing_go z f.me ends
     enters p e true r =
         let s : Proposed z.chronicle.traced f.me f.agreement.promised f.agreement.last p = subst (ProposalStands z.chronicle.traced f.me f.agreement.promised f.agreement.last) e a.keys.agrees.proposal in
@@ -97,7 +100,7 @@ accept_go {by} {factor} {z0} {z} {f} {clock} {from} {k} a read = go f.agreement.
 pub commit_go : {by : Policy} {factor : ℕ} {z0 z : Front} {f : Facts} {clock from : ℕ} {k : ClusterKey} {ms : List Member} → Arrived by factor z0 z f clock from (message.Commit k ms) → NodeGo z f.me (due_commit f k ms)
 commit_go {by} {factor} {z0} {z} {f} {clock} {from} {k} {ms} a = go (may_enter_view f k ms) refl
   where
-    go : (b : Bool) → may_enter_view f k ms ≡ b → NodeGo z f.me (entry_effects_if f k ms b)
+    go : (b : Bool) → may_enter_view f k ms ≡ b → NodeGo z f.me (if b then lines_only (entering f k ms) else stale f)
     go true e = commits z f.me (entering f k ms) k ms [] (a.listed k ms a.says).key (a.listed k ms a.says).good (entering_go z0 z f k ms a.before a.elsewhere a.is a.owes a.rests (and_right (key_lt f.agreement.last k) _ (and_right (same_key k f.agreement.promised) _ e)) (a.listed k ms a.says).good.falls) tt
     go false e = stale_go z f (ended_at a a.owes a.rests)
 
@@ -106,13 +109,13 @@ commit_go {by} {factor} {z0} {z} {f} {clock} {from} {k} {ms} a = go (may_enter_v
 pub refuse_go : {by : Policy} {factor : ℕ} {z0 z : Front} {f : Facts} {clock from : ℕ} {k promised : ClusterKey} → Arrived by factor z0 z f clock from (message.Refuse k promised) → NodeGo z f.me (due_refuse f k)
 refuse_go {by} {factor} {z0} {z} {f} {clock} {from} {k} {promised} a = go (proposes f.agreement.proposal k)
   where
-    go : (b : Bool) → NodeGo z f.me (unless_stale f b)
+    go : (b : Bool) → NodeGo z f.me (if b then nothing else stale f)
     go true = nothing_go z f.me (ended_at a a.owes a.rests)
     go false = stale_go z f (ended_at a a.owes a.rests)
 
 pub map_ask_go : {by : Policy} {factor : ℕ} {z0 z : Front} {f : Facts} {clock from : ℕ} → Arrived by factor z0 z f clock from message.MapAsk → AreReadInRange (due_map_ask f).sends → NodeGo z f.me (due_map_ask f)
 map_ask_go {by} {factor} {z0} {z} {f} {clock} {from} a read = go f.exchange.exchanged read
   where
-    go : (b : Bool) → AreReadInRange (table_if f b).sends → NodeGo z f.me (table_if f b)
+    go : (b : Bool) → AreReadInRange (if b then sends_only (to_one client (message.MapTable (map_table f))) else nothing).sends → NodeGo z f.me (if b then sends_only (to_one client (message.MapTable (map_table f))) else nothing)
     go true r = record { due = tt; sent = refl; sends = each_plain z f.me (message.MapTable (map_table f)) (due.client ∷ []) refl (λ x. tt) (λ q. table_reads (map_table f) (view_known z.chronicle.traced f.me f a.keys).field) r; ends = ended_at a a.owes a.rests }
     go false r = nothing_go z f.me (ended_at a a.owes a.rests)

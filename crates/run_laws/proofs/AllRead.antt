@@ -1,6 +1,6 @@
 -- Where at most sixteen nodes are declared, every message that is due of a node is read as it was sent.
 use Rattle.std.proofs.Common.{◌≡◌, ◌⊎◌, ⊎_elim, inl, inr, ℕ, zero, suc, ◌+◌, ◌<◌, ◌≤◌, ◌^◌, ◌==◌, Bool, true, false, not, ◌&&◌, ◌||◌, All, List, [], ◌∷◌, ◌++◌, length, Option, Some, None, refl, sym, ap, ◌∙◌, subst, arith}
-use Rattle.std.specs.Prelude.{filter, filter_map, flat_map}
+use Rattle.std.specs.Prelude.{filter, filter_map, flat_map, if◌then◌else◌}
 use Rattle.std.specs.List.{cons_option}
 use Rattle.std.proofs.lemmas.Bool.Decides.{nat_tests}
 use Rattle.conflict_order.specs.declared.policy.Policy.{Policy}
@@ -27,10 +27,10 @@ use Rattle.wire_messages.specs.Spelling.{spelling}
 use Rattle.wire_messages.proofs.DecodingLaws.{read_back}
 use Rattle.node_rules.specs.Agreement as agreement
 use Rattle.node_rules.specs.Agreement.{Proposal, proposes, next_key, has_round, without_missing, enters_alone}
-use Rattle.node_rules.specs.Batches.{Target, Targets, next_batch}
+use Rattle.node_rules.specs.Batches.{Target, Targets, next_batch, has_number, out_to}
 use Rattle.node_rules.specs.ByParts.{entered_alone}
 use Rattle.node_rules.specs.Copies.{is_nil}
-use Rattle.node_rules.specs.Effects.{to_each}
+use Rattle.node_rules.specs.Effects.{to_each, lines_and_sends, lines_only, nothing, sends_only, to_one}
 use Rattle.node_rules.specs.Exchange.{Exchange, View, is_member, exchange_key}
 use Rattle.node_rules.specs.Facts.{Facts, view_key, list_at}
 use Rattle.node_rules.specs.Hearing.{heard_ids}
@@ -40,11 +40,11 @@ use Rattle.node_rules.specs.Messages.{due_message, map_table}
 use Rattle.node_rules.specs.Notes as notes
 use Rattle.node_rules.specs.Notes.{noted, note, neighbours, after_ages, reached, in_view, opening_transaction}
 use Rattle.node_rules.specs.Requests.{due_request, asking, request_if, request_refusal}
-use Rattle.node_rules.specs.Resolving.{repl, resolving_want}
-use Rattle.node_rules.specs.Settling.{hand, settle, learn, drop, settling_due, settling_at, settling_from, settling_if}
+use Rattle.node_rules.specs.Resolving.{repl, resolving_want, resolving}
+use Rattle.node_rules.specs.Settling.{hand, settle, learn, drop, settling_due, settling_at, settling_from}
 use Rattle.node_rules.specs.Standing.{others, other_replicas, asked, knows_all_settled}
 use Rattle.node_rules.specs.Tick as tick
-use Rattle.node_rules.specs.Tick.{propose, is_candidate, state, progress_message, done_from, tick_if}
+use Rattle.node_rules.specs.Tick.{propose, is_candidate, state, progress_message, done_from, parts, parts_in_order, proposal_effects}
 use Rattle.node_rules.specs.Transactions.{Transaction, Write, transaction, answered, awaits_ack, awaits_answer, is_last_awaited}
 use Rattle.node_rules.proofs.NoteLaws.{noted-append}
 use Rattle.node_rules.proofs.TickParts.{alone_is, among_others_is}
@@ -68,6 +68,14 @@ use Rattle.run_laws.proofs.Named.{once}
 use Rattle.run_laws.proofs.NodeLaws.{reached_law, set_length}
 use Rattle.run_laws.proofs.Pigeonhole.{Once, Within, no_more}
 use Rattle.run_laws.proofs.ViewSteps.{Viewed, view_of}
+use Rattle.cluster_types.specs.Endpoints.{client}
+use Rattle.node_rules.specs.BatchMessages.{merging, merging_all}
+use Rattle.node_rules.specs.Entering.{entering}
+use Rattle.node_rules.specs.RowMessages.{finishes}
+use Rattle.node_rules.specs.StaleMessages.{spent, stale}
+use Rattle.node_rules.specs.TransactionMessages.{ack_of, answer_of}
+use Rattle.node_rules.specs.VoteMessages.{commit_effects}
+use Rattle.std.specs.FinMap as finite
 
 -- ---- messages of which no licence reads anything
 
@@ -196,7 +204,7 @@ settling_from_wide (suc n) p f w =
     let g : Facts = noted None f (settling_at (list_at f p) p f) in
     subst Wide (sym (noted-append None f (settling_at (list_at f p) p f) (settling_from n (p + 1) g))) (settling_from_wide n (p + 1) g (settling_at_wide (list_at f p) p f w))
 
-settled_wide : (n : ℕ) (f : Facts) (b : Bool) → Wide f → Wide (noted None f (settling_if n f b))
+settled_wide : (n : ℕ) (f : Facts) (b : Bool) → Wide f → Wide (noted None f (if b then settling_from n 0 f else []))
 settled_wide n f true w = settling_from_wide n 0 f w
 settled_wide n f false w = w
 
@@ -227,7 +235,7 @@ batches_free f (x ∷ xs) = go (next_batch (view_key f) f.store.content x) (batc
     go None rest = rest
     go (Some b) rest = ((λ e. differ refl e), rest)
 
-progress_free : (i : Facts) (b : Bool) → (b ≡ true → IsProper (progress_message partition_count i true)) → FreeRead (tick.progress_if partition_count i b).sends
+progress_free : (i : Facts) (b : Bool) → (b ≡ true → IsProper (progress_message partition_count i true)) → FreeRead (if b then sends_only (to_each (others i) (progress_message partition_count i true)) else nothing).sends
 progress_free i true h = each_free (others i) (progress_message partition_count i true) (h refl)
 progress_free i false h = tt
 
@@ -245,7 +253,7 @@ propose_free g id near h = go g.agreement.proposal refl
     to [] e = tt
     to (n ∷ ns) e = each_free (n ∷ ns) (message.Propose (next_key g.me g.agreement) (neighbours g)) (next_is_key g.me g.agreement id e, near)
 
-    new : (b : Bool) → (is_candidate g && has_round g.agreement) ≡ b → FreeRead (tick.propose_new g b).sends
+    new : (b : Bool) → (is_candidate g && has_round g.agreement) ≡ b → FreeRead (if b then proposal_effects g (next_key g.me g.agreement) (notes.neighbours g) (agreement.others_among g.me (notes.neighbours g)) else nothing).sends
     new true e = to (agreement.others_among g.me (neighbours g)) (and_right (is_candidate g) _ e)
     new false e = tt
 
@@ -285,7 +293,7 @@ tick_parts_free g t promised key h inside wide =
         field i same q = let v : (v : View) × (g.exchange.view ≡ Some v) = exchanged_in g inside (ap (λ (x : Exchange). x.exchanged) (sym same) ∙ q) in
             subst (λ (x : Exchange). IsKeyField (exchange_key x.view)) (sym same) (key v.0 v.1)
 
-pub tick_free : {by : Policy} {factor : ℕ} (f : Facts) → LawOf by factor f → Spells f → TicksSpelled (after_ages f) → (b : Bool) → FreeRead (tick_if partition_count f b).sends
+pub tick_free : {by : Policy} {factor : ℕ} (f : Facts) → LawOf by factor f → Spells f → TicksSpelled (after_ages f) → (b : Bool) → FreeRead (if b then parts_in_order (parts partition_count) f else lines_only (line.Down f.me ∷ [])).sends
 tick_free {by} {factor} f law s t true = tick_parts_free (after_ages f) t s.promised s.key (λ p e. s.proposal p (aged_proposal f p e)) law.inside (record { handed = law.handed_places; settled = law.settled_places })
 tick_free {by} {factor} f law s t false = tt
 
@@ -322,12 +330,12 @@ pub message_free : {by : Policy} {factor : ℕ} (f : Facts) (clock from : ℕ) (
 message_free {by} {factor} f clock from (message.Heartbeat view promised hears role) p law s = tt
 message_free {by} {factor} f clock from (message.Propose k ms) p law s = go (keys.key_lt k f.agreement.promised) refl
   where
-    go : (b : Bool) → keys.key_lt k f.agreement.promised ≡ b → FreeRead (due.vote_effects f from k b).sends
+    go : (b : Bool) → keys.key_lt k f.agreement.promised ≡ b → FreeRead (if b then sends_only (to_one from (message.Refuse k f.agreement.promised)) else lines_and_sends (only_if (line.Promise f.me k) (keys.key_lt f.agreement.promised k)) (to_one from (message.Accept k))).sends
     go true e = each_free (from ∷ []) (message.Refuse k f.agreement.promised) (p.0, ⊎_elim (λ q. absurd (none_above k f.agreement.promised e q)) (λ q. q) s.promised)
     go false e = each_free (from ∷ []) (message.Accept k) p.0
 message_free {by} {factor} f clock from (message.Accept k) p law s = go f.agreement.proposal refl (proposes f.agreement.proposal k)
   where
-    commits : (x : Proposal) → f.agreement.proposal ≡ Some x → (b : Bool) → FreeRead (due.commit_effects f x b).sends
+    commits : (x : Proposal) → f.agreement.proposal ≡ Some x → (b : Bool) → FreeRead (if b then commit_effects f x else nothing).sends
     commits x e true = each_free (agreement.others_among f.me x.members) (message.Commit x.key x.members) ((s.proposal x e).key, (s.proposal x e).members)
     commits x e false = tt
 
@@ -337,36 +345,36 @@ message_free {by} {factor} f clock from (message.Accept k) p law s = go f.agreem
     go None e b = tt
 message_free {by} {factor} f clock from (message.Refuse k promised) p law s = go (proposes f.agreement.proposal k)
   where
-    go : (b : Bool) → FreeRead (due.unless_stale f b).sends
+    go : (b : Bool) → FreeRead (if b then nothing else stale f).sends
     go true = tt
     go false = tt
 message_free {by} {factor} f clock from (message.Commit k ms) p law s = go
     (due.may_enter_view f k ms)
   where
-    go : (b : Bool) → FreeRead (due.entry_effects_if f k ms b).sends
+    go : (b : Bool) → FreeRead (if b then lines_only (entering f k ms) else stale f).sends
     go true = tt
     go false = tt
 message_free {by} {factor} f clock from (message.State k wants row) p law s = go (in_view f k)
   where
-    answers : (b : Bool) → FreeRead (due.answer_state f from b)
+    answers : (b : Bool) → FreeRead (if b then to_one from (state f false) else [])
     answers true = ranged_free (from ∷ []) (state f false) refl
     answers false = tt
 
-    go : (b : Bool) → FreeRead (due.state_came f (reached f from (message.State k wants row)) from wants b).sends
+    go : (b : Bool) → FreeRead (if b then lines_and_sends (only_if (line.Exchanged f.me (view_key f)) (finishes f (reached f from (message.State k wants row)))) (if wants then to_one from (state f false) else []) else stale f).sends
     go true = answers wants
     go false = tt
 message_free {by} {factor} f clock from (message.Batch x) p law s = go (in_view f x.key)
   where
-    go : (b : Bool) → FreeRead (due.batch_came f from x b).sends
+    go : (b : Bool) → FreeRead (if b then lines_and_sends (merging_all f x.records) (to_one from (message.BatchAck x.key x.number)) else stale f).sends
     go true = each_free (from ∷ []) (message.BatchAck x.key x.number) (p.key, p.number)
     go false = tt
 message_free {by} {factor} f clock from (message.BatchAck k number) p law s = go (in_view f k)
   where
-    rests : (b : Bool) → FreeRead (due.unless_spent f b).sends
+    rests : (b : Bool) → FreeRead (if b then nothing else spent f).sends
     rests true = tt
     rests false = tt
 
-    go : (b : Bool) → FreeRead (due.batch_ack_came f from number b).sends
+    go : (b : Bool) → FreeRead (if b then (if has_number (out_to f.batches from) number then nothing else spent f) else stale f).sends
     go true = rests _
     go false = tt
 message_free {by} {factor} f clock from (message.Progress k wants done handed settled) p law s = go (in_view f k) refl
@@ -378,22 +386,22 @@ message_free {by} {factor} f clock from (message.Progress k wants done handed se
     same true = refl
     same false = refl
 
-    answers : IsKeyField (view_key f) → (b : Bool) → FreeRead (due.answer_progress partition_count now from b).sends
+    answers : IsKeyField (view_key f) → (b : Bool) → FreeRead (if b then sends_only (to_one from (progress_message partition_count now false)) else nothing).sends
     answers key true = each_free (from ∷ []) (progress_message partition_count now false)
         (progress_proper now false (subst (λ (q : ClusterKey). IsKeyField q) (sym (same (in_view f k))) key) (wide_of (reached_law by factor f from (message.Progress k wants done handed settled) p law)))
     answers key false = tt
 
-    go : (b : Bool) → in_view f k ≡ b → FreeRead (due.progress_effects_if partition_count f now from wants b).sends
+    go : (b : Bool) → in_view f k ≡ b → FreeRead (if b then (if wants && knows_all_settled now partition_count 0 then sends_only (to_one from (progress_message partition_count now false)) else nothing) else stale f).sends
     go true e = let v : Viewed f k = view_of f k e in answers (s.key v.view v.is) (wants && knows_all_settled now partition_count 0)
     go false e = tt
 message_free {by} {factor} f clock from (message.Repl k t nth d v) p law s = go (in_view f k)
   where
-    go : (b : Bool) → FreeRead (due.repl_came f from k t d v b).sends
+    go : (b : Bool) → FreeRead (if b then lines_and_sends (merging f d v) (to_one from (message.ReplAck k t)) else stale f).sends
     go true = each_free (from ∷ []) (message.ReplAck k t) (p.0, p.1)
     go false = tt
 message_free {by} {factor} f clock from (message.ReplAck k t) p law s = go (in_view f k)
   where
-    awaits : (y : Transaction) (b : Bool) → FreeRead (due.done_by f y from b).sends
+    awaits : (y : Transaction) (b : Bool) → FreeRead (if b then lines_only (only_if (line.Done f.me (view_key f) y.number) (is_last_awaited y from)) else spent f).sends
     awaits y true = tt
     awaits y false = tt
 
@@ -401,21 +409,21 @@ message_free {by} {factor} f clock from (message.ReplAck k t) p law s = go (in_v
     opens None = tt
     opens (Some y) = awaits y (awaits_ack y from)
 
-    go : (b : Bool) → FreeRead (due.repl_ack_came f from t b).sends
+    go : (b : Bool) → FreeRead (if b then ack_of f from (transaction f.transactions t) else stale f).sends
     go true = opens (transaction f.transactions t)
     go false = tt
 message_free {by} {factor} f clock from (message.Ask k t d) p law s = go (in_view f k)
   where
-    go : (b : Bool) → FreeRead (due.ask_came f from k t d b).sends
+    go : (b : Bool) → FreeRead (if b then sends_only (to_one from (message.Answer k t (finite.get f.store.content d))) else stale f).sends
     go true = ranged_free (from ∷ []) _ refl
     go false = tt
 message_free {by} {factor} f clock from (message.Answer k t v) p law s = go (in_view f k)
   where
-    last : (y : Transaction) (b : Bool) → FreeRead (due.resolving_if f clock y b).sends
+    last : (y : Transaction) (b : Bool) → FreeRead (if b then resolving f clock (list_at f (partition_of y.digest)) y else nothing).sends
     last y true = resolving_free f clock (list_at f (partition_of y.digest)) y y.want
     last y false = tt
 
-    awaited : (y : Transaction) (b : Bool) → FreeRead (due.answered_by f clock y from v b).sends
+    awaited : (y : Transaction) (b : Bool) → FreeRead (if b then (if is_last_awaited y from then resolving f clock (list_at f (partition_of (answered f.store.by from v y).digest)) (answered f.store.by from v y) else nothing) else spent f).sends
     awaited y true = last (answered f.store.by from v y) (is_last_awaited y from)
     awaited y false = tt
 
@@ -423,12 +431,12 @@ message_free {by} {factor} f clock from (message.Answer k t v) p law s = go (in_
     opens None = tt
     opens (Some y) = awaited y (awaits_answer y from)
 
-    go : (b : Bool) → FreeRead (due.answer_effects_if f clock from t v b).sends
+    go : (b : Bool) → FreeRead (if b then answer_of f clock from v (transaction f.transactions t) else stale f).sends
     go true = opens (transaction f.transactions t)
     go false = tt
 message_free {by} {factor} f clock from message.MapAsk p law s = go f.exchange.exchanged refl
   where
-    go : (b : Bool) → f.exchange.exchanged ≡ b → FreeRead (due.table_if f b).sends
+    go : (b : Bool) → f.exchange.exchanged ≡ b → FreeRead (if b then sends_only (to_one client (message.MapTable (map_table f))) else nothing).sends
     go true e = let v : (v : View) × (f.exchange.view ≡ Some v) = exchanged_in f law.inside e in each_free (due.client ∷ []) (message.MapTable (map_table f)) (s.table v.0 v.1)
     go false e = tt
 message_free {by} {factor} f clock from _ p law s = tt

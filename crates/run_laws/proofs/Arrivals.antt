@@ -1,6 +1,6 @@
 -- A message arrives: the tie of all nodes.
 use Rattle.std.proofs.Common.{◌≡◌, ℕ, ◌<◌, ◌==◌, Bool, true, false, List, Option, Some, None, refl, sym, ap, ap₂, ◌∙◌, subst, lit<}
-use Rattle.std.specs.Prelude.{option_map}
+use Rattle.std.specs.Prelude.{option_map, if◌then◌else◌}
 use Rattle.std.proofs.Math.Nat.{mod-lt}
 use Rattle.conflict_order.specs.declared.policy.Policy.{Policy}
 use Rattle.conflict_order.specs.declared.version.Version.{Version}
@@ -12,7 +12,7 @@ use Rattle.wire_messages.specs.declared.message.Batch.{Batch}
 use Rattle.wire_messages.specs.declared.message.Message.{Message}
 use Rattle.wire_messages.specs.declared.message.Message.TheVariants as message
 use Rattle.node_rules.specs.Agreement as agreement
-use Rattle.node_rules.specs.Agreement.{Agreement}
+use Rattle.node_rules.specs.Agreement.{Agreement, accepted_by}
 use Rattle.node_rules.specs.Batches.{out_to}
 use Rattle.node_rules.specs.Copies.{Row}
 use Rattle.node_rules.specs.Exchange as exchange
@@ -28,7 +28,7 @@ use Rattle.node_rules.specs.Transactions.{Transaction, transaction, awaits_answe
 use Rattle.cluster_rules.specs.World.{World, changed_at}
 use Rattle.cluster_laws.specs.Changed.{at_number, at_key, at_stay}
 use Rattle.cluster_laws.specs.Changes as changes
-use Rattle.cluster_laws.specs.Changes.{act, owes}
+use Rattle.cluster_laws.specs.Changes.{act}
 use Rattle.cluster_laws.specs.Effect.{Effect, Nothing, Row_came, Batch_acked, Told, Write_came, Write_acked, Answered, effect_if, is_view_key, batch_ack, write_ack, answer_effect, comes}
 use Rattle.cluster_laws.specs.Ground.{Ground}
 use Rattle.cluster_laws.specs.Picture.{Seen, Owed, Picture}
@@ -180,7 +180,7 @@ write_at r from k nth d v false e = as_it_was r
 write_at {G} {z} {c} {due} {w} {n} r from k nth d v true e = record {
   nodes = moved.nodes;
   packets = moved.packets;
-  owing = ap₂ (λ (by : Policy) (o : Option Version). owes (record { node = n; key = k; digest = d; version = v }) (is_newer by v o)) r.sane.by ((r.tie.nodes n).seen.content d);
+  owing = ap₂ (λ (by : Policy) (o : Option Version). (if is_newer by v o then Some (record { node = n; key = k; digest = d; version = v }) else None)) r.sane.by ((r.tie.nodes n).seen.content d);
 }
   where
     at_view : key_in (z.facts n).exchange.view ≡ Some k
@@ -276,11 +276,11 @@ answer_at {G} {z} {c} {due} {w} {n} r from k number a true e = subst (λ (o : Op
 
 -- ---- any message
 
-accepted_last : (a : Agreement) (from : ℕ) (b : Bool) → (agreement.accepting_if a from b).last ≡ a.last
+accepted_last : (a : Agreement) (from : ℕ) (b : Bool) → (if b then record a { proposal = accepted_by a.proposal from } else a).last ≡ a.last
 accepted_last a from true = refl
 accepted_last a from false = refl
 
-refused_last : (a : Agreement) (b : Bool) → (agreement.refused_if a b).last ≡ a.last
+refused_last : (a : Agreement) (b : Bool) → (if b then record a { proposal = None } else a).last ≡ a.last
 refused_last a true = refl
 refused_last a false = refl
 

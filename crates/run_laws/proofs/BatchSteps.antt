@@ -1,6 +1,6 @@
 -- A batch: its records are merged one after another, and it is acknowledged.
 use Rattle.std.proofs.Common.{◌≡◌, ℕ, zero, suc, Bool, true, false, cond, List, [], ◌∷◌, ◌++◌, Option, Some, None, refl, sym, ap, ◌∙◌, subst, inl}
-use Rattle.std.specs.Prelude.{bytes_eq, slice_get}
+use Rattle.std.specs.Prelude.{bytes_eq, slice_get, if◌then◌else◌}
 use Rattle.std.specs.FinMap as finite
 use Rattle.conflict_order.specs.declared.policy.Policy.{Policy}
 use Rattle.conflict_order.specs.declared.version.Version.{Version}
@@ -16,7 +16,7 @@ use Rattle.node_rules.specs.Copies.{Content, joined}
 use Rattle.node_rules.specs.Exchange.{View, Exchange}
 use Rattle.node_rules.specs.Facts.{Facts, view_key}
 use Rattle.node_rules.specs.Messages as due
-use Rattle.node_rules.specs.Messages.{merging, merging_all, batch_came}
+use Rattle.node_rules.specs.Messages.{merging, merging_all}
 use Rattle.node_rules.specs.Notes as notes
 use Rattle.node_rules.specs.Notes.{note, noted, in_view}
 use Rattle.cluster_rules.specs.Marks.{Writes}
@@ -38,6 +38,8 @@ use Rattle.run_laws.specs.Spelled.{AreReadInRange}
 use Rattle.run_laws.proofs.Tables.{joined_at}
 use Rattle.run_laws.proofs.Turns.{after_lines, Elsewhere, nothing_moves, elsewhere_on, ended_but, here, away}
 use Rattle.run_laws.proofs.ViewSteps.{Viewed, view_of}
+use Rattle.node_rules.specs.Effects.{lines_and_sends, to_one}
+use Rattle.node_rules.specs.StaleMessages.{stale}
 
 -- what merges leave at the node
 record Merges (n : ℕ) (z y : Front) (f g : Facts) (rs : List (List ℕ × Version)) : Type 0 where
@@ -148,7 +150,7 @@ merges_go n z f b from u (r ∷ rs) me is st o v k named came dec among = go (is
 pub batch_go : {by : Policy} {factor : ℕ} {z0 z : Front} {f : Facts} {clock from : ℕ} {b : Batch} → Arrived by factor z0 z f clock from (message.Batch b) → AreReadInRange (due.due_batch f from b).sends → NodeGo z f.me (due.due_batch f from b)
 batch_go {by} {factor} {z0} {z} {f} {clock} {from} {b} a read = go (in_view f b.key) refl read
   where
-    go : (q : Bool) → in_view f b.key ≡ q → AreReadInRange (batch_came f from b q).sends → NodeGo z f.me (batch_came f from b q)
+    go : (q : Bool) → in_view f b.key ≡ q → AreReadInRange (if q then lines_and_sends (merging_all f b.records) (to_one from (message.BatchAck b.key b.number)) else stale f).sends → NodeGo z f.me (if q then lines_and_sends (merging_all f b.records) (to_one from (message.BatchAck b.key b.number)) else stale f)
     go false e r = stale_go z f (ended_at a a.owes a.rests)
     go true e r =
         let v : Viewed f b.key = view_of f b.key e in

@@ -64,15 +64,15 @@ up_is h ms n e = ap (settings.is_node_up n) (sym (lines_are h ms)) ∙ up_agrees
 
 -- ---- the line of calm
 
-calm_place : (h : Header) (ss : List Step) → Taken h ss → (i rounds : ℕ) → slice_get (journal h (lines_among (all_marks ss))) i ≡ Some (line.Calm rounds)
-    → (z : Front) × AtCalm (nodes (journal h (lines_among (all_marks ss)))) (ground_of h ss) z (picture (ground_of h ss) (journal h (lines_among (all_marks ss))) i) (take i (journal h (lines_among (all_marks ss))))
+calm_place : (h : Header) (ss : List Step) → Taken h ss → (i rounds : ℕ) → slice_get (journal (header_lines h) (lines_among (all_marks ss))) i ≡ Some (line.Calm rounds)
+    → (z : Front) × AtCalm (nodes (journal (header_lines h) (lines_among (all_marks ss)))) (ground_of h ss) z (picture (ground_of h ss) (journal (header_lines h) (lines_among (all_marks ss))) i) (take i (journal (header_lines h) (lines_among (all_marks ss))))
 calm_place h ss t i rounds e = (
   z,
   record {
     ground = o.ground;
     sane = p.sane;
     tied = subst (Tied z) (sym (ap (licences.picture_after_all G start) b.before ∙ header_passes G start h (take b.place ls))) p.tied;
-    told = journal_told h G ls o i;
+    told = journal_told (header_lines h) G ls o i;
     calm = p.ok.1;
     grouped = p.grouped;
     known = ap (λ (x : World). x.nodes) world ∙ nodes_stay (take p.count (all_marks ss)) (opened h) ∙ sym (nodes_agree h ls w.behind);
@@ -92,7 +92,7 @@ calm_place h ss t i rounds e = (
     ls : List Line
     ls = lines_among (all_marks ss)
 
-    o : IsJournal h G ls
+    o : IsJournal (header_lines h) G ls
     o = marks_are_a_journal h ss t.header w
 
     b : Behind h ls i (line.Calm rounds)
@@ -107,21 +107,21 @@ calm_place h ss t i rounds e = (
     world : world_of z ≡ marks.after_all (opened h) (take p.count (all_marks ss))
     world = world_all (first h) (take p.count (all_marks ss))
 
-    lines_here : take i (journal h ls) ≡ header_lines h ++ lines_among (take p.count (all_marks ss))
+    lines_here : take i (journal (header_lines h) ls) ≡ header_lines h ++ lines_among (take p.count (all_marks ss))
     lines_here = b.before ∙ ap (λ (xs : List Line). header_lines h ++ xs) p.before
 
     behind_here : AreBehind (lines_among (take p.count (all_marks ss)))
     behind_here = subst AreBehind p.before (all_taken (λ l. not (is_header l)) ls b.place w.behind)
 
-marks_calm_end : (h : Header) (ss : List Step) → Taken h ss → CalmEnd (journal h (lines_among (all_marks ss)))
+marks_calm_end : (h : Header) (ss : List Step) → Taken h ss → CalmEnd (journal (header_lines h) (lines_among (all_marks ss)))
 marks_calm_end h ss t = record {
   at_rest = λ i rounds e.
       let x = calm_place h ss t i rounds e in
-      subst₂ (λ (by : Policy) (factor : ℕ). IsAtRest by factor (take i (journal h (lines_among (all_marks ss))))) o.by o.factor (at_rest (ground_of h ss) x.0 _ _ x.1);
+      subst₂ (λ (by : Policy) (factor : ℕ). IsAtRest by factor (take i (journal (header_lines h) (lines_among (all_marks ss))))) o.by o.factor (at_rest (ground_of h ss) x.0 _ _ x.1);
 }
   where
-    o : IsJournal h (ground_of h ss) (lines_among (all_marks ss))
+    o : IsJournal (header_lines h) (ground_of h ss) (lines_among (all_marks ss))
     o = marks_are_a_journal h ss t.header (taken_walks h ss t)
 
 pub calm_ends : OfEveryJournal CalmEnd
-calm_ends = every_journal CalmEnd (λ h ss t. subst (λ (ls : List Line). CalmEnd (journal h ls)) (lines_of_steps ss) (marks_calm_end h ss t))
+calm_ends = every_journal CalmEnd (λ h ss t. subst (λ (ls : List Line). CalmEnd (journal (header_lines h) ls)) (lines_of_steps ss) (marks_calm_end h ss t))

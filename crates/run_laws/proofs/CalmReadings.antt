@@ -5,7 +5,6 @@ use Rattle.cluster_types.specs.declared.cluster_key.ClusterKey.{ClusterKey}
 use Rattle.journal_lines.specs.declared.line.Line.{Line}
 use Rattle.journal_lines.specs.declared.line.Line.TheVariants as line
 use Rattle.journal_readings.specs.Lines.{same_key, is_settled_line, is_done_line}
-use Rattle.cluster_rules.specs.Opening.{Header}
 use Rattle.journal_readings.specs.Settings.{nodes}
 use Rattle.cluster_laws.specs.Ground.{Ground, view_master}
 use Rattle.cluster_laws.specs.Journals.{journal, IsJournal}
@@ -130,7 +129,7 @@ pub record Told (G : Ground) (ns : List ℕ) (j : List Line) (w : Picture) : Typ
   pub writes : (n : ℕ) (k : ClusterKey) (t : ℕ) → list_any (is_apply k n t) j ≡ true → is_some ((w.stay n k).writes t) ≡ true
   pub done : (n : ℕ) (k : ClusterKey) (t : ℕ) → (w.stay n k).done t ≡ true → list_any (is_done_line k n t) j ≡ true
 
-pub journal_told : (h : Header) (G : Ground) (lines : List Line) → IsJournal h G lines → (i : ℕ) → Told G (nodes (journal h lines)) (take i (journal h lines)) (picture G (journal h lines) i)
+pub journal_told : (h : List Line) (G : Ground) (lines : List Line) → IsJournal h G lines → (i : ℕ) → Told G (nodes (journal h lines)) (take i (journal h lines)) (picture G (journal h lines) i)
 journal_told h G lines o i = journal_keeps h G lines o (Told G ns)
     (λ j w l t ok f. record { tied = tied_step G o.ground ns j w l t.tied ok f; settled = settled_told G j w l ok t.settled; writes = wrote G j w l t.tied.sound ok t.writes; done = done_told G j w l t.tied.sound ok t.done })
     (record { tied = tied_start G ns; settled = λ k p e. differ e refl; writes = λ n k t e. differ e refl; done = λ n k t e. differ e refl }) i

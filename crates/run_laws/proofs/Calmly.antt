@@ -1,5 +1,5 @@
 -- What a node may send stays so while messages go out that change no facts.
-use Rattle.std.proofs.Common.{◌≡◌, ◌⊎◌, ℕ, suc, ◌+◌, ◌==◌, Bool, true, false, List, [], ◌∷◌, ◌++◌, length, Option, Some, None, refl, sym, ap, ◌∙◌, subst, arith, inl, inr}
+use Rattle.std.proofs.Common.{◌≡◌, ◌⊎◌, ℕ, suc, ◌+◌, ◌==◌, Bool, true, false, List, [], ◌∷◌, ◌++◌, length, Option, Some, None, refl, sym, ap, ◌∙◌, subst, arith, inl, inr, if◌then◌else◌}
 use Rattle.std.specs.FinMap as finite
 use Rattle.conflict_order.specs.Join.{AtMost}
 use Rattle.cluster_types.specs.declared.cluster_key.ClusterKey.{ClusterKey}
@@ -21,7 +21,7 @@ use Rattle.node_rules.specs.Stamps.{numbers_at}
 use Rattle.node_rules.specs.Standing.{is_done}
 use Rattle.node_rules.specs.Tables.{contains}
 use Rattle.node_rules.specs.Transactions.{transaction}
-use Rattle.cluster_rules.specs.DueEvents.{full_unless, one_more_if, sent_lines}
+use Rattle.cluster_rules.specs.DueEvents.{sent_lines}
 use Rattle.cluster_rules.specs.Marks.{Writes, sent_by}
 use Rattle.journal_readings.specs.Messages.{Posting}
 use Rattle.cluster_rules.specs.Network.{posting_at, posting, has_place, landed}
@@ -237,14 +237,14 @@ sends_go z n before flying [] o num h = record { due = tt; calm = calm_itself z 
 sends_go z n before flying (s ∷ ss) o num h =
     let y : Front = front_after z (Writes (line.Sent (before + 1) n s.0 (spelling s.1))) in
     let c : Calm z y = sent_calm z n (before + 1) s.0 s.1 (ap (λ (i : ℕ). i + 1) num) h.0.plain h.0.read in
-    let rest : SendsGo y (full_unless (before + 1) (has_place flying) ++ sent_lines n (before + 1) (one_more_if flying (has_place flying)) ss) =
+    let rest : SendsGo y ((if has_place flying then [] else line.Full (before + 1) ∷ []) ++ sent_lines n (before + 1) (if has_place flying then flying + 1 else flying) ss) =
     go y c (ap (λ (i : ℕ). i + 1) num ∙ sym (sent_length z n (before + 1) s.0 (spelling s.1))) (λ x b f. sends_go x n b f ss) (has_place flying) in
     record {
       due = ((o, record { number = ap (λ (i : ℕ). i + 1) num; says = well_cases s.1 (SendDueIf z n s.0) h.0.read tt (λ x a. alike_due z n s.0 s.1 x a h.0.due) }), rest.due);
       calm = calm_on z y _ c rest.calm;
     }
   where
-    go : (y : Front) → Calm z y → before + 1 ≡ length (world_of y).network.sent → ((x : Front) (b f : ℕ) → x.owed ≡ None → b ≡ length (world_of x).network.sent → EachPlainly x n ss → SendsGo x (sent_lines n b f ss)) → (b : Bool) → SendsGo y (full_unless (before + 1) b ++ sent_lines n (before + 1) (one_more_if flying b) ss)
+    go : (y : Front) → Calm z y → before + 1 ≡ length (world_of y).network.sent → ((x : Front) (b f : ℕ) → x.owed ≡ None → b ≡ length (world_of x).network.sent → EachPlainly x n ss → SendsGo x (sent_lines n b f ss)) → (b : Bool) → SendsGo y ((if b then [] else line.Full (before + 1) ∷ []) ++ sent_lines n (before + 1) (if b then flying + 1 else flying) ss)
     go y c e all true = all y (before + 1) (flying + 1) (c.owed ∙ o) e (plainly_calm z y n ss c h.1)
     go y c e all false =
         let x : Front = front_after y (Writes (line.Full (before + 1))) in

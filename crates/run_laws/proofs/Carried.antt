@@ -1,6 +1,6 @@
 -- The tie goes over every line that the facts allow.
 use Rattle.std.proofs.Common.{◌≡◌, ℕ, ◌+◌, ◌<◌, ◌==◌, Bool, true, false, not, List, Option, Some, None, refl, sym, ap, ◌∙◌, subst, arith}
-use Rattle.std.specs.Prelude.{option_map, nat_lt, slice_get, ◌-◌}
+use Rattle.std.specs.Prelude.{option_map, nat_lt, slice_get, ◌-◌, if◌then◌else◌}
 use Rattle.std.specs.FinMap as finite
 use Rattle.conflict_order.specs.declared.version.Version.{Version}
 use Rattle.conflict_order.specs.declared.want.Action.{Action}
@@ -15,7 +15,7 @@ use Rattle.node_rules.specs.Notes.{note, own_row, request_want}
 use Rattle.cluster_rules.specs.Marks.{Begins, Writes, after_line, taken_by}
 use Rattle.cluster_rules.specs.declared.event.Event.{Event}
 use Rattle.cluster_rules.specs.declared.event.Event.TheVariants as event
-use Rattle.cluster_rules.specs.Network.{Network, posting_at, posting_if, landed}
+use Rattle.cluster_rules.specs.Network.{Network, posting_at, landed}
 use Rattle.cluster_rules.specs.World.{World, changed_at, new_if}
 use Rattle.journal_readings.specs.Messages.{Posting}
 use Rattle.cluster_laws.specs.Changed.{at_number, at_key, at_stay}
@@ -211,7 +211,7 @@ drop_line G z w n k p t = in_node z w n (notes.dropped (facts_at z n) p) (change
 pub posting_same : (a b : Network) → a.sent ≡ b.sent → (i : ℕ) → posting_at a i ≡ posting_at b i
 posting_same a b e i = go (nat_lt 0 i)
   where
-    go : (q : Bool) → posting_if a i q ≡ posting_if b i q
+    go : (q : Bool) → (if q then slice_get a.sent (i - 1) else None) ≡ (if q then slice_get b.sent (i - 1) else None)
     go true = ap (λ (s : List Posting). slice_get s (i - 1)) e
     go false = refl
 

@@ -12,20 +12,19 @@ use Rattle.cluster_types.specs.Partitions.{partition_of}
 use Rattle.journal_lines.specs.declared.line.Line.TheVariants as line
 use Rattle.wire_messages.specs.declared.message.Message.TheVariants as message
 use Rattle.node_rules.specs.Copies.{Row}
-use Rattle.node_rules.specs.Effects.{to_each}
+use Rattle.node_rules.specs.Effects.{to_each, lines_and_sends, to_one}
 use Rattle.node_rules.specs.Exchange.{View, Exchange, first_missing, members_of, with_row}
 use Rattle.node_rules.specs.Facts.{Facts, view_key, members_of_view, list_at}
 use Rattle.node_rules.specs.Map.{list_master}
 use Rattle.node_rules.specs.Messages as due
-use Rattle.node_rules.specs.Messages.{finishes, answer_state, state_came, merging, repl_came, merging_all, batch_came}
+use Rattle.node_rules.specs.Messages.{finishes, merging, merging_all}
 use Rattle.node_rules.specs.Notes as notes
 use Rattle.node_rules.specs.Notes.{note, noted, reached, in_view}
 use Rattle.node_rules.specs.Stamps.{with_number, numbers_at}
 use Rattle.node_rules.specs.Tables.{contains, only_if}
-use Rattle.node_rules.specs.Tick.{own_row_in}
+use Rattle.node_rules.specs.Tick.{own_row_in, state}
 use Rattle.node_rules.specs.declared.member_row.MemberRow.{MemberRow}
 use Rattle.cluster_rules.specs.Marks.{Writes}
-use Rattle.cluster_laws.specs.Changes.{owes}
 use Rattle.cluster_laws.proofs.At.{number_same, number_here, and_left, and_right, differ, some_same, no_some, digests}
 use Rattle.wire_messages.proofs.DecodingLaws.{what_is_read, read_back}
 use Rattle.run_laws.proofs.Reading.{reads_itself}
@@ -44,6 +43,7 @@ use Rattle.run_laws.proofs.Sending.{own_said}
 use Rattle.run_laws.proofs.Tables.{entry_or, joined_at}
 use Rattle.run_laws.proofs.Turns.{elsewhere_on, ended_but, here, away}
 use Rattle.run_laws.proofs.ViewSteps.{Viewed, view_of}
+use Rattle.node_rules.specs.StaleMessages.{stale}
 
 -- ---- a State
 
@@ -52,7 +52,7 @@ pub own_row_is : {by : Policy} {factor : ℕ} (z : Front) (f : Facts) (v : View)
 own_row_is z f v law i rows = own_said z.chronicle v.key f.exchange.rows f.me (law.own v i) rows
 
 state_answer : {by : Policy} {factor : ℕ} (z : Front) (f g : Facts) (from : ℕ) (k : ClusterKey) (v : Viewed f k) → LawOf by factor f → Each (λ (r : MemberRow). IsRowOf z.chronicle r.node v.view.key r.row) f.exchange.rows
-    → key_in (facts_at z f.me).exchange.view ≡ Some (view_key f) → z.closing f.me ≡ false → (wants : Bool) → AreReadInRange (answer_state f from wants) → EachPlainly z f.me (answer_state f from wants)
+    → key_in (facts_at z f.me).exchange.view ≡ Some (view_key f) → z.closing f.me ≡ false → (wants : Bool) → AreReadInRange (if wants then to_one from (state f false) else []) → EachPlainly z f.me (if wants then to_one from (state f false) else [])
 state_answer z f g from k v law rows view stays false read = tt
 state_answer z f g from k v law rows view stays true read = (
   record {
@@ -67,7 +67,7 @@ pub state_go : {by : Policy} {factor : ℕ} {z0 z : Front} {f : Facts} {clock fr
     → AreReadInRange (due.due_state f (reached f from (message.State k wants row)) from k wants).sends → NodeGo z f.me (due.due_state f (reached f from (message.State k wants row)) from k wants)
 state_go {by} {factor} {z0} {z} {f} {clock} {from} {k} {wants} {row} a read = go (in_view f k) refl a.is read
   where
-    go : (b : Bool) → in_view f k ≡ b → facts_at z f.me ≡ notes.row_came f from row b → AreReadInRange (state_came f (notes.row_came f from row b) from wants b).sends → NodeGo z f.me (state_came f (notes.row_came f from row b) from wants b)
+    go : (b : Bool) → in_view f k ≡ b → facts_at z f.me ≡ notes.row_came f from row b → AreReadInRange (if b then lines_and_sends (only_if (line.Exchanged f.me (view_key f)) (finishes f (notes.row_came f from row b))) (if wants then to_one from (state f false) else []) else stale f).sends → NodeGo z f.me (if b then lines_and_sends (only_if (line.Exchanged f.me (view_key f)) (finishes f (notes.row_came f from row b))) (if wants then to_one from (state f false) else []) else stale f)
     go false e is r = stale_go z f (ended_but f.me z0 z a.elsewhere a.before a.owes a.stays (subst (λ (x : Facts). Rests x) (sym is) a.rests))
     go true e is r = over (finishes f (notes.row_came f from row true)) refl
       where
@@ -95,7 +95,7 @@ state_go {by} {factor} {z0} {z} {f} {clock} {from} {k} {wants} {row} a read = go
             by_flag true q = refl
             by_flag false q = differ (ap₂ (λ (x : Option ℕ) (y : Bool). is_none x && not y) (ap (λ (o : Option View). first_missing (with_row f.exchange.rows from row) (members_of o)) j ∙ none) q) i
 
-        over : (b : Bool) → finishes f (notes.row_came f from row true) ≡ b → NodeGo z f.me (record { lines = only_if (line.Exchanged f.me (view_key f)) b; sends = answer_state f from wants })
+        over : (b : Bool) → finishes f (notes.row_came f from row true) ≡ b → NodeGo z f.me (record { lines = only_if (line.Exchanged f.me (view_key f)) b; sends = (if wants then to_one from (state f false) else []) })
         over false i = record {
           due = tt;
           sent = refl;
@@ -179,7 +179,7 @@ pub repl_go : {by : Policy} {factor : ℕ} {z0 z : Front} {f : Facts} {clock fro
     → NodeGo z f.me (due.due_repl f from k t d v)
 repl_go {by} {factor} {z0} {z} {f} {clock} {from} {k} {t} {nth} {d} {v} a read = go (in_view f k) refl a.is a.owes read
   where
-    go : (b : Bool) → in_view f k ≡ b → facts_at z f.me ≡ notes.write_came f from k nth (partition_of d) b → z.owed ≡ owed_if f f.me k d v b None → AreReadInRange (repl_came f from k t d v b).sends → NodeGo z f.me (repl_came f from k t d v b)
+    go : (b : Bool) → in_view f k ≡ b → facts_at z f.me ≡ notes.write_came f from k nth (partition_of d) b → z.owed ≡ owed_if f f.me k d v b None → AreReadInRange (if b then lines_and_sends (merging f d v) (to_one from (message.ReplAck k t)) else stale f).sends → NodeGo z f.me (if b then lines_and_sends (merging f d v) (to_one from (message.ReplAck k t)) else stale f)
     go false e is o r = stale_go z f (ended_but f.me z0 z a.elsewhere a.before o a.stays (subst (λ (x : Facts). Rests x) (sym is) a.rests))
     go true e is o r = newer (is_newer f.store.by v (finite.get f.store.content d)) refl o
       where
@@ -241,7 +241,7 @@ repl_go {by} {factor} {z0} {z} {f} {clock} {from} {k} {t} {nth} {d} {v} a read =
               (subst (λ (x : Facts). Rests x) (sym merged_is) rests);
         }
 
-        newer : (b : Bool) → is_newer f.store.by v (finite.get f.store.content d) ≡ b → z.owed ≡ owes (record { node = f.me; key = k; digest = d; version = v }) b
+        newer : (b : Bool) → is_newer f.store.by v (finite.get f.store.content d) ≡ b → z.owed ≡ (if b then Some (record { node = f.me; key = k; digest = d; version = v }) else None)
             → NodeGo z f.me (record { lines = only_if (line.Merge f.me (view_key f) d v) b; sends = to_each (from ∷ []) (message.ReplAck k t) })
         newer true i o = subst (λ (j : ClusterKey). NodeGo z f.me (record { lines = line.Merge f.me j d v ∷ []; sends = to_each (from ∷ []) (message.ReplAck k t) })) (sym u.named) (by_merge o)
         newer false i o = record {

@@ -18,13 +18,12 @@ use Rattle.node_rules.specs.Keys.{same_key}
 use Rattle.node_rules.specs.Notes as notes
 use Rattle.node_rules.specs.Notes.{neighbours, reached, sent, in_view}
 use Rattle.node_rules.specs.Tables.{Table, contains}
-use Rattle.cluster_rules.specs.Marks.{Writes, after_line, came, came_to, came_to_client, sent_by}
+use Rattle.cluster_rules.specs.Marks.{Writes, after_line, came, came_to_client, sent_by, came_to_node}
 use Rattle.journal_readings.specs.Messages.{Posting, Arrival, arrived, arrived_cut}
 use Rattle.cluster_rules.specs.Network.{posting_at, posting}
 use Rattle.cluster_rules.specs.World.{World, changed_at}
 use Rattle.cluster_rules.proofs.AllowedLaws.{nodes_stay}
 use Rattle.cluster_laws.proofs.At.{number_same, some_same, no_some}
-use Rattle.key_laws.specs.Traced.{promised_by, listed_if}
 use Rattle.key_laws.specs.Traced as traced
 use Rattle.key_laws.proofs.Frames.{at_each}
 use Rattle.key_laws.proofs.Kept.{WasPosted, was_posted}
@@ -34,6 +33,7 @@ use Rattle.run_laws.specs.Fronts.{Front, world_of, facts_at, front_after}
 use Rattle.run_laws.specs.LineOk.{IsDeclared}
 use Rattle.run_laws.specs.LineDue.{SendDueIf, LineDue, DeclaredLaw}
 use Rattle.run_laws.specs.Tied.{Each}
+use Rattle.key_laws.specs.Traced.{with_list}
 
 -- as the law says it
 ids_from : (P : ℕ → Type 0) (es : Table Heard) → Each (λ (e : ℕ × Heard). P e.0) es → Ids P es
@@ -107,7 +107,7 @@ came_hears P w b p beat h = go (message_of p.bytes) refl
     go None e = h
     go (Some m) e = by_end (b == client)
       where
-        by_end : (q : Bool) → Hears P (came_to w (record { from = p.from; to = b; message = m }) q)
+        by_end : (q : Bool) → Hears P (if q then came_to_client w m else came_to_node w (record { from = p.from; to = b; message = m }))
         by_end true = at_client m
         by_end false = one P w b (reached (w.facts b) p.from m) h (reached_hears P (w.facts b) p.from m (λ v q hs r i. beat v q hs r (e ∙ ap Some i)) (h b))
 
@@ -167,11 +167,11 @@ hears_line z l h = go l
 lists_line : (z : Front) (l : Line) → (facts_me : (n : ℕ) → (facts_at z n).me ≡ n) → LineDue z l → DeclaredLaw z → (k : ClusterKey) (ms : List Member) (m : ℕ) → traced.lists_after z.chronicle.traced l k ≡ Some ms → is_member ms m ≡ true → IsDeclared z m
 lists_line z (line.Promise n j) me ok h k ms m e i = go (j.principal == n) refl e
   where
-    listed : (b : Bool) → (j.principal == n) ≡ true → listed_if j (neighbours (facts_at z n)) (z.chronicle.traced.lists k) b ≡ Some ms → IsDeclared z m
+    listed : (b : Bool) → (j.principal == n) ≡ true → (if b then Some (neighbours (facts_at z n)) else z.chronicle.traced.lists k) ≡ Some ms → IsDeclared z m
     listed true p q = member_is (IsDeclared z) ms m (subst (λ (xs : List Member). AllMembers (IsDeclared z) xs) (some_same q) (neighbours_are (IsDeclared z) (facts_at z n).me (facts_at z n).role (facts_at z n).hearing.heard (subst (IsDeclared z) (sym (me n)) (ok.1 (number_same j.principal n p))) (ids_from (IsDeclared z) (facts_at z n).hearing.heard (h.heard n)))) i
     listed false p q = h.lists k ms m q i
 
-    go : (b : Bool) → (j.principal == n) ≡ b → promised_by z.chronicle.traced.lists j (neighbours (facts_at z n)) b k ≡ Some ms → IsDeclared z m
+    go : (b : Bool) → (j.principal == n) ≡ b → (if b then with_list z.chronicle.traced.lists j (neighbours (facts_at z n)) else z.chronicle.traced.lists) k ≡ Some ms → IsDeclared z m
     go true p q = listed (same_key j k) p q
     go false p q = h.lists k ms m q i
 lists_line z l me ok h k ms m e i = h.lists k ms m e i
@@ -192,7 +192,7 @@ came_sent w (Some x) = go (x.to == client)
     at_client (message.MapTable t) = refl
     at_client _ = refl
 
-    go : (q : Bool) → (came_to w x q).network.sent ≡ w.network.sent
+    go : (q : Bool) → (if q then came_to_client w x.message else came_to_node w x).network.sent ≡ w.network.sent
     go true = at_client x.message
     go false = refl
 

@@ -1,6 +1,6 @@
 -- A message is delivered, repeated or cut: the step of its receiver.
 use Rattle.std.proofs.Common.{◌≡◌, ℕ, ◌==◌, Bool, true, false, List, ◌∷◌, length, Option, Some, None, refl, sym, ap, ◌∙◌, subst}
-use Rattle.std.specs.Prelude.{option_map}
+use Rattle.std.specs.Prelude.{option_map, if◌then◌else◌}
 use Rattle.conflict_order.specs.declared.policy.Policy.{Policy}
 use Rattle.cluster_types.specs.Partitions.{partition_count}
 use Rattle.journal_lines.specs.declared.line.Line.{Line}
@@ -9,12 +9,12 @@ use Rattle.wire_messages.specs.declared.message.Message.TheVariants as message
 use Rattle.wire_messages.specs.Decoding.{message_of}
 use Rattle.node_rules.specs.Exchange.{View, is_view}
 use Rattle.node_rules.specs.Facts.{Facts}
-use Rattle.node_rules.specs.Messages.{due_message, client}
+use Rattle.node_rules.specs.Messages.{due_message, client, due_message_of}
 use Rattle.node_rules.specs.Notes.{reached}
 use Rattle.node_rules.specs.Tables.{contains}
 use Rattle.node_rules.specs.declared.member_row.MemberRow.{MemberRow}
-use Rattle.cluster_rules.specs.DueEvents.{written, due_at_client, due_at_end, due_arrival}
-use Rattle.cluster_rules.specs.Marks.{Writes, came, came_to, came_to_client}
+use Rattle.cluster_rules.specs.DueEvents.{written, due_at_client, due_arrival}
+use Rattle.cluster_rules.specs.Marks.{Writes, came, came_to_client, came_to_node}
 use Rattle.journal_readings.specs.Messages.{Posting}
 use Rattle.cluster_rules.specs.Network.{Network, posting_at}
 use Rattle.cluster_rules.specs.World.{World, with_facts}
@@ -76,7 +76,7 @@ pub record Landing (z : Front) (l : Line) (p : Posting) (o : Option Message) : T
 
 -- ---- at a node
 
-came_world : (z : World) (f : Facts) (p : Posting) (m : Message) → p.to ≡ f.me → z.facts f.me ≡ f → came_to z (record { from = p.from; to = p.to; message = m }) false ≡ with_facts z f.me (reached f p.from m)
+came_world : (z : World) (f : Facts) (p : Posting) (m : Message) → p.to ≡ f.me → z.facts f.me ≡ f → came_to_node z (record { from = p.from; to = p.to; message = m }) ≡ with_facts z f.me (reached f p.from m)
 came_world z f p m to is = ap (λ (n : ℕ). with_facts z n (reached (z.facts n) p.from m)) to ∙ ap (λ (g : Facts). with_facts z f.me (reached g p.from m)) is
 
 at_node : (by : Policy) (factor : ℕ) (z : Front) (l : Line) (p : Posting) (m : Message) (f : Facts) → LawfulFront by factor z → Ended z → ViewsDeclared (world_of z) → message_of p.bytes ≡ Some m → (p.to == client) ≡ false → p.to ≡ f.me → facts_at z f.me ≡ f
@@ -100,7 +100,7 @@ at_node by factor z l p m f law h dec read node to is g = record {
 }
   where
     world : world_of (front_after z (Writes l)) ≡ with_facts (world_of z) f.me (reached f p.from m)
-    world = g.world ∙ ap (came_to (world_of z) (record { from = p.from; to = p.to; message = m })) node ∙ came_world (world_of z) f p m to is
+    world = g.world ∙ ap (λ (holds : Bool). if holds then came_to_client (world_of z) m else came_to_node (world_of z) (record { from = p.from; to = p.to; message = m })) node ∙ came_world (world_of z) f p m to is
 
     on : Onward by factor z (front_after z (Writes l))
     on = lawful_line by factor z l g.key g.due law
@@ -128,7 +128,7 @@ client_goes z _ h = record { due = ((h.owes, tt), tt); ends = record { owes = h.
 at_client : (by : Policy) (factor : ℕ) (z : Front) (l : Line) (p : Posting) (m : Message) → LawfulFront by factor z → Ended z → (p.to == client) ≡ true → Landing z l p (Some m) → Ended (front_after z (Writes l))
 at_client by factor z l p m law h node g = facts_ended z (front_after z (Writes l)) h
     (g.owed ∙ owed_outside (facts_at z p.to) p.to m z.owed (ap (λ (n : ℕ). (facts_at z n).exchange.view) (number_same p.to client node) ∙ outside z law.sound) ∙ h.owes) g.closing
-    (λ n. ap (λ (w : World). w.facts n) (g.world ∙ ap (came_to (world_of z) (record { from = p.from; to = p.to; message = m })) node) ∙ client_facts (world_of z) m n)
+    (λ n. ap (λ (w : World). w.facts n) (g.world ∙ ap (λ (holds : Bool). if holds then came_to_client (world_of z) m else came_to_node (world_of z) (record { from = p.from; to = p.to; message = m })) node) ∙ client_facts (world_of z) m n)
 
 -- ---- the lines behind it
 
@@ -156,11 +156,11 @@ behind_line by factor z w net l p fs cs num law h dec (Some m) read g r = by_end
         table (message.MapTable t) = refl
         table _ = refl
 
-        sent_same : (b : Bool) → (came_to (world_of z) (record { from = p.from; to = p.to; message = m }) b).network.sent ≡ (world_of z).network.sent
+        sent_same : (b : Bool) → (if b then came_to_client (world_of z) m else came_to_node (world_of z) (record { from = p.from; to = p.to; message = m })).network.sent ≡ (world_of z).network.sent
         sent_same true = table m
         sent_same false = refl
 
-    by_end : (q : Bool) → (p.to == client) ≡ q → LinesGo (front_after z (Writes l)) (due_at_end partition_count w net p m q)
+    by_end : (q : Bool) → (p.to == client) ≡ q → LinesGo (front_after z (Writes l)) (if q then due_at_client m else written net p.to (due_message_of partition_count (w.facts p.to) (w.clocks p.to) p.from m))
     by_end true e = client_goes (front_after z (Writes l)) m (at_client by factor z l p m law h e g)
     by_end false e = subst (λ (n : ℕ). LinesGo (front_after z (Writes l)) (written net n (due_message (w.facts p.to) (w.clocks p.to) p.from m))) me
         (effects_go (front_after z (Writes l)) net (w.facts p.to).me (due_message (w.facts p.to) (w.clocks p.to) p.from m) (net_same false e)

@@ -7,7 +7,7 @@ use Rattle.wire_messages.specs.declared.message.Message.TheVariants as message
 use Rattle.wire_messages.specs.Decoding.{message_of}
 use Rattle.node_rules.specs.Exchange as exchange
 use Rattle.node_rules.specs.Exchange.{View}
-use Rattle.cluster_rules.specs.Marks.{came, came_to, came_to_client}
+use Rattle.cluster_rules.specs.Marks.{came, came_to_client, came_to_node}
 use Rattle.journal_readings.specs.Messages.{Posting, Arrival, arrived, arrived_cut}
 use Rattle.cluster_rules.specs.Network.{posting_at}
 use Rattle.cluster_rules.specs.World.{World}
@@ -46,7 +46,7 @@ at_client G h from _ = h.tie
 -- ---- at its end
 
 at_end : (G : Ground) (z : World) (c : ℕ → Bool) (due : Option Owed) (w : Picture) → Sane G z → TiedTo z c due w → (x : Arrival) (q : Bool) → (x.to == client) ≡ q
-    → TiedTo (came_to z x q) c (owed_by (z.facts x.to) x.to x.message due) (act G (comes w x.to x.from x.message) w)
+    → TiedTo (if q then came_to_client z x.message else came_to_node z x) c (owed_by (z.facts x.to) x.to x.message due) (act G (comes w x.to x.from x.message) w)
 at_end G z c due w s t x true e = at_client G (record { facts = ap (λ (n : ℕ). (z.facts n).exchange.view) (number_same x.to client e) ∙ s.client; picture = (t.nodes x.to).seen.view ∙ ap (λ (n : ℕ). key_in (z.facts n).exchange.view) (number_same x.to client e) ∙ ap key_in s.client; tie = t }) x.from x.message
 at_end G z c due w s t x false e = reached_tied {z = z} (record { sane = s.nodes x.to; tie = t }) x.from x.message
 

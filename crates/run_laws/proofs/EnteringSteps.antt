@@ -9,7 +9,7 @@ use Rattle.journal_lines.specs.declared.line.Line.{Line}
 use Rattle.journal_lines.specs.declared.line.Line.TheVariants as line
 use Rattle.node_rules.specs.declared.member_row.MemberRow.{MemberRow}
 use Rattle.node_rules.specs.Copies.{Row}
-use Rattle.node_rules.specs.Entering.{closing, exchanging, entering}
+use Rattle.node_rules.specs.Entering.{closing, entering}
 use Rattle.node_rules.specs.Exchange.{View, is_single, is_member, first_missing}
 use Rattle.node_rules.specs.Facts.{Facts, members_of_view}
 use Rattle.node_rules.specs.Map.{lacks}
@@ -23,6 +23,7 @@ use Rattle.run_laws.specs.Steps.{Rests, Ended}
 use Rattle.run_laws.specs.Tied.{key_in}
 use Rattle.run_laws.proofs.PlainSteps.{Closing, all_closing}
 use Rattle.run_laws.proofs.Turns.{after_lines, lines_append, all_append, Elsewhere, elsewhere_on, ended_but, here, away}
+use Rattle.node_rules.specs.Tables.{only_if}
 
 -- ---- one row alone
 
@@ -86,7 +87,7 @@ entered_elsewhere : (y : Front) (n : ℕ) (k : ClusterKey) (ms : List Member) �
 entered_elsewhere y n k ms = record { facts = λ m e. away (world_of y).facts n _ m e; closing = λ m e. away y.closing n false m e }
 
 enter_go : (z0 y : Front) (n : ℕ) (k : ClusterKey) (ms : List Member) → Ended z0 → Elsewhere n z0 y → y.owed ≡ None → (facts_at y n).me ≡ n → is_member ms n ≡ true → IsDescending (ids_of ms) → (b : Bool) → is_single ms ≡ b
-    → Entering y n (line.Enter n k ms ∷ exchanging n k b)
+    → Entering y n (line.Enter n k ms ∷ only_if (line.Exchanged n k) b)
 enter_go z0 y n k ms h el o me among falls false e = record {
   due = ((o, tt), tt);
   sent = refl;
@@ -125,10 +126,10 @@ entering_go z0 z f k ms h el is o r among falls =
     let me : (facts_at z f.me).me ≡ f.me = ap (λ (x : Facts). x.me) is in
     let c : Closing f.me z (closing f) = subst (λ (x : Facts). Closing f.me z (closing x)) is (all_closing z f.me me o (subst (λ (x : Facts). Rests x) (sym is) r)) in
     let y : Front = after_lines z (closing f) in
-    let e : Entering y f.me (line.Enter f.me k ms ∷ exchanging f.me k (is_single ms)) =
+    let e : Entering y f.me (line.Enter f.me k ms ∷ only_if (line.Exchanged f.me k) (is_single ms)) =
     enter_go z0 y f.me k ms h (elsewhere_on f.me z0 z y el c.closed.elsewhere) (c.closed.owed ∙ o) (c.closed.me ∙ me) among falls (is_single ms) refl in
     record {
-      due = all_append z (closing f) (line.Enter f.me k ms ∷ exchanging f.me k (is_single ms)) c.due e.due;
-      sent = ap (λ (x : Front). (world_of x).network.sent) (lines_append z (closing f) (line.Enter f.me k ms ∷ exchanging f.me k (is_single ms))) ∙ e.sent ∙ c.closed.sent;
-      ends = subst (λ (x : Front). Ended x) (sym (lines_append z (closing f) (line.Enter f.me k ms ∷ exchanging f.me k (is_single ms)))) e.ends;
+      due = all_append z (closing f) (line.Enter f.me k ms ∷ only_if (line.Exchanged f.me k) (is_single ms)) c.due e.due;
+      sent = ap (λ (x : Front). (world_of x).network.sent) (lines_append z (closing f) (line.Enter f.me k ms ∷ only_if (line.Exchanged f.me k) (is_single ms))) ∙ e.sent ∙ c.closed.sent;
+      ends = subst (λ (x : Front). Ended x) (sym (lines_append z (closing f) (line.Enter f.me k ms ∷ only_if (line.Exchanged f.me k) (is_single ms)))) e.ends;
     }

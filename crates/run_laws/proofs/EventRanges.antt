@@ -1,14 +1,12 @@
 -- What the events of a run bring keeps its ranges, where its commands do.
-use Rattle.std.proofs.Common.{inl, inr, ◌≡◌, ◌<◌, ℕ, zero, suc, List, [], ◌∷◌, ◌++◌, sym, subst, map}
+use Rattle.std.proofs.Common.{inl, inr, ◌≡◌, ℕ, zero, suc, List, [], ◌∷◌, ◌++◌, sym, subst, map}
 use Rattle.std.specs.Prelude.{All}
-use Rattle.std.specs.List.{AllByRecursion, slice_index}
+use Rattle.std.specs.List.{AllByRecursion}
 use Rattle.std.proofs.lemmas.List.Elements.{All-from_recursion}
 use Rattle.script_lang.specs.declared.script.Command.{Command}
 use Rattle.script_lang.specs.declared.script.Command.TheVariants as command
 use Rattle.script_lang.specs.declared.script.Script.{Script}
-use Rattle.script_lang.specs.Proper as script
-use Rattle.script_lang.specs.Proper.{IsNode, IsAnyValue, IsProperHeaderLine, IsProperCommand}
-use Rattle.wire_messages.specs.Versions.{AreBytes, IsDigest, IsValue}
+use Rattle.script_lang.specs.Proper.{IsProperHeaderLine, IsProperCommand}
 use Rattle.cluster_rules.specs.declared.event.Event.{Event}
 use Rattle.cluster_rules.specs.declared.event.Event.TheVariants as event
 use Rattle.cluster_rules.specs.Begun.{MayPlay}
@@ -18,23 +16,8 @@ use Rattle.cluster_rules.specs.Steps.{Step, Played, play, play_all, flow, flows,
 use Rattle.cluster_rules.specs.World.{World, opened, up_nodes}
 use Rattle.cluster_rules.proofs.MarkLaws.{round_follows}
 use Rattle.cluster_rules.proofs.RunLaws.{command_follows}
-use Rattle.key_laws.proofs.Runs.{AreIds, up_ids, of_first, of_others, node_id, declared_ids, follows_nodes}
+use Rattle.key_laws.proofs.Runs.{AreIds, up_ids, of_first, of_others, declared_ids, follows_nodes}
 use Rattle.run_laws.specs.Taken.{IsProperEvent}
-
--- ---- digests and values of a script
-
-each_byte : (d : List ℕ) → ((i : ℕ) → slice_index d i < 256) → AllByRecursion (λ b. b < 256) d
-each_byte [] f = tt
-each_byte (b ∷ d) f = (f 0, each_byte d (λ i. f (suc i)))
-
-bytes_of : (d : List ℕ) → ((i : ℕ) → slice_index d i < 256) → AreBytes d
-bytes_of d f = All-from_recursion (λ b. b < 256) d (each_byte d f)
-
-a_digest : (d : List ℕ) → script.IsDigest d → IsDigest d
-a_digest d p = record { size = p.size; each = bytes_of d p.bytes }
-
-a_value : (v : List ℕ) → IsAnyValue v → IsValue v
-a_value v p = record { limit = p.limit; each = bytes_of v p.bytes }
 
 -- ---- who ticks has an id
 
@@ -88,15 +71,15 @@ proper_command n w command.Flow x ids p h = subst (λ (y : Played). AllProper y.
 proper_command n w command.Round x ids p h = subst (λ (y : Played). AllProper y.steps) (sym h) (proper_round n w ids)
 proper_command n w command.Calm x ids p h =
     subst (λ (y : Played). AllProper y.steps) (sym h.played) (proper_append (rounds n h.number w).steps (play n (event.Calmed h.number) (rounds n h.number w).world).steps (proper_rounds n h.number w ids) (tt, tt))
-proper_command n w (command.Tick node) x ids p h = by_event n w (event.Tick node) x h (node_id node p)
+proper_command n w (command.Tick node) x ids p h = by_event n w (event.Tick node) x h p
 proper_command n w (command.Clock node time) x ids p h = by_event n w (event.Clock node time) x h p.1
 proper_command n w (command.Groups groups) x ids p h = by_event n w (event.Groups groups) x h p
-proper_command n w (command.Put node d v) x ids p h = by_event n w (event.Put node d v) x h (a_digest d p.1, a_value v p.2)
-proper_command n w (command.Get node d) x ids p h = by_event n w (event.Get node d) x h (a_digest d p.1)
-proper_command n w (command.Del node d) x ids p h = by_event n w (event.Del node d) x h (a_digest d p.1)
-proper_command n w (command.ClientPut d v) x ids p h = by_event n w (event.ClientPut d v) x h (a_digest d p.0, a_value v p.1)
-proper_command n w (command.ClientGet d) x ids p h = by_event n w (event.ClientGet d) x h (a_digest d p)
-proper_command n w (command.ClientDel d) x ids p h = by_event n w (event.ClientDel d) x h (a_digest d p)
+proper_command n w (command.Put node d v) x ids p h = by_event n w (event.Put node d v) x h (p.1, p.2)
+proper_command n w (command.Get node d) x ids p h = by_event n w (event.Get node d) x h p.1
+proper_command n w (command.Del node d) x ids p h = by_event n w (event.Del node d) x h p.1
+proper_command n w (command.ClientPut d v) x ids p h = by_event n w (event.ClientPut d v) x h p
+proper_command n w (command.ClientGet d) x ids p h = by_event n w (event.ClientGet d) x h p
+proper_command n w (command.ClientDel d) x ids p h = by_event n w (event.ClientDel d) x h p
 proper_command n w c x ids p h = by_event n w _ x h tt
 
 -- ---- a run that was begun

@@ -17,12 +17,12 @@ use Rattle.node_rules.specs.Effects.{sends_only, lines_only, to_one}
 use Rattle.node_rules.specs.Exchange.{View, first_missing}
 use Rattle.node_rules.specs.Facts.{Facts, members_of_view, list_at}
 use Rattle.node_rules.specs.Map.{entry_of}
-use Rattle.node_rules.specs.Requests.{due_request, map_refusal, up_refusal, view_refusal, exchange_refusal}
+use Rattle.node_rules.specs.Requests.{due_request, map_refusal, view_refusal, exchange_refusal}
 use Rattle.node_rules.specs.Standing.{acting_at}
 use Rattle.node_rules.specs.Shows.{with_roles, map_line, map_if}
 use Rattle.cluster_rules.specs.declared.event.Event.{Event}
 use Rattle.cluster_rules.specs.declared.event.Event.TheVariants as event
-use Rattle.cluster_rules.specs.DueEvents.{due_of, written, due_at_named, arriving, arriving_cut, is_blocked, unless_blocked, delivery}
+use Rattle.cluster_rules.specs.DueEvents.{due_of, written, due_at_named, arriving, is_blocked, delivery}
 use Rattle.cluster_rules.specs.Marks.{Begins, Writes, came}
 use Rattle.journal_readings.specs.Messages.{Posting, arrived, arrived_cut}
 use Rattle.cluster_rules.specs.Network.{posting_at, flying_at, landed}
@@ -43,6 +43,7 @@ use Rattle.run_laws.specs.Spelled.{AreReadInRange}
 use Rattle.run_laws.proofs.PlainSteps.{begins_ended}
 use Rattle.run_laws.proofs.RequestSteps.{request_go}
 use Rattle.run_laws.proofs.Turns.{LinesGo}
+use Rattle.journal_lines.specs.declared.refusal.Refusal.TheVariants as refusal
 
 -- ---- a message is delivered
 
@@ -127,7 +128,7 @@ deliver_goes {by} {factor} {z} i s read = go (flying_at (world_of z).network i) 
     t = begin s (event.Deliver i)
 
     comes : (p : Posting) → posting_at (world_of z).network i ≡ Some p → AreReadInRange (arrived_sends (world_of z) p (message_of p.bytes)) → (b : Bool)
-        → LinesGo (front_after z (Begins (event.Deliver i))) (unless_blocked i (λ p. line.Deliver i p.from p.to ∷ arriving partition_count (world_of z) (landed (world_of z).network i) p) p b)
+        → LinesGo (front_after z (Begins (event.Deliver i))) (if b then line.Blocked i ∷ [] else line.Deliver i p.from p.to ∷ arriving partition_count (world_of z) (landed (world_of z).network i) p)
     comes p posted r true = blocked_goes (front_after z (Begins (event.Deliver i))) i t.ended
     comes p posted r false =
         let g : Landing (front_after z (Begins (event.Deliver i))) (line.Deliver i p.from p.to) p (message_of p.bytes) = deliver_landing (front_after z (Begins (event.Deliver i))) i p t.ended (posting_same (landed (world_of z).network i) (world_of z).network refl i ∙ posted) in
@@ -146,7 +147,7 @@ repeat_goes {by} {factor} {z} i s read = go (flying_at (world_of z).network i) r
     t = begin s (event.Repeat i)
 
     comes : (p : Posting) → posting_at (world_of z).network i ≡ Some p → AreReadInRange (arrived_sends (world_of z) p (message_of p.bytes)) → (b : Bool)
-        → LinesGo (front_after z (Begins (event.Repeat i))) (unless_blocked i (λ p. line.Repeat i p.from p.to ∷ arriving partition_count (world_of z) (world_of z).network p) p b)
+        → LinesGo (front_after z (Begins (event.Repeat i))) (if b then line.Blocked i ∷ [] else line.Repeat i p.from p.to ∷ arriving partition_count (world_of z) (world_of z).network p)
     comes p posted r true = blocked_goes (front_after z (Begins (event.Repeat i))) i t.ended
     comes p posted r false =
         let g : Landing (front_after z (Begins (event.Repeat i))) (line.Repeat i p.from p.to) p (message_of p.bytes) = repeat_landing (front_after z (Begins (event.Repeat i))) i p t.ended posted in
@@ -165,7 +166,7 @@ cut_goes {by} {factor} {z} i size s read = go (flying_at (world_of z).network i)
     t = begin s (event.Cut i size)
 
     long : (p : Posting) → posting_at (world_of z).network i ≡ Some p → AreReadInRange (arrived_sends (world_of z) p (message_of p.bytes)) → (b : Bool) → nat_lt size (length p.bytes) ≡ b
-        → LinesGo (front_after z (Begins (event.Cut i size))) (line.Cut i p.from p.to size ∷ arriving_cut partition_count (world_of z) (landed (world_of z).network i) p b)
+        → LinesGo (front_after z (Begins (event.Cut i size))) (line.Cut i p.from p.to size ∷ (if b then line.Short p.to ∷ [] else arriving partition_count (world_of z) (landed (world_of z).network i) p))
     long p posted r true e =
         let g : Landing (front_after z (Begins (event.Cut i size))) (line.Cut i p.from p.to size) p None = cut_landing (front_after z (Begins (event.Cut i size))) i size p false (short_not size (length p.bytes) e) t.ended (posting_same (landed (world_of z).network i) (world_of z).network refl i ∙ posted) in
         let h : Ended (front_after (front_after z (Begins (event.Cut i size))) (Writes (line.Cut i p.from p.to size))) = facts_ended (front_after z (Begins (event.Cut i size))) _ t.ended (g.owed ∙ t.ended.owes) g.closing (λ n. ap (λ (x : World). x.facts n) g.world) in
@@ -177,12 +178,12 @@ cut_goes {by} {factor} {z} i size s read = go (flying_at (world_of z).network i)
         (behind_line by factor (front_after z (Begins (event.Cut i size))) (world_of z) (landed (world_of z).network i) (line.Cut i p.from p.to size) p refl refl refl t.lawful t.ended t.declared (message_of p.bytes) refl g r)
 
     comes : (p : Posting) → posting_at (world_of z).network i ≡ Some p → AreReadInRange (arrived_sends (world_of z) p (message_of p.bytes)) → (b : Bool)
-        → LinesGo (front_after z (Begins (event.Cut i size))) (unless_blocked i (λ p. line.Cut i p.from p.to size ∷ arriving_cut partition_count (world_of z) (landed (world_of z).network i) p (nat_lt size (length p.bytes))) p b)
+        → LinesGo (front_after z (Begins (event.Cut i size))) (if b then line.Blocked i ∷ [] else line.Cut i p.from p.to size ∷ (if nat_lt size (length p.bytes) then line.Short p.to ∷ [] else arriving partition_count (world_of z) (landed (world_of z).network i) p))
     comes p posted r true = blocked_goes (front_after z (Begins (event.Cut i size))) i t.ended
     comes p posted r false = long p posted r (nat_lt size (length p.bytes)) refl
 
     go : (o : Option Posting) → flying_at (world_of z).network i ≡ o → AreReadInRange (flying_sends (world_of z) o)
-        → LinesGo (front_after z (Begins (event.Cut i size))) (delivery (world_of z) i (λ p. line.Cut i p.from p.to size ∷ arriving_cut partition_count (world_of z) (landed (world_of z).network i) p (nat_lt size (length p.bytes))) o)
+        → LinesGo (front_after z (Begins (event.Cut i size))) (delivery (world_of z) i (λ p. line.Cut i p.from p.to size ∷ (if nat_lt size (length p.bytes) then line.Short p.to ∷ [] else arriving partition_count (world_of z) (landed (world_of z).network i) p)) o)
     go None e r = none_goes (front_after z (Begins (event.Cut i size))) i t.ended
     go (Some p) e r = comes p (flying_posted (world_of z).network i p e) r (is_blocked (world_of z) p)
 
@@ -240,7 +241,7 @@ mapped f e = up f.up e
     view None i q = no_some (sym q)
     view (Some v) i q = rows v i (first_missing f.exchange.rows v.members) refl q
 
-    up : (b : Bool) → up_refusal f b ≡ None → Mapped f
+    up : (b : Bool) → (if b then view_refusal f f.exchange.view else Some refusal.Down) ≡ None → Mapped f
     up true q = view f.exchange.view refl q
     up false q = no_some (sym q)
 

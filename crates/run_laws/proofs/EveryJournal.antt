@@ -1,7 +1,6 @@
 -- What holds of the journal of taken steps holds of that of a script's run, of one that was begun, and of no line at all.
 use Rattle.std.proofs.Common.{◌≡◌, ◌≢◌, ℕ, ◌+◌, ◌<◌, List, [], ◌++◌, length, map, refl, sym, ap, ◌∙◌, subst, subst₂, lit<, lit≤, arith}
 use Rattle.std.proofs.lemmas.List.Elements.{All-nil}
-use Rattle.cluster_types.specs.NodeLists.{IsNodeList}
 use Rattle.cluster_types.specs.Partitions.{partition_count}
 use Rattle.cluster_types.proofs.DistinctLaws.{none_distinct}
 use Rattle.script_lang.specs.declared.script.Script.{Script}
@@ -24,7 +23,7 @@ use Rattle.key_laws.proofs.Runs.{start, header_ok, header_same}
 use Rattle.run_laws.specs.Claims.{OfTakenSteps, OfFrontRuns, OfEveryJournal}
 use Rattle.run_laws.specs.Taken.{IsProperEvent, Taken, ground_of, line_bound}
 use Rattle.run_laws.proofs.EventRanges.{events_of_front}
-use Rattle.run_laws.proofs.Named.{all_playable, same_nodes}
+use Rattle.run_laws.proofs.Named.{all_playable}
 use Rattle.run_laws.proofs.Premised.{taken_walks, taken_is_a_journal}
 
 -- ---- taken steps
@@ -39,7 +38,7 @@ no_more h ss lines written short = omega (arith, short, ap length written ∙ le
 pub taken_of_front : (s : Script) (lines : List Line) (r : FrontRun s lines) → IsProper s → length lines < line_bound → Taken s.header r.taken
 taken_of_front s lines r p short = record {
   header = p.header;
-  declared = subst IsNodeList (same_nodes s.header) p.nodes;
+  declared = p.nodes;
   allowed = fronts_allowed partition_count (opened s.header) s.commands r.taken (all_playable s p) r.front;
   ranges = events_of_front partition_count s r.taken p.header p.commands r.front;
   short = no_more s.header r.taken lines r.written short;
@@ -71,13 +70,13 @@ every_journal P of = record {
 
 -- what holds of every journal of cluster_laws
 pub by_licences : (P : List Line → Type 0) → OfJournals P → OfEveryJournal P
-by_licences P of = every_journal P (λ h ss t. of h (ground_of h ss) (all_lines ss) (taken_is_a_journal h ss t))
+by_licences P of = every_journal P (λ h ss t. of (header_lines h) (ground_of h ss) (all_lines ss) (taken_is_a_journal h ss t))
 
 pub all_marks_licensed : (h : Header) (ss : List Step) → Taken h ss → LicensedMarks (untouched (opened h)) (map Writes (header_lines h) ++ all_marks ss)
 all_marks_licensed h ss t = licensed_append (untouched (opened h)) (map Writes (header_lines h)) (all_marks ss) (header_ok (untouched (opened h)) h)
     (subst (λ (u : Traced). LicensedMarks u (all_marks ss)) (sym (header_same (untouched (opened h)) h)) (taken_walks h ss t).key)
 
-pub all_lines_are : (h : Header) (ss : List Step) → Rattle.cluster_rules.specs.Marks.lines_among (map Writes (header_lines h) ++ all_marks ss) ≡ journal h (all_lines ss)
+pub all_lines_are : (h : Header) (ss : List Step) → Rattle.cluster_rules.specs.Marks.lines_among (map Writes (header_lines h) ++ all_marks ss) ≡ journal (header_lines h) (all_lines ss)
 all_lines_are h ss = lines_of_run h (record { steps = ss; world = opened h })
 
 pub keys_rise : OfEveryJournal KeysRise

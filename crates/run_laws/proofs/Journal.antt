@@ -1,6 +1,6 @@
 -- Steps one after another: where the lines of each step are due as they stand, the run is a journal of its ground.
 use Rattle.std.proofs.Common.{◌≡◌, ℕ, zero, suc, ◌+◌, ◌<◌, ◌^◌, ◌-◌, Bool, true, false, not, All, List, [], ◌∷◌, ◌++◌, length, Option, Some, None, refl, sym, ap, ◌∙◌, subst, arith, lit<}
-use Rattle.std.specs.Prelude.{take, fold, map, nat_lt, slice_get, option_map, unwrap_or}
+use Rattle.std.specs.Prelude.{take, fold, map, nat_lt, slice_get, option_map, unwrap_or, if◌then◌else◌}
 use Rattle.std.specs.List.{AllByRecursion}
 use Rattle.std.specs.FinMap.{get-empty}
 use Rattle.std.specs.Ordering.{nat_cmp}
@@ -19,8 +19,8 @@ use Rattle.cluster_rules.specs.Allowed.{IsAllowed, AreAllowed}
 use Rattle.cluster_rules.specs.Marks as marks
 use Rattle.cluster_rules.specs.Marks.{Mark, Begins, Writes, lines_among}
 use Rattle.journal_readings.specs.Messages.{Posting}
-use Rattle.cluster_rules.specs.Network.{posting_at, posting_if, silent}
-use Rattle.cluster_rules.specs.Opening.{Header, declared_factor, declared_policy, declared_nodes, header_factor_step}
+use Rattle.cluster_rules.specs.Network.{posting_at, silent}
+use Rattle.cluster_rules.specs.Opening.{Header, header_lines, declared_factor, declared_policy, declared_nodes, header_factor_step}
 use Rattle.cluster_rules.specs.Steps.{Step, marks_of, all_marks, all_lines}
 use Rattle.cluster_rules.specs.World.{World}
 use Rattle.cluster_rules.proofs.MarkLaws.{lines_of_steps}
@@ -49,6 +49,7 @@ use Rattle.run_laws.proofs.Grounded.{goes_of, onward_all}
 use Rattle.run_laws.proofs.Lawful.{Onward}
 use Rattle.run_laws.proofs.NodeLaws.{clear_length}
 use Rattle.run_laws.proofs.Runs.{all_licensed, all_fit}
+use Rattle.run_laws.proofs.Places.{headers_are}
 
 -- ---- marks one after another
 
@@ -125,7 +126,7 @@ no_posting ns i = go (nat_lt 0 i)
     none zero = refl
     none (suc j) = refl
 
-    go : (b : Bool) → posting_if (silent ns) i b ≡ None
+    go : (b : Bool) → (if b then slice_get (silent ns).sent (i - 1) else None) ≡ None
     go true = none (i - 1)
     go false = refl
 
@@ -234,9 +235,10 @@ walks h ss t prem = let w : Walked (declared_policy h) (declared_factor h) (firs
 }
 
 -- the lines among the marks are a journal of that ground
-pub marks_are_a_journal : (h : Header) (ss : List Step) → All IsProperHeaderLine h → Walks h ss → IsJournal h (ground_of h ss) (lines_among (all_marks ss))
+pub marks_are_a_journal : (h : Header) (ss : List Step) → All IsProperHeaderLine h → Walks h ss → IsJournal (header_lines h) (ground_of h ss) (lines_among (all_marks ss))
 marks_are_a_journal h ss proper w = record {
   ground = record { some = some_factor 1 h (lit< tt) (recursion_from_All IsProperHeaderLine h proper) };
+  header = headers_are h;
   by = sym (policy_agrees h (lines_among (all_marks ss)) w.behind);
   factor = sym (factor_agrees h (lines_among (all_marks ss)) w.behind);
   licensed = all_licensed (ground_of h ss) (first h) start (all_marks ss) w.goes (first_tied h);

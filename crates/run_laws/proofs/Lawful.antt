@@ -20,7 +20,7 @@ use Rattle.node_rules.specs.Facts.{Facts, list_at}
 use Rattle.node_rules.specs.Keys.{same_key}
 use Rattle.node_rules.specs.Notes.{reached, sent, request_want}
 use Rattle.cluster_types.specs.Partitions.{partition_of}
-use Rattle.cluster_rules.specs.Marks.{Begins, Writes, after_line, came, came_to, came_to_client, sent_by}
+use Rattle.cluster_rules.specs.Marks.{Begins, Writes, after_line, came, came_to_client, sent_by, came_to_node}
 use Rattle.cluster_rules.specs.declared.event.Event.{Event}
 use Rattle.journal_readings.specs.Messages.{Posting, arrived, arrived_cut}
 use Rattle.cluster_rules.specs.Network.{posting_at}
@@ -65,7 +65,7 @@ came_laws by factor w b p h = go (message_of p.bytes) refl
     go None e = h
     go (Some m) e = by_end (b == client)
       where
-        by_end : (q : Bool) → Laws by factor (came_to w (record { from = p.from; to = b; message = m }) q)
+        by_end : (q : Bool) → Laws by factor (if q then came_to_client w m else came_to_node w (record { from = p.from; to = b; message = m }))
         by_end true = at_client m
         by_end false = one by factor w b (reached (w.facts b) p.from m) h (reached_law by factor (w.facts b) p.from m (what_is_read p.bytes m e).0 (h b))
 

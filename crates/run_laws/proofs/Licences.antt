@@ -1,5 +1,5 @@
 -- What the facts say of a line that is due gives its licence, by the tie.
-use Rattle.std.proofs.Common.{◌≡◌, ℕ, ◌+◌, ◌==◌, Bool, true, false, not, ◌&&◌, List, [], ◌∷◌, Option, Some, None, refl, sym, ap, ◌∙◌, arith, subst, inl, inr, ◌⊎◌, ⊎_elim}
+use Rattle.std.proofs.Common.{◌≡◌, ℕ, ◌+◌, ◌==◌, Bool, true, false, not, ◌&&◌, List, [], ◌∷◌, Option, Some, None, refl, sym, ap, ◌∙◌, subst, inl, inr, ◌⊎◌, ⊎_elim}
 use Rattle.std.specs.Prelude.{find, option_map, bytes_eq, if◌then◌else◌}
 use Rattle.std.specs.FinMap as finite
 use Rattle.conflict_order.specs.declared.policy.Policy.{Policy}
@@ -9,6 +9,7 @@ use Rattle.conflict_order.specs.Next.{next}
 use Rattle.cluster_types.specs.declared.cluster_key.ClusterKey.{ClusterKey}
 use Rattle.cluster_types.specs.Partitions.{partition_of}
 use Rattle.cluster_types.specs.Rows.{bit}
+use Rattle.cluster_types.proofs.BoolFacts.{not_true}
 use Rattle.wire_messages.specs.declared.message.Batch.{Batch}
 use Rattle.wire_messages.specs.declared.message.Message.{Message}
 use Rattle.wire_messages.specs.declared.message.Message.TheVariants as message
@@ -30,9 +31,6 @@ use Rattle.run_laws.specs.LineOk.{StandsInView, ExchangeOk, OpenOk, Resolves, An
 use Rattle.run_laws.proofs.Classes.{master_tied, replica_tied, acting_tied}
 use Rattle.run_laws.proofs.Guards.{done_tied}
 use Rattle.run_laws.proofs.Standing.{is_in, stay_at, views_at, rows_at, was_sent}
-
-not_true : (b : Bool) → not b ≡ true → b ≡ false
-not_true b e = grind arith
 
 -- ---- views
 

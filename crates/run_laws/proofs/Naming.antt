@@ -140,11 +140,11 @@ journal_passes ns [] ls a n i l e = steps_pass ns ls n i l e
 journal_passes ns (x ∷ h) ls a n zero l e = ap (λ (y : Line). list_all (has_node ns) (named_nodes y)) (sym (some_same e)) ∙ header_passes ns x h a
 journal_passes ns (x ∷ h) ls a n (suc i) l e = journal_passes ns h ls (others_among ns x h a) n i l e
 
-named_at : (h : Header) (ss : List Step) → Taken h ss → (i : ℕ) (l : Line) → slice_get (journal h (all_lines ss)) i ≡ Some l → names_declared (journal h (all_lines ss)) l ≡ true
+named_at : (h : Header) (ss : List Step) → Taken h ss → (i : ℕ) (l : Line) → slice_get (journal (header_lines h) (all_lines ss)) i ≡ Some l → names_declared (journal (header_lines h) (all_lines ss)) l ≡ true
 named_at h ss t i l e = ap (λ (ns : List ℕ). list_all (has_node ns) (named_nodes l)) (nodes_agree h (all_lines ss) (taken_behind h ss t))
     ∙ journal_passes (declared_nodes h) h (all_lines ss) (λ n d. d) (allowed_named partition_count h ss t.header t.allowed).names i l e
 
-shape_of : (h : Header) (ss : List Step) → Taken h ss → Shape (journal h (all_lines ss))
+shape_of : (h : Header) (ss : List Step) → Taken h ss → Shape (journal (header_lines h) (all_lines ss))
 shape_of h ss t = record {
   header = (stands_in_order.steps h ss t).header;
   declared_once = (stands_in_order.steps h ss t).declared_once;

@@ -1,5 +1,5 @@
 -- Lines of a tick: each of the node's own, with the facts behind it; settling, and a proposal.
-use Rattle.std.proofs.Common.{◌≡◌, ℕ, ◌==◌, Bool, true, false, List, [], ◌∷◌, ◌++◌, map, Option, Some, None, refl, sym, ap, ◌∙◌, subst, ◌&&◌}
+use Rattle.std.proofs.Common.{◌≡◌, ℕ, ◌==◌, Bool, true, false, List, [], ◌∷◌, ◌++◌, map, Option, Some, None, refl, sym, ap, ◌∙◌, subst, ◌&&◌, if◌then◌else◌}
 use Rattle.cluster_types.specs.declared.cluster_key.ClusterKey.{ClusterKey}
 use Rattle.cluster_types.specs.Distinct.{IsDescending}
 use Rattle.cluster_types.specs.Members.{ids_of}
@@ -9,13 +9,13 @@ use Rattle.wire_messages.specs.declared.message.Message.{Message}
 use Rattle.node_rules.specs.Agreement as agreement
 use Rattle.node_rules.specs.Agreement.{Proposal, next_key, has_round}
 use Rattle.node_rules.specs.Effects.{Effects, nothing, to_each}
-use Rattle.node_rules.specs.Entering.{ending, closing, exchanging, entering}
+use Rattle.node_rules.specs.Entering.{ending, closing, entering}
 use Rattle.node_rules.specs.Exchange.{is_single, is_member}
 use Rattle.node_rules.specs.Facts.{Facts, list_at, view_key}
 use Rattle.node_rules.specs.Notes.{note, noted, neighbours}
 use Rattle.node_rules.specs.Settling.{may_hand, may_settle}
 use Rattle.node_rules.specs.Standing.{is_to_learn, is_to_drop}
-use Rattle.node_rules.specs.Tick.{proposal_effects, propose_new, propose_with, propose, is_candidate}
+use Rattle.node_rules.specs.Tick.{proposal_effects, propose_with, propose, is_candidate}
 use Rattle.node_rules.specs.Transactions.{Transaction, Write}
 use Rattle.cluster_rules.specs.Marks.{Writes}
 use Rattle.cluster_rules.specs.World.{changed_at}
@@ -32,6 +32,7 @@ use Rattle.cluster_laws.proofs.At.{and_right}
 use Rattle.run_laws.proofs.Reading.{ReadsWell}
 use Rattle.wire_messages.specs.declared.message.Message.TheVariants as message
 use Rattle.run_laws.proofs.Turns.{after_lines, Elsewhere, nothing_moves, elsewhere_on, here, away}
+use Rattle.node_rules.specs.Tables.{only_if}
 
 -- ---- own lines
 
@@ -177,7 +178,7 @@ own_closing n k (t ∷ ts) = (go t.applied, own_closing n k ts)
     go None = refl
     go (Some w) = refl
 
-own_exchanging : (n : ℕ) (k : ClusterKey) (b : Bool) → Each (IsOwn n) (exchanging n k b)
+own_exchanging : (n : ℕ) (k : ClusterKey) (b : Bool) → Each (IsOwn n) (only_if (line.Exchanged n k) b)
 own_exchanging n k true = (refl, tt)
 own_exchanging n k false = tt
 
@@ -204,7 +205,7 @@ propose_goes z f h is among falls dec again next = go f.agreement.proposal refl
         }
     to (n ∷ ns) round = record { due = ((h.owes, λ i. dec), tt); own = (refl, tt); ends = promise_ends; free = free_each f.me _ (n ∷ ns) refl (λ y r. tt) (next round) }
 
-    new : (b : Bool) → (is_candidate f && has_round f.agreement) ≡ b → ProposeGo z f (propose_new f b)
+    new : (b : Bool) → (is_candidate f && has_round f.agreement) ≡ b → ProposeGo z f (if b then proposal_effects f (next_key f.me f.agreement) (neighbours f) (agreement.others_among f.me (neighbours f)) else nothing)
     new true e = to (agreement.others_among f.me (neighbours f)) (and_right (is_candidate f) _ e)
     new false e = nobody
 

@@ -1,6 +1,7 @@
 -- The front and the picture at the place of a line among those of steps.
 use Rattle.std.proofs.Common.{◌≡◌, ℕ, zero, suc, Bool, true, false, List, [], ◌∷◌, ◌++◌, Option, Some, None, take, slice_get, refl, sym, ap, ◌∙◌, subst, subst₂, ◌==◌}
-use Rattle.std.specs.Prelude.{option_and_then}
+use Rattle.std.specs.Prelude.{option_and_then, if◌then◌else◌}
+use Rattle.std.specs.List.{list_all}
 use Rattle.script_lang.specs.declared.script.HeaderLine.{HeaderLine}
 use Rattle.script_lang.specs.declared.script.HeaderLine.TheVariants as header
 use Rattle.journal_lines.specs.declared.line.Line.{Line}
@@ -12,7 +13,7 @@ use Rattle.cluster_rules.specs.declared.event.Event.{Event}
 use Rattle.cluster_rules.specs.Allowed.{names_known}
 use Rattle.cluster_rules.specs.declared.event.Event.TheVariants as event
 use Rattle.cluster_rules.specs.Marks as marks
-use Rattle.cluster_rules.specs.Marks.{Mark, Begins, Writes, lines_among}
+use Rattle.cluster_rules.specs.Marks.{Mark, Begins, Writes, lines_among, came_to_client, came_to_node}
 use Rattle.journal_readings.specs.Messages.{Arrival, arrived, arrived_cut}
 use Rattle.cluster_rules.specs.Network.{Network, posting_at}
 use Rattle.cluster_rules.specs.Opening.{Header, journal_header_line, header_lines}
@@ -22,7 +23,7 @@ use Rattle.cluster_rules.proofs.AllowedLaws.{nodes_stay}
 use Rattle.cluster_laws.specs.Ground.{Ground}
 use Rattle.cluster_laws.specs.Licences as licences
 use Rattle.cluster_laws.specs.Picture.{Picture}
-use Rattle.cluster_laws.proofs.At.{differ, some_same, no_some}
+use Rattle.cluster_laws.proofs.At.{and_both, differ, some_same, no_some}
 use Rattle.node_rules.specs.Messages.{client}
 use Rattle.run_laws.specs.Fronts.{Front, world_of, front_after, front_after_all, Tied, Sane}
 use Rattle.run_laws.specs.LineOk.{AreGrouped, LineOk, Goes}
@@ -47,7 +48,7 @@ came_groups w (Some x) = go (x.to == client)
     at_client (message.MapTable table) = refl
     at_client _ = refl
 
-    go : (b : Bool) → (marks.came_to w x b).network.groups ≡ w.network.groups
+    go : (b : Bool) → (if b then came_to_client w x.message else came_to_node w x).network.groups ≡ w.network.groups
     go true = at_client x.message
     go false = refl
 
@@ -108,6 +109,10 @@ header_is (header.Script version) = refl
 header_is (header.Factor factor) = refl
 header_is (header.Node n rack) = refl
 header_is (header.Policy by) = refl
+
+pub headers_are : (h : Header) → list_all is_header (header_lines h) ≡ true
+headers_are [] = refl
+headers_are (x ∷ h) = and_both (is_header (journal_header_line x)) (list_all is_header (header_lines h)) (header_is x) (headers_are h)
 
 pub behind : (h : Header) (ls : List Line) (i : ℕ) (l : Line) → is_header l ≡ false → slice_get (header_lines h ++ ls) i ≡ Some l → Behind h ls i l
 behind [] ls i l other e = record { place = i; stands = e; before = refl }

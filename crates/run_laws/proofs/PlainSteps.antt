@@ -1,5 +1,5 @@
 -- Steps of one line that is always due, and a stop.
-use Rattle.std.proofs.Common.{◌≡◌, ℕ, ◌==◌, Bool, true, false, List, [], ◌∷◌, ◌++◌, map, Option, Some, None, refl, sym, ap, ◌∙◌, subst}
+use Rattle.std.proofs.Common.{◌≡◌, ℕ, ◌==◌, Bool, true, false, List, [], ◌∷◌, ◌++◌, map, Option, Some, None, refl, sym, ap, ◌∙◌, subst, if◌then◌else◌}
 use Rattle.conflict_order.specs.declared.policy.Policy.{Policy}
 use Rattle.cluster_types.specs.declared.cluster_key.ClusterKey.{ClusterKey}
 use Rattle.cluster_types.specs.Partitions.{partition_count}
@@ -9,7 +9,6 @@ use Rattle.node_rules.specs.Entering.{ending, closing}
 use Rattle.node_rules.specs.Exchange.{View, Exchange, exchange_key}
 use Rattle.node_rules.specs.Facts.{Facts, view_key}
 use Rattle.node_rules.specs.Notes as notes
-use Rattle.node_rules.specs.Requests.{stop_if, start_if}
 use Rattle.node_rules.specs.Transactions.{Transaction, Write}
 use Rattle.cluster_rules.specs.declared.event.Event.{Event}
 use Rattle.cluster_rules.specs.declared.event.Event.TheVariants as event
@@ -26,6 +25,7 @@ use Rattle.run_laws.specs.LineDue.{LineMay, AllDue, LawfulFront}
 use Rattle.run_laws.specs.Steps.{RestsWith, Rests, Ended, Steps}
 use Rattle.run_laws.specs.Tied.{key_in}
 use Rattle.run_laws.proofs.Turns.{LinesGo, after_lines, lines_append, all_append, step_goes, Elsewhere, nothing_moves, elsewhere_on, ended_but, here, away}
+use Rattle.node_rules.specs.Effects.{lines_only}
 
 -- ---- lines that add nothing, or only beside exchange and transactions
 
@@ -123,7 +123,7 @@ all_closing z n me o r = subst (λ (m : ℕ). Closing n z (map (λ t. ending m (
 stopped_rests : (f : Facts) → Rests (notes.stopped f)
 stopped_rests f = record { idle = λ e. refl; over = λ v e x. no_some e }
 
-pub stop_goes : (z : Front) (net : Network) (n : ℕ) (b : Bool) → (facts_at z n).me ≡ n → Ended z → LinesGo z (written net n (stop_if (facts_at z n) b))
+pub stop_goes : (z : Front) (net : Network) (n : ℕ) (b : Bool) → (facts_at z n).me ≡ n → Ended z → LinesGo z (written net n (if b then lines_only (closing (facts_at z n) ++ line.Stop (facts_at z n).me ∷ []) else lines_only (line.Down (facts_at z n).me ∷ [])))
 stop_goes z net n false me h = record { due = ((h.owes, tt), tt); ends = record { owes = h.owes; stays = h.stays; rests = h.rests } }
 stop_goes z net n true me h =
     let c : Closing n z (closing (facts_at z n)) = all_closing z n me h.owes (h.rests n) in
@@ -143,7 +143,7 @@ stop_goes z net n true me h =
 
 -- ---- all steps of one line
 
-pub start_goes : (z : Front) (net : Network) (n : ℕ) (b : Bool) → (facts_at z n).me ≡ n → Ended z → LinesGo z (written net n (start_if (facts_at z n) b))
+pub start_goes : (z : Front) (net : Network) (n : ℕ) (b : Bool) → (facts_at z n).me ≡ n → Ended z → LinesGo z (written net n (if b then lines_only (line.Up (facts_at z n).me ∷ []) else lines_only (line.Start (facts_at z n).me ∷ [])))
 start_goes z net n true me h = record { due = ((h.owes, tt), tt); ends = record { owes = h.owes; stays = h.stays; rests = h.rests } }
 start_goes z net n false me h = record {
   due = ((h.owes, tt), tt);

@@ -1,6 +1,6 @@
 -- The tie over a message that is sent.
 use Rattle.std.proofs.Common.{◌≡◌, ℕ, zero, suc, ◌+◌, ◌-◌, ◌<◌, Bool, true, false, List, [], ◌∷◌, ◌++◌, length, Option, Some, None, refl, sym, ap, ◌∙◌, subst, arith, ⊎_elim}
-use Rattle.std.specs.Prelude.{option_map, nat_lt, slice_get}
+use Rattle.std.specs.Prelude.{option_map, nat_lt, slice_get, if◌then◌else◌}
 use Rattle.std.proofs.lemmas.Bool.{ltb-true, lt-ltb}
 use Rattle.wire_messages.specs.declared.message.Batch.{Batch}
 use Rattle.wire_messages.specs.declared.message.Message.{Message}
@@ -11,7 +11,7 @@ use Rattle.node_rules.specs.Agreement.{Agreement, Proposal}
 use Rattle.node_rules.specs.Notes.{sent}
 use Rattle.cluster_rules.specs.Marks.{posted_by, sent_by}
 use Rattle.journal_readings.specs.Messages.{Posting}
-use Rattle.cluster_rules.specs.Network.{Network, posting_at, posting_if, posting}
+use Rattle.cluster_rules.specs.Network.{Network, posting_at, posting}
 use Rattle.cluster_rules.specs.World.{changed_at}
 use Rattle.cluster_laws.specs.Changed.{at_number, at_key}
 use Rattle.cluster_laws.specs.Changes as changes
@@ -48,11 +48,11 @@ positive : (n : ℕ) → nat_lt 0 (n + 1) ≡ true
 positive n = lt-ltb 0 (n + 1) (omega arith)
 
 posted_here : (net : Network) (p : Posting) → posting_at (posting net (length net.sent + 1) p) (length net.sent + 1) ≡ Some p
-posted_here net p = ap (posting_if (posting net (length net.sent + 1) p) (length net.sent + 1)) (positive (length net.sent)) ∙ ap (slice_get (net.sent ++ p ∷ [])) (one_back (length net.sent)) ∙ last_here net.sent p
+posted_here net p = ap (λ (holds : Bool). if holds then slice_get (posting net (length net.sent + 1) p).sent ((length net.sent + 1) - 1) else None) (positive (length net.sent)) ∙ ap (slice_get (net.sent ++ p ∷ [])) (one_back (length net.sent)) ∙ last_here net.sent p
 
 -- no message has the next number yet
 pub none_yet : (net : Network) → posting_at net (length net.sent + 1) ≡ None
-none_yet net = ap (posting_if net (length net.sent + 1)) (positive (length net.sent)) ∙ ap (slice_get net.sent) (one_back (length net.sent)) ∙ none_past net.sent
+none_yet net = ap (λ (holds : Bool). if holds then slice_get net.sent ((length net.sent + 1) - 1) else None) (positive (length net.sent)) ∙ ap (slice_get net.sent) (one_back (length net.sent)) ∙ none_past net.sent
 
 not_last : (n j : ℕ) → 0 < j → (n + 1 ≡ j → ⊥) → j - 1 ≡ n → ⊥
 not_last n j p h e = h (omega (arith, p, e))
@@ -60,7 +60,7 @@ not_last n j p h e = h (omega (arith, p, e))
 pub posted_other : (net : Network) (p : Posting) (j : ℕ) → (length net.sent + 1 ≡ j → ⊥) → posting_at (posting net (length net.sent + 1) p) j ≡ posting_at net j
 posted_other net p j h = go (nat_lt 0 j) refl
   where
-    go : (b : Bool) → nat_lt 0 j ≡ b → posting_if (posting net (length net.sent + 1) p) j b ≡ posting_if net j b
+    go : (b : Bool) → nat_lt 0 j ≡ b → (if b then slice_get (posting net (length net.sent + 1) p).sent (j - 1) else None) ≡ (if b then slice_get net.sent (j - 1) else None)
     go false e = refl
     go true e = last_other net.sent p (j - 1) (not_last (length net.sent) j (ltb-true 0 j e) h)
 
@@ -74,7 +74,7 @@ packets_with net p packet h j = ⊎_elim
 
 -- ---- the sender
 
-proposed_last : (a : Agreement) (p : Proposal) (b : Bool) → (agreement.proposed_if a p b).last ≡ a.last
+proposed_last : (a : Agreement) (p : Proposal) (b : Bool) → (if b then a else record a { proposal = Some p }).last ≡ a.last
 proposed_last a p true = refl
 proposed_last a p false = refl
 

@@ -12,7 +12,7 @@ use Rattle.journal_lines.specs.declared.line.Line.{Line}
 use Rattle.cluster_rules.specs.Allowed.{IsAllowed, AreAllowed}
 use Rattle.cluster_rules.specs.DueEvents.{due_of}
 use Rattle.cluster_rules.specs.Marks.{Mark, Begins, Writes}
-use Rattle.cluster_rules.specs.Opening.{Header, declared_factor, declared_policy}
+use Rattle.cluster_rules.specs.Opening.{Header, header_lines, declared_factor, declared_policy}
 use Rattle.journal_readings.specs.Shape.{AreBehind}
 use Rattle.cluster_rules.specs.Steps.{Step, marks_of, all_marks, all_lines}
 use Rattle.cluster_rules.specs.World.{World}
@@ -99,5 +99,5 @@ taken_walks h ss t = walks h ss t (premises_of h ss t)
 pub taken_behind : (h : Header) (ss : List Step) → Taken h ss → AreBehind (all_lines ss)
 taken_behind h ss t = subst AreBehind (lines_of_steps ss) (taken_walks h ss t).behind
 
-pub taken_is_a_journal : (h : Header) (ss : List Step) → Taken h ss → IsJournal h (ground_of h ss) (all_lines ss)
-taken_is_a_journal h ss t = subst (λ (ls : List Line). IsJournal h (ground_of h ss) ls) (lines_of_steps ss) (marks_are_a_journal h ss t.header (taken_walks h ss t))
+pub taken_is_a_journal : (h : Header) (ss : List Step) → Taken h ss → IsJournal (header_lines h) (ground_of h ss) (all_lines ss)
+taken_is_a_journal h ss t = subst (λ (ls : List Line). IsJournal (header_lines h) (ground_of h ss) ls) (lines_of_steps ss) (marks_are_a_journal h ss t.header (taken_walks h ss t))

@@ -19,10 +19,11 @@ use Rattle.wire_messages.specs.Versions.{IsDigest, IsVersion, IsOptionVersion}
 use Rattle.node_rules.specs.Copies.{Content, Row, Stamp, Stamps, Store, joined, is_of, digests_of, state_with, store_state, with_state, row_from}
 use Rattle.node_rules.specs.Facts.{Facts, list_at}
 use Rattle.node_rules.specs.Keys.{same_key}
-use Rattle.node_rules.specs.Notes.{own_row, stamped_if, stamped_at, stamped_from, count_in}
+use Rattle.node_rules.specs.Notes.{own_row, stamped_if, stamped_at, count_in}
 use Rattle.node_rules.specs.Stamps.{Writes, Numbers, applies_at, numbers_at, count_at, count_of, have_no_gap, no_class, recounted, spoiled, changed_stamps, with_number, applying, hearing_write}
 use Rattle.node_rules.specs.Standing.{is_all_empty, is_own_replica}
 use Rattle.node_rules.proofs.Partitions.{row_is_row}
+use Rattle.node_rules.specs.ViewNotes.{stamped_from}
 use Rattle.cluster_laws.proofs.At.{some_same, no_some, digests}
 use Rattle.run_laws.specs.Ranges.{FitsRecord, FitsContent, FitsStamp, FitsStamps, FitsWrites}
 use Rattle.run_laws.proofs.Tables.{insert_at, remove_at, joined_at, dropped_at, entry_or}

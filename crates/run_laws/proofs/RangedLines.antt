@@ -22,7 +22,7 @@ use Rattle.node_rules.specs.Facts.{Facts, list_at}
 use Rattle.node_rules.specs.Notes.{reached, sent, request_want}
 use Rattle.node_rules.specs.Standing.{is_to_drop, is_done, has_settled_bit}
 use Rattle.node_rules.specs.Transactions.{Transaction}
-use Rattle.cluster_rules.specs.Marks.{Begins, Writes, after_line, came, came_to, came_to_client, sent_by}
+use Rattle.cluster_rules.specs.Marks.{Begins, Writes, after_line, came, came_to_client, sent_by, came_to_node}
 use Rattle.cluster_rules.specs.declared.event.Event.{Event}
 use Rattle.journal_readings.specs.Messages.{Posting, Arrival, arrived, arrived_cut}
 use Rattle.cluster_rules.specs.Network.{posting_at}
@@ -136,7 +136,7 @@ came_fits lines w b p lt h = go (message_of p.bytes) refl
     go None e = all_more lines w h
     go (Some m) e = by_end (b == client)
       where
-        by_end : (q : Bool) → AllFit (lines + 1) (came_to w (record { from = p.from; to = b; message = m }) q)
+        by_end : (q : Bool) → AllFit (lines + 1) (if q then came_to_client w m else came_to_node w (record { from = p.from; to = b; message = m }))
         by_end true = at_client m
         by_end false = one lines w b (reached (w.facts b) p.from m) h (reached_fits lines (w.facts b) p.from m lt (what_is_read p.bytes m e).0 (h b))
 
@@ -192,7 +192,7 @@ came_clocks w (Some x) = go (x.to == client)
     at_client (message.MapTable t) = refl
     at_client _ = refl
 
-    go : (b : Bool) → (came_to w x b).clocks ≡ w.clocks
+    go : (b : Bool) → (if b then came_to_client w x.message else came_to_node w x).clocks ≡ w.clocks
     go true = at_client x.message
     go false = refl
 

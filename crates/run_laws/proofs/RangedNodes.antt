@@ -1,5 +1,5 @@
 -- What a node keeps has its ranges after lines and messages.
-use Rattle.std.proofs.Common.{◌≡◌, ℕ, ◌+◌, ◌<◌, ◌≤◌, ◌^◌, ◌==◌, Bool, true, false, List, [], ◌∷◌, ◌++◌, length, Option, refl, arith}
+use Rattle.std.proofs.Common.{◌≡◌, ℕ, ◌+◌, ◌<◌, ◌≤◌, ◌^◌, ◌==◌, Bool, true, false, List, [], ◌∷◌, ◌++◌, length, Option, refl, arith, if◌then◌else◌}
 use Rattle.conflict_order.specs.declared.version.Version.{Version}
 use Rattle.conflict_order.specs.declared.want.Want.{Want}
 use Rattle.cluster_types.specs.declared.cluster_key.ClusterKey.{ClusterKey}
@@ -16,7 +16,6 @@ use Rattle.wire_messages.specs.Versions.{IsDigest, IsVersion, IsOptionVersion}
 use Rattle.node_rules.specs.declared.member_row.MemberRow.{MemberRow}
 use Rattle.node_rules.specs.Batches.{Target}
 use Rattle.node_rules.specs.Copies.{Row, is_of}
-use Rattle.node_rules.specs.Exchange.{with_row_if}
 use Rattle.node_rules.specs.Facts.{Facts, list_at}
 use Rattle.node_rules.specs.Map.{lacks, list_master}
 use Rattle.node_rules.specs.Notes as notes
@@ -152,7 +151,7 @@ row_fits : (lines : ℕ) (f : Facts) (from : ℕ) (row : Row) (b : Bool) → IsS
 row_fits lines f from row false fits h = h
 row_fits lines f from row true fits h = record { each_row = go (lacks f.exchange.rows from); content = h.content; stamps = h.stamps; writes = h.writes; transactions = h.transactions; each_target = h.each_target }
   where
-    go : (b : Bool) → Each (λ (x : MemberRow). IsStateRowField x.row) (with_row_if f.exchange.rows from row b)
+    go : (b : Bool) → Each (λ (x : MemberRow). IsStateRowField x.row) (if b then f.exchange.rows ++ record { node = from; row = row } ∷ [] else f.exchange.rows)
     go true = each_last f.exchange.rows (record { node = from; row = row }) fits h.each_row
     go false = h.each_row
 

@@ -25,19 +25,19 @@ use Rattle.node_rules.specs.Agreement as agreement
 use Rattle.node_rules.specs.Agreement.{Proposal, proposes, without_missing}
 use Rattle.node_rules.specs.Batches.{Targets, out_to, has_number}
 use Rattle.node_rules.specs.Copies.{Store, is_nil}
-use Rattle.node_rules.specs.Effects.{to_each}
+use Rattle.node_rules.specs.Effects.{to_each, lines_and_sends, lines_only, nothing, sends_only, to_one}
 use Rattle.node_rules.specs.Exchange.{View, Exchange, exchange_key}
 use Rattle.node_rules.specs.Facts.{Facts, view_key, list_at}
 use Rattle.node_rules.specs.Map.{row_of_member}
-use Rattle.node_rules.specs.Messages.{due_message, vote_effects, commit_effects, accept_effects, unless_stale, entry_effects_if, may_enter_view, state_came, answer_state, batch_came, batch_ack_came, unless_spent, progress_effects_if, answer_progress, repl_came, repl_ack_came, ack_of, done_by, ask_came, answer_effects_if, answer_of, answered_by, resolving_if, table_if}
+use Rattle.node_rules.specs.Messages.{due_message, commit_effects, accept_effects, may_enter_view, ack_of, answer_of}
 use Rattle.node_rules.specs.Notes.{reached, in_view, next_nth, opening_transaction}
 use Rattle.node_rules.specs.Requests.{due_request, request_if, asking, request_refusal}
 use Rattle.node_rules.specs.Resolving.{repl, resolving, resolving_want, writing_body}
 use Rattle.node_rules.specs.Stamps.{Writes, applies_at}
 use Rattle.node_rules.specs.Standing.{other_replicas, asked, knows_all_settled}
-use Rattle.node_rules.specs.Tick.{state}
+use Rattle.node_rules.specs.Tick.{state, progress_message}
 use Rattle.node_rules.specs.Transactions as transactions
-use Rattle.node_rules.specs.Transactions.{Transaction, Transactions, Write, transaction, awaits_answer, awaits_ack, is_last_awaited}
+use Rattle.node_rules.specs.Transactions.{Transaction, Transactions, Write, transaction, awaits_answer, awaits_ack, is_last_awaited, answered}
 use Rattle.cluster_types.specs.ClusterKeys.{key_lt}
 use Rattle.cluster_laws.proofs.At.{differ}
 use Rattle.run_laws.specs.Ranges.{FitsTransaction, FitsRanges, FitsFacts}
@@ -48,6 +48,15 @@ use Rattle.run_laws.proofs.RangedLines.{found_among}
 use Rattle.run_laws.proofs.RangedTransactions.{transaction_more, next_fits}
 use Rattle.run_laws.proofs.RequestSteps.{Accepts, accepts}
 use Rattle.run_laws.proofs.ViewSteps.{Viewed, view_of}
+use Rattle.cluster_types.specs.Endpoints.{client}
+use Rattle.node_rules.specs.BatchMessages.{merging, merging_all}
+use Rattle.node_rules.specs.ClientMessages.{map_table}
+use Rattle.node_rules.specs.Entering.{entering}
+use Rattle.node_rules.specs.RowMessages.{finishes}
+use Rattle.node_rules.specs.StaleMessages.{spent, stale}
+use Rattle.node_rules.specs.Tables.{only_if}
+use Rattle.cluster_types.specs.ClusterKeys as keys
+use Rattle.journal_lines.specs.declared.line.Line.TheVariants as line
 
 -- ---- facts in their ranges, with the key of the view
 
@@ -158,12 +167,12 @@ request_read lines f clock d q lt time digest wanted h = go (request_refusal f (
 pub message_read : (lines : ℕ) (f : Facts) (clock from : ℕ) (m : Message) → lines + 1 < 2 ^ 32 → clock < 2 ^ 64 → IsProper m → StoodFacts lines f → AreReadInRange (due_message f clock from m).sends
 message_read lines f clock from (message.Propose k ms) lt time p h = go (key_lt k f.agreement.promised)
   where
-    go : (b : Bool) → AreReadInRange (vote_effects f from k b).sends
+    go : (b : Bool) → AreReadInRange (if b then sends_only (to_one from (message.Refuse k f.agreement.promised)) else lines_and_sends (only_if (line.Promise f.me k) (keys.key_lt f.agreement.promised k)) (to_one from (message.Accept k))).sends
     go true = free_read (from ∷ []) (message.Refuse k f.agreement.promised) refl
     go false = free_read (from ∷ []) (message.Accept k) refl
 message_read lines f clock from (message.Accept k) lt time p h = go f.agreement.proposal (proposes f.agreement.proposal k)
   where
-    commits : (x : Proposal) (b : Bool) → AreReadInRange (commit_effects f x b).sends
+    commits : (x : Proposal) (b : Bool) → AreReadInRange (if b then commit_effects f x else nothing).sends
     commits x true = free_read (agreement.others_among f.me x.members) (message.Commit x.key x.members) refl
     commits x false = tt
 
@@ -173,36 +182,36 @@ message_read lines f clock from (message.Accept k) lt time p h = go f.agreement.
     go None b = tt
 message_read lines f clock from (message.Refuse k promised) lt time p h = go (proposes f.agreement.proposal k)
   where
-    go : (b : Bool) → AreReadInRange (unless_stale f b).sends
+    go : (b : Bool) → AreReadInRange (if b then nothing else stale f).sends
     go true = tt
     go false = tt
 message_read lines f clock from (message.Commit k ms) lt time p h = go (may_enter_view f k ms)
   where
-    go : (b : Bool) → AreReadInRange (entry_effects_if f k ms b).sends
+    go : (b : Bool) → AreReadInRange (if b then lines_only (entering f k ms) else stale f).sends
     go true = tt
     go false = tt
 message_read lines f clock from (message.State k wants row) lt time p h = go (in_view f k) refl
   where
     answers : (v : View) → f.exchange.view ≡ Some v → (b : Bool)
-        → AreReadInRange (answer_state f from b)
+        → AreReadInRange (if b then to_one from (state f false) else [])
     answers v e true = each_read (from ∷ []) (state f false) (state_proper lines f false v h e)
     answers v e false = tt
 
-    go : (b : Bool) → in_view f k ≡ b → AreReadInRange (state_came f (reached f from (message.State k wants row)) from wants b).sends
+    go : (b : Bool) → in_view f k ≡ b → AreReadInRange (if b then lines_and_sends (only_if (line.Exchanged f.me (view_key f)) (finishes f (reached f from (message.State k wants row)))) (if wants then to_one from (state f false) else []) else stale f).sends
     go true e = let v : Viewed f k = view_of f k e in answers v.view v.is wants
     go false e = tt
 message_read lines f clock from (message.Batch x) lt time p h = go (in_view f x.key)
   where
-    go : (b : Bool) → AreReadInRange (batch_came f from x b).sends
+    go : (b : Bool) → AreReadInRange (if b then lines_and_sends (merging_all f x.records) (to_one from (message.BatchAck x.key x.number)) else stale f).sends
     go true = free_read (from ∷ []) (message.BatchAck x.key x.number) refl
     go false = tt
 message_read lines f clock from (message.BatchAck k number) lt time p h = go (in_view f k)
   where
-    rests : (b : Bool) → AreReadInRange (unless_spent f b).sends
+    rests : (b : Bool) → AreReadInRange (if b then nothing else spent f).sends
     rests true = tt
     rests false = tt
 
-    go : (b : Bool) → AreReadInRange (batch_ack_came f from number b).sends
+    go : (b : Bool) → AreReadInRange (if b then (if has_number (out_to f.batches from) number then nothing else spent f) else stale f).sends
     go true = rests (has_number (out_to f.batches from) number)
     go false = tt
 message_read lines f clock from (message.Progress k wants done handed settled) lt time p h = go (in_view f k)
@@ -211,21 +220,21 @@ message_read lines f clock from (message.Progress k wants done handed settled) l
     now = reached f from (message.Progress k wants done handed settled)
 
     answers : (g : Facts) (b : Bool)
-        → AreReadInRange (answer_progress partition_count g from b).sends
+        → AreReadInRange (if b then sends_only (to_one from (progress_message partition_count g false)) else nothing).sends
     answers g true = free_read (from ∷ []) _ refl
     answers g false = tt
 
-    go : (b : Bool) → AreReadInRange (progress_effects_if partition_count f (reached f from (message.Progress k wants done handed settled)) from wants b).sends
+    go : (b : Bool) → AreReadInRange (if b then (if wants && knows_all_settled (reached f from (message.Progress k wants done handed settled)) partition_count 0 then sends_only (to_one from (progress_message partition_count (reached f from (message.Progress k wants done handed settled)) false)) else nothing) else stale f).sends
     go true = answers now (wants && knows_all_settled now partition_count 0)
     go false = tt
 message_read lines f clock from (message.Repl k t nth d v) lt time p h = go (in_view f k)
   where
-    go : (b : Bool) → AreReadInRange (repl_came f from k t d v b).sends
+    go : (b : Bool) → AreReadInRange (if b then lines_and_sends (merging f d v) (to_one from (message.ReplAck k t)) else stale f).sends
     go true = free_read (from ∷ []) (message.ReplAck k t) refl
     go false = tt
 message_read lines f clock from (message.ReplAck k t) lt time p h = go (in_view f k)
   where
-    awaits : (y : Transaction) (b : Bool) → AreReadInRange (done_by f y from b).sends
+    awaits : (y : Transaction) (b : Bool) → AreReadInRange (if b then lines_only (only_if (line.Done f.me (view_key f) y.number) (is_last_awaited y from)) else spent f).sends
     awaits y true = tt
     awaits y false = tt
 
@@ -233,22 +242,22 @@ message_read lines f clock from (message.ReplAck k t) lt time p h = go (in_view 
     opens None = tt
     opens (Some y) = awaits y (awaits_ack y from)
 
-    go : (b : Bool) → AreReadInRange (repl_ack_came f from t b).sends
+    go : (b : Bool) → AreReadInRange (if b then ack_of f from (transaction f.transactions t) else stale f).sends
     go true = opens (transaction f.transactions t)
     go false = tt
 message_read lines f clock from (message.Ask k t d) lt time p h = go (in_view f k)
   where
-    go : (b : Bool) → AreReadInRange (ask_came f from k t d b).sends
+    go : (b : Bool) → AreReadInRange (if b then sends_only (to_one from (message.Answer k t (finite.get f.store.content d))) else stale f).sends
     go true = each_read (from ∷ []) (message.Answer k t (finite.get f.store.content d)) (p.0, p.1, version_held f.store.content d h.fits.content)
     go false = tt
 message_read lines f clock from (message.Answer k t v) lt time p h = go (in_view f k) refl
   where
-    last : Viewed f k → (y : Transaction) → FitsTransaction lines y → (b : Bool) → AreReadInRange (resolving_if f clock (transactions.answered f.store.by from v y) b).sends
+    last : Viewed f k → (y : Transaction) → FitsTransaction lines y → (b : Bool) → AreReadInRange (if b then resolving f clock (list_at f (partition_of (transactions.answered f.store.by from v y).digest)) (transactions.answered f.store.by from v y) else nothing).sends
     last x y r false = tt
     last x y r true = resolving_read lines f clock (list_at f (partition_of y.digest)) (transactions.answered f.store.by from v y) lt time (h.key x.view x.is) h.fits
         (transaction_more lines (transactions.answered f.store.by from v y) (record { above = r.above; number = r.number; digest = r.digest; want = r.want; best = join_fits f.store.by y.best v r.best p.2; applied = r.applied }))
 
-    awaited : Viewed f k → (y : Transaction) → FitsTransaction lines y → (b : Bool) → AreReadInRange (answered_by f clock y from v b).sends
+    awaited : Viewed f k → (y : Transaction) → FitsTransaction lines y → (b : Bool) → AreReadInRange (if b then (if is_last_awaited y from then resolving f clock (list_at f (partition_of (answered f.store.by from v y).digest)) (answered f.store.by from v y) else nothing) else spent f).sends
     awaited x y r true = last x y r (is_last_awaited y from)
     awaited x y r false = tt
 
@@ -256,12 +265,12 @@ message_read lines f clock from (message.Answer k t v) lt time p h = go (in_view
     opens x None i = tt
     opens x (Some y) i = awaited x y (h.fits.transactions.running y (found_among (λ (u : Transaction). u.number == t) f.transactions.running y i)) (awaits_answer y from)
 
-    go : (b : Bool) → in_view f k ≡ b → AreReadInRange (answer_effects_if f clock from t v b).sends
+    go : (b : Bool) → in_view f k ≡ b → AreReadInRange (if b then answer_of f clock from v (transaction f.transactions t) else stale f).sends
     go true e = opens (view_of f k e) (transaction f.transactions t) refl
     go false e = tt
 message_read lines f clock from message.MapAsk lt time p h = go f.exchange.exchanged
   where
-    go : (b : Bool) → AreReadInRange (table_if f b).sends
+    go : (b : Bool) → AreReadInRange (if b then sends_only (to_one client (message.MapTable (map_table f))) else nothing).sends
     go true = free_read (0 ∷ []) _ refl
     go false = tt
 message_read lines f clock from (message.Heartbeat view promised hears role) lt time p h = tt

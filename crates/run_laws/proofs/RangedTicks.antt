@@ -1,6 +1,6 @@
 -- What a tick sends is read as it was sent: rows, what transactions wait for, and batches.
 use Rattle.std.proofs.Common.{◌≡◌, ℕ, ◌+◌, ◌<◌, ◌≤◌, ◌^◌, Bool, true, false, not, ◌&&◌, List, [], ◌∷◌, ◌++◌, map, Option, Some, None, refl, sym, ap, subst, arith, inl, inr}
-use Rattle.std.specs.Prelude.{filter, filter_map, flat_map}
+use Rattle.std.specs.Prelude.{filter, filter_map, flat_map, if◌then◌else◌}
 use Rattle.std.specs.List.{cons_option}
 use Rattle.cluster_types.specs.declared.cluster_key.ClusterKey.{ClusterKey}
 use Rattle.cluster_types.specs.declared.member.Member.{Member}
@@ -16,8 +16,8 @@ use Rattle.wire_messages.proofs.DecodingLaws.{read_back}
 use Rattle.node_rules.specs.Agreement as agreement
 use Rattle.node_rules.specs.Agreement.{Proposal, next_key, has_round}
 use Rattle.node_rules.specs.Batches.{Target, next_batch}
-use Rattle.node_rules.specs.Effects.{Effects, to_each}
-use Rattle.node_rules.specs.Entering.{ending, closing, exchanging}
+use Rattle.node_rules.specs.Effects.{Effects, to_each, lines_only, nothing, sends_only}
+use Rattle.node_rules.specs.Entering.{ending, closing}
 use Rattle.node_rules.specs.Exchange.{View, members_of, is_single}
 use Rattle.node_rules.specs.Facts.{Facts, view_key}
 use Rattle.node_rules.specs.Hearing.{heard_ids}
@@ -26,7 +26,7 @@ use Rattle.node_rules.specs.Notes as notes
 use Rattle.node_rules.specs.Notes.{note, noted, neighbours, after_ages, own_row}
 use Rattle.node_rules.specs.Resolving.{repl}
 use Rattle.node_rules.specs.Standing.{others, knows_all_settled}
-use Rattle.node_rules.specs.Tick.{beat, is_candidate, propose, propose_with, propose_new, proposal_effects, state, rows, sends_again, transactions, batch_to, batches, progress, progress_if, progress_message, tick_if}
+use Rattle.node_rules.specs.Tick.{beat, is_candidate, propose, propose_with, proposal_effects, state, rows, sends_again, transactions, batch_to, batches, progress, progress_message, parts, parts_in_order}
 use Rattle.node_rules.specs.Transactions.{Transaction, Write}
 use Rattle.cluster_laws.proofs.At.{no_some, and_right}
 use Rattle.key_laws.proofs.DueTick.{next_is_key}
@@ -37,6 +37,7 @@ use Rattle.run_laws.proofs.RangedBatches.{next_batch_fits}
 use Rattle.run_laws.proofs.RangedNodes.{entered_fits, exchanged_fits, closed_fits}
 use Rattle.run_laws.proofs.RangedSends.{StoodFacts, each_read, free_read, append_read, is_number, state_proper, ask_proper}
 use Rattle.run_laws.proofs.RangedTransactions.{transaction_more}
+use Rattle.node_rules.specs.Tables.{only_if}
 
 -- ---- rows
 
@@ -110,7 +111,7 @@ endings_fit lines n k (t ∷ ts) f h = go t.applied (endings_fit lines n k ts (n
     go None rest = rest
     go (Some w) rest = rest
 
-entered_stood : (lines : ℕ) (n : ℕ) (h : Facts) (k : ClusterKey) (ms : List Member) → lines < 2 ^ 32 → IsKeyField k → FitsFacts lines h → (b : Bool) → StoodFacts lines (noted None (notes.entered h k ms (own_row h)) (exchanging n k b))
+entered_stood : (lines : ℕ) (n : ℕ) (h : Facts) (k : ClusterKey) (ms : List Member) → lines < 2 ^ 32 → IsKeyField k → FitsFacts lines h → (b : Bool) → StoodFacts lines (noted None (notes.entered h k ms (own_row h)) (only_if (line.Exchanged n k) b))
 entered_stood lines n h k ms lt key fits true = record { fits = exchanged_fits lines (notes.entered h k ms (own_row h)) k lt key (entered_fits lines h k ms fits); key = λ v e. key; idle = λ e. refl; quiet = λ e. no_some (sym e) }
 entered_stood lines n h k ms lt key fits false = record { fits = entered_fits lines h k ms fits; key = λ v e. key; idle = λ e. refl; quiet = λ e. refl }
 
@@ -123,15 +124,15 @@ propose_read lines f lt id h = go f.agreement.proposal
     promised : Facts
     promised = note None f (line.Promise f.me (next_key f.me f.agreement))
 
-    enters : IsKeyField (next_key f.me f.agreement) → StoodFacts lines (noted None promised (closing f ++ (line.Enter f.me (next_key f.me f.agreement) (neighbours f) ∷ exchanging f.me (next_key f.me f.agreement) (is_single (neighbours f)))))
-    enters key = subst (λ (g : Facts). StoodFacts lines g) (sym (noted_append promised (closing f) (line.Enter f.me (next_key f.me f.agreement) (neighbours f) ∷ exchanging f.me (next_key f.me f.agreement) (is_single (neighbours f)))))
+    enters : IsKeyField (next_key f.me f.agreement) → StoodFacts lines (noted None promised (closing f ++ (line.Enter f.me (next_key f.me f.agreement) (neighbours f) ∷ only_if (line.Exchanged f.me (next_key f.me f.agreement)) (is_single (neighbours f)))))
+    enters key = subst (λ (g : Facts). StoodFacts lines g) (sym (noted_append promised (closing f) (line.Enter f.me (next_key f.me f.agreement) (neighbours f) ∷ only_if (line.Exchanged f.me (next_key f.me f.agreement)) (is_single (neighbours f)))))
         (entered_stood lines f.me (noted None promised (closing f)) (next_key f.me f.agreement) (neighbours f) lt key (endings_fit lines f.me (view_key f) f.transactions.running promised h.fits) (is_single (neighbours f)))
 
     to : (ns : List ℕ) → has_round f.agreement ≡ true → Proposes lines f (proposal_effects f (next_key f.me f.agreement) (neighbours f) ns)
     to [] e = record { sends = tt; stood = enters (next_is_key f.me f.agreement id e) }
     to (n ∷ ns) e = record { sends = free_read (n ∷ ns) (message.Propose (next_key f.me f.agreement) (neighbours f)) refl; stood = record { fits = h.fits; key = h.key; idle = h.idle; quiet = h.quiet } }
 
-    new : (b : Bool) → (is_candidate f && has_round f.agreement) ≡ b → Proposes lines f (propose_new f b)
+    new : (b : Bool) → (is_candidate f && has_round f.agreement) ≡ b → Proposes lines f (if b then proposal_effects f (next_key f.me f.agreement) (neighbours f) (agreement.others_among f.me (neighbours f)) else nothing)
     new true e = to (agreement.others_among f.me (neighbours f)) (and_right (is_candidate f) _ e)
     new false e = record { sends = tt; stood = stands }
 
@@ -141,7 +142,7 @@ propose_read lines f lt id h = go f.agreement.proposal
 
 -- ---- a tick
 
-progress_read : (i : Facts) (q : Bool) → AreReadInRange (progress_if partition_count i q).sends
+progress_read : (i : Facts) (q : Bool) → AreReadInRange (if q then sends_only (to_each (others i) (progress_message partition_count i true)) else nothing).sends
 progress_read i true = free_read (others i) (progress_message partition_count i true) refl
 progress_read i false = tt
 
@@ -158,7 +159,7 @@ sends_read lines f fe i lt p =
     g : Facts
     g = noted None f fe.lines
 
-pub tick_read : (lines : ℕ) (f : Facts) → lines + 1 < 2 ^ 32 → IsId f.me → StoodFacts lines f → (b : Bool) → AreReadInRange (tick_if partition_count f b).sends
+pub tick_read : (lines : ℕ) (f : Facts) → lines + 1 < 2 ^ 32 → IsId f.me → StoodFacts lines f → (b : Bool) → AreReadInRange (if b then parts_in_order (parts partition_count) f else lines_only (line.Down f.me ∷ [])).sends
 tick_read lines f lt id h false = tt
 tick_read lines f lt id h true = sends_read lines (after_ages f) (propose (after_ages f)) _ lt (propose_read lines (after_ages f) (less lt) id (record { fits = h.fits; key = h.key; idle = h.idle; quiet = h.quiet }))
   where

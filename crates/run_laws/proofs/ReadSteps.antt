@@ -1,6 +1,6 @@
 -- The messages that a step makes due are read as they were sent.
 use Rattle.std.proofs.Common.{◌≡◌, ℕ, ◌+◌, ◌<◌, ◌^◌, Bool, true, false, List, [], ◌∷◌, Option, Some, None, refl, sym, ap, subst}
-use Rattle.std.specs.Prelude.{length, nat_lt}
+use Rattle.std.specs.Prelude.{length, nat_lt, if◌then◌else◌}
 use Rattle.conflict_order.specs.declared.policy.Policy.{Policy}
 use Rattle.conflict_order.specs.declared.want.Want.{Want}
 use Rattle.conflict_order.specs.declared.want.Want.TheVariants as want
@@ -18,11 +18,10 @@ use Rattle.wire_messages.proofs.DecodingLaws.{what_is_read}
 use Rattle.node_rules.specs.Exchange.{exchange_key}
 use Rattle.node_rules.specs.Facts.{Facts, list_at}
 use Rattle.node_rules.specs.Requests.{due_request, request_if, request_refusal}
-use Rattle.node_rules.specs.Tick.{tick_if}
 use Rattle.cluster_rules.specs.declared.event.Event.{Event}
 use Rattle.cluster_rules.specs.declared.event.Event.TheVariants as event
 use Rattle.node_rules.specs.Client.{node_for}
-use Rattle.cluster_rules.specs.DueEvents.{written, due_at_named, arriving, arriving_cut, is_blocked, unless_blocked, delivery, due_of}
+use Rattle.cluster_rules.specs.DueEvents.{written, due_at_named, arriving, is_blocked, delivery, due_of}
 use Rattle.journal_readings.specs.Messages.{Posting}
 use Rattle.cluster_rules.specs.Network.{Network, landed, flying_at}
 use Rattle.cluster_rules.specs.World.{World}
@@ -36,6 +35,8 @@ use Rattle.run_laws.specs.Tied.{key_in}
 use Rattle.run_laws.proofs.RangedLines.{key_fits}
 use Rattle.run_laws.proofs.RangedSends.{StoodFacts, request_read, message_read}
 use Rattle.run_laws.proofs.RangedTicks.{tick_read}
+use Rattle.node_rules.specs.Effects.{lines_only}
+use Rattle.node_rules.specs.Tick.{parts, parts_in_order}
 
 -- ---- a step that sends writes a line
 
@@ -54,7 +55,7 @@ named_line : (w : World) (d : List ℕ) (q : Want) (o : Option ℕ) → HasLine 
 named_line w d q None = tt
 named_line w d q (Some n) = tt
 
-tick_line : (net : Network) (n : ℕ) (f : Facts) (b : Bool) → HasLine (written net n (tick_if partition_count f b))
+tick_line : (net : Network) (n : ℕ) (f : Facts) (b : Bool) → HasLine (written net n (if b then parts_in_order (parts partition_count) f else lines_only (line.Down f.me ∷ [])))
 tick_line net n f true = tt
 tick_line net n f false = tt
 
@@ -62,7 +63,7 @@ delivery_line : (w : World) (i : ℕ) (first : Posting → Line) (rest : Posting
 delivery_line w i first rest None = tt
 delivery_line w i first rest (Some p) = go (is_blocked w p)
   where
-    go : (b : Bool) → HasLine (unless_blocked i (λ x. first x ∷ rest x) p b)
+    go : (b : Bool) → HasLine (if b then line.Blocked i ∷ [] else first p ∷ rest p)
     go true = tt
     go false = tt
 
@@ -108,5 +109,5 @@ sends_read by factor z e l h r = go e
     go (event.ClientDel d) p few = named (node_for (world_of z).tables (partition_of d)) d want.Del p tt (few (named_line (world_of z) d want.Del (node_for (world_of z).tables (partition_of d))))
     go (event.Deliver i) p few = flies (flying_at (world_of z).network i) (few (delivery_line (world_of z) i (λ x. line.Deliver i x.from x.to) (λ x. arriving partition_count (world_of z) (landed (world_of z).network i) x) (flying_at (world_of z).network i)))
     go (event.Repeat i) p few = flies (flying_at (world_of z).network i) (few (delivery_line (world_of z) i (λ x. line.Repeat i x.from x.to) (λ x. arriving partition_count (world_of z) (world_of z).network x) (flying_at (world_of z).network i)))
-    go (event.Cut i size) p few = flies (flying_at (world_of z).network i) (few (delivery_line (world_of z) i (λ x. line.Cut i x.from x.to size) (λ x. arriving_cut partition_count (world_of z) (landed (world_of z).network i) x (nat_lt size (length x.bytes))) (flying_at (world_of z).network i)))
+    go (event.Cut i size) p few = flies (flying_at (world_of z).network i) (few (delivery_line (world_of z) i (λ x. line.Cut i x.from x.to size) (λ x. (if nat_lt size (length x.bytes) then line.Short x.to ∷ [] else arriving partition_count (world_of z) (landed (world_of z).network i) x)) (flying_at (world_of z).network i)))
     go _ p few = tt

@@ -1,6 +1,6 @@
 -- A request: it is refused, or its transaction opens, and asks or is resolved at once.
 use Rattle.std.proofs.Common.{◌≡◌, ℕ, ◌+◌, ◌<◌, ◌==◌, Bool, true, false, cond, List, [], ◌∷◌, Option, Some, None, refl, sym, ap, ap₂, ◌∙◌, subst, arith}
-use Rattle.std.specs.Prelude.{find}
+use Rattle.std.specs.Prelude.{find, if◌then◌else◌}
 use Rattle.conflict_order.specs.declared.policy.Policy.{Policy}
 use Rattle.conflict_order.specs.declared.want.Want.{Want}
 use Rattle.conflict_order.specs.Action.{action_of}
@@ -16,7 +16,7 @@ use Rattle.node_rules.specs.Exchange.{View, first_missing}
 use Rattle.node_rules.specs.Facts.{Facts, view_key, list_at}
 use Rattle.node_rules.specs.Notes as notes
 use Rattle.node_rules.specs.Notes.{opening_transaction, request_want}
-use Rattle.node_rules.specs.Requests.{up_refusal, view_refusal, exchange_refusal, busy_refusal, acting_refusal, refusal_after, request_refusal, asking, opening_effects, request_if, due_request}
+use Rattle.node_rules.specs.Requests.{view_refusal, exchange_refusal, busy_refusal, acting_refusal, refusal_after, request_refusal, asking, opening_effects, request_if, due_request}
 use Rattle.node_rules.specs.Standing.{acts}
 use Rattle.node_rules.specs.Transactions as transactions
 use Rattle.node_rules.specs.Transactions.{Transaction, Transactions, transaction, transaction_on}
@@ -33,6 +33,7 @@ use Rattle.run_laws.specs.Spelled.{AreReadInRange}
 use Rattle.run_laws.proofs.Opened.{found_last}
 use Rattle.run_laws.proofs.ResolvingSteps.{own_ends, resolving_go}
 use Rattle.run_laws.proofs.Turns.{here, away}
+use Rattle.journal_lines.specs.declared.refusal.Refusal.TheVariants as refusal
 
 -- ---- what isn't refused
 
@@ -64,7 +65,7 @@ accepts f d e = up f.up e
     view None i q = no_some (sym q)
     view (Some v) i q = rows v i (first_missing f.exchange.rows v.members) q
 
-    up : (b : Bool) → refusal_after f (list_at f (partition_of d)) d (up_refusal f b) ≡ None → Accepts f d
+    up : (b : Bool) → refusal_after f (list_at f (partition_of d)) d (if b then view_refusal f f.exchange.view else Some refusal.Down) ≡ None → Accepts f d
     up true q = view f.exchange.view refl q
     up false q = no_some (sym q)
 

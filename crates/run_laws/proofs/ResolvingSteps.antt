@@ -20,9 +20,9 @@ use Rattle.node_rules.specs.Exchange.{View, Exchange}
 use Rattle.node_rules.specs.Facts.{Facts, view_key, list_at}
 use Rattle.node_rules.specs.Notes as notes
 use Rattle.node_rules.specs.Notes.{next_nth}
-use Rattle.node_rules.specs.Resolving.{done_if, repl, writing, resolving, resolving_want}
+use Rattle.node_rules.specs.Resolving.{repl, writing, resolving, resolving_want}
 use Rattle.node_rules.specs.Standing.{other_replicas}
-use Rattle.node_rules.specs.Tables.{contains}
+use Rattle.node_rules.specs.Tables.{contains, only_if}
 use Rattle.node_rules.specs.Transactions as transactions
 use Rattle.node_rules.specs.Transactions.{Transaction, Transactions, Write, transaction}
 use Rattle.cluster_rules.specs.Marks.{Writes}
@@ -117,7 +117,7 @@ writing_go z f ts t v u w i h run ok read = go (other_replicas f (list_at f (par
     first = wrote z f ts t v u w i h
 
     go : (rs : List ℕ) → other_replicas f (list_at f (partition_of t.digest)) ≡ rs → AreReadInRange (to_each rs (repl f t (record { version = v; nth = next_nth f (partition_of t.digest) })))
-        → NodeGo z f.me (record { lines = line.Apply f.me (view_key f) t.number t.digest v ∷ done_if f t.number (is_nil rs); sends = to_each rs (repl f t (record { version = v; nth = next_nth f (partition_of t.digest) })) })
+        → NodeGo z f.me (record { lines = line.Apply f.me (view_key f) t.number t.digest v ∷ only_if (line.Done f.me (view_key f) t.number) (is_nil rs); sends = to_each rs (repl f t (record { version = v; nth = next_nth f (partition_of t.digest) })) })
     go [] e r = record {
       due = (
         ok,

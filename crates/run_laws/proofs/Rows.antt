@@ -1,6 +1,7 @@
 -- Each row that a node keeps is the one with which its sender entered.
-use Rattle.std.proofs.Common.{◌≡◌, ℕ, ◌==◌, Bool, true, false, ◌||◌, List, [], ◌∷◌, Option, Some, None, refl, sym, ap, ◌∙◌, arith, subst, ⊎_elim}
-use Rattle.std.specs.Prelude.{slice_get, option_map, option_and_then, if◌then◌else◌}
+use Rattle.std.proofs.Common.{◌≡◌, ℕ, ◌==◌, Bool, true, false, List, [], ◌∷◌, Option, Some, None, refl, sym, ap, ◌∙◌, subst, ⊎_elim}
+use Rattle.std.specs.Prelude.{slice_get, option_map, option_and_then, if◌then◌else◌, ◌++◌}
+use Rattle.std.proofs.lemmas.Bool.{or_left as or_sooner}
 use Rattle.cluster_types.specs.declared.cluster_key.ClusterKey.{ClusterKey}
 use Rattle.cluster_types.specs.declared.member.Member.{Member}
 use Rattle.journal_lines.specs.declared.line.Line.{Line}
@@ -9,13 +10,13 @@ use Rattle.wire_messages.specs.declared.message.Message.{Message}
 use Rattle.wire_messages.specs.declared.message.Message.TheVariants as message
 use Rattle.wire_messages.specs.Decoding.{message_of}
 use Rattle.node_rules.specs.Copies.{Row}
-use Rattle.node_rules.specs.Exchange.{View, with_row_if, is_view}
+use Rattle.node_rules.specs.Exchange.{View, is_view}
 use Rattle.node_rules.specs.Facts.{Facts, list_at}
 use Rattle.node_rules.specs.Map.{lacks, list_master}
 use Rattle.node_rules.specs.Keys.{same_key}
 use Rattle.node_rules.specs.Notes.{note, reached, sent, own_row, entered, stopped, row_came, batch_acked, progress_came, write_came, write_counted_if, write_acked, answer_came, in_view}
 use Rattle.node_rules.specs.declared.member_row.MemberRow.{MemberRow}
-use Rattle.cluster_rules.specs.Marks.{Writes, came, came_to, sent_by, posted_by}
+use Rattle.cluster_rules.specs.Marks.{Writes, came, sent_by, posted_by, came_to_client, came_to_node}
 use Rattle.journal_readings.specs.Messages.{Posting, Arrival, arrived, arrived_cut}
 use Rattle.cluster_rules.specs.Network.{posting, posting_at}
 use Rattle.cluster_rules.specs.World.{with_facts}
@@ -50,7 +51,7 @@ rows_on c d l k (r ∷ rs) h = (row_on c d l r.node k r.row h.0, rows_on c d l k
 abbrev Keeps : Chronicle → Facts → Type 0
 Keeps c f = (v : View) → f.exchange.view ≡ Some v → Each (λ (r : MemberRow). IsRowOf c r.node v.key r.row) f.exchange.rows
 
-rows_with : (c : Chronicle) (k : ClusterKey) (rs : List MemberRow) (from : ℕ) (row : Row) (b : Bool) → IsRowOf c from k row → Each (λ (r : MemberRow). IsRowOf c r.node k r.row) rs → Each (λ (r : MemberRow). IsRowOf c r.node k r.row) (with_row_if rs from row b)
+rows_with : (c : Chronicle) (k : ClusterKey) (rs : List MemberRow) (from : ℕ) (row : Row) (b : Bool) → IsRowOf c from k row → Each (λ (r : MemberRow). IsRowOf c r.node k r.row) rs → Each (λ (r : MemberRow). IsRowOf c r.node k r.row) (if b then rs ++ record { node = from; row = row } ∷ [] else rs)
 rows_with c k [] from row true s h = (s, tt)
 rows_with c k (r ∷ rs) from row true s h = (h.0, rows_with c k rs from row true s h.1)
 rows_with c k rs from row false s h = h
@@ -124,11 +125,11 @@ beside c d l fs ss h = record {
 -- ---- arrivals
 
 arrives_at : (c : Chronicle) (x : Arrival) → ((k : ClusterKey) (wants : Bool) (row : Row) → x.message ≡ message.State k wants row → IsRowOf c x.from k row) → Rowed c
-    → (b : Bool) → Rowed (record { traced = record { world = came_to c.traced.world x b; lists = c.traced.lists; entered = c.traced.entered }; rows = c.rows })
+    → (b : Bool) → Rowed (record { traced = record { world = (if b then came_to_client c.traced.world x.message else came_to_node c.traced.world x); lists = c.traced.lists; entered = c.traced.entered }; rows = c.rows })
 arrives_at c x s h false = rowed_moved c x.to _ h (reached_keeps c (facts_of c.traced x.to) x.from x.message s (h.kept x.to))
 arrives_at c x s h true = client_only x.message
   where
-    client_only : (m : Message) → Rowed (record { traced = record { world = came_to c.traced.world (record { from = x.from; to = x.to; message = m }) true; lists = c.traced.lists; entered = c.traced.entered }; rows = c.rows })
+    client_only : (m : Message) → Rowed (record { traced = record { world = came_to_client c.traced.world m; lists = c.traced.lists; entered = c.traced.entered }; rows = c.rows })
     client_only (message.MapTable t) = beside c _ (same_long c _ refl refl refl) refl refl h
     client_only m = h
 
@@ -198,9 +199,6 @@ enter_long c n k ms ok = record {
 
 pub row_here : (f : ℕ → ClusterKey → Row) (n : ℕ) (k : ClusterKey) (new : Row) → at_stay f n k new n k ≡ new
 row_here f n k new = ap (λ (g : ClusterKey → Row). g k) (changed_here numbers f n (at_key (f n) k new)) ∙ changed_here keys (f n) k new
-
-or_sooner : (a b : Bool) → a ≡ true → (a || b) ≡ true
-or_sooner a b e = grind arith
 
 enter_rowed : (c : Chronicle) (n : ℕ) (k : ClusterKey) (ms : List Member) → (facts_of c.traced n).me ≡ n → MayEnterFirst c n k ms → Rowed c → Rowed (chronicle_after c (Writes (line.Enter n k ms)))
 enter_rowed c n k ms me ok h =

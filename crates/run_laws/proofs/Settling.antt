@@ -1,5 +1,5 @@
 -- The lines of settling: each is due of the facts behind those before it, and what they leave.
-use Rattle.std.proofs.Common.{◌≡◌, ℕ, zero, suc, ◌+◌, ◌<◌, ◌≤◌, Bool, true, false, cond, not, List, [], ◌∷◌, ◌++◌, take, Option, Some, None, refl, sym, ap, ◌∙◌, arith, subst, inl, inr, ⊎_elim}
+use Rattle.std.proofs.Common.{◌≡◌, ℕ, zero, suc, ◌+◌, ◌<◌, ◌≤◌, Bool, true, false, cond, not, List, [], ◌∷◌, ◌++◌, take, Option, Some, None, refl, sym, ap, ◌∙◌, arith, subst, inl, inr, ⊎_elim, if◌then◌else◌}
 use Rattle.std.specs.List.{list_any}
 use Rattle.std.specs.FinMap as finite
 use Rattle.cluster_types.specs.Partitions.{partition_count, partition_of}
@@ -11,7 +11,7 @@ use Rattle.node_rules.specs.Copies.{is_of}
 use Rattle.node_rules.specs.Exchange.{View, exchange_key, members_of}
 use Rattle.node_rules.specs.Facts.{Facts, list_at, view_key}
 use Rattle.node_rules.specs.Notes.{note, noted, dropped}
-use Rattle.node_rules.specs.Settling.{hand, settle, learn, drop, lines_then, settling_at, settling_from, settling_if, settling_due, may_hand, may_settle}
+use Rattle.node_rules.specs.Settling.{hand, settle, learn, drop, lines_then, settling_at, settling_from, settling_due, may_hand, may_settle}
 use Rattle.node_rules.specs.Standing.{is_to_learn, is_to_drop, is_done}
 use Rattle.node_rules.specs.Tables.{only_if}
 use Rattle.cluster_laws.proofs.At.{number_same, number_here, and_left, and_right}
@@ -150,7 +150,7 @@ from_goes v (suc n) p le f i = subst (λ (l : List ℕ). Goes f (settling_at l p
 
 -- ---- all of it
 
-goes : (f : Facts) (v : View) → f.exchange.view ≡ Some v → (b : Bool) → f.exchange.exchanged ≡ b → Goes f (settling_if partition_count f b)
+goes : (f : Facts) (v : View) → f.exchange.view ≡ Some v → (b : Bool) → f.exchange.exchanged ≡ b → Goes f (if b then settling_from partition_count 0 f else [])
 unfolding GoesOn
 goes f v e true i = from_goes v partition_count 0 (omega arith) f (record { view = e; exchanged = i })
 goes f v e false i = record { along = tt; only = only_itself f }

@@ -60,7 +60,7 @@ all_in G ns j w t n k own all = subst (λ (ms : List Member). list_all (has_ente
 finished_entered : (G : Ground) (ns : List ℕ) (j : List Line) (w : Picture) → Tied G ns j w → (n : ℕ) (k : ClusterKey) → (w.stay n k).exchanged ≡ true → (w.stay n k).entered ≡ true
 finished_entered G ns j w t n k e = ⊎_elim (λ a. a) (λ a. differ e (ap (λ (s : Stay). s.exchanged) ((t.sound.whole.known.entered n k).fresh a))) (truth (w.stay n k).entered)
 
-entries_first : (h : Header) (G : Ground) (lines : List Line) → IsJournal h G lines → (i : ℕ) (l : Line) → slice_get (journal h lines) i ≡ Some l → follows_entries (take i (journal h lines)) l ≡ true
+entries_first : (h : List Line) (G : Ground) (lines : List Line) → IsJournal h G lines → (i : ℕ) (l : Line) → slice_get (journal h lines) i ≡ Some l → follows_entries (take i (journal h lines)) l ≡ true
 entries_first h G lines o i (line.Exchanged n k) e =
     let t : Tied G (nodes (journal h lines)) (take i (journal h lines)) (picture G (journal h lines) i) = journal_tied h G lines o i in
     let ok : Ok G (picture G (journal h lines) i) (line.Exchanged n k) = ok_at G (journal h lines) i (line.Exchanged n k) (journal_licensed h G lines o) e in
@@ -77,15 +77,15 @@ entries_first h G lines o i _ e = refl
 
 -- ---- of every journal
 
-marks_stand : (h : Header) (ss : List Step) → Taken h ss → StandsInOrder (journal h (lines_among (all_marks ss)))
+marks_stand : (h : Header) (ss : List Step) → Taken h ss → StandsInOrder (journal (header_lines h) (lines_among (all_marks ss)))
 marks_stand h ss t = let w : Walks h ss = taken_walks h ss t in record {
   header = header_first h (lines_among (all_marks ss)) w.behind;
   declared_once = subst AreDistinct (sym (nodes_agree h (lines_among (all_marks ss)) w.behind)) t.declared.distinct;
-  exchanged = entries_first h (ground_of h ss) (lines_among (all_marks ss)) (marks_are_a_journal h ss t.header w);
+  exchanged = entries_first (header_lines h) (ground_of h ss) (lines_among (all_marks ss)) (marks_are_a_journal h ss t.header w);
 }
 
 pub stands_in_order : OfEveryJournal StandsInOrder
-stands_in_order = every_journal StandsInOrder (λ h ss t. subst (λ (ls : List Line). StandsInOrder (journal h ls)) (lines_of_steps ss) (marks_stand h ss t))
+stands_in_order = every_journal StandsInOrder (λ h ss t. subst (λ (ls : List Line). StandsInOrder (journal (header_lines h) ls)) (lines_of_steps ss) (marks_stand h ss t))
 
 pub entries_agree : OfEveryJournal EntriesAgree
 entries_agree = every_journal EntriesAgree (λ h ss t. subst EntriesAgree (all_lines_are h ss) (licensed_entries_agree (untouched _) _ (runs.start h) (all_marks_licensed h ss t)))

@@ -1,6 +1,6 @@
 -- What a tick sends stays due while its messages go out: batches and proposals change their sender's facts.
 use Rattle.std.proofs.Common.{◌≡◌, ◌⊎◌, ℕ, ◌+◌, ◌==◌, Bool, true, false, cond, not, ◌&&◌, ◌||◌, List, [], ◌∷◌, ◌++◌, length, Option, Some, None, refl, sym, ap, ap₂, ◌∙◌, subst, inl, inr}
-use Rattle.std.specs.Prelude.{option_map}
+use Rattle.std.specs.Prelude.{option_map, if◌then◌else◌}
 use Rattle.std.specs.List.{list_any}
 use Rattle.std.specs.FinMap as finite
 use Rattle.cluster_types.specs.declared.cluster_key.ClusterKey.{ClusterKey}
@@ -23,7 +23,7 @@ use Rattle.node_rules.specs.Facts.{Facts}
 use Rattle.node_rules.specs.Notes.{sent}
 use Rattle.node_rules.specs.Tables.{contains, changed_if}
 use Rattle.node_rules.specs.Transactions.{Transactions, transaction}
-use Rattle.cluster_rules.specs.DueEvents.{full_unless, one_more_if, sent_lines}
+use Rattle.cluster_rules.specs.DueEvents.{sent_lines}
 use Rattle.cluster_rules.specs.Marks.{Writes, sent_by}
 use Rattle.cluster_rules.specs.Network.{posting_at, posting, has_place}
 use Rattle.cluster_laws.proofs.At.{differ, no_some}
@@ -285,7 +285,7 @@ softly_go z n before flying [] o num h = record { due = tt; soft = calmly n z z 
 softly_go z n before flying (s ∷ ss) o num h =
     let y : Front = front_after z (Writes (line.Sent (before + 1) n s.0 (spelling s.1))) in
     let c : Softly z y n = posts_soft z n (before + 1) s.0 s.1 (ap (λ (i : ℕ). i + 1) num) h.0.read in
-    let rest : SoftGo y n (full_unless (before + 1) (has_place flying) ++ sent_lines n (before + 1) (one_more_if flying (has_place flying)) ss) =
+    let rest : SoftGo y n ((if has_place flying then [] else line.Full (before + 1) ∷ []) ++ sent_lines n (before + 1) (if has_place flying then flying + 1 else flying) ss) =
     go y (c.owed ∙ o) (all_behind z y n s ss c (posts_went z n (before + 1) s.0 s.1 h.0.read h.0.exact) h.1 h.2) (ap (λ (i : ℕ). i + 1) num ∙ sym (sent_length z n (before + 1) s.0 (spelling s.1))) (λ x b f. softly_go x n b f ss) (has_place flying) in
     record {
       due = ((o, record { number = ap (λ (i : ℕ). i + 1) num; says = well_cases s.1 (SendDueIf z n s.0) h.0.read tt (λ x a. alike_due z n s.0 s.1 x a h.0.due) }), rest.due);
@@ -293,7 +293,7 @@ softly_go z n before flying (s ∷ ss) o num h =
     }
   where
     go : (y : Front) → y.owed ≡ None → EachSoftly y n ss → before + 1 ≡ length (world_of y).network.sent → ((x : Front) (b f : ℕ) → x.owed ≡ None → b ≡ length (world_of x).network.sent → EachSoftly x n ss → SoftGo x n (sent_lines n b f ss))
-        → (b : Bool) → SoftGo y n (full_unless (before + 1) b ++ sent_lines n (before + 1) (one_more_if flying b) ss)
+        → (b : Bool) → SoftGo y n ((if b then [] else line.Full (before + 1) ∷ []) ++ sent_lines n (before + 1) (if b then flying + 1 else flying) ss)
     go y o k e all true = all y (before + 1) (flying + 1) o e k
     go y o k e all false =
         let x : Front = front_after y (Writes (line.Full (before + 1))) in

@@ -1,6 +1,6 @@
 -- What a tick sends: rows, what transactions wait for, batches, and how far the partitions have come.
 use Rattle.std.proofs.Common.{◌≡◌, ℕ, zero, suc, ◌==◌, Bool, true, false, List, [], length, ◌∷◌, ◌++◌, take, Option, Some, None, refl, sym, ap, ap₂, ◌∙◌, subst, inl, inr}
-use Rattle.std.specs.Prelude.{filter, filter_map, flat_map, option_map, unwrap_or, slice_get, bytes_eq}
+use Rattle.std.specs.Prelude.{filter, filter_map, flat_map, option_map, unwrap_or, slice_get, bytes_eq, if◌then◌else◌}
 use Rattle.std.specs.List.{cons_option}
 use Rattle.std.specs.FinMap as finite
 use Rattle.conflict_order.specs.declared.policy.Policy.{Policy}
@@ -16,14 +16,14 @@ use Rattle.wire_messages.specs.Spelling.{spelling}
 use Rattle.node_rules.specs.Agreement as agreement
 use Rattle.node_rules.specs.Batches.{Target, Targets, target, batch_limit, records_of, fresh_batch, batch_after, next_batch}
 use Rattle.node_rules.specs.Copies.{Content, Row}
-use Rattle.node_rules.specs.Effects.{to_each}
+use Rattle.node_rules.specs.Effects.{to_each, nothing, sends_only}
 use Rattle.node_rules.specs.Exchange.{View, Exchange, members_of, exchange_key, first_missing}
 use Rattle.node_rules.specs.Facts.{Facts, view_key, list_at}
 use Rattle.node_rules.specs.Map.{lacks, row_of_member}
 use Rattle.node_rules.specs.Resolving.{repl}
 use Rattle.node_rules.specs.Standing.{others}
 use Rattle.node_rules.specs.Tables.{contains}
-use Rattle.node_rules.specs.Tick.{state, own_row_in, sends_again, batch_to, rows, transactions, batches, progress_if, progress_message}
+use Rattle.node_rules.specs.Tick.{state, own_row_in, sends_again, batch_to, rows, transactions, batches, progress_message}
 use Rattle.node_rules.specs.Transactions.{Transaction, Transactions, Write, transaction}
 use Rattle.node_rules.specs.declared.member_row.MemberRow.{MemberRow}
 use Rattle.cluster_laws.specs.Licences.{IsAmong}
@@ -239,7 +239,7 @@ batches_go {by} {factor} {z} {n} {g} {i} b tail f h read = go g.exchange.exchang
 
 -- ---- progress
 
-pub progress_told : (z : Front) (i : Facts) (q : Bool) → Now z i → ((v : View) → i.exchange.view ≡ Some v → IsKeyField (view_key i)) → length i.bits.handed ≡ partition_count → length i.bits.settled ≡ partition_count → AreReadInRange (progress_if partition_count i q).sends → Told z i.me (progress_if partition_count i q).sends
+pub progress_told : (z : Front) (i : Facts) (q : Bool) → Now z i → ((v : View) → i.exchange.view ≡ Some v → IsKeyField (view_key i)) → length i.bits.handed ≡ partition_count → length i.bits.settled ≡ partition_count → AreReadInRange (if q then sends_only (to_each (others i) (progress_message partition_count i true)) else nothing).sends → Told z i.me (if q then sends_only (to_each (others i) (progress_message partition_count i true)) else nothing).sends
 progress_told z i false w key x y read = tt
 progress_told z i true w key x y read = go i.exchange.view refl
   where

@@ -1,5 +1,5 @@
 -- A tick: its lines, part by part, and then its messages.
-use Rattle.std.proofs.Common.{◌≡◌, ℕ, Bool, true, false, not, ◌&&◌, List, [], ◌∷◌, ◌++◌, length, map, Option, Some, None, refl, sym, ap, ◌∙◌, subst, inl, inr}
+use Rattle.std.proofs.Common.{◌≡◌, ℕ, Bool, true, false, not, ◌&&◌, List, [], ◌∷◌, ◌++◌, length, map, Option, Some, None, refl, sym, ap, ◌∙◌, subst, inl, inr, if◌then◌else◌}
 use Rattle.std.specs.FinMap as finite
 use Rattle.conflict_order.specs.declared.policy.Policy.{Policy}
 use Rattle.cluster_types.specs.Partitions.{partition_count}
@@ -12,13 +12,13 @@ use Rattle.node_rules.specs.Batches.{Target}
 use Rattle.node_rules.specs.declared.member_row.MemberRow.{MemberRow}
 use Rattle.key_laws.proofs.DueTick.{next_is_key}
 use Rattle.run_laws.specs.Chronicle.{IsRowOf}
-use Rattle.node_rules.specs.Effects.{Effects}
+use Rattle.node_rules.specs.Effects.{Effects, lines_only, nothing, sends_only, to_each}
 use Rattle.node_rules.specs.Exchange.{View, Exchange}
 use Rattle.node_rules.specs.Facts.{Facts}
 use Rattle.node_rules.specs.Notes.{noted, after_ages, neighbours}
-use Rattle.node_rules.specs.Settling.{settling_due, settling_if}
-use Rattle.node_rules.specs.Standing.{knows_all_settled}
-use Rattle.node_rules.specs.Tick.{beat, propose, rows, transactions, batches, progress, progress_if, tick_if, tick_of}
+use Rattle.node_rules.specs.Settling.{settling_due, settling_from}
+use Rattle.node_rules.specs.Standing.{knows_all_settled, others}
+use Rattle.node_rules.specs.Tick.{beat, propose, rows, transactions, batches, progress, tick_of, parts, parts_in_order, progress_message}
 use Rattle.cluster_rules.specs.declared.event.Event.TheVariants as event
 use Rattle.cluster_rules.specs.DueEvents.{due_of, sent_lines, written}
 use Rattle.cluster_rules.specs.Marks.{Mark, Begins, Writes}
@@ -74,14 +74,14 @@ settles_along g law = go g.exchange.view refl
   where
     go : (o : Option View) → g.exchange.view ≡ o → Along SettleOk g (settling_due partition_count g)
     go (Some v) e = settling_along g v e
-    go None e = subst (λ (b : Bool). Along SettleOk g (settling_if partition_count g b)) (sym (law.inside e)) tt
+    go None e = subst (λ (b : Bool). Along SettleOk g (if b then settling_from partition_count 0 g else [])) (sym (law.inside e)) tt
 
 settles_only : {by : Policy} {factor : ℕ} (g : Facts) → LawOf by factor g → SettledOnly g (noted None g (settling_due partition_count g))
 settles_only g law = go g.exchange.view refl
   where
     go : (o : Option View) → g.exchange.view ≡ o → SettledOnly g (noted None g (settling_due partition_count g))
     go (Some v) e = settling_only g v e
-    go None e = subst (λ (b : Bool). SettledOnly g (noted None g (settling_if partition_count g b))) (sym (law.inside e)) (only_itself g)
+    go None e = subst (λ (b : Bool). SettledOnly g (noted None g (if b then settling_from partition_count 0 g else []))) (sym (law.inside e)) (only_itself g)
 
 pending_held : {by : Policy} {factor : ℕ} (g : Facts) → LawOf by factor g → (t : Target) → Among g.batches t → (d : List ℕ) → Among t.pending d
     → finite.get (noted None g (settling_due partition_count g)).store.content d ≡ finite.get g.store.content d
@@ -89,7 +89,7 @@ pending_held g law t a d i = go g.exchange.view refl
   where
     go : (o : Option View) → g.exchange.view ≡ o → finite.get (noted None g (settling_due partition_count g)).store.content d ≡ finite.get g.store.content d
     go (Some v) e = pending_stays g v e t a d i
-    go None e = subst (λ (b : Bool). finite.get (noted None g (settling_if partition_count g b)).store.content d ≡ finite.get g.store.content d) (sym (law.inside e)) refl
+    go None e = subst (λ (b : Bool). finite.get (noted None g (if b then settling_from partition_count 0 g else [])).store.content d ≡ finite.get g.store.content d) (sym (law.inside e)) refl
 
 nodes_all : (z : Front) (ls : List Line) → (world_of (after_lines z ls)).nodes ≡ (world_of z).nodes
 nodes_all z [] = refl
@@ -142,7 +142,7 @@ sends_soft {by} {factor} {z} {g} {i} f fe b me dec beats free read =
 abbrev tick_lines : Facts → Effects → List Line
 tick_lines f fe = fe.lines ++ (settling_due partition_count (noted None f fe.lines) ++ ((progress partition_count (noted None (noted None f fe.lines) (settling_due partition_count (noted None f fe.lines)))).lines ++ []))
 
-no_progress : (i : Facts) (q : Bool) → (progress_if partition_count i q).lines ≡ []
+no_progress : (i : Facts) (q : Bool) → (if q then sends_only (to_each (others i) (progress_message partition_count i true)) else nothing).lines ≡ []
 no_progress i true = refl
 no_progress i false = refl
 
@@ -242,9 +242,9 @@ tick_behind by factor z f fe more law h is dec beats p key read =
     b = fronts.behind (onward_all by factor z (map Writes (fe.lines ++ settling_due partition_count (noted None f fe.lines))) key_both (due_marks z (fe.lines ++ settling_due partition_count (noted None f fe.lines)) fronts.due) law).lawful
 
 -- the line, and what stands behind it
-tick_up : (by : Policy) (factor : ℕ) (z : Front) (net : Network) (f : Facts) → LawfulFront by factor z → Ended z → IsId f.me → facts_at z f.me ≡ f → IsDeclared z f.me → length net.sent ≡ length (world_of z).network.sent → LicensedMarks z.chronicle.traced (map Writes (written net f.me (tick_if partition_count f true)))
-    → AreReadInRange (tick_if partition_count f true).sends → LinesGo z (written net f.me (tick_if partition_count f true))
-tick_up by factor z net f law h id is dec num key read = tick_written z net f.me (tick_if partition_count f true) num (record { due = ((h.owes, tt), g.due); net = g.net; sends = g.sends; ends = g.ends })
+tick_up : (by : Policy) (factor : ℕ) (z : Front) (net : Network) (f : Facts) → LawfulFront by factor z → Ended z → IsId f.me → facts_at z f.me ≡ f → IsDeclared z f.me → length net.sent ≡ length (world_of z).network.sent → LicensedMarks z.chronicle.traced (map Writes (written net f.me (if true then parts_in_order (parts partition_count) f else lines_only (line.Down f.me ∷ []))))
+    → AreReadInRange (if true then parts_in_order (parts partition_count) f else lines_only (line.Down f.me ∷ [])).sends → LinesGo z (written net f.me (if true then parts_in_order (parts partition_count) f else lines_only (line.Down f.me ∷ [])))
+tick_up by factor z net f law h id is dec num key read = tick_written z net f.me (if true then parts_in_order (parts partition_count) f else lines_only (line.Down f.me ∷ [])) num (record { due = ((h.owes, tt), g.due); net = g.net; sends = g.sends; ends = g.ends })
   where
     is1 : facts_at (front_after z (Writes (line.Tick f.me))) f.me ≡ after_ages f
     is1 = here (world_of z).facts f.me _ ∙ ap after_ages is
@@ -279,8 +279,8 @@ tick_up by factor z net f law h id is dec num key read = tick_written z net f.me
         (propose (after_ages f))
     proposal = propose_goes (front_after z (Writes (line.Tick f.me))) (after_ages f) ends1 is1 good.led good.falls dec again next
 
-    g : TickGo (front_after z (Writes (line.Tick f.me))) f.me (record { lines = tick_lines (after_ages f) (propose (after_ages f)); sends = (tick_if partition_count f true).sends })
-    g = tick_behind by factor (front_after z (Writes (line.Tick f.me))) (after_ages f) (propose (after_ages f)) (sent_lines f.me (length net.sent) (length net.flying) (tick_if partition_count f true).sends) law1 ends1 is1 dec beats proposal key.1 read
+    g : TickGo (front_after z (Writes (line.Tick f.me))) f.me (record { lines = tick_lines (after_ages f) (propose (after_ages f)); sends = (if true then parts_in_order (parts partition_count) f else lines_only (line.Down f.me ∷ [])).sends })
+    g = tick_behind by factor (front_after z (Writes (line.Tick f.me))) (after_ages f) (propose (after_ages f)) (sent_lines f.me (length net.sent) (length net.flying) (if true then parts_in_order (parts partition_count) f else lines_only (line.Down f.me ∷ [])).sends) law1 ends1 is1 dec beats proposal key.1 read
 
 pub tick_goes : {by : Policy} {factor : ℕ} {z : Front} (n : ℕ) → Starts by factor z → IsId n → IsDeclared z n → SendsRead (world_of z) (event.Tick n) → LinesGo (front_after z (Begins (event.Tick n))) (due_of partition_count (world_of z) (event.Tick n))
 tick_goes {by} {factor} {z} n s id dec read = subst (λ (m : ℕ). LinesGo (front_after z (Begins (event.Tick n))) (written (world_of z).network m (tick_of partition_count (facts_at z n)))) me
@@ -292,7 +292,7 @@ tick_goes {by} {factor} {z} n s id dec read = subst (λ (m : ℕ). LinesGo (fron
     t : Starts by factor (front_after z (Begins (event.Tick n)))
     t = begin s (event.Tick n)
 
-    go : (b : Bool) → LicensedMarks (front_after z (Begins (event.Tick n))).chronicle.traced (map Writes (written (world_of z).network (facts_at z n).me (tick_if partition_count (facts_at z n) b))) → AreReadInRange (tick_if partition_count (facts_at z n) b).sends
-        → LinesGo (front_after z (Begins (event.Tick n))) (written (world_of z).network (facts_at z n).me (tick_if partition_count (facts_at z n) b))
+    go : (b : Bool) → LicensedMarks (front_after z (Begins (event.Tick n))).chronicle.traced (map Writes (written (world_of z).network (facts_at z n).me (if b then parts_in_order (parts partition_count) (facts_at z n) else lines_only (line.Down (facts_at z n).me ∷ [])))) → AreReadInRange (if b then parts_in_order (parts partition_count) (facts_at z n) else lines_only (line.Down (facts_at z n).me ∷ [])).sends
+        → LinesGo (front_after z (Begins (event.Tick n))) (written (world_of z).network (facts_at z n).me (if b then parts_in_order (parts partition_count) (facts_at z n) else lines_only (line.Down (facts_at z n).me ∷ [])))
     go false key r = record { due = ((t.ended.owes, tt), tt); ends = record { owes = t.ended.owes; stays = t.ended.stays; rests = t.ended.rests } }
     go true key r = tick_up by factor (front_after z (Begins (event.Tick n))) (world_of z).network (facts_at z n) t.lawful t.ended (subst IsId (sym me) id) (ap (facts_at z) me) (ap (λ (m : ℕ). contains (world_of z).nodes m) me ∙ dec) refl key r

@@ -7,24 +7,24 @@ use Rattle.std.proofs.lemmas.List.{get_or_past}
 use Rattle.conflict_order.specs.declared.policy.Policy.{Policy}
 use Rattle.conflict_order.specs.declared.version.Version.{Version}
 use Rattle.cluster_types.specs.declared.cluster_key.ClusterKey.{ClusterKey}
-use Rattle.cluster_types.specs.Partitions.{partition_count}
+use Rattle.cluster_types.specs.Partitions.{partition_count, partition_of}
 use Rattle.cluster_types.specs.Rows.{bit}
 use Rattle.journal_lines.specs.declared.line.Line.TheVariants as line
 use Rattle.wire_messages.specs.declared.message.Message.TheVariants as message
 use Rattle.node_rules.specs.Batches.{out_to, has_number}
 use Rattle.node_rules.specs.Copies.{is_nil}
-use Rattle.node_rules.specs.Effects.{lines_only, to_each}
+use Rattle.node_rules.specs.Effects.{lines_only, to_each, nothing, sends_only, to_one}
 use Rattle.node_rules.specs.Exchange.{View, exchange_key}
-use Rattle.node_rules.specs.Facts.{Facts, view_key}
+use Rattle.node_rules.specs.Facts.{Facts, view_key, list_at}
 use Rattle.node_rules.specs.Messages as due
-use Rattle.node_rules.specs.Messages.{finishes, answer_state, state_came, batch_ack_came, unless_spent, progress_effects_if, answer_progress, merging, repl_came, done_by, ack_of, repl_ack_came, ask_came, resolving_if, answered_by, answer_of, answer_effects_if}
+use Rattle.node_rules.specs.Messages.{finishes, merging, ack_of, answer_of}
 use Rattle.node_rules.specs.Notes as notes
 use Rattle.node_rules.specs.Notes.{note, reached, in_view}
 use Rattle.node_rules.specs.Standing.{is_done, knows_all_settled}
 use Rattle.node_rules.specs.Tables.{changed_if, only_if}
 use Rattle.node_rules.specs.Tick.{done_from, progress_message}
 use Rattle.node_rules.specs.Transactions as transactions
-use Rattle.node_rules.specs.Transactions.{Transaction, Transactions, Write, transaction, awaits_ack, awaits_answer, is_last_awaited}
+use Rattle.node_rules.specs.Transactions.{Transaction, Transactions, Write, transaction, awaits_ack, awaits_answer, is_last_awaited, answered}
 use Rattle.node_rules.proofs.Partitions.{done_tells, done_length}
 use Rattle.cluster_rules.specs.Marks.{Writes}
 use Rattle.cluster_laws.proofs.At.{number_same, number_here, and_left, differ, some_same, no_some}
@@ -47,6 +47,8 @@ use Rattle.run_laws.proofs.ResolvingSteps.{own_ends, view_rests, resolving_go}
 use Rattle.run_laws.proofs.Standing.{ViewAt, view_at}
 use Rattle.run_laws.proofs.Tables.{changing_at}
 use Rattle.run_laws.proofs.Turns.{ended_but, here, away}
+use Rattle.node_rules.specs.Resolving.{resolving}
+use Rattle.node_rules.specs.StaleMessages.{spent, stale}
 
 -- ---- the view of a message
 
@@ -72,11 +74,11 @@ batch_ack_go {by} {factor} {z0} {z} {f} {clock} {from} {k} {number} a = go (in_v
     ends : Ended z
     ends = ended_at a a.owes (rests (in_view f k))
 
-    unspent : (b : Bool) → NodeGo z f.me (unless_spent f b)
+    unspent : (b : Bool) → NodeGo z f.me (if b then nothing else spent f)
     unspent true = nothing_go z f.me ends
     unspent false = spent_go z f ends
 
-    go : (b : Bool) → in_view f k ≡ b → NodeGo z f.me (batch_ack_came f from number b)
+    go : (b : Bool) → in_view f k ≡ b → NodeGo z f.me (if b then (if has_number (out_to f.batches from) number then nothing else spent f) else stale f)
     go true e = unspent (has_number (out_to f.batches from) number)
     go false e = stale_go z f ends
 
@@ -121,12 +123,12 @@ progress_go {by} {factor} {z0} {z} {f} {clock} {from} {k} {wants} {done} {handed
     law_now e = subst (λ (b : Bool). LawOf by factor (notes.progress_came f from done handed settled b)) e
         (reached_law by factor f from (message.Progress k wants done handed settled) (what_is_read a.came.posting.bytes (message.Progress k wants done handed settled) a.came.message).0 a.law)
 
-    answers : (g : Facts) (v : View) (b : Bool) → Now z g → g.exchange.view ≡ Some v → IsKeyField (view_key g) → LawOf by factor g → g.me ≡ f.me → AreReadInRange (answer_progress partition_count g from b).sends → NodeGo z f.me (answer_progress partition_count g from b)
+    answers : (g : Facts) (v : View) (b : Bool) → Now z g → g.exchange.view ≡ Some v → IsKeyField (view_key g) → LawOf by factor g → g.me ≡ f.me → AreReadInRange (if b then sends_only (to_one from (progress_message partition_count g false)) else nothing).sends → NodeGo z f.me (if b then sends_only (to_one from (progress_message partition_count g false)) else nothing)
     answers g v false w i key law me r = nothing_go z f.me ends
     answers g v true w i key law me r = record { due = tt; sent = refl; sends = subst (λ (n : ℕ). EachPlainly z n (to_each (from ∷ []) (progress_message partition_count g false))) me (progress_plain z g v false (from ∷ []) w i key law.handed_places law.settled_places r); ends = ends }
 
-    go : (b : Bool) → in_view f k ≡ b → facts_at z f.me ≡ notes.progress_came f from done handed settled b → AreReadInRange (progress_effects_if partition_count f (notes.progress_came f from done handed settled b) from wants b).sends
-        → NodeGo z f.me (progress_effects_if partition_count f (notes.progress_came f from done handed settled b) from wants b)
+    go : (b : Bool) → in_view f k ≡ b → facts_at z f.me ≡ notes.progress_came f from done handed settled b → AreReadInRange (if b then (if wants && knows_all_settled (notes.progress_came f from done handed settled b) partition_count 0 then sends_only (to_one from (progress_message partition_count (notes.progress_came f from done handed settled b) false)) else nothing) else stale f).sends
+        → NodeGo z f.me (if b then (if wants && knows_all_settled (notes.progress_came f from done handed settled b) partition_count 0 then sends_only (to_one from (progress_message partition_count (notes.progress_came f from done handed settled b) false)) else nothing) else stale f)
     go true e is r = let v : Viewed f k = view_of f k e in
         answers (notes.progress_came f from done handed settled true) v.view (wants && knows_all_settled (notes.progress_came f from done handed settled true) partition_count 0) (record { is = is; stays = a.stays; owes = a.owes }) v.is (key_of_view v) (law_now e) refl r
     go false e is r = stale_go z f ends
@@ -139,7 +141,7 @@ ask_go {by} {factor} {z0} {z} {f} {clock} {from} {k} {t} {d} a read = go (in_vie
     ends : Ended z
     ends = ended_at a a.owes a.rests
 
-    go : (b : Bool) → in_view f k ≡ b → AreReadInRange (ask_came f from k t d b).sends → NodeGo z f.me (ask_came f from k t d b)
+    go : (b : Bool) → in_view f k ≡ b → AreReadInRange (if b then sends_only (to_one from (message.Answer k t (finite.get f.store.content d))) else stale f).sends → NodeGo z f.me (if b then sends_only (to_one from (message.Answer k t (finite.get f.store.content d))) else stale f)
     go true e r = let v : Viewed f k = view_of f k e in record {
       due = tt;
       sent = refl;
@@ -195,7 +197,7 @@ repl_ack_go {by} {factor} {z0} {z} {f} {clock} {from} {k} {t} a = go (in_view f 
     g : Facts
     g = notes.write_acked f from t true
 
-    go : (b : Bool) → in_view f k ≡ b → facts_at z f.me ≡ notes.write_acked f from t b → NodeGo z f.me (repl_ack_came f from t b)
+    go : (b : Bool) → in_view f k ≡ b → facts_at z f.me ≡ notes.write_acked f from t b → NodeGo z f.me (if b then ack_of f from (transaction f.transactions t) else stale f)
     go false e is = stale_go z f (ended_but f.me z0 z a.elsewhere a.before a.owes a.stays (subst (λ (x : Facts). Rests x) (sym is) a.rests))
     go true e is = opens (transaction f.transactions t) refl
       where
@@ -230,7 +232,7 @@ repl_ack_go {by} {factor} {z0} {z} {f} {clock} {from} {k} {t} a = go (in_view f 
           ends = own_ends z (front_after z (Writes (line.Done f.me (view_key f) y.number))) (notes.write_acked f from t true) (notes.closed (notes.write_acked f from t true) y.number) v.view w v.is ends refl refl (λ m x. away (world_of z).facts f.me _ m x) (here (world_of z).facts f.me _ ∙ ap (λ (x : Facts). notes.closed x y.number) is) refl;
         }
 
-        awaited : (y : Transaction) → transaction f.transactions t ≡ Some y → (b : Bool) → awaits_ack y from ≡ b → NodeGo z f.me (done_by f y from b)
+        awaited : (y : Transaction) → transaction f.transactions t ≡ Some y → (b : Bool) → awaits_ack y from ≡ b → NodeGo z f.me (if b then lines_only (only_if (line.Done f.me (view_key f) y.number) (is_last_awaited y from)) else spent f)
         awaited y i true h = last y i h (is_last_awaited y from) refl
         awaited y i false h = spent_go z f ends
 
@@ -243,7 +245,7 @@ repl_ack_go {by} {factor} {z0} {z} {f} {clock} {from} {k} {t} a = go (in_view f 
 pub answer_go : {by : Policy} {factor : ℕ} {z0 z : Front} {f : Facts} {clock from : ℕ} {k : ClusterKey} {t : ℕ} {o : Option Version} → Arrived by factor z0 z f clock from (message.Answer k t o) → AreReadInRange (due.due_answer f clock from k t o).sends → NodeGo z f.me (due.due_answer f clock from k t o)
 answer_go {by} {factor} {z0} {z} {f} {clock} {from} {k} {t} {o} a read = go (in_view f k) refl a.is read
   where
-    go : (b : Bool) → in_view f k ≡ b → facts_at z f.me ≡ notes.answer_came f from t o b → AreReadInRange (answer_effects_if f clock from t o b).sends → NodeGo z f.me (answer_effects_if f clock from t o b)
+    go : (b : Bool) → in_view f k ≡ b → facts_at z f.me ≡ notes.answer_came f from t o b → AreReadInRange (if b then answer_of f clock from o (transaction f.transactions t) else stale f).sends → NodeGo z f.me (if b then answer_of f clock from o (transaction f.transactions t) else stale f)
     go false e is r = stale_go z f (ended_but f.me z0 z a.elsewhere a.before a.owes a.stays (subst (λ (x : Facts). Rests x) (sym is) a.rests))
     go true e is r = opens (transaction f.transactions t) refl r
       where
@@ -256,7 +258,7 @@ answer_go {by} {factor} {z0} {z} {f} {clock} {from} {k} {t} {o} a read = go (in_
         ends : Ended z
         ends = ended_but f.me z0 z a.elsewhere a.before a.owes a.stays (subst (λ (x : Facts). Rests x) (sym is) (view_rests f.exchange f.transactions.running (notes.answer_came f from t o true).transactions.running v.view v.is a.rests))
 
-        last : (y : Transaction) → transaction f.transactions t ≡ Some y → awaits_answer y from ≡ true → (b : Bool) → is_last_awaited y from ≡ b → AreReadInRange (resolving_if f clock (transactions.answered f.store.by from o y) b).sends → NodeGo z f.me (resolving_if f clock (transactions.answered f.store.by from o y) b)
+        last : (y : Transaction) → transaction f.transactions t ≡ Some y → awaits_answer y from ≡ true → (b : Bool) → is_last_awaited y from ≡ b → AreReadInRange (if b then resolving f clock (list_at f (partition_of (transactions.answered f.store.by from o y).digest)) (transactions.answered f.store.by from o y) else nothing).sends → NodeGo z f.me (if b then resolving f clock (list_at f (partition_of (transactions.answered f.store.by from o y).digest)) (transactions.answered f.store.by from o y) else nothing)
         last y i h false j q = nothing_go z f.me ends
         last y i h true j q = resolving_go z f (transactions.answering f.store.by f.transactions from t o) (transactions.answered f.store.by from o y) clock v.view (record { is = is; stays = a.stays; owes = a.owes }) v.is ends
             (ap (transaction (transactions.answering f.store.by f.transactions from t o)) (found_number f.transactions.running t y i) ∙ changed_is f.transactions t (transactions.answered f.store.by from o) (λ x. awaits_answer x from) y (λ x. refl) i h)
@@ -266,7 +268,7 @@ answer_go {by} {factor} {z0} {z} {f} {clock} {from} {k} {t} {o} a read = go (in_
             unapplied None i = refl
             unapplied (Some w) i = differ i refl
 
-        awaited : (y : Transaction) → transaction f.transactions t ≡ Some y → (b : Bool) → awaits_answer y from ≡ b → AreReadInRange (answered_by f clock y from o b).sends → NodeGo z f.me (answered_by f clock y from o b)
+        awaited : (y : Transaction) → transaction f.transactions t ≡ Some y → (b : Bool) → awaits_answer y from ≡ b → AreReadInRange (if b then (if is_last_awaited y from then resolving f clock (list_at f (partition_of (answered f.store.by from o y).digest)) (answered f.store.by from o y) else nothing) else spent f).sends → NodeGo z f.me (if b then (if is_last_awaited y from then resolving f clock (list_at f (partition_of (answered f.store.by from o y).digest)) (answered f.store.by from o y) else nothing) else spent f)
         awaited y i true h q = last y i h (is_last_awaited y from) refl q
         awaited y i false h q = spent_go z f ends
 

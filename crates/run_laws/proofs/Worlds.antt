@@ -1,5 +1,5 @@
 -- The world after steps that are taken: who is declared, between whom messages go, whom the client asks, and how far nodes have counted.
-use Rattle.std.proofs.Common.{◌≡◌, ◌⊎◌, ⊎_elim, inl, inr, ℕ, ◌<◌, ◌≤◌, ◌==◌, nat_lt, Bool, true, false, List, [], ◌∷◌, Some, refl, sym, ap, ◌∙◌, subst, if◌then◌else◌, arith}
+use Rattle.std.proofs.Common.{◌≡◌, ◌⊎◌, ⊎_elim, inl, inr, ℕ, ◌<◌, ◌≤◌, ◌==◌, nat_lt, Bool, true, false, List, [], ◌∷◌, Option, Some, None, refl, sym, ap, ◌∙◌, subst, if◌then◌else◌, arith}
 use Rattle.std.specs.Prelude.{All, Contains, slice_get}
 use Rattle.std.proofs.lemmas.List.Elements.{All-nil, All-cons}
 use Rattle.cluster_types.specs.declared.cluster_key.ClusterKey.{ClusterKey}
@@ -9,7 +9,6 @@ use Rattle.cluster_types.specs.Partitions.{partition_count}
 use Rattle.partition_lists.specs.Lists.{in_order, put_in_order}
 use Rattle.partition_lists.proofs.ListLaws.{any_is_contained}
 use Rattle.wire_messages.specs.declared.message.Message.{Message}
-use Rattle.wire_messages.specs.declared.message.Message.TheVariants as message
 use Rattle.node_rules.specs.Batches.{Target, Targets}
 use Rattle.node_rules.specs.Client.{node_for}
 use Rattle.node_rules.specs.Facts.{Facts, members_of_view}
@@ -23,7 +22,7 @@ use Rattle.cluster_rules.specs.Opening.{Header, declared_nodes}
 use Rattle.cluster_rules.specs.Steps.{Step, all_marks}
 use Rattle.cluster_rules.specs.World.{World, opened}
 use Rattle.cluster_laws.proofs.At.{some_same, no_some}
-use Rattle.key_laws.specs.Addressed.{IsOther, ComesFromOther}
+use Rattle.key_laws.specs.Addressed.{IsOther, IsOtherIf, ComesFromOther}
 use Rattle.key_laws.specs.Ends.{IsOneOf, FromNode, GoesRight}
 use Rattle.key_laws.specs.Traced.{Traced, untouched}
 use Rattle.key_laws.specs.Traced as traced
@@ -95,15 +94,11 @@ other_member : (f : Facts) (from : ℕ) → IsOther f from → Contains (others 
 other_member f from h = is_in (others f) from (to_without (ids_of (members_of_view f)) f.me from (member_id (members_of_view f) from ∙ h.member) h.other)
 
 of_view : (f : Facts) (from : ℕ) (m : Message) → ComesFromOther f from m → (key : ClusterKey) → view_key_of m ≡ Some key → in_view f key ≡ true → Contains (others f) from
-of_view f from (message.State k wants row) h key e i = other_member f from (h (ap (in_view f) (some_same e) ∙ i))
-of_view f from (message.Batch b) h key e i = other_member f from (h (ap (in_view f) (some_same e) ∙ i))
-of_view f from (message.BatchAck k number) h key e i = other_member f from (h (ap (in_view f) (some_same e) ∙ i))
-of_view f from (message.Progress k wants done handed settled) h key e i = other_member f from (h (ap (in_view f) (some_same e) ∙ i))
-of_view f from (message.Repl k number nth d v) h key e i = other_member f from (h (ap (in_view f) (some_same e) ∙ i))
-of_view f from (message.ReplAck k number) h key e i = other_member f from (h (ap (in_view f) (some_same e) ∙ i))
-of_view f from (message.Ask k number d) h key e i = other_member f from (h (ap (in_view f) (some_same e) ∙ i))
-of_view f from (message.Answer k number v) h key e i = other_member f from (h (ap (in_view f) (some_same e) ∙ i))
-of_view f from _ h key e i = no_some e
+of_view f from m h key e i = go (view_key_of m) h e
+  where
+    go : (o : Option ClusterKey) → IsOtherIf f from o → o ≡ Some key → Contains (others f) from
+    go None x q = no_some q
+    go (Some k) x q = other_member f from (x (ap (in_view f) (some_same q) ∙ i))
 
 posted_right : (h : Header) (ss : List Step) → Taken h ss → (i : ℕ) (p : Posting) → posting_at (world_after h ss).network i ≡ Some p → GoesRight (IsOneOf (declared_nodes h)) p.from p.to p.bytes
 posted_right h ss t i p e = let w : WasPosted (end_of h ss) p = was_posted (end_of h ss) i p (ap (λ (x : World). posting_at x.network i) (world_is h ss) ∙ e) in (named h ss t).peopled.sent w.place p w.stands

@@ -6,7 +6,7 @@ use Rattle.script_lang.specs.Proper.{IsProper}
 use Rattle.journal_lines.specs.declared.line.Line.{Line}
 use Rattle.cluster_rules.specs.Begun.{BegunRun}
 use Rattle.cluster_rules.specs.FrontRuns.{FrontRun}
-use Rattle.cluster_rules.specs.Opening.{Header}
+use Rattle.cluster_rules.specs.Opening.{Header, header_lines}
 use Rattle.cluster_rules.specs.Runs.{Run}
 use Rattle.journal_readings.specs.Settings.{nodes}
 use Rattle.journal_readings.specs.Shape.{follows_header, follows_entries}
@@ -17,11 +17,13 @@ use Rattle.run_laws.specs.Taken.{Taken, ground_of, line_bound}
 -- each line of taken steps has its licence and fits, by the ground that the steps' history makes
 abbrev pub AreLicensed : Type 0
 AreLicensed =
-    (h : Header) (ss : List Step) → Taken h ss → IsJournal h (ground_of h ss) (all_lines ss)
+    (h : Header) (ss : List Step) → Taken h ss
+    → IsJournal (header_lines h) (ground_of h ss) (all_lines ss)
 
 -- the claim holds of the journal of steps that are taken: so of a world after every call
 abbrev pub OfTakenSteps : (List Line → Type 0) → Type 0
-OfTakenSteps P = (h : Header) (ss : List Step) → Taken h ss → P (journal h (all_lines ss))
+OfTakenSteps P =
+    (h : Header) (ss : List Step) → Taken h ss → P (journal (header_lines h) (all_lines ss))
 
 -- of the journal of a proper script's run
 abbrev pub OfRuns : (List Line → Type 0) → Type 0

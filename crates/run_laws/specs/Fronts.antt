@@ -1,5 +1,5 @@
 -- Where a run stands: the chronicle, with what is owed and who is about to leave its view; and the tie to the picture.
-use Rattle.std.specs.Prelude.{◌≡◌, ◌+◌, ◌<◌, ℕ, Bool, true, false, List, [], ◌∷◌, Option, Some, None, option_map, option_and_then, length}
+use Rattle.std.specs.Prelude.{◌≡◌, ◌+◌, ◌<◌, ℕ, Bool, true, false, List, [], ◌∷◌, Option, Some, None, option_map, option_and_then, length, if◌then◌else◌}
 use Rattle.std.specs.FinMap as finite
 use Rattle.conflict_order.specs.Order.{is_newer}
 use Rattle.conflict_order.specs.declared.version.Version.{Version}
@@ -18,7 +18,6 @@ use Rattle.cluster_rules.specs.Marks.{Mark, Begins, Writes}
 use Rattle.journal_readings.specs.Messages.{Posting, Arrival, arrived, arrived_cut}
 use Rattle.cluster_rules.specs.Network.{Network, posting_at}
 use Rattle.cluster_rules.specs.World.{World, changed_at}
-use Rattle.cluster_laws.specs.Changes.{owes}
 use Rattle.cluster_laws.specs.Ground.{Ground, is_view_member}
 use Rattle.cluster_laws.specs.Picture.{Seen, Packet, Owed, Picture}
 use Rattle.cluster_laws.specs.Stay.{Stay}
@@ -45,8 +44,7 @@ facts_at z n = (world_of z).facts n
 
 abbrev pub owed_if : Facts → ℕ → ClusterKey → List ℕ → Version → Bool → Option Owed → Option Owed
 owed_if f n k d v true o =
-    owes (record { node = n; key = k; digest = d; version = v })
-    (is_newer f.store.by v (finite.get f.store.content d))
+    (if is_newer f.store.by v (finite.get f.store.content d) then Some (record { node = n; key = k; digest = d; version = v }) else None)
 owed_if f n k d v false o = o
 
 -- what a message makes due at its receiver

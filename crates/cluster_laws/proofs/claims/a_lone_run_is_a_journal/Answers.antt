@@ -1,4 +1,4 @@
-use Rattle.cluster_laws.proofs.ReadingHeaders.{lone_journal}
+use Rattle.cluster_laws.proofs.LoneJournal.{lone_journal}
 use Rattle.cluster_laws.proofs.claims.a_lone_run_is_a_journal.Goals as goal
 
 pub returns : goal.returns
