@@ -1,21 +1,21 @@
 -- A round of a world that isn't calm writes a line: where a node is up its tick does, and where none is, the delivery of a
 -- message in flight.
 use Rattle.std.proofs.Common.{◌≡◌, ℕ, suc, ◌<◌, Bool, true, false, ◌&&◌, cond, List, [], ◌∷◌, ◌++◌, map, filter, length, Option, Some, None, refl, sym, ap, subst, ◌∙◌, arith}
-use Rattle.std.specs.Prelude.{nat_lt}
+use Rattle.std.specs.Prelude.{nat_lt, if◌then◌else◌}
 use Rattle.std.specs.List.{list_all}
 use Rattle.partition_lists.proofs.InOrderLaws.{Has, has_filter, has_in_order}
 use Rattle.journal_lines.specs.declared.line.Line.{Line}
 use Rattle.journal_lines.specs.declared.line.Line.TheVariants as line
 use Rattle.node_rules.specs.Copies.{is_nil}
-use Rattle.node_rules.specs.Effects.{Effects}
+use Rattle.node_rules.specs.Effects.{Effects, lines_only}
 use Rattle.node_rules.specs.Facts.{Facts}
-use Rattle.node_rules.specs.Tick.{tick_if, tick_of}
+use Rattle.node_rules.specs.Tick.{tick_of, parts, parts_in_order}
 use Rattle.journal_readings.specs.Messages.{Posting}
 use Rattle.cluster_rules.specs.declared.event.Event.{Event}
 use Rattle.cluster_rules.specs.declared.event.Event.TheVariants as event
 use Rattle.node_rules.specs.Standing.{is_at_rest_of}
 use Rattle.cluster_rules.specs.Calm.{share_view, is_group_at_rest, is_calm_of}
-use Rattle.cluster_rules.specs.DueEvents.{arriving, due_of, delivery, unless_blocked, is_blocked, sent_lines}
+use Rattle.cluster_rules.specs.DueEvents.{arriving, due_of, delivery, is_blocked, sent_lines}
 use Rattle.cluster_rules.specs.Network.{flying_at, landed}
 use Rattle.cluster_rules.specs.Steps.{Played, then_played, play, play_all, all_lines, flow, flows, round}
 use Rattle.cluster_rules.specs.World.{World, is_up, up_nodes}
@@ -33,7 +33,7 @@ writes_more ls ms h = record { first = h.first; others = h.others ++ ms; is = ap
 -- ---- two events
 
 -- a tick has a line, also where the node is down
-tick_if_writes : (n : ℕ) (f : Facts) (b : Bool) → HasLine (tick_if n f b).lines
+tick_if_writes : (n : ℕ) (f : Facts) (b : Bool) → HasLine (if b then parts_in_order (parts n) f else lines_only (line.Down f.me ∷ [])).lines
 tick_if_writes n f true = record { first = _; others = _; is = refl }
 tick_if_writes n f false = record { first = _; others = _; is = refl }
 
@@ -47,7 +47,7 @@ deliver_writes : (n : ℕ) (w : World) (i : ℕ) → HasLine (due_of n w (event.
 deliver_writes n w i =
     go (λ (p : Posting). line.Deliver i p.from p.to ∷ arriving n w (landed w.network i) p) (λ p. record { first = _; others = _; is = refl }) (flying_at w.network i)
   where
-    blocked : (lines : Posting → List Line) (p : Posting) (b : Bool) → HasLine (lines p) → HasLine (unless_blocked i lines p b)
+    blocked : (lines : Posting → List Line) (p : Posting) (b : Bool) → HasLine (lines p) → HasLine (if b then line.Blocked i ∷ [] else lines p)
     blocked lines p true h = record { first = _; others = _; is = refl }
     blocked lines p false h = h
 

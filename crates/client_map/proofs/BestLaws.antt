@@ -4,22 +4,11 @@ use Rattle.std.specs.Prelude.{find}
 use Rattle.std.specs.List.{list_all}
 use Rattle.std.proofs.Math.Path.{fun_ext}
 use Rattle.std.proofs.lemmas.List.{append-nil}
-
-and_left : (a b : Bool) → (a && b) ≡ true → a ≡ true
-and_left true b h = refl
-and_left false b h = h
-
-and_right : (a b : Bool) → (a && b) ≡ true → b ≡ true
-and_right true b h = h
-and_right false b h = absurd (let wrong : false ≡ true = h in cc)
+use Rattle.cluster_types.proofs.BoolFacts.{and_left, and_right, not_true as was_false}
 
 and_false : (a : Bool) → (a && false) ≡ false
 and_false true = refl
 and_false false = refl
-
-was_false : (a : Bool) → not a ≡ true → a ≡ false
-was_false true h = sym h
-was_false false h = refl
 
 module _ {X : Type 0} where
   find_stays : (p : X → Bool) (xs ys : List X) (u : X) → find p xs ≡ Some u → find p (xs ++ ys) ≡ Some u

@@ -5,8 +5,7 @@ ghost use Rattle.std.specs.Option.{option_map};
 ghost use Rattle.node_rules.specs.Client.{Tables, node_for};
 ghost use Rattle.client_map.specs.Entries.{Holds, told_entry, is_later, later_entry};
 
-use cluster_types::partition::PARTITIONS;
-use cluster_types::{ClusterKey, NoMemory, NodeId, PartitionId};
+use cluster_types::{ClusterKey, NoMemory, NodeId, PARTITIONS, PartitionId};
 use std::alloc::Global;
 use std::marker::Model;
 use wire_messages::MapTable;

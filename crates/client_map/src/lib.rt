@@ -5,6 +5,6 @@
 //! The tables themselves aren't kept. `new` alone takes memory.
 #![tactic(auto)]
 
-pub mod client_map;
+mod client_map;
 
 pub use client_map::ClientMap;

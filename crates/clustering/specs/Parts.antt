@@ -1,8 +1,8 @@
 -- What the helpers of a tick and of an Accept make of the keys.
-use Rattle.std.specs.Prelude.{ℕ, Bool, true, false, List, [], ◌∷◌, Option, Some, None}
+use Rattle.std.specs.Prelude.{ℕ, Bool, true, false, List, [], ◌∷◌, Option, Some, None, if◌then◌else◌}
 use Rattle.cluster_types.specs.declared.member.Member.{Member}
 use Rattle.node_rules.specs.Agreement as rules
-use Rattle.node_rules.specs.Agreement.{Agreement, agreement_entered, entering_if, proposing_to}
+use Rattle.node_rules.specs.Agreement.{Agreement, agreement_entered, proposing_to}
 use Rattle.node_rules.specs.Copies.{is_nil}
 use Rattle.clustering.specs.declared.stage.Keys.{Keys}
 use Rattle.clustering.specs.declared.stage.Proposing.{Proposing}
@@ -33,4 +33,6 @@ answer_if_alone k set to =
 abbrev pub agreeing_if_accepted : Proposing → Bool → Agreeing
 agreeing_if_accepted s accepted =
     agreeing_with s.keys
-    (entering_if (agreement_with s.keys (Some (stage_proposal s))) s.keys.promised accepted)
+    (if accepted
+    then agreement_entered (agreement_with s.keys (Some (stage_proposal s))) s.keys.promised
+    else agreement_with s.keys (Some (stage_proposal s)))

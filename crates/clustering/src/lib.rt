@@ -5,9 +5,9 @@
 //! is to say. No call takes memory, and nothing is cached.
 #![tactic(auto)]
 
-pub mod agree;
+mod agree;
 mod stage;
-pub mod steps;
+mod steps;
 
 pub use agree::Agree;
 pub use steps::{AcceptStep, CommitStep, ProposalStep, RefuseStep, Vote};

@@ -6,6 +6,7 @@ use Rattle.std.specs.Map.{lookup, keys_of, remove_entry}
 use Rattle.std.proofs.lemmas.Bool.Decides.{nat_tests}
 use Rattle.std.proofs.lemmas.List.{map-append}
 use Rattle.std.proofs.lemmas.Map.Keys.{IsDistinct-head, IsDistinct-tail}
+use Rattle.std.proofs.lemmas.Bool.{or_right as either}
 use Rattle.cluster_types.specs.Partitions.{partition_count, partition_of}
 use Rattle.dup_resolve.specs.declared.txn.Txn.{Txn}
 use Rattle.dup_resolve.specs.Open.{without_txn, txn_digest_at, txn_digest, number_on, txn_at}
@@ -73,10 +74,6 @@ some_digest d e same = cc
 found_with : (o : Option Txn) (d : List ℕ) → Some d ≡ txn_digest o → (u : Txn) × (o ≡ Some u) × (u.digest ≡ d)
 found_with None d e = cc e
 found_with (Some u) d e = (u, refl, sym (some_digest d u.digest e))
-
-either : (a b : Bool) → b ≡ true → (a || b) ≡ true
-either true b e = refl
-either false b e = e
 
 key_step : (t u : Txn) (found : Option Txn) (any : Bool) (b : Bool) → (found ≡ Some u → any ≡ true) → cond b (Some t) found ≡ Some u → (bytes_eq u.digest t.digest || any) ≡ true
 key_step t u found any true later e =

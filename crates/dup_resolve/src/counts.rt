@@ -2,8 +2,7 @@
 ghost use Rattle.std.specs.Prelude.{◌≡◌, ◌<◌, ◌≤◌, ◌+◌, ◌-◌, ◌^◌, ℕ, [], IsOk, OnOk, length, slice_index, slice_set};
 ghost use Rattle.cluster_types.specs.Partitions.{partition_count};
 
-use cluster_types::partition::PARTITIONS;
-use cluster_types::{NoMemory, PartitionId};
+use cluster_types::{NoMemory, PARTITIONS, PartitionId};
 use std::alloc::Global;
 use std::marker::Model;
 

@@ -25,6 +25,7 @@ use Rattle.node_rules.specs.Copies.{Content, digests, digests_of, is_of}
 use Rattle.node_rules.specs.Batches.{Target, target, target_of, targets_of}
 use Rattle.emigrate.specs.Going.{AreHeld, digests_below}
 use Rattle.std.proofs.lemmas.List.Kept.{AllPairs-cons, AllPairs-filter}
+use Rattle.cluster_types.proofs.BoolFacts.{neither_left, neither_right}
 use Rattle.record_store.specs.Store.{digests_above}
 use Rattle.record_store.proofs.CopyLaws.{same_digest}
 use Rattle.record_store.proofs.WalkLaws.{Rising, digests_are_held, digests_rise}
@@ -270,14 +271,6 @@ collected_has content test q =
 
 abbrev pub AreApart : List (List ℕ) → Type 0
 AreApart ds = IsDistinct (eq_by_cmp digest_cmp) ds
-
-neither_left : (a b : Bool) → (a || b) ≡ false → a ≡ false
-neither_left true b e = e
-neither_left false b e = refl
-
-neither_right : (a b : Bool) → (a || b) ≡ false → b ≡ false
-neither_right true b e = absurd (true_false e)
-neither_right false b e = e
 
 none_of : (d : List ℕ) (ds : List (List ℕ)) → has d ds ≡ false → AllByRecursion (λ e. eq_by_cmp digest_cmp d e ≡ false) ds
 none_of d [] h = tt

@@ -22,6 +22,7 @@ use Rattle.node_rules.specs.Batches.{Target, Targets, change_target, is_pending,
 use Rattle.node_rules.specs.Copies.{Content, is_of}
 use Rattle.node_rules.specs.Tables.{changed_if}
 use Rattle.emigrate.specs.Going.{AreApart, AreCounts, pending_count}
+pub use Rattle.cluster_types.proofs.BoolFacts.{not_true as is_true}
 
 -- ---- the target of a member
 
@@ -147,10 +148,6 @@ pub all_members : (ms : List Member) (i : ℕ) → length ms ≤ i → take i ms
 all_members [] i h = take_nil i
 all_members (m ∷ ms) zero h = absurd (omega (arith, h))
 all_members (m ∷ ms) (suc i) h = ap (λ (xs : List Member). m ∷ xs) (all_members ms i (omega (arith, h)))
-
-pub is_true : (b : Bool) → not b ≡ true → b ≡ false
-is_true true e = sym e
-is_true false e = refl
 
 pub is_false : (b : Bool) → not b ≡ false → b ≡ true
 is_false true e = refl

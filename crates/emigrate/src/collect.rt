@@ -3,14 +3,12 @@ ghost use Rattle.std.specs.Prelude.{◌≡◌, ◌<◌, ◌+◌, ◌++◌, ℕ, 
 ghost use Rattle.std.specs.List.{count_by};
 ghost use Rattle.cluster_types.specs.Partitions.{partition_count, partition_of};
 ghost use Rattle.node_rules.specs.Batches.{target_of};
-ghost use Rattle.node_rules.specs.Copies.{digests, is_of};
-ghost use Rattle.record_store.specs.Store.{digests_of};
+ghost use Rattle.node_rules.specs.Copies.{digests, digests_of, is_of};
 ghost use Rattle.emigrate.specs.Going.{AreRising};
 
 use crate::counts::Counts;
 use crate::outgoing::Outgoing;
-use cluster_types::partition::PARTITIONS;
-use cluster_types::{CopyState, Digest, MapView, NoMemory, NodeId, PartitionId};
+use cluster_types::{CopyState, Digest, MapView, NoMemory, NodeId, PARTITIONS, PartitionId};
 use record_store::RecordStore;
 use std::alloc::Global;
 use std::collections::VecDeque;

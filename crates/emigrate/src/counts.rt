@@ -6,8 +6,7 @@ ghost use Rattle.cluster_types.specs.Rows.{bit};
 ghost use Rattle.node_rules.specs.Copies.{is_of};
 ghost use Rattle.emigrate.specs.Going.{batch_digests};
 
-use cluster_types::partition::PARTITIONS;
-use cluster_types::{Digest, NoMemory, PartitionId, Row4096, partition_of};
+use cluster_types::{Digest, NoMemory, PARTITIONS, PartitionId, Row4096, partition_of};
 use std::alloc::Global;
 use std::collections::VecDeque;
 use std::marker::Model;

@@ -1,7 +1,7 @@
 //! The leave to drop a copy.
 ghost use Rattle.std.specs.Prelude.{◌≡◌};
 ghost use Rattle.std.specs.FinMap.{remove};
-ghost use Rattle.record_store.specs.Store.{without_copy};
+ghost use Rattle.cluster_types.specs.Copies.{without_copy};
 
 use cluster_types::PartitionId;
 use record_store::RecordStore;

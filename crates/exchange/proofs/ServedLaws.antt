@@ -12,6 +12,7 @@ use Rattle.cluster_types.specs.Distinct.{AreDistinct}
 use Rattle.cluster_types.specs.Members.{ids_of}
 use Rattle.cluster_types.specs.Partitions.{partition_count}
 use Rattle.cluster_types.specs.StateRows.{state_of}
+use Rattle.cluster_types.proofs.BoolFacts.{and_left as and_first, and_right as and_second, and_both as both, same_truth as same_test}
 use Rattle.partition_lists.specs.Acting.{acting_by, is_empty, is_wholest_by, list_master}
 use Rattle.partition_lists.specs.Classes.{asked_among, is_first_by, is_that, same_class_by, sends_by}
 use Rattle.partition_lists.specs.Lists.{list, is_replica_of, replicas}
@@ -37,23 +38,6 @@ empty_is : (s : CopyState) → is_empty s ≡ true → s ≡ Empty
 empty_is Empty h = refl
 empty_is Part h = absurd (let wrong : false ≡ true = h in cc)
 empty_is (Whole key writes) h = absurd (let wrong : false ≡ true = h in cc)
-
-and_first : (a b : Bool) → (a && b) ≡ true → a ≡ true
-and_first true b h = refl
-and_first false b h = h
-
-and_second : (a b : Bool) → (a && b) ≡ true → b ≡ true
-and_second true b h = h
-and_second false b h = absurd (let wrong : false ≡ true = h in cc)
-
-both : (a b : Bool) → a ≡ true → b ≡ true → (a && b) ≡ true
-both a b h i = rw (h, i) refl
-
-same_test : (a b : Bool) → (a ≡ true → b ≡ true) → (b ≡ true → a ≡ true) → a ≡ b
-same_test true true h i = refl
-same_test true false h i = sym (h refl)
-same_test false true h i = i refl
-same_test false false h i = refl
 
 -- ---- empty copies
 

@@ -4,8 +4,7 @@ ghost use Rattle.cluster_types.specs.StateRows.{IsStateRow, state_of};
 ghost use Rattle.partition_state.specs.Copies.{copies_at};
 ghost use Rattle.exchange.specs.Rows.{ArePlaces, AreNextPlaces, IsNextIn, place_in};
 
-use cluster_types::partition::PARTITIONS;
-use cluster_types::{CopyState, PartitionId};
+use cluster_types::{CopyState, PARTITIONS, PartitionId};
 use node_rules::MemberRow;
 use partition_state::States;
 

@@ -12,8 +12,7 @@ ghost use Rattle.exchange.specs.Served.{AreServed, served_by};
 
 use crate::cursors::{next_told, read};
 use crate::view_rows::ViewRows;
-use cluster_types::partition::PARTITIONS;
-use cluster_types::{CopyState, NoMemory, NodeId, PartitionId};
+use cluster_types::{CopyState, NoMemory, NodeId, PARTITIONS, PartitionId};
 use node_rules::MemberRow;
 use partition_lists::Lists;
 use partition_state::States;

@@ -4,7 +4,7 @@
 //! the neighbours as they were at the last tick. Nothing is cached, and no call takes memory.
 #![tactic(auto)]
 
-pub mod adjacency;
+mod adjacency;
 mod entries;
 mod room;
 

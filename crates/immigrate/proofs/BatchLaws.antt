@@ -1,5 +1,5 @@
 -- What the records of a batch make of a store, one by one and all together.
-use Rattle.std.proofs.Common.{◌≡◌, ℕ, suc, ◌+◌, ◌<◌, Bool, true, false, cond, List, [], ◌∷◌, ◌++◌, take, drop, get_or, slice_get, length, filter, All, Some, None, Result, Ok, Err, OnOk, IsOk, refl, sym, ap, ◌∙◌, arith}
+use Rattle.std.proofs.Common.{◌≡◌, ℕ, suc, ◌+◌, ◌<◌, Bool, true, false, cond, List, [], ◌∷◌, ◌++◌, take, drop, get_or, slice_get, length, filter, All, Some, None, Result, Ok, Err, OnOk, IsOk, refl, sym, ap, ◌∙◌, arith, if◌then◌else◌}
 use Rattle.std.proofs.lemmas.List.{take_more, map-append}
 use Rattle.std.proofs.lemmas.List.Elements.{filter_more}
 use Rattle.std.proofs.lemmas.Option.{slice_get_within, get_or_from_slice_get, slice_get-get_or}
@@ -14,7 +14,7 @@ use Rattle.conflict_order.specs.Join.{kept}
 use Rattle.conflict_order.specs.Order.{is_newer}
 use Rattle.record_store.proofs.CopyLaws.{joined_kept}
 use Rattle.node_rules.specs.Copies.{Content, joined}
-use Rattle.node_rules.specs.Merging.{Record, is_newer_than_held, content_joined_if, newer_records, joined_all}
+use Rattle.node_rules.specs.Merging.{Record, is_newer_than_held, newer_records, joined_all}
 use Rattle.node_rules.specs.Tables.{only_if}
 use Rattle.immigrate.specs.Digests.{IsRising, record_digests}
 
@@ -25,13 +25,13 @@ apart : (d q : List ℕ) → digest_cmp d q ≡ Less → eq_by_cmp digest_cmp q 
 apart d q h = ap is_eq (nat_list_cmp_total.antisymm q d ∙ ap ordering_reverse h)
 
 -- a record leaves what is held of the digests above its own
-others_stay : (by : Policy) (c : Content) (r : Record) (b : Bool) (q : List ℕ) → digest_cmp r.0 q ≡ Less → get (content_joined_if by c r b) q ≡ get c q
+others_stay : (by : Policy) (c : Content) (r : Record) (b : Bool) (q : List ℕ) → digest_cmp r.0 q ≡ Less → get (if b then joined by c r.0 r.1 else c) q ≡ get c q
 others_stay by c r true q above =
     get-insert nat_list_cmp_total c r.0 (kept by (get c r.0) r.1) q
     ∙ ap (λ b. cond b (Some (kept by (get c r.0) r.1)) (get c q)) (apart r.0 q above)
 others_stay by c r false q above = refl
 
-first_step : (by : Policy) (e : Content) (r : Record) (rs fs : List Record) → ((b : Bool) → newer_records by (content_joined_if by e r b) rs ≡ fs) → (b : Bool) → only_if r b ++ newer_records by (content_joined_if by e r b) rs ≡ cond b (r ∷ fs) fs
+first_step : (by : Policy) (e : Content) (r : Record) (rs fs : List Record) → ((b : Bool) → newer_records by (if b then joined by e r.0 r.1 else e) rs ≡ fs) → (b : Bool) → only_if r b ++ newer_records by (if b then joined by e r.0 r.1 else e) rs ≡ cond b (r ∷ fs) fs
 first_step by e r rs fs rest true = ap (λ xs. r ∷ xs) (rest true)
 first_step by e r rs fs rest false = rest false
 
@@ -40,8 +40,8 @@ filtered : (by : Policy) (c e : Content) (rs : List Record) → IsRising rs → 
 filtered by c e [] rising same = refl
 filtered by c e (r ∷ rs) rising same =
     let fs = filter (is_newer_than_held by c) rs in
-    let rest : (b : Bool) → newer_records by (content_joined_if by e r b) rs ≡ fs
-    = λ b. filtered by c (content_joined_if by e r b) rs (λ i j d lower within. rising (suc i) (suc j) d (omega (arith, lower)) (omega (arith, within)))
+    let rest : (b : Bool) → newer_records by (if b then joined by e r.0 r.1 else e) rs ≡ fs
+    = λ b. filtered by c (if b then joined by e r.0 r.1 else e) rs (λ i j d lower within. rising (suc i) (suc j) d (omega (arith, lower)) (omega (arith, within)))
     (λ k d within. others_stay by e r b _ (rising 0 (suc k) d (omega arith) (omega (arith, within))) ∙ same (suc k) d (omega (arith, within))) in
     first_step by e r rs fs rest (is_newer_than_held by e r)
     ∙ ap (λ o. cond (is_newer by r.1 o) (r ∷ fs) fs) (same 0 r (omega arith))
@@ -51,7 +51,7 @@ pub newer_is_filter : (by : Policy) (c : Content) (rs : List Record) → IsRisin
 newer_is_filter by c rs rising = filtered by c c rs rising (λ k d within. refl)
 
 joined_step : (by : Policy) (c : Content) (r : Record) (rs : List Record) → ((m : Content) → joined_all by m (newer_records by m rs) ≡ joined_all by m rs)
-    → (b : Bool) → is_newer_than_held by c r ≡ b → joined_all by c (only_if r b ++ newer_records by (content_joined_if by c r b) rs) ≡ joined_all by (joined by c r.0 r.1) rs
+    → (b : Bool) → is_newer_than_held by c r ≡ b → joined_all by c (only_if r b ++ newer_records by (if b then joined by c r.0 r.1 else c) rs) ≡ joined_all by (joined by c r.0 r.1) rs
 joined_step by c r rs rest true is = rest (joined by c r.0 r.1)
 joined_step by c r rs rest false is = rest c ∙ ap (λ m. joined_all by m rs) (joined_kept by c r.0 r.1 is)
 

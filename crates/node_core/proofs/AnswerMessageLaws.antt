@@ -9,11 +9,14 @@ use Rattle.node_rules.specs.ByParts.{resolved, resolved_with}
 use Rattle.node_rules.specs.Effects.{nothing}
 use Rattle.node_rules.specs.Facts.{Facts, list_at}
 use Rattle.node_rules.specs.Messages as due
-use Rattle.node_rules.specs.Notes.{answer_came, if_view, in_view}
+use Rattle.node_rules.specs.Notes.{answer_came, in_view}
 use Rattle.node_rules.specs.Steps.{after_message}
 use Rattle.node_rules.specs.Transactions.{Transaction, answered, awaits_answer, is_last_awaited, transaction}
 use Rattle.node_rules.proofs.PartLaws.{answer_is}
 use Rattle.node_steps.specs.Resolvings.{AwaitsLast}
+use Rattle.node_rules.specs.Resolving.{resolving}
+use Rattle.node_rules.specs.StaleMessages.{spent, stale}
+use Rattle.node_rules.specs.TransactionMessages.{answer_of}
 
 -- ---- what is known after it
 
@@ -21,7 +24,7 @@ pub answer_after : (f : Facts) (clock from : ℕ) (key : ClusterKey) (number : �
     → after_message f clock from (message.Answer key number v) ≡ resolved_with (answer_came f from number v true) clock from v (transaction f.transactions number)
 answer_after f clock from key number v of_view =
     answer_is f clock from key number v
-    ∙ ap (λ (b : Bool). if_view b (resolved_with (answer_came f from number v true) clock from v (transaction f.transactions number)) f) of_view
+    ∙ ap (λ (b : Bool). (if b then resolved_with (answer_came f from number v true) clock from v (transaction f.transactions number) else f)) of_view
 
 -- no transaction of that number is open
 pub unknown_after : (f : Facts) (clock from : ℕ) (key : ClusterKey) (number : ℕ) (v : Option Version) → in_view f key ≡ true → transaction f.transactions number ≡ None
@@ -44,7 +47,7 @@ unresolved_after f clock from key number v t of_view found open_still =
 
 pub answer_due : (f : Facts) (clock from : ℕ) (key : ClusterKey) (number : ℕ) (v : Option Version) → in_view f key ≡ true
     → due.due_answer f clock from key number v ≡ due.answer_of f clock from v (transaction f.transactions number)
-answer_due f clock from key number v of_view = ap (λ (b : Bool). due.answer_effects_if f clock from number v b) of_view
+answer_due f clock from key number v of_view = ap (λ (b : Bool). (if b then answer_of f clock from v (transaction f.transactions number) else stale f)) of_view
 
 pub unknown_due : (f : Facts) (clock from : ℕ) (key : ClusterKey) (number : ℕ) (v : Option Version) → in_view f key ≡ true → transaction f.transactions number ≡ None
     → due.due_answer f clock from key number v ≡ due.spent f
@@ -56,7 +59,7 @@ pub unawaited_due : (f : Facts) (clock from : ℕ) (key : ClusterKey) (number : 
 unawaited_due f clock from key number v t of_view found awaited =
     answer_due f clock from key number v of_view
     ∙ ap (λ (o : Option Transaction). due.answer_of f clock from v o) found
-    ∙ ap (λ (b : Bool). due.answered_by f clock t from v b) awaited
+    ∙ ap (λ (b : Bool). (if b then (if is_last_awaited t from then resolving f clock (list_at f (partition_of (answered f.store.by from v t).digest)) (answered f.store.by from v t) else nothing) else spent f)) awaited
 
 -- others are awaited besides
 pub waiting_due : (f : Facts) (clock from : ℕ) (key : ClusterKey) (number : ℕ) (v : Option Version) (t : Transaction) → in_view f key ≡ true → transaction f.transactions number ≡ Some t
@@ -64,8 +67,8 @@ pub waiting_due : (f : Facts) (clock from : ℕ) (key : ClusterKey) (number : �
 waiting_due f clock from key number v t of_view found awaited last =
     answer_due f clock from key number v of_view
     ∙ ap (λ (o : Option Transaction). due.answer_of f clock from v o) found
-    ∙ ap (λ (b : Bool). due.answered_by f clock t from v b) awaited
-    ∙ ap (λ (b : Bool). due.resolving_if f clock (answered f.store.by from v t) b) last
+    ∙ ap (λ (b : Bool). (if b then (if is_last_awaited t from then resolving f clock (list_at f (partition_of (answered f.store.by from v t).digest)) (answered f.store.by from v t) else nothing) else spent f)) awaited
+    ∙ ap (λ (b : Bool). (if b then resolving f clock (list_at f (partition_of (answered f.store.by from v t).digest)) (answered f.store.by from v t) else nothing)) last
 
 -- the answer is the last that the open transaction awaits
 pub awaits_last : (f : Facts) (from number : ℕ) (t : Transaction) → transaction f.transactions number ≡ Some t → awaits_answer t from ≡ true → is_last_awaited t from ≡ true → AwaitsLast f from number

@@ -22,12 +22,13 @@ use Rattle.node_rules.specs.Copies.{Row, Stamp, Stamps, Store, store_state, dige
 use Rattle.node_rules.specs.Exchange.{Exchange, View, begun, finished, is_member, is_single}
 use Rattle.node_rules.specs.Facts.{Facts, list_at}
 use Rattle.node_rules.specs.Hearing.{without_quiet}
-use Rattle.node_rules.specs.Notes.{entered, is_for, own_row, stamped_at, stamped_from}
+use Rattle.node_rules.specs.Notes.{entered, is_for, own_row, stamped_at}
 use Rattle.node_rules.proofs.Partitions.{row_is_row}
 use Rattle.node_rules.specs.Entering.{ending}
 use Rattle.node_rules.specs.Transactions.{Transaction, Write}
 use Rattle.journal_lines.specs.declared.line.Line.{Line}
 use Rattle.journal_lines.specs.declared.line.Line.TheVariants as line
+use Rattle.node_rules.specs.ViewNotes.{stamped_from}
 use Rattle.node_view.specs.Transactions.{kept_of}
 use Rattle.node_steps.specs.Viewing.{ending_of}
 use Rattle.node_view.specs.Plans.{with_stamps}

@@ -1,7 +1,7 @@
 -- What handlers of messages plan and tell.
 use Rattle.std.proofs.Common.{◌≡◌, ℕ, Bool, true, false, not, List, [], ◌∷◌, Option, Some, None, is_some, inl, inr, refl, sym, ap, ◌∙◌, arith}
 use Rattle.std.proofs.lemmas.Bool.Decides.{nat_tests}
-use Rattle.std.specs.Prelude.{IsSome}
+use Rattle.std.specs.Prelude.{IsSome, if◌then◌else◌}
 use Rattle.cluster_types.specs.declared.cluster_key.ClusterKey.{ClusterKey}
 use Rattle.cluster_types.specs.declared.member.Member.{Member}
 use Rattle.cluster_types.specs.ClusterKeys.{key_lt, none}
@@ -13,8 +13,8 @@ use Rattle.clustering.specs.Answers.{accept_if, commit_if, refuse_if, vote_if, v
 use Rattle.clustering.specs.declared.steps.AcceptStep.TheVariants as accept
 use Rattle.clustering.specs.declared.steps.CommitStep.TheVariants as commit
 use Rattle.clustering.specs.declared.steps.RefuseStep.TheVariants as refuse
-use Rattle.node_rules.specs.Agreement.{Agreement, promising_if, voting}
-use Rattle.node_rules.specs.Effects.{lines_only}
+use Rattle.node_rules.specs.Agreement.{Agreement, voting, promising}
+use Rattle.node_rules.specs.Effects.{lines_only, lines_and_sends, sends_only, to_one}
 use Rattle.node_rules.specs.Exchange as exchange
 use Rattle.node_rules.specs.Exchange.{View}
 use Rattle.node_rules.specs.Facts.{Facts}
@@ -26,6 +26,8 @@ use Rattle.node_rules.specs.Tables.{only_if}
 use Rattle.node_view.specs.Views.{IsInView, Viewed, viewed_key}
 use Rattle.node_steps.specs.declared.effects.Effects.{Effects}
 use Rattle.node_steps.specs.Spelled.{vote_message, spelled, with_sends}
+use Rattle.cluster_types.specs.ClusterKeys as keys
+use Rattle.wire_messages.specs.declared.message.Message.TheVariants as message
 
 -- a message is of the view that has its key
 pub in_view_is : (f : Facts) (v : Viewed) (key : ClusterKey) → IsInView f v → is_some f.exchange.view ≡ true → in_view f key ≡ same_key (viewed_key v) key
@@ -72,8 +74,8 @@ told_vote f from key = go (key_lt f.agreement.promised key) (key_lt key f.agreem
         ((from, spelling (vote_message (vote_if refused key f.agreement.promised))) ∷ [])
 
     go : (above below : Bool) → key_lt f.agreement.promised key ≡ above → key_lt key f.agreement.promised ≡ below
-        → told (promising_if f.agreement key above) below ≡ spelled
-        (due.vote_effects f from key below)
+        → told (if above then promising f.agreement key else f.agreement) below ≡ spelled
+        (if below then sends_only (to_one from (message.Refuse key f.agreement.promised)) else lines_and_sends (only_if (line.Promise f.me key) (keys.key_lt f.agreement.promised key)) (to_one from (message.Accept key)))
     go true true is_above is_below = let wrong : true ≡ false = sym is_below ∙ never_both f.agreement.promised key is_above in cc
     go true false is_above is_below = rw (is_above, never_same key f.agreement.promised is_above) refl
     go false true is_above is_below = rw (same_itself f.agreement.promised) refl

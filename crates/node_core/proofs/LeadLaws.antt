@@ -16,11 +16,11 @@ use Rattle.wire_messages.specs.declared.message.Message.TheVariants as message
 use Rattle.clustering.specs.Agreeing.{Agreeing}
 use Rattle.clustering.specs.Answers.{proposed_members}
 use Rattle.node_rules.specs.Agreement as agreement
-use Rattle.node_rules.specs.Agreement.{Agreement, Proposal, is_accepted_with, others_among, proposes, without_missing}
+use Rattle.node_rules.specs.Agreement.{Agreement, Proposal, is_accepted_with, others_among, proposes, without_missing, accepted_by, agreement_entered}
 use Rattle.node_rules.specs.ByParts as parts
 use Rattle.node_rules.specs.Copies.{is_nil}
 use Rattle.node_rules.specs.Effects.{Effects, lines_only, nothing, to_each}
-use Rattle.node_rules.specs.Entering.{closing, entering, exchanging}
+use Rattle.node_rules.specs.Entering.{closing, entering}
 use Rattle.node_rules.specs.Exchange.{Exchange, is_member, is_single, members_of}
 use Rattle.node_rules.specs.Facts.{Facts}
 use Rattle.node_rules.specs.Keys.{same_key}
@@ -38,6 +38,9 @@ use Rattle.node_steps.proofs.AckLaws.{same_key_is}
 use Rattle.node_core.proofs.EnteringLaws.{agreed_alike, entered_is, entered_view, ranges_entered}
 use Rattle.node_steps.proofs.RangeLaws.{keys_of}
 use Rattle.node_steps.proofs.SpelledLaws.{each_spelled}
+use Rattle.node_rules.specs.StaleMessages.{stale}
+use Rattle.node_rules.specs.Tables.{only_if}
+use Rattle.node_rules.specs.VoteMessages.{commit_effects}
 
 -- ---- an Accept that doesn't count
 
@@ -51,7 +54,7 @@ stale_accept f from key e = go f.agreement.proposal (proposes f.agreement.propos
     go (Some p) true none = cc
 
 uncounted : (a : Agreement) (from : ℕ) (key : ClusterKey) (b accepted : Bool) → b ≡ false
-    → agreement.entering_if (agreement.accepting_if a from b) key (b && accepted) ≡ a
+    → (if b && accepted then agreement_entered (if b then record a { proposal = accepted_by a.proposal from } else a) key else (if b then record a { proposal = accepted_by a.proposal from } else a)) ≡ a
 uncounted a from key false accepted e = refl
 uncounted a from key true accepted e = cc
 
@@ -66,7 +69,7 @@ pub waiting_accept : (f : Facts) (from : ℕ) (key : ClusterKey) → proposes f.
     → due.due_accept f from key ≡ nothing
 waiting_accept f from key e i = go f.agreement.proposal e i
   where
-    none_enters : (p : Proposal) (b : Bool) → b ≡ false → due.commit_effects f p b ≡ nothing
+    none_enters : (p : Proposal) (b : Bool) → b ≡ false → (if b then commit_effects f p else nothing) ≡ nothing
     none_enters p false none = refl
     none_enters p true none = cc
 
@@ -101,12 +104,12 @@ pub last_accept : (f : Facts) (from : ℕ) (key k : ClusterKey) (ms : List Membe
     → due.due_accept f from key ≡ led f k ms
 last_accept f from key k ms e h =
     ap₂ (λ (o : Option Proposal) (b : Bool). due.accept_effects f from key o b) h.proposed e
-    ∙ ap (due.commit_effects f h.proposal) h.last
+    ∙ ap (λ (holds : Bool). if holds then commit_effects f h.proposal else nothing) h.last
     ∙ ap₂ (led f) h.key_of h.members
 
 -- what was accepted is gone as the view is entered
 counted_last : (a : Agreement) (from : ℕ) (key : ClusterKey) (b accepted : Bool) → b ≡ true → accepted ≡ true
-    → agreement.entering_if (agreement.accepting_if a from b) key (b && accepted) ≡ agreement.agreement_entered a key
+    → (if b && accepted then agreement_entered (if b then record a { proposal = accepted_by a.proposal from } else a) key else (if b then record a { proposal = accepted_by a.proposal from } else a)) ≡ agreement.agreement_entered a key
 counted_last a from key true true e i = refl
 counted_last a from key false accepted e i = cc
 counted_last a from key true false e i = cc
@@ -135,7 +138,7 @@ accepted_key o from k ms h fit = subst IsKeyField h.key_of (fit h.proposal h.pro
 -- ---- commits
 
 pub stale_commit : (f : Facts) (key : ClusterKey) (ms : List Member) → due.may_enter_view f key ms ≡ false → due.due_commit f key ms ≡ due.stale f
-stale_commit f key ms e = ap (due.entry_effects_if f key ms) e
+stale_commit f key ms e = ap (λ (holds : Bool). if holds then lines_only (entering f key ms) else stale f) e
 
 pub after_stale_commit : (f : Facts) (key : ClusterKey) (ms : List Member) → due.may_enter_view f key ms ≡ false → after_message f 0 0 (message.Commit key ms) ≡ f
 after_stale_commit f key ms e = commit_is f 0 0 key ms ∙ go (due.may_enter_view f key ms) e
@@ -150,7 +153,7 @@ committed_member me a key ms e = (and_parts (key_lt a.last key) (is_member ms me
 pub after_commit : (f : Facts) (key : ClusterKey) (ms : List Member) (a : Agreement) → due.may_enter_view f key ms ≡ true → a ≡ agreement.committing f.me f.agreement key ms
     → agreed f a (Some (view_at_entry f key ms)) ≡ after_message f 0 0 (message.Commit key ms)
 after_commit f key ms a may is =
-    ap (λ (b : Agreement). agreed f b (Some (view_at_entry f key ms))) (is ∙ ap (agreement.entering_if f.agreement key) may)
+    ap (λ (b : Agreement). agreed f b (Some (view_at_entry f key ms))) (is ∙ ap (λ (holds : Bool). if holds then agreement_entered f.agreement key else f.agreement) may)
     ∙ entered_is f key ms (committed_member f.me f.agreement key ms may)
     ∙ sym (commit_is f 0 0 key ms ∙ ap (λ (b : Bool). if b then parts.view_entered f key ms else f) may)
 
@@ -184,16 +187,16 @@ several_members n h = grind (arith, nat_tests, h)
 
 -- the lines of transactions that end, then that of the view, and then that of the exchange, where it is over
 pub told_entering : (before closed : told.Effects) (f : Facts) (key : ClusterKey) (ms : List Member) (me : ℕ) (ls after : List Line)
-    → closed ≡ then_effects before (lines_only (closing f)) → me ≡ f.me → ls ≡ closed.lines ++ line.Enter me key ms ∷ [] → after ≡ ls ++ exchanging me key (is_single ms)
+    → closed ≡ then_effects before (lines_only (closing f)) → me ≡ f.me → ls ≡ closed.lines ++ line.Enter me key ms ∷ [] → after ≡ ls ++ only_if (line.Exchanged me key) (is_single ms)
     → ◌≡◌ {A = told.Effects} (record { lines = after; sends = closed.sends }) (then_effects before (lines_only (entering f key ms)))
 told_entering before closed f key ms me ls after ends own enters exchanges =
     ap₂ (λ (xs : List Line) (ss : List (ℕ × List ℕ)). let e : told.Effects = record { lines = xs; sends = ss } in e)
     (exchanges
-    ∙ ap (λ (xs : List Line). xs ++ exchanging me key (is_single ms)) enters
-    ∙ append_assoc closed.lines (line.Enter me key ms ∷ []) (exchanging me key (is_single ms))
-    ∙ ap (λ (n : ℕ). closed.lines ++ (line.Enter n key ms ∷ exchanging n key (is_single ms))) own
-    ∙ ap (λ (e : told.Effects). e.lines ++ (line.Enter f.me key ms ∷ exchanging f.me key (is_single ms))) ends
-    ∙ append_assoc before.lines (closing f) (line.Enter f.me key ms ∷ exchanging f.me key (is_single ms)))
+    ∙ ap (λ (xs : List Line). xs ++ only_if (line.Exchanged me key) (is_single ms)) enters
+    ∙ append_assoc closed.lines (line.Enter me key ms ∷ []) (only_if (line.Exchanged me key) (is_single ms))
+    ∙ ap (λ (n : ℕ). closed.lines ++ (line.Enter n key ms ∷ only_if (line.Exchanged n key) (is_single ms))) own
+    ∙ ap (λ (e : told.Effects). e.lines ++ (line.Enter f.me key ms ∷ only_if (line.Exchanged f.me key) (is_single ms))) ends
+    ∙ append_assoc before.lines (closing f) (line.Enter f.me key ms ∷ only_if (line.Exchanged f.me key) (is_single ms)))
     (ap (λ (e : told.Effects). e.sends) ends)
 
 -- ---- the step

@@ -3,7 +3,7 @@ use Rattle.std.proofs.Common.{◌≡◌, ◌≢◌, ◌<◌, ◌&&◌, ◌^◌, 
 use Rattle.std.specs.Borrow.{Bor}
 use Rattle.std.specs.Global.{Box}
 use Rattle.std.specs.Option.{ForSome}
-use Rattle.std.specs.Prelude.{IfSome}
+use Rattle.std.specs.Prelude.{IfSome, if◌then◌else◌}
 use Rattle.std.proofs.lemmas.Bool.Decides.{nat_tests}
 use Rattle.std.proofs.lemmas.List.Elements.{All-nil}
 use Rattle.cluster_types.specs.declared.cluster_key.ClusterKey.{ClusterKey}
@@ -21,7 +21,7 @@ use Rattle.wire_messages.specs.Keys.{IsKeyField}
 use Rattle.wire_messages.specs.Nodes.{IsId}
 use Rattle.wire_messages.specs.Proper.{IsBatch}
 use Rattle.node_rules.specs.Agreement as agreement
-use Rattle.node_rules.specs.Agreement.{Agreement, Proposal, enters_alone, has_round, next_key, promising, proposes_anew, proposing_if, seen_round, still_proposing, ticking}
+use Rattle.node_rules.specs.Agreement.{Agreement, Proposal, enters_alone, has_round, next_key, promising, proposes_anew, seen_round, still_proposing, ticking, others_among, proposing_to}
 use Rattle.node_rules.specs.Batches.{Targets}
 use Rattle.node_rules.specs.ByParts.{batches_due, entered_alone, proposed_facts, sending_all, settled_facts}
 use Rattle.node_rules.specs.Copies.{Content, is_nil}
@@ -33,7 +33,7 @@ use Rattle.node_rules.specs.Notes.{after_ages, neighbours, noted}
 use Rattle.node_rules.specs.Settling.{settling_due}
 use Rattle.node_rules.specs.Steps.{after_tick}
 use Rattle.node_rules.specs.Tick as tick
-use Rattle.node_rules.specs.Tick.{due_tick, parts_in_order, is_candidate, propose}
+use Rattle.node_rules.specs.Tick.{due_tick, parts_in_order, is_candidate, propose, parts}
 use Rattle.node_rules.proofs.TickParts.{alone_is, among_others_is, up_is}
 use Rattle.node_view.specs.declared.here.Settling.{Settling}
 use Rattle.node_view.specs.declared.view.View.{View}
@@ -60,6 +60,7 @@ use Rattle.node_steps.proofs.SettledLaws.{kept_all}
 use Rattle.node_steps.proofs.SpelledLaws.{told_twice}
 use Rattle.node_steps.proofs.StepRanges.{due_batches_fit, sent_ranges, settled_ranges}
 use Rattle.node_steps.proofs.TickingLaws.{parts_apart, settled_apart_from}
+use Rattle.node_rules.specs.Effects.{lines_only}
 
 -- a tick of the node as it is planned
 pub record IsTicking (f : Facts) (hearing : Adjacent) (agree : Agreeing) (answer : answers.ProposalStep) (entered : Option (Box View)) : Type 0 where
@@ -82,7 +83,7 @@ pub data Enters (f : Facts) (a : Agreement) (entered : Option (Box View)) : Type
 
 -- the agreement of a node that enters a view alone
 entering_alone : (me : ℕ) (a : Agreement) (set : List Member) (anew : Bool) (ns : List ℕ) → ns ≡ agreement.others_among me set → (anew && is_nil ns) ≡ true
-    → proposing_if me a set anew ≡ agreement.agreement_entered (promising a (next_key me a))
+    → (if anew then proposing_to me a (next_key me a) set (others_among me set) else a) ≡ agreement.agreement_entered (promising a (next_key me a))
     (next_key me a)
 entering_alone me a set false ns same e = cc
 entering_alone me a set true (n ∷ ns) same e = cc
@@ -99,7 +100,7 @@ by_some a f entered None same some is onward view = cc
 by_some a f entered (Some v) same some is onward view = Enters.one v is same onward (view v refl)
 
 enters_by : (f : Facts) (a : Agreement) (entered : Option (Box View)) (b : Bool) (o : Option Proposal) → alone f ≡ b
-    → a ≡ proposing_if f.me f.agreement (neighbours f) (proposes_anew f.agreement (is_candidate f))
+    → a ≡ (if proposes_anew f.agreement (is_candidate f) then proposing_to f.me f.agreement (next_key f.me f.agreement) (neighbours f) (others_among f.me (neighbours f)) else f.agreement)
     → EntersBy f (entered_or_sent b (next_key f.me f.agreement) (neighbours f) o) entered → Enters f a entered
 enters_by f a entered false o is onward h = Enters.nobody is (sent_none f o entered h)
 enters_by f a entered true o is onward h =
@@ -116,10 +117,10 @@ how_enters f hearing agree answer entered h =
     let g : Facts = after_ages f in
     let set : List Member = neighbours g in
     let b : Bool = is_candidate g in
-    enters_by g agree.agreement entered (alone g) (proposing_if g.me g.agreement set (proposes_anew g.agreement b)).proposal refl
-    (h.proposed.agreement ∙ ap (λ (a : Agreement). proposing_if g.me a set (proposes_anew a b)) (still f))
+    enters_by g agree.agreement entered (alone g) (if proposes_anew g.agreement b then proposing_to g.me g.agreement (next_key g.me g.agreement) set (others_among g.me set) else g.agreement).proposal refl
+    (h.proposed.agreement ∙ ap (λ (a : Agreement). (if proposes_anew a b then proposing_to g.me a (next_key g.me a) set (others_among g.me set) else a)) (still f))
     (subst (λ (x : answers.ProposalStep). EntersBy g x entered)
-    (h.proposed.answered ∙ ap (λ (a : Agreement). entered_or_sent (enters_alone g.me a set b) (next_key g.me g.agreement) set (proposing_if g.me a set (proposes_anew a b)).proposal) (still f))
+    (h.proposed.answered ∙ ap (λ (a : Agreement). entered_or_sent (enters_alone g.me a set b) (next_key g.me g.agreement) set (if proposes_anew a b then proposing_to g.me a (next_key g.me a) set (others_among g.me set) else a).proposal) (still f))
     h.enters)
 
 -- ---- the facts of the later parts
@@ -182,14 +183,14 @@ proposing_keys : (me : ℕ) (a : Agreement) (key : ClusterKey) (set : List Membe
 proposing_keys me a key set [] k h = record { promised = inr k; proposed = none_for (λ p. IsKeyField p.key) }
 proposing_keys me a key set (n ∷ ns) k h = go (agreement.proposes (promising a key).proposal key)
   where
-    go : (b : Bool) → HasKeys (agreement.proposed_if (promising a key) (agreement.proposal_of me key set) b)
+    go : (b : Bool) → HasKeys (if b then promising a key else record (promising a key) { proposal = Some (agreement.proposal_of me key set) })
     go true = record { promised = inr k; proposed = kept_keys (agreement.proposes a.proposal key) a.proposal h.proposed }
     go false = record {
       promised = inr k;
       proposed = λ p e. let same : agreement.proposal_of me key set ≡ p = cc in subst (λ (x : Proposal). IsKeyField x.key) same k;
     }
 
-anew_keys : (me : ℕ) (a : Agreement) (set : List Member) (x y z : Bool) → has_round a ≡ z → IsId me → HasKeys a → HasKeys (proposing_if me a set (x && (y && z)))
+anew_keys : (me : ℕ) (a : Agreement) (set : List Member) (x y z : Bool) → has_round a ≡ z → IsId me → HasKeys a → HasKeys (if x && (y && z) then proposing_to me a (next_key me a) set (others_among me set) else a)
 anew_keys me a set true true true room id h = proposing_keys me a (next_key me a) set (agreement.others_among me set) (next_fits me a id room) h
 anew_keys me a set true true false room id h = h
 anew_keys me a set true false z room id h = h
@@ -393,7 +394,7 @@ tick_told f hearing agree answer entered up h r =
     told_twice (then_effects first beats) proposes rest
     ∙ told_twice first beats (rules.followed_by proposes rest)
     ∙ ap (λ (e : rules.Effects). spelled (rules.followed_by (tick.tick f) (rules.followed_by beats (rules.followed_by proposes e)))) (sym same)
-    ∙ ap (λ (b : Bool). spelled (tick.tick_if partition_count f b)) (sym up)
+    ∙ ap (λ (b : Bool). spelled (if b then parts_in_order (parts partition_count) f else lines_only (line.Down f.me ∷ []))) (sym up)
 
 -- ---- the ranges after the tick
 

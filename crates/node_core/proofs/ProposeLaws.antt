@@ -1,5 +1,5 @@
 -- What a node proposes at a tick.
-use Rattle.std.proofs.Common.{◌≡◌, ◌≤◌, ◌&&◌, ℕ, ◌+◌, Bool, true, false, not, List, [], ◌∷◌, Option, Some, None, refl, sym, ap, ap₂, subst, ◌∙◌, arith}
+use Rattle.std.proofs.Common.{◌≡◌, ◌≤◌, ◌&&◌, ℕ, ◌+◌, Bool, true, false, not, List, [], ◌∷◌, Option, Some, None, refl, sym, ap, ap₂, subst, ◌∙◌, arith, if◌then◌else◌}
 use Rattle.std.specs.Option.{ForSome}
 use Rattle.std.proofs.lemmas.Bool.Decides.{nat_tests}
 use Rattle.cluster_types.specs.declared.cluster_key.ClusterKey.{ClusterKey}
@@ -11,7 +11,7 @@ use Rattle.journal_lines.specs.declared.line.Line.{Line}
 use Rattle.journal_lines.specs.declared.line.Line.TheVariants as line
 use Rattle.wire_messages.specs.declared.message.Message.TheVariants as message
 use Rattle.node_rules.specs.Agreement as agreement
-use Rattle.node_rules.specs.Agreement.{Agreement, Proposal, enters_alone, has_round, kept_if, next_key, proposes_anew, proposes_set, proposing_if, seen_round, still_proposing, ticking}
+use Rattle.node_rules.specs.Agreement.{Agreement, Proposal, enters_alone, has_round, next_key, proposes_anew, proposes_set, seen_round, still_proposing, ticking, others_among, proposing_to}
 use Rattle.node_rules.specs.Copies.{is_nil}
 use Rattle.node_rules.specs.Effects as rules
 use Rattle.node_rules.specs.Effects.{lines_only, nothing, sends_only, to_each}
@@ -19,7 +19,7 @@ use Rattle.node_rules.specs.Entering.{entering}
 use Rattle.node_rules.specs.Facts.{Facts}
 use Rattle.node_rules.specs.Keys.{same_key}
 use Rattle.node_rules.specs.Notes.{neighbours}
-use Rattle.node_rules.specs.Tick.{is_candidate, propose, propose_new, proposal_effects}
+use Rattle.node_rules.specs.Tick.{is_candidate, propose, proposal_effects}
 use Rattle.node_rules.proofs.Agreeing.{same_itself}
 use Rattle.wire_messages.specs.Keys.{IsKeyField}
 use Rattle.node_rules.specs.Tables.{only_if}
@@ -29,8 +29,8 @@ use Rattle.node_steps.proofs.SpelledLaws.{told_twice}
 
 -- ---- the agreement
 
-kept_twice : (set : List Member) (o : Option Proposal) (b : Bool) → proposes_set o set ≡ b → kept_if (proposes_set (kept_if b o) set) (kept_if b o) ≡ kept_if b o
-kept_twice set o true e = ap (λ (b : Bool). kept_if b o) e
+kept_twice : (set : List Member) (o : Option Proposal) (b : Bool) → proposes_set o set ≡ b → (if proposes_set (if b then o else None) set then (if b then o else None) else None) ≡ (if b then o else None)
+kept_twice set o true e = ap (λ (b : Bool). (if b then o else None)) e
 kept_twice set o false e = refl
 
 -- what was given up of a proposal is given up once
@@ -38,11 +38,11 @@ pub still_twice : (a : Agreement) (set : List Member) → still_proposing (still
 still_twice a set = ap (λ (o : Option Proposal). record a { proposal = o }) (kept_twice set a.proposal (proposes_set a.proposal set) refl)
 
 pub ticking_twice : (me : ℕ) (a : Agreement) (set : List Member) (candidate : Bool) → ticking me (still_proposing a set) set candidate ≡ ticking me a set candidate
-ticking_twice me a set candidate = ap (λ (x : Agreement). proposing_if me x set (proposes_anew x candidate)) (still_twice a set)
+ticking_twice me a set candidate = ap (λ (x : Agreement). (if proposes_anew x candidate then proposing_to me x (next_key me x) set (others_among me set) else x)) (still_twice a set)
 
 pub answer_twice : (me : ℕ) (a : Agreement) (set : List Member) (candidate : Bool) → tick_answer me (still_proposing a set) set candidate ≡ tick_answer me a set candidate
 answer_twice me a set candidate =
-    ap (λ (x : Agreement). entered_or_sent (enters_alone me x set candidate) (next_key me a) set (proposing_if me x set (proposes_anew x candidate)).proposal) (still_twice a set)
+    ap (λ (x : Agreement). entered_or_sent (enters_alone me x set candidate) (next_key me a) set (if proposes_anew x candidate then proposing_to me x (next_key me x) set (others_among me set) else x).proposal) (still_twice a set)
 
 -- ---- what is said of the proposal
 
@@ -67,7 +67,7 @@ new_key me a = above (seen_round a) me a.promised (seen_most a)
     above seen n k most = grind (arith, nat_tests)
 
 abbrev answer_by : ℕ → Agreement → List Member → Bool → answers.ProposalStep
-answer_by me a set candidate = entered_or_sent (enters_alone me a set candidate) (next_key me a) set (proposing_if me a set (proposes_anew a candidate)).proposal
+answer_by me a set candidate = entered_or_sent (enters_alone me a set candidate) (next_key me a) set (if proposes_anew a candidate then proposing_to me a (next_key me a) set (others_among me set) else a).proposal
 
 abbrev pub told_by : Facts → Agreement → answers.ProposalStep → rules.Effects
 told_by f a answer = rules.followed_by (lines_only (promise_lines f a.promised)) (due_answer f answer)
@@ -87,15 +87,15 @@ said_anew f key set (n ∷ ns) none same new =
     ∙ ap (λ (o : Option Proposal). told_by f (anew o) (entered_or_sent false key set (anew o).proposal)) (sym none)
 
 said_none : (f : Facts) (b : Bool) → f.agreement.proposal ≡ None
-    → propose_new f b
-    ≡ told_by f (proposing_if f.me f.agreement (neighbours f) b) (entered_or_sent (b && is_nil (agreement.others_among f.me (neighbours f))) (next_key f.me f.agreement) (neighbours f) (proposing_if f.me f.agreement (neighbours f) b).proposal)
+    → (if b then proposal_effects f (next_key f.me f.agreement) (neighbours f) (agreement.others_among f.me (neighbours f)) else nothing)
+    ≡ told_by f (if b then proposing_to f.me f.agreement (next_key f.me f.agreement) (neighbours f) (others_among f.me (neighbours f)) else f.agreement) (entered_or_sent (b && is_nil (agreement.others_among f.me (neighbours f))) (next_key f.me f.agreement) (neighbours f) (if b then proposing_to f.me f.agreement (next_key f.me f.agreement) (neighbours f) (others_among f.me (neighbours f)) else f.agreement).proposal)
 said_none f true none =
     said_anew f (next_key f.me f.agreement) (neighbours f) (agreement.others_among f.me (neighbours f)) none refl (new_key f.me f.agreement)
 said_none f false none = rw (same_itself f.agreement.promised, none) refl
 
 said : (f : Facts) (o : Option Proposal)
     → propose (with_proposal f o)
-    ≡ told_by (with_proposal f o) (proposing_if f.me (with_proposal f o).agreement (neighbours f) (proposes_anew (with_proposal f o).agreement (is_candidate f))) (answer_by f.me (with_proposal f o).agreement (neighbours f) (is_candidate f))
+    ≡ told_by (with_proposal f o) (if proposes_anew (with_proposal f o).agreement (is_candidate f) then proposing_to f.me (with_proposal f o).agreement (next_key f.me (with_proposal f o).agreement) (neighbours f) (others_among f.me (neighbours f)) else (with_proposal f o).agreement) (answer_by f.me (with_proposal f o).agreement (neighbours f) (is_candidate f))
 said f (Some p) = rw (same_itself f.agreement.promised) refl
 said f None = said_none (with_proposal f None) (is_candidate f && has_round f.agreement) refl
 
@@ -107,7 +107,7 @@ proposed_as f a answer still is answered =
     let set : List Member = neighbours f in
     let b : Bool = is_candidate f in
     said f f.agreement.proposal
-    ∙ ap (λ (x : Agreement). told_by f (proposing_if f.me x set (proposes_anew x b)) (entered_or_sent (enters_alone f.me x set b) (next_key f.me f.agreement) set (proposing_if f.me x set (proposes_anew x b)).proposal)) (sym still)
+    ∙ ap (λ (x : Agreement). told_by f (if proposes_anew x b then proposing_to f.me x (next_key f.me x) set (others_among f.me set) else x) (entered_or_sent (enters_alone f.me x set b) (next_key f.me f.agreement) set (if proposes_anew x b then proposing_to f.me x (next_key f.me x) set (others_among f.me set) else x).proposal)) (sym still)
     ∙ ap₂ (λ (x : Agreement) (y : answers.ProposalStep). told_by f x y) (sym is) (sym answered)
 
 -- ---- what follows from an answer

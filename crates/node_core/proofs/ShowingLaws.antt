@@ -1,5 +1,5 @@
 -- Why a node has no map, and whether it is at rest.
-use Rattle.std.proofs.Common.{◌≡◌, ℕ, Bool, true, false, ◌&&◌, not, List, [], ◌∷◌, Option, Some, None, is_some, map, refl, sym, ap, ◌∙◌}
+use Rattle.std.proofs.Common.{◌≡◌, ℕ, Bool, true, false, ◌&&◌, not, List, [], ◌∷◌, Option, Some, None, is_some, map, refl, sym, ap, ◌∙◌, if◌then◌else◌}
 use Rattle.std.proofs.lemmas.Bool.{and_left, and_right}
 use Rattle.cluster_types.specs.Partitions.{partition_count}
 use Rattle.journal_lines.specs.declared.refusal.Refusal.TheVariants as refusal
@@ -7,13 +7,13 @@ use Rattle.node_rules.specs.Copies.{is_nil}
 use Rattle.node_rules.specs.Exchange as exchange
 use Rattle.node_rules.specs.Exchange.{first_missing, members_of}
 use Rattle.node_rules.specs.Facts.{Facts}
-use Rattle.node_rules.specs.Requests.{exchange_refusal, map_refusal, up_refusal, view_refusal}
+use Rattle.node_rules.specs.Requests.{exchange_refusal, map_refusal, view_refusal}
 use Rattle.node_rules.specs.Standing.{has_nothing_to_learn_or_drop, is_at_rest, knows_all_settled}
 
 -- ---- the map
 
 pub refused_outside : (f : Facts) → f.up ≡ true → is_some f.exchange.view ≡ false → Some refusal.NoView ≡ map_refusal f
-refused_outside f up none = sym (ap (up_refusal f) up ∙ go f.exchange.view none)
+refused_outside f up none = sym (ap (λ (holds : Bool). if holds then view_refusal f f.exchange.view else Some refusal.Down) up ∙ go f.exchange.view none)
   where
     go : (o : Option exchange.View) → is_some o ≡ false → view_refusal f o ≡ Some refusal.NoView
     go None e = refl
@@ -22,7 +22,7 @@ refused_outside f up none = sym (ap (up_refusal f) up ∙ go f.exchange.view non
 -- a node that is up and in a view waits for that row, or for none
 pub refused_waiting : (f : Facts) (o : Option ℕ) → f.up ≡ true → is_some f.exchange.view ≡ true → first_missing f.exchange.rows (members_of f.exchange.view) ≡ o
     → exchange_refusal o ≡ map_refusal f
-refused_waiting f o up some missing = sym (ap (up_refusal f) up ∙ go f.exchange.view some missing)
+refused_waiting f o up some missing = sym (ap (λ (holds : Bool). if holds then view_refusal f f.exchange.view else Some refusal.Down) up ∙ go f.exchange.view some missing)
   where
     go : (v : Option exchange.View) → is_some v ≡ true → first_missing f.exchange.rows (members_of v) ≡ o → view_refusal f v ≡ exchange_refusal o
     go None no_way e = cc
@@ -32,7 +32,7 @@ refused_waiting f o up some missing = sym (ap (up_refusal f) up ∙ go f.exchang
 pub mapped_is_up : (f : Facts) → None ≡ map_refusal f → f.up ≡ true
 mapped_is_up f none = go f.up none
   where
-    go : (b : Bool) → None ≡ up_refusal f b → b ≡ true
+    go : (b : Bool) → None ≡ (if b then view_refusal f f.exchange.view else Some refusal.Down) → b ≡ true
     go true e = refl
     go false e = cc
 

@@ -1,8 +1,8 @@
 //! What a message makes a node do, by kinds.
-ghost use Rattle.std.specs.Prelude.{◌≡◌, ◌≢◌, None, is_some, IsTrue, IfOk, IfSome, OnErr, OnOk};
+ghost use Rattle.std.specs.Prelude.{◌≡◌, ◌≢◌, None, is_some, IsTrue, IfOk, IfSome, OnErr, OnOk, if◌then◌else◌};
 ghost use Rattle.wire_messages.specs.declared.message.Message.TheVariants as message;
 ghost use Rattle.wire_messages.specs.Proper.{IsProper};
-ghost use Rattle.node_rules.specs.Messages.{due_message, spent, stale, unless_spent};
+ghost use Rattle.node_rules.specs.Messages.{due_message, spent, stale};
 ghost use Rattle.node_rules.specs.Notes.{in_view};
 ghost use Rattle.node_rules.specs.Steps.{after_message, planning, unplanned};
 ghost use Rattle.node_steps.specs.Counts.{HaveNumbers};
@@ -13,6 +13,7 @@ ghost use Rattle.node_steps.specs.Ranges.{HasRanges};
 ghost use Rattle.node_view.specs.Plans as view;
 ghost use Rattle.node_steps.specs.Viewing as viewing;
 ghost use Rattle.node_view.specs.Views.{IsViewOf};
+ghost use Rattle.node_rules.specs.Effects.{nothing};
 
 mod agreement;
 mod answers;
@@ -190,7 +191,8 @@ impl Node {
         requires fits { FitsView self.old.now step }
         requires ranges { HasRanges self.old.now → HasRanges (view.view_taken self.old.now step) }
         requires room { viewing.NeedsNoRoom step }
-        ensures effects { IfOk result (λ e. e ≡ spelled (unless_spent self.old.now is_awaited)) }
+        ensures effects { IfOk result
+            (λ e. e ≡ spelled (if is_awaited then nothing else spent self.old.now)) }
         ensures planned { OnOk result
             (self.new ≡ planning self.old.now (view.view_taken self.old.now step)) }
         ensures err { OnErr result (self.new ≡ self.old) }

@@ -1,46 +1,41 @@
 -- Acknowledgements, of batches and of writes.
 use Rattle.std.proofs.Common.{◌≡◌, ◌==◌, ◌&&◌, ℕ, Bool, true, false, not, cond, List, [], ◌∷◌, filter, map, Option, Some, None, refl, sym, ap, ap₂, ◌∙◌}
-use Rattle.std.specs.Prelude.{find, option_map}
+use Rattle.std.specs.Prelude.{find, option_map, if◌then◌else◌}
 use Rattle.partition_lists.proofs.InOrderLaws.{from_equal}
 use Rattle.cluster_types.specs.declared.cluster_key.ClusterKey.{ClusterKey}
+use Rattle.cluster_types.proofs.BoolFacts.{and_left, and_right}
 use Rattle.journal_lines.specs.declared.line.Line.TheVariants as line
 use Rattle.wire_messages.specs.declared.message.Message.TheVariants as message
 use Rattle.dup_resolve.specs.declared.txn.Txn.{Txn}
 use Rattle.node_rules.specs.Batches.{has_number, out_to, acking}
-use Rattle.node_rules.specs.Effects.{lines_only}
+use Rattle.node_rules.specs.Effects.{lines_only, nothing}
 use Rattle.node_rules.specs.Exchange as exchange
 use Rattle.node_rules.specs.Exchange.{View}
 use Rattle.node_rules.specs.Facts.{Facts, view_key}
 use Rattle.node_rules.specs.Keys.{same_key}
 use Rattle.node_rules.specs.Messages as due
-use Rattle.node_rules.specs.Notes.{if_view, in_view}
+use Rattle.node_rules.specs.Notes.{in_view}
 use Rattle.node_rules.specs.Steps.{after_message}
 use Rattle.node_rules.specs.Tables.{changed_if, only_if}
 use Rattle.node_rules.specs.Transactions.{Transaction, Transactions, acknowledged, acknowledging, awaits_ack, closing_if, ends_by_ack, is_last_awaited, transaction}
 use Rattle.node_rules.proofs.PartLaws.{batch_ack_is, repl_ack_is}
 use Rattle.node_view.specs.Transactions.{kept_of}
 use Rattle.node_steps.specs.Plans.{after_ack}
+use Rattle.node_rules.specs.StaleMessages.{spent, stale}
+use Rattle.node_rules.specs.TransactionMessages.{ack_of}
 
 -- ---- batches
 
 -- an acknowledgement of a batch in the view
 pub batch_ack_told : (f : Facts) (from : ℕ) (key : ClusterKey) (number : ℕ) (b : Bool) → in_view f key ≡ true → has_number (out_to f.batches from) number ≡ b
-    → due.due_batch_ack f from key number ≡ due.unless_spent f b
-batch_ack_told f from key number b of_view out = ap (λ (v : Bool). due.batch_ack_came f from number v) of_view ∙ ap (λ (v : Bool). due.unless_spent f v) out
+    → due.due_batch_ack f from key number ≡ (if b then nothing else spent f)
+batch_ack_told f from key number b of_view out = ap (λ (v : Bool). (if v then (if has_number (out_to f.batches from) number then nothing else spent f) else stale f)) of_view ∙ ap (λ (v : Bool). (if v then nothing else spent f)) out
 
 pub batch_ack_after : (f : Facts) (from : ℕ) (key : ClusterKey) (number : ℕ) → in_view f key ≡ true
     → after_message f 0 from (message.BatchAck key number) ≡ record f { batches = acking f.batches from number }
-batch_ack_after f from key number of_view = batch_ack_is f 0 from key number ∙ ap (λ (v : Bool). if_view v (record f { batches = acking f.batches from number }) f) of_view
+batch_ack_after f from key number of_view = batch_ack_is f 0 from key number ∙ ap (λ (v : Bool). (if v then record f { batches = acking f.batches from number } else f)) of_view
 
 -- ---- what is found
-
-and_left : (a b : Bool) → (a && b) ≡ true → a ≡ true
-and_left true b e = refl
-and_left false b e = e
-
-and_right : (a b : Bool) → (a && b) ≡ true → b ≡ true
-and_right true b e = e
-and_right false b e = cc
 
 pub same_key_is : (a b : ClusterKey) → same_key a b ≡ true → a ≡ b
 same_key_is a b h =
@@ -106,9 +101,9 @@ closing_acked from number (t ∷ ts) = go (t.number == number) refl (closing_ack
 pub ack_told : (f : Facts) (from : ℕ) (key : ClusterKey) (number : ℕ) (t : Transaction) (b : Bool) → in_view f key ≡ true → transaction f.transactions number ≡ Some t
     → awaits_ack t from ≡ true → is_last_awaited t from ≡ b → due.due_repl_ack f from key number ≡ lines_only (only_if (line.Done f.me key number) b)
 ack_told f from key number t b of_view found awaited last =
-    ap (λ (v : Bool). due.repl_ack_came f from number v) of_view
+    ap (λ (v : Bool). (if v then ack_of f from (transaction f.transactions number) else stale f)) of_view
     ∙ ap (λ (o : Option Transaction). due.ack_of f from o) found
-    ∙ ap (λ (v : Bool). due.done_by f t from v) awaited
+    ∙ ap (λ (v : Bool). (if v then lines_only (only_if (line.Done f.me (view_key f) t.number) (is_last_awaited t from)) else spent f)) awaited
     ∙ ap (λ (v : Bool). lines_only (only_if (line.Done f.me (view_key f) t.number) v)) last
     ∙ ap₂ (λ (k : ClusterKey) (n : ℕ). lines_only (only_if (line.Done f.me k n) b)) (view_key_is f key of_view) (number_is f.transactions number t found)
 
@@ -117,7 +112,7 @@ pub ack_after : (f : Facts) (from : ℕ) (key : ClusterKey) (number : ℕ) (t : 
 ack_after f from key number t b of_view found awaited last =
     let acked : Transactions = acknowledging f.transactions from number in
     repl_ack_is f 0 from key number
-    ∙ ap (λ (v : Bool). if_view v (record f { transactions = closing_if acked number (ends_by_ack (transaction f.transactions number) from) }) f) of_view
+    ∙ ap (λ (v : Bool). (if v then record f { transactions = closing_if acked number (ends_by_ack (transaction f.transactions number) from) } else f)) of_view
     ∙ ap (λ (o : Option Transaction). record f { transactions = closing_if acked number (ends_by_ack o from) }) found
     ∙ ap₂ (λ (u v : Bool). record f { transactions = closing_if acked number (u && v) }) awaited last
     ∙ go b
@@ -132,14 +127,14 @@ pub ack_spent : (f : Facts) (from : ℕ) (key : ClusterKey) (number : ℕ) → i
 ack_spent f from key number of_view h =
     let acked : Transactions = acknowledging f.transactions from number in
     repl_ack_is f 0 from key number
-    ∙ ap (λ (v : Bool). if_view v (record f { transactions = closing_if acked number (ends_by_ack (transaction f.transactions number) from) }) f) of_view
+    ∙ ap (λ (v : Bool). (if v then record f { transactions = closing_if acked number (ends_by_ack (transaction f.transactions number) from) } else f)) of_view
     ∙ ap (λ (v : Bool). record f { transactions = closing_if acked number v }) h
 
 -- nothing that is open, or nobody who is awaited
 pub unknown_told : (f : Facts) (from : ℕ) (key : ClusterKey) (number : ℕ) → in_view f key ≡ true → transaction f.transactions number ≡ None → due.due_repl_ack f from key number ≡ due.spent f
-unknown_told f from key number of_view none = ap (λ (v : Bool). due.repl_ack_came f from number v) of_view ∙ ap (λ (o : Option Transaction). due.ack_of f from o) none
+unknown_told f from key number of_view none = ap (λ (v : Bool). (if v then ack_of f from (transaction f.transactions number) else stale f)) of_view ∙ ap (λ (o : Option Transaction). due.ack_of f from o) none
 
 pub unawaited_told : (f : Facts) (from : ℕ) (key : ClusterKey) (number : ℕ) (t : Transaction) → in_view f key ≡ true → transaction f.transactions number ≡ Some t → awaits_ack t from ≡ false
     → due.due_repl_ack f from key number ≡ due.spent f
 unawaited_told f from key number t of_view found awaited =
-    ap (λ (v : Bool). due.repl_ack_came f from number v) of_view ∙ ap (λ (o : Option Transaction). due.ack_of f from o) found ∙ ap (λ (v : Bool). due.done_by f t from v) awaited
+    ap (λ (v : Bool). (if v then ack_of f from (transaction f.transactions number) else stale f)) of_view ∙ ap (λ (o : Option Transaction). due.ack_of f from o) found ∙ ap (λ (v : Bool). (if v then lines_only (only_if (line.Done f.me (view_key f) t.number) (is_last_awaited t from)) else spent f)) awaited

@@ -2,7 +2,7 @@
 use Rattle.std.proofs.Common.{◌≡◌, ◌+◌, ◌<◌, ◌^◌, ℕ, Bool, true, false, List, [], ◌∷◌, Option, Some, None, refl, sym, ap, subst, ◌∙◌}
 use Rattle.std.specs.FinMap as finite
 use Rattle.std.specs.Option.{ForSome}
-use Rattle.std.specs.Prelude.{IsSome}
+use Rattle.std.specs.Prelude.{IsSome, if◌then◌else◌}
 use Rattle.conflict_order.specs.declared.version.Body.TheVariants as body
 use Rattle.conflict_order.specs.declared.version.Version.{Version}
 use Rattle.conflict_order.specs.declared.want.Want.{Want}
@@ -20,7 +20,7 @@ use Rattle.node_rules.specs.Exchange as exchange
 use Rattle.node_rules.specs.Exchange.{Exchange}
 use Rattle.node_rules.specs.Facts.{Facts, list_at, view_key}
 use Rattle.node_rules.specs.Notes.{write_applied}
-use Rattle.node_rules.specs.Requests.{acting_refusal, busy_refusal, due_request, map_refusal, refusal_after, request_refusal, request_if, up_refusal, view_refusal}
+use Rattle.node_rules.specs.Requests.{acting_refusal, busy_refusal, due_request, map_refusal, refusal_after, request_refusal, request_if, view_refusal}
 use Rattle.node_rules.specs.Stamps.{Writes, applies_at}
 use Rattle.node_rules.specs.Standing.{acts, acts_by, has_handed, has_settled, is_acting, is_master, other_replicas}
 use Rattle.node_rules.specs.Steps.{after_request}
@@ -39,6 +39,7 @@ use Rattle.node_steps.proofs.SeenLaws.{some_for}
 use Rattle.node_steps.proofs.StepRanges.{IsOutcomeField, opened_ranges, outcome_ranges}
 use Rattle.node_steps.proofs.ViewLaws.{exchange_is, transactions_are}
 use Rattle.node_steps.proofs.WritingLaws.{next_fits, others_seen}
+use Rattle.journal_lines.specs.declared.refusal.Refusal.TheVariants as refusal
 
 -- ---- refusals
 
@@ -56,7 +57,7 @@ map_first : (f : Facts) (l digest : List ℕ) (o : Option Refusal) → refusal_a
 map_first f l digest None h = refl
 map_first f l digest (Some cause) h = h
 
-view_there : (f : Facts) (b : Bool) → up_refusal f b ≡ None → IsSome f.exchange.view
+view_there : (f : Facts) (b : Bool) → (if b then view_refusal f f.exchange.view else Some refusal.Down) ≡ None → IsSome f.exchange.view
 view_there f false h = cc
 view_there f true h = go f.exchange.view h
   where

@@ -23,7 +23,7 @@ use Rattle.node_rules.specs.Facts.{Facts, list_at}
 use Rattle.node_rules.specs.Map.{all_empty}
 use Rattle.node_rules.specs.Notes.{handed, settled}
 use Rattle.node_rules.specs.Standing.{knows_all_settled, knows_settled, knows_settled_by, others}
-use Rattle.node_rules.specs.Tick.{progress, progress_if, progress_message}
+use Rattle.node_rules.specs.Tick.{progress, progress_message}
 use Rattle.node_rules.proofs.Forms.{done_by}
 use Rattle.node_view.specs.declared.here.Settling.{Settling}
 use Rattle.node_view.specs.Fits.{AreSettlings}
@@ -118,21 +118,21 @@ key_to_others (Some w) me some h = h w refl
 pub none_settled : (n : ℕ) (g : Facts) → knows_all_settled g n 0 ≡ true → progress n g ≡ nothing
 none_settled n g h = go g.exchange.exchanged
   where
-    go : (b : Bool) → progress_if n g (b && not (knows_all_settled g n 0)) ≡ nothing
-    go true = ap (λ (c : Bool). progress_if n g (not c)) h
+    go : (b : Bool) → (if b && not (knows_all_settled g n 0) then sends_only (to_each (others g) (progress_message n g true)) else nothing) ≡ nothing
+    go true = ap (λ (c : Bool). (if not c then sends_only (to_each (others g) (progress_message n g true)) else nothing)) h
     go false = refl
 
 pub none_alone : (n : ℕ) (g : Facts) → others g ≡ [] → progress n g ≡ nothing
 none_alone n g h = go (g.exchange.exchanged && not (knows_all_settled g n 0))
   where
-    go : (b : Bool) → progress_if n g b ≡ nothing
+    go : (b : Bool) → (if b then sends_only (to_each (others g) (progress_message n g true)) else nothing) ≡ nothing
     go true = ap (λ (ns : List ℕ). sends_only (to_each ns (progress_message n g true))) h
     go false = refl
 
 pub each_told : (n : ℕ) (f : Facts) (ss : List Settling) → f.exchange.exchanged ≡ true → knows_all_settled (settled_by f ss) n 0 ≡ false
     → progress n (settled_by f ss) ≡ sends_only (to_each (others (settled_by f ss)) (progress_message n (settled_by f ss) true))
 each_told n f ss done left =
-    ap₂ (λ (b c : Bool). progress_if n (settled_by f ss) (b && not c)) (ap (λ (x : Exchange). x.exchanged) (settled_view f ss) ∙ done) left
+    ap₂ (λ (b c : Bool). (if b && not c then sends_only (to_each (others (settled_by f ss)) (progress_message n (settled_by f ss) true)) else nothing)) (ap (λ (x : Exchange). x.exchanged) (settled_view f ss) ∙ done) left
 
 -- ---- how many partitions are left
 

@@ -1,5 +1,5 @@
 -- What a node sends keeps its ranges after each step.
-use Rattle.std.proofs.Common.{◌≡◌, ◌==◌, ℕ, ◌<◌, ◌^◌, Bool, true, false, not, cond, ◌&&◌, Option, Some, None, List, length, All, IsSome, inr, refl, sym, ap, subst, ◌∙◌, get_or, arith}
+use Rattle.std.proofs.Common.{◌≡◌, ◌==◌, ℕ, ◌<◌, ◌^◌, Bool, true, false, not, cond, ◌&&◌, Option, Some, None, List, length, All, IsSome, inr, refl, sym, ap, subst, ◌∙◌, get_or, arith, if◌then◌else◌}
 use Rattle.std.proofs.lemmas.List.{length-replicate}
 use Rattle.std.proofs.lemmas.List.Elements.{All-filter, All-map, All-nil}
 use Rattle.std.proofs.lemmas.List.Kept.{AllPairs-filter}
@@ -13,7 +13,7 @@ use Rattle.cluster_types.specs.declared.cluster_key.ClusterKey.{ClusterKey}
 use Rattle.cluster_types.specs.declared.member.Role.{Role}
 use Rattle.conflict_order.specs.declared.version.Version.{Version}
 use Rattle.node_rules.specs.Agreement as agreement
-use Rattle.node_rules.specs.Agreement.{Agreement, Proposal, accepting_if, entering_if, is_accepted_with, kept_if, promising_if, proposes, refused_if}
+use Rattle.node_rules.specs.Agreement.{Agreement, Proposal, is_accepted_with, proposes, accepted_by, agreement_entered, promising}
 use Rattle.node_rules.specs.Batches.{Target, Targets, acked_out, acking, is_among, without_batch}
 use Rattle.node_rules.specs.Bits.{Bits, clear_row}
 use Rattle.node_rules.specs.Copies.{Store}
@@ -61,18 +61,18 @@ ranges_agreed f h a r k = record {
 none_is : {X : Type 0} (P : X → Type 0) → ForSome None P
 none_is P x e = cc
 
-pub kept_keys : (b : Bool) (o : Option Proposal) → ForSome o (λ p. IsKeyField p.key) → ForSome (kept_if b o) (λ p. IsKeyField p.key)
+pub kept_keys : (b : Bool) (o : Option Proposal) → ForSome o (λ p. IsKeyField p.key) → ForSome (if b then o else None) (λ p. IsKeyField p.key)
 kept_keys true o h = h
 kept_keys false o h = none_is (λ p. IsKeyField p.key)
 
 pub voted_keys : (a : Agreement) (key : ClusterKey) → IsKeyField key → HasKeys a → HasKeys (agreement.voting a key)
 voted_keys a key k h = go (key_lt a.promised key)
   where
-    go : (b : Bool) → HasKeys (promising_if a key b)
+    go : (b : Bool) → HasKeys (if b then promising a key else a)
     go true = record { promised = inr k; proposed = kept_keys (proposes a.proposal key) a.proposal h.proposed }
     go false = h
 
-accepted_keys : (a : Agreement) (from : ℕ) (b : Bool) → HasKeys a → HasKeys (accepting_if a from b)
+accepted_keys : (a : Agreement) (from : ℕ) (b : Bool) → HasKeys a → HasKeys (if b then record a { proposal = accepted_by a.proposal from } else a)
 accepted_keys a from true h = record { promised = h.promised; proposed = go a.proposal h.proposed }
   where
     moved : (p x y : Proposal) → y.key ≡ p.key → y ≡ x → IsKeyField p.key → IsKeyField x.key
@@ -83,7 +83,7 @@ accepted_keys a from true h = record { promised = h.promised; proposed = go a.pr
     go (Some p) k x e = let same : agreement.without_missing p from ≡ x = cc in moved p x (agreement.without_missing p from) refl same (k p refl)
 accepted_keys a from false h = h
 
-entered_keys : (a : Agreement) (key : ClusterKey) (b : Bool) → HasKeys a → HasKeys (entering_if a key b)
+entered_keys : (a : Agreement) (key : ClusterKey) (b : Bool) → HasKeys a → HasKeys (if b then agreement_entered a key else a)
 entered_keys a key true h = record { promised = h.promised; proposed = none_is (λ p. IsKeyField p.key) }
 entered_keys a key false h = h
 
@@ -95,11 +95,11 @@ counted_keys a from key h =
 pub refused_keys : (a : Agreement) (key promised : ClusterKey) → HasKeys a → HasKeys (agreement.refusing a key promised)
 refused_keys a key promised h = go (proposes a.proposal key)
   where
-    go : (b : Bool) → HasKeys (agreement.seeing (refused_if a b) promised)
+    go : (b : Bool) → HasKeys (agreement.seeing (if b then record a { proposal = None } else a) promised)
     go true = record { promised = h.promised; proposed = none_is (λ p. IsKeyField p.key) }
     go false = record { promised = h.promised; proposed = h.proposed }
 
-pub committed_keys : (me : ℕ) (a : Agreement) (key : ClusterKey) (b : Bool) → HasKeys a → HasKeys (entering_if a key b)
+pub committed_keys : (me : ℕ) (a : Agreement) (key : ClusterKey) (b : Bool) → HasKeys a → HasKeys (if b then agreement_entered a key else a)
 committed_keys me a key b h = entered_keys a key b h
 
 -- ---- parts

@@ -1,6 +1,6 @@
 -- A write of another node.
 use Rattle.std.proofs.Common.{◌≡◌, ◌==◌, ℕ, Bool, true, false, List, Option, Some, None, is_some, ◌<◌, append-nil, refl, sym, ap, subst, ◌∙◌}
-use Rattle.std.specs.Prelude.{IsSome, option_map}
+use Rattle.std.specs.Prelude.{IsSome, option_map, if◌then◌else◌}
 use Rattle.std.specs.FinMap as finite
 use Rattle.conflict_order.specs.declared.version.Version.{Version}
 use Rattle.conflict_order.specs.Order.{is_newer}
@@ -11,11 +11,11 @@ use Rattle.journal_lines.specs.declared.line.Line.TheVariants as line
 use Rattle.wire_messages.specs.declared.message.Message.TheVariants as message
 use Rattle.node_rules.specs.ByParts.{merged_if}
 use Rattle.node_rules.specs.Effects as rules
-use Rattle.node_rules.specs.Effects.{lines_only, sends_only, to_one}
+use Rattle.node_rules.specs.Effects.{lines_only, sends_only, to_one, lines_and_sends}
 use Rattle.node_rules.specs.Facts.{Facts, list_at, view_key}
 use Rattle.node_rules.specs.Map.{list_master}
 use Rattle.node_rules.specs.Messages as due
-use Rattle.node_rules.specs.Notes.{write_counted_if, if_view, in_view}
+use Rattle.node_rules.specs.Notes.{write_counted_if, in_view}
 use Rattle.node_rules.specs.Steps.{after_message}
 use Rattle.node_rules.proofs.PartLaws.{repl_is}
 use Rattle.node_view.specs.declared.view_step.Counted.{Counted}
@@ -33,6 +33,8 @@ use Rattle.node_steps.specs.Ranges.{HasRanges}
 use Rattle.node_steps.specs.Spelled.{then_effects, spelled, spelled_sends}
 use Rattle.node_steps.proofs.AckLaws.{view_key_is}
 use Rattle.node_steps.proofs.StepRanges.{replicated_ranges}
+use Rattle.node_rules.specs.BatchMessages.{merging}
+use Rattle.node_rules.specs.StaleMessages.{stale}
 
 counted_so : (f : Facts) (p nth : ℕ) (c : Option Counted) (b : Bool) → option_map (λ n. n.nth) c ≡ some_if b nth → with_count f p c ≡ write_counted_if f (view_key f) (list_at f p) p nth b
 counted_so f p nth None true e = cc
@@ -60,7 +62,7 @@ repl_after f from key t nth digest v newer counted of_view is_newer_one is_count
     let keyed = view_key_is f key of_view in
     let g : Facts = write_counted_if f (view_key f) (list_at f p) p nth sent in
     repl_is f 0 from key t nth digest v
-    ∙ ap (λ (x : Bool). if_view x (merged_if (write_counted_if f key (list_at f p) p nth sent) (view_key f) digest v b) f) of_view
+    ∙ ap (λ (x : Bool). (if x then merged_if (write_counted_if f key (list_at f p) p nth sent) (view_key f) digest v b else f)) of_view
     ∙ ap (λ (k : ClusterKey). merged_if (write_counted_if f k (list_at f p) p nth sent) (view_key f) digest v b) (sym keyed)
     ∙ ap (λ (k : ClusterKey). merged_if g k digest v b) (sym (key_stays f (view_key f) p nth sent))
     ∙ sym (newer_so g digest v newer b is_newer_one)
@@ -74,7 +76,7 @@ some_only_if x o false e = ap is_some e
 pub repl_told : (f : Facts) (from : ℕ) (key : ClusterKey) (t : ℕ) (digest : List ℕ) (v : Version) (b : Bool) → in_view f key ≡ true → is_newer f.store.by v (finite.get f.store.content digest) ≡ b
     → due.due_repl f from key t digest v ≡ record { lines = only_if (line.Merge f.me key digest v) b; sends = to_one from (message.ReplAck key t) }
 repl_told f from key t digest v b of_view is =
-    ap (λ (x : Bool). due.repl_came f from key t digest v x) of_view
+    ap (λ (x : Bool). (if x then lines_and_sends (merging f digest v) (to_one from (message.ReplAck key t)) else stale f)) of_view
     ∙ ap (λ (ls : List Line). let e : rules.Effects = record { lines = ls; sends = to_one from (message.ReplAck key t) } in e)
     (ap (only_if (line.Merge f.me (view_key f) digest v)) is ∙ ap (λ (k : ClusterKey). only_if (line.Merge f.me k digest v) b) (view_key_is f key of_view))
 

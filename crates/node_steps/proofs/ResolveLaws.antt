@@ -1,6 +1,6 @@
 -- How the last answer resolves a transaction.
 use Rattle.std.proofs.Common.{◌≡◌, ◌==◌, ◌&&◌, ◌<◌, ◌^◌, ℕ, Bool, true, false, not, cond, List, [], ◌∷◌, map, Option, Some, None, is_some, All, refl, sym, ap, ap₂, subst, ◌∙◌}
-use Rattle.std.specs.Prelude.{IfSome, IsSome, find, option_map, unwrap_or}
+use Rattle.std.specs.Prelude.{IfSome, IsSome, find, option_map, unwrap_or, if◌then◌else◌}
 use Rattle.std.specs.Option.{ForSome}
 use Rattle.std.proofs.lemmas.List.Elements.{All-head, All-tail}
 use Rattle.conflict_order.specs.declared.policy.Policy.{Policy}
@@ -36,6 +36,9 @@ use Rattle.node_steps.proofs.OpeningLaws.{outcome_after, outcome_field, outcome_
 use Rattle.node_steps.proofs.StepRanges.{answered_ranges, outcome_ranges}
 use Rattle.node_steps.proofs.ViewLaws.{transactions_are}
 use Rattle.node_steps.proofs.WritingLaws.{others_seen, outcome_alike}
+use Rattle.node_rules.specs.Effects.{nothing}
+use Rattle.node_rules.specs.Resolving.{resolving}
+use Rattle.node_rules.specs.StaleMessages.{spent}
 
 -- ---- the answered transaction
 
@@ -112,8 +115,8 @@ pub answer_due : (f : Facts) (clock from number : ℕ) (v : Option Version) (t :
 answer_due f clock from number v t h =
     outcome_alike f clock (answered f.store.by from v t)
     ∙ sym (ap (due.answer_of f clock from v) h.found
-    ∙ ap (λ (b : Bool). due.answered_by f clock t from v b) h.awaited
-    ∙ ap (λ (b : Bool). due.resolving_if f clock (answered f.store.by from v t) b) h.last)
+    ∙ ap (λ (b : Bool). (if b then (if is_last_awaited t from then resolving f clock (list_at f (partition_of (answered f.store.by from v t).digest)) (answered f.store.by from v t) else nothing) else spent f)) h.awaited
+    ∙ ap (λ (b : Bool). (if b then resolving f clock (list_at f (partition_of (answered f.store.by from v t).digest)) (answered f.store.by from v t) else nothing)) h.last)
 
 -- ---- the step
 

@@ -1,12 +1,13 @@
 -- The row of another member, and how far its partitions have come.
-use Rattle.std.proofs.Common.{◌≡◌, ◌==◌, ◌&&◌, ◌||◌, ◌+◌, ℕ, zero, suc, Bool, true, false, not, cond, List, [], ◌∷◌, ◌++◌, append-nil, length, Option, Some, None, is_none, All, Contains, refl, sym, ap, ap₂, subst, ◌∙◌, arith}
-use Rattle.std.specs.Prelude.{IsSome, find, option_map}
+use Rattle.std.proofs.Common.{◌≡◌, ◌==◌, ◌&&◌, ◌||◌, ◌+◌, ℕ, zero, suc, Bool, true, false, not, cond, List, [], ◌∷◌, ◌++◌, append-nil, length, Option, Some, None, is_none, All, Contains, refl, sym, ap, ap₂, subst, ◌∙◌}
+use Rattle.std.specs.Prelude.{IsSome, find, option_map, if◌then◌else◌}
 use Rattle.std.proofs.lemmas.List.{ext_get_or}
 use Rattle.cluster_types.specs.declared.cluster_key.ClusterKey.{ClusterKey}
 use Rattle.cluster_types.specs.declared.member.Member.{Member}
 use Rattle.cluster_types.specs.Members.{ids_of}
 use Rattle.cluster_types.specs.Partitions.{partition_count}
 use Rattle.cluster_types.specs.Rows.{bit}
+use Rattle.cluster_types.proofs.OrRows.{or_bit, or_length}
 use Rattle.wire_messages.specs.declared.message.Message.TheVariants as message
 use Rattle.wire_messages.specs.Keys.{IsKeyField}
 use Rattle.wire_messages.specs.Proper.{IsProper}
@@ -21,16 +22,16 @@ use Rattle.node_rules.specs.Bits.{or_rows}
 use Rattle.node_rules.specs.ByParts.{exchanged_if}
 use Rattle.node_rules.specs.Copies.{Row}
 use Rattle.node_rules.specs.Exchange as exchange
-use Rattle.node_rules.specs.Exchange.{Exchange, first_missing, is_member, members_of, with_row, with_row_if}
+use Rattle.node_rules.specs.Exchange.{Exchange, first_missing, is_member, members_of, with_row}
 use Rattle.node_rules.specs.Facts.{Facts, members_of_view, view_key}
 use Rattle.node_rules.specs.Map.{lacks}
-use Rattle.node_rules.specs.Effects.{lines_only, sends_only}
+use Rattle.node_rules.specs.Effects.{lines_only, sends_only, lines_and_sends, nothing, to_one}
 use Rattle.node_rules.specs.Messages as due
-use Rattle.node_rules.specs.Messages.{answer_progress, answer_state, due_progress, due_state, finishes}
-use Rattle.node_rules.specs.Notes.{if_view, in_view, progress_came, row_came, own_targets}
+use Rattle.node_rules.specs.Messages.{due_progress, due_state, finishes}
+use Rattle.node_rules.specs.Notes.{in_view, progress_came, row_came, own_targets}
 use Rattle.node_rules.specs.Standing.{knows_all_settled, others}
 use Rattle.node_rules.specs.Tables.{bits_from, only_if}
-use Rattle.node_rules.specs.Tick.{own_row_in, progress_message}
+use Rattle.node_rules.specs.Tick.{own_row_in, progress_message, state}
 use Rattle.node_rules.specs.Steps.{after_message}
 use Rattle.node_rules.proofs.Forms.{done_by, settled_by}
 use Rattle.node_rules.proofs.PartLaws.{progress_is, state_is}
@@ -50,6 +51,8 @@ use Rattle.node_steps.proofs.MemberLaws.{listed, other_is_member, other_is_other
 use Rattle.node_steps.proofs.SpelledLaws.{told_nothing}
 use Rattle.node_steps.proofs.StepRanges.{last_row_ranges, row_ranges}
 use Rattle.node_steps.proofs.ViewLaws.{exchange_is, own_row_field}
+pub use Rattle.cluster_types.proofs.BoolFacts.{and_both}
+use Rattle.node_rules.specs.StaleMessages.{stale}
 
 -- a member's row is there where none is missing
 pub full_has : (rows : List MemberRow) (ms : List Member) (n : ℕ) → first_missing rows ms ≡ None → is_member ms n ≡ true → lacks rows n ≡ false
@@ -77,7 +80,7 @@ lacks_with (r ∷ rows) n a b m = go (r.node == m) refl (lacks_with rows n a b m
 lacks_with_row : (rows : List MemberRow) (n : ℕ) (a b : Row) (m : ℕ) → lacks (with_row rows n a) m ≡ lacks (with_row rows n b) m
 lacks_with_row rows n a b m = go (lacks rows n)
   where
-    go : (c : Bool) → lacks (with_row_if rows n a c) m ≡ lacks (with_row_if rows n b c) m
+    go : (c : Bool) → lacks (if c then rows ++ record { node = n; row = a } ∷ [] else rows) m ≡ lacks (if c then rows ++ record { node = n; row = b } ∷ [] else rows) m
     go true = lacks_with rows n a b m
     go false = refl
 
@@ -101,16 +104,12 @@ pub and_no : (a b : Bool) → b ≡ false → (a && b) ≡ false
 and_no true b e = e
 and_no false b e = refl
 
-pub and_both : (a b : Bool) → a ≡ true → b ≡ true → (a && b) ≡ true
-and_both true b e i = i
-and_both false b e i = cc
-
 -- the row is there already, and others are missing, or none
 pub none_finishes : (v : Viewed) (from : ℕ) (row : Row) → v.exchange.exchanged ≡ true → finishes_with v from row ≡ false
 none_finishes v from row e = and_not_true (is_none (first_missing (with_row v.exchange.rows from row) (members_of v.exchange.view))) v.exchange.exchanged e
 
 same_rows : (rows : List MemberRow) (n : ℕ) (row : Row) → lacks rows n ≡ false → with_row rows n row ≡ rows
-same_rows rows n row there = ap (with_row_if rows n row) there
+same_rows rows n row there = ap (λ (holds : Bool). if holds then rows ++ record { node = n; row = row } ∷ [] else rows) there
 
 pub missing_stays : (v : Viewed) (from n : ℕ) (row : Row) → lacks v.exchange.rows from ≡ false → first_missing v.exchange.rows (members_of v.exchange.view) ≡ Some n
     → finishes_with v from row ≡ false
@@ -240,7 +239,7 @@ state_proper f v key h of_view k ranges =
     (key_fits f v key h of_view k, own_row_field v.exchange.rows v.me (subst (λ (x : Exchange). All (λ r. IsStateRowField r.row) x.rows) (sym (exchange_is f v h)) ranges.rows))
 
 pub state_after : (f : Facts) (from : ℕ) (key : ClusterKey) (wants : Bool) (row : Row) → in_view f key ≡ true → after_row f from row ≡ after_message f 0 from (message.State key wants row)
-state_after f from key wants row of_view = sym (state_is f 0 from key wants row ∙ ap (λ (b : Bool). if_view b (after_row f from row) f) of_view)
+state_after f from key wants row of_view = sym (state_is f 0 from key wants row ∙ ap (λ (b : Bool). (if b then after_row f from row else f)) of_view)
 
 pub row_message_ranges : (f : Facts) (from : ℕ) (row : Row) → IsStateRowField row → IsSome f.exchange.view → HasRanges f → HasRanges (after_row f from row)
 row_message_ranges f from row fit in_one h = go (finishes f (row_came f from row true))
@@ -250,16 +249,16 @@ row_message_ranges f from row fit in_one h = go (finishes f (row_came f from row
     go false = row_ranges f from row fit h
 
 pub state_told : (f : Facts) (v : Viewed) (from : ℕ) (key : ClusterKey) (wants : Bool) (row : Row) → IsInView f v → in_view f key ≡ true
-    → then_effects (spelled (sends_only (answer_state f from wants))) (lines_only (only_if (line.Exchanged v.me (viewed_key v)) (finishes_with v from row)))
+    → then_effects (spelled (sends_only (if wants then to_one from (state f false) else []))) (lines_only (only_if (line.Exchanged v.me (viewed_key v)) (finishes_with v from row)))
     ≡ spelled (due_state f (row_came f from row (in_view f key)) from key wants)
 state_told f v from key wants row h of_view =
-    let sent = spelled_sends (answer_state f from wants) in
+    let sent = spelled_sends (if wants then to_one from (state f false) else []) in
     let told : List Line → List (ℕ × List ℕ) → Effects = λ (ls : List Line) (ss : List (ℕ × List ℕ)). record { lines = ls; sends = ss } in
     ap₂ told
     (ap₂ (λ (me : ℕ) (k : ClusterKey). only_if (line.Exchanged me k) (finishes_with v from row)) (sym h.me) (ap (λ (x : Exchange). exchange.exchange_key x.view) (exchange_is f v h))
     ∙ ap (only_if (line.Exchanged f.me (view_key f))) (finishes_seen f v from row h))
     (append-nil sent)
-    ∙ ap (λ (b : Bool). spelled (due.state_came f (row_came f from row b) from wants b)) (sym of_view)
+    ∙ ap (λ (b : Bool). spelled (if b then lines_and_sends (only_if (line.Exchanged f.me (view_key f)) (finishes f (row_came f from row b))) (if wants then to_one from (state f false) else []) else stale f)) (sym of_view)
 
 -- ---- how far the partitions have come
 
@@ -269,36 +268,19 @@ progress_after f from key wants done handed settled of_view =
     progress_is f 0 from key wants done handed settled ∙ ap (λ (b : Bool). progress_came f from done handed settled b) of_view
 
 pub progress_told : (f : Facts) (from : ℕ) (key : ClusterKey) (wants : Bool) (done handed settled : List Bool) → in_view f key ≡ true
-    → answer_progress partition_count (progress_came f from done handed settled true) from (wants && knows_all_settled (progress_came f from done handed settled true) partition_count 0)
+    → (if wants && knows_all_settled (progress_came f from done handed settled true) partition_count 0 then sends_only (to_one from (progress_message partition_count (progress_came f from done handed settled true) false)) else nothing)
     ≡ due_progress partition_count f (progress_came f from done handed settled (in_view f key)) from key wants
 progress_told f from key wants done handed settled of_view =
-    ap (λ (b : Bool). due.progress_effects_if partition_count f (progress_came f from done handed settled b) from wants b) (sym of_view)
+    ap (λ (b : Bool). (if b then (if wants && knows_all_settled (progress_came f from done handed settled b) partition_count 0 then sends_only (to_one from (progress_message partition_count (progress_came f from done handed settled b) false)) else nothing) else stale f)) (sym of_view)
 
 pub same_progress : (f : Facts) (from : ℕ) (a b c done handed settled : List Bool) → a ≡ done → b ≡ handed → c ≡ settled
     → progress_came f from a b c true ≡ progress_came f from done handed settled true
 same_progress f from a b c done handed settled d h s = rw (d, h, s) refl
 
-or_length : (a b : List Bool) → length a ≡ length b → length (or_rows a b) ≡ length a
-or_length [] [] e = refl
-or_length [] (b ∷ bs) e = absurd (omega (arith, e))
-or_length (a ∷ rest) [] e = refl
-or_length (a ∷ rest) (b ∷ bs) e = ap suc (or_length rest bs (omega (arith, e)))
-
-or_bits : (a b : List Bool) (p : ℕ) → bit (or_rows a b) p ≡ (bit a p || bit b p)
-or_bits [] [] p = refl
-or_bits [] (b ∷ bs) p = refl
-or_bits (a ∷ rest) [] p = go (bit (a ∷ rest) p)
-  where
-    go : (x : Bool) → x ≡ (x || false)
-    go true = refl
-    go false = refl
-or_bits (a ∷ rest) (b ∷ bs) zero = refl
-or_bits (a ∷ rest) (b ∷ bs) (suc p) = or_bits rest bs p
-
 -- the row with these bits is that
 pub either_is : (a b row : List Bool) → IsRow a → IsRow b → length row ≡ partition_count → ((p : ℕ) → bit row p ≡ (bit a p || bit b p)) → row ≡ or_rows a b
 either_is a b row s t size each =
-    ext_get_or false row (or_rows a b) (size ∙ sym (or_length a b (s.size ∙ sym t.size) ∙ s.size)) (λ p within. each p ∙ sym (or_bits a b p))
+    ext_get_or false row (or_rows a b) (size ∙ sym (or_length a b (s.size ∙ sym t.size) ∙ s.size)) (λ p within. each p ∙ sym (or_bit a b p))
 
 bits_length : (test : ℕ → Bool) (n p : ℕ) → length (bits_from test n p) ≡ n
 unfolding bits_from

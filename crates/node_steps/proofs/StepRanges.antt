@@ -1,24 +1,25 @@
 -- What a node may send has a spelling after each step of its view too.
-use Rattle.std.proofs.Common.{◌≡◌, ◌≢◌, ◌==◌, ◌<◌, ◌+◌, ℕ, suc, Bool, true, false, if◌then◌else◌, List, [], ◌∷◌, length, get_or, Option, Some, None, All, IsSome, refl, sym, ap, subst, ◌∙◌, arith}
+use Rattle.std.proofs.Common.{◌≡◌, ◌≢◌, ◌==◌, ◌<◌, ◌+◌, ℕ, Bool, true, false, if◌then◌else◌, List, [], ◌∷◌, length, get_or, Option, Some, None, All, IsSome, refl, sym, ap, subst, ◌∙◌, arith}
 use Rattle.std.proofs.lemmas.List.{length-set}
 use Rattle.std.proofs.lemmas.List.Elements.{All-map, All-push}
 use Rattle.std.specs.Option.{ForSome}
-use Rattle.std.specs.Prelude.{is_some}
+use Rattle.std.specs.Prelude.{is_some, ◌++◌}
 use Rattle.cluster_types.specs.Partitions.{partition_count, partition_of}
 use Rattle.cluster_types.specs.declared.cluster_key.ClusterKey.{ClusterKey}
 use Rattle.conflict_order.specs.declared.version.Version.{Version}
 use Rattle.conflict_order.specs.declared.want.Want.{Want}
+use Rattle.cluster_types.proofs.OrRows.{or_length}
 use Rattle.emigrate.specs.Going.{AreHeld}
 use Rattle.node_rules.specs.Bits as bits
 use Rattle.node_rules.specs.Bits.{or_rows, progressing}
 use Rattle.node_rules.specs.ByParts.{batches_due, sending_all}
 use Rattle.node_rules.specs.Copies.{Row, Store, dropping, is_nil}
-use Rattle.node_rules.specs.Exchange.{Exchange, finished, with_row, with_row_if}
+use Rattle.node_rules.specs.Exchange.{Exchange, finished, with_row}
 use Rattle.node_rules.specs.Facts.{Facts, list_at, view_key}
 use Rattle.node_rules.specs.Map.{lacks}
 use Rattle.node_rules.specs.Merging.{Record, newer_records, store_merged_all}
 use Rattle.node_rules.specs.Notes as notes
-use Rattle.node_rules.specs.Notes.{write_applied, closed, count_in, dropped, exchanged, handed, is_for, learnt, next_nth, settled, stamped_from, write_counted}
+use Rattle.node_rules.specs.Notes.{write_applied, closed, count_in, dropped, exchanged, handed, is_for, learnt, next_nth, settled, write_counted}
 use Rattle.node_rules.specs.Stamps.{Writes, applies_at, applying, count_at, hearing_write, store_counted, store_learnt, store_merged}
 use Rattle.node_rules.specs.Standing.{is_master, other_replicas, others}
 use Rattle.node_rules.specs.Tables.{changed_if}
@@ -38,6 +39,7 @@ use Rattle.wire_messages.specs.Requests.{IsWant}
 use Rattle.wire_messages.specs.Rows.{IsRow, IsStateRowField}
 use Rattle.wire_messages.specs.Versions.{IsDigest, IsOptionVersion, IsRecord, IsVersion}
 use Rattle.wire_messages.specs.declared.message.Batch.{Batch}
+use Rattle.node_rules.specs.ViewNotes.{stamped_from}
 use Rattle.node_steps.specs.Counts.{HaveNumbers}
 use Rattle.node_steps.specs.Plans.{with_sent}
 use Rattle.node_steps.specs.Ranges.{AreCounted, HasRanges, HasSpelling, IsWriteField}
@@ -51,7 +53,7 @@ use Rattle.node_steps.proofs.TargetRanges.{due_fit, new_targets_fit, sent_target
 pub row_ranges : (f : Facts) (from : ℕ) (row : Row) → IsStateRowField row → HasRanges f → HasRanges (facts_with_row f from row)
 row_ranges f from row fit h = ranges_rows f (with_row f.exchange.rows from row) h (go (lacks f.exchange.rows from))
   where
-    go : (b : Bool) → All (λ r. IsStateRowField r.row) (with_row_if f.exchange.rows from row b)
+    go : (b : Bool) → All (λ r. IsStateRowField r.row) (if b then f.exchange.rows ++ record { node = from; row = row } ∷ [] else f.exchange.rows)
     go true = All-push (λ r. IsStateRowField r.row) f.exchange.rows (record { node = from; row = row }) h.rows fit
     go false = h.rows
 
@@ -95,12 +97,6 @@ replicated_ranges f r digest newer counted h = with_newer_ranges (with_count f (
     with_newer_ranges g None fit version = fit
     with_newer_ranges g (Some v) fit version =
         ranges_store g (store_merged g.store (view_key g) r.digest v) fit (store_is_merged g.store (view_key g) r.digest v digest (version v refl) fit.store)
-
-or_length : (a b : List Bool) → length a ≡ length b → length (or_rows a b) ≡ length a
-or_length [] [] same = refl
-or_length [] (b ∷ bs) same = absurd (omega (arith, same))
-or_length (a ∷ rest) [] same = refl
-or_length (a ∷ rest) (b ∷ bs) same = ap suc (or_length rest bs (omega (arith, same)))
 
 or_size : (a b : List Bool) → length a ≡ partition_count → length b ≡ partition_count → length (or_rows a b) ≡ partition_count
 or_size a b la lb = or_length a b (la ∙ sym lb) ∙ la

@@ -12,7 +12,7 @@ use Rattle.std.specs.FinMap.Entries.{find-put}
 use Rattle.std.specs.List.{range_with_len}
 use Rattle.std.specs.Option.{ForSome}
 use Rattle.std.specs.Ordering.{eq_by_cmp, is_eq, is_gt, nat_cmp}
-use Rattle.std.specs.Prelude.{is_some, nat_lt, unwrap_or}
+use Rattle.std.specs.Prelude.{is_some, nat_lt, unwrap_or, if◌then◌else◌}
 use Rattle.std.specs.declared.cmp.Ordering.{Ordering}
 use Rattle.std.specs.declared.cmp.Ordering.TheVariants.{Equal, Greater, Less}
 use Rattle.cluster_types.specs.Partitions.{partition_of}
@@ -25,8 +25,8 @@ use Rattle.conflict_order.specs.declared.version.Version.{Version}
 use Rattle.node_rules.specs.Copies.{Content, Stamp, Stamps, Store, dropping, is_of, joined}
 use Rattle.node_rules.specs.Facts.{Facts, list_at}
 use Rattle.node_rules.specs.Keys.{same_key}
-use Rattle.node_rules.specs.Merging.{Record, is_newer_than_held, joined_all, content_joined_if, newer_records, spoiled_all, spoiled_at, store_merged_all}
-use Rattle.node_rules.specs.Notes.{count_in, stamped_at, stamped_from}
+use Rattle.node_rules.specs.Merging.{Record, is_newer_than_held, joined_all, newer_records, spoiled_all, spoiled_at, store_merged_all}
+use Rattle.node_rules.specs.Notes.{count_in, stamped_at}
 use Rattle.node_rules.specs.Stamps.{Numbers, Writes, applies_at, applying, changed_stamps, count_at, count_of, have_no_gap, hearing_write, no_class, numbers_at, recounted, spoiled, stamped_with, store_applied, store_counted, store_learnt, store_merged, with_number}
 use Rattle.node_rules.specs.Standing.{is_all_empty, is_master, is_own_replica}
 use Rattle.node_rules.specs.Tables.{Table, at, table_with, only_if}
@@ -36,6 +36,7 @@ use Rattle.record_store.proofs.CopyLaws.{digest_cmp, same_digest}
 use Rattle.wire_messages.specs.Keys.{IsKeyField}
 use Rattle.wire_messages.specs.Numbers.{IsNumber}
 use Rattle.wire_messages.specs.Versions.{IsDigest, IsOptionVersion, IsRecord, IsVersion}
+use Rattle.node_rules.specs.ViewNotes.{stamped_from}
 use Rattle.node_steps.specs.Ranges.{AreCounted, IsStampField, IsStoreField}
 
 -- ---- versions
@@ -152,7 +153,7 @@ pub of_newer : (P : Record → Type 0) (by : Policy) (rs : List Record) (c : Con
 of_newer P by [] c h = All-nil P
 of_newer P by (r ∷ rs) c h =
     let newer : Bool = is_newer_than_held by c r in
-    All-append P (only_if r newer) (newer_records by (content_joined_if by c r newer) rs) (one newer) (of_newer P by rs (content_joined_if by c r newer) (All-tail P r rs h))
+    All-append P (only_if r newer) (newer_records by (if newer then joined by c r.0 r.1 else c) rs) (one newer) (of_newer P by rs (if newer then joined by c r.0 r.1 else c) (All-tail P r rs h))
   where
     one : (b : Bool) → All P (only_if r b)
     one true = All-cons P r [] (All-head P r rs h) (All-nil P)

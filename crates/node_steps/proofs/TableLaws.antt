@@ -1,5 +1,5 @@
 -- Tables for the client.
-use Rattle.std.proofs.Common.{◌≡◌, ◌<◌, ◌≤◌, ◌+◌, ℕ, zero, suc, Bool, true, false, List, [], ◌∷◌, Option, Some, None, All, IsSome, length, get_or, refl, sym, ap, ap₂, subst, ◌∙◌, arith}
+use Rattle.std.proofs.Common.{◌≡◌, ◌<◌, ◌≤◌, ◌+◌, ℕ, zero, suc, Bool, true, false, List, [], ◌∷◌, Option, Some, None, All, IsSome, length, get_or, refl, sym, ap, ap₂, subst, ◌∙◌, arith, if◌then◌else◌}
 use Rattle.std.specs.Option.{ForSome}
 use Rattle.cluster_types.specs.Partitions.{partition_count}
 use Rattle.cluster_types.specs.Rows.{bit}
@@ -9,11 +9,12 @@ use Rattle.wire_messages.specs.Proper.{IsMapTable}
 use Rattle.wire_messages.specs.Spelling.{spelling}
 use Rattle.wire_messages.specs.declared.message.MapTable.{MapTable}
 use Rattle.wire_messages.specs.declared.message.Message.TheVariants as message
-use Rattle.node_rules.specs.Effects.{nothing}
+use Rattle.node_rules.specs.Effects.{nothing, sends_only, to_one}
 use Rattle.node_rules.specs.Exchange.{View, exchange_key}
 use Rattle.node_rules.specs.Facts.{Facts, list_at, view_key}
-use Rattle.node_rules.specs.Messages.{client, due_map_ask, map_table, moved_from, named_from, table_if}
+use Rattle.node_rules.specs.Messages.{client, due_map_ask, map_table}
 use Rattle.node_rules.specs.Standing.{has_moved, named}
+use Rattle.node_rules.specs.ClientMessages.{named_from, moved_from}
 use Rattle.node_view.specs.Views.{IsInView, Viewed}
 use Rattle.node_steps.specs.Spelled.{spelled, with_sends}
 
@@ -87,10 +88,10 @@ table_proper f t is key size ids = record {
 pub told_table : (f : Facts) (t : MapTable) → t ≡ map_table f → f.exchange.exchanged ≡ true → with_sends (spelled nothing) ((client, spelling (message.MapTable t)) ∷ []) ≡ spelled (due_map_ask f)
 told_table f t is over =
     ap (λ (x : MapTable). with_sends (spelled nothing) ((client, spelling (message.MapTable x)) ∷ [])) is
-    ∙ ap (λ (b : Bool). spelled (table_if f b)) (sym over)
+    ∙ ap (λ (b : Bool). spelled (if b then sends_only (to_one client (message.MapTable (map_table f))) else nothing)) (sym over)
 
 pub told_no_table : (f : Facts) → f.exchange.exchanged ≡ false → spelled nothing ≡ spelled (due_map_ask f)
-told_no_table f before = ap (λ (b : Bool). spelled (table_if f b)) (sym before)
+told_no_table f before = ap (λ (b : Bool). spelled (if b then sends_only (to_one client (message.MapTable (map_table f))) else nothing)) (sym before)
 
 -- a node that is in a view knows a key that has a spelling
 pub key_in_view : (o : Option View) → IsSome o → ForSome o (λ v. IsKeyField v.key) → IsKeyField (exchange_key o)

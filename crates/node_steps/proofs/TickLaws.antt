@@ -1,5 +1,5 @@
 -- The parts of a tick after the agreement, one after another.
-use Rattle.std.proofs.Common.{◌≡◌, ℕ, zero, suc, ◌+◌, Bool, true, false, ◌&&◌, not, List, [], ◌∷◌, ◌++◌, None, refl, sym, ap, ◌∙◌, arith}
+use Rattle.std.proofs.Common.{◌≡◌, ℕ, zero, suc, ◌+◌, Bool, true, false, ◌&&◌, not, List, [], ◌∷◌, ◌++◌, None, refl, sym, ap, ◌∙◌, arith, if◌then◌else◌}
 use Rattle.cluster_types.specs.Members.{plain_role}
 use Rattle.cluster_types.specs.Partitions.{partition_count}
 use Rattle.conflict_order.specs.declared.policy.Policy.TheVariants.{Time}
@@ -15,10 +15,10 @@ use Rattle.node_rules.specs.Facts.{Facts, fresh, view_key}
 use Rattle.node_rules.specs.Hearing.{Hearing}
 use Rattle.node_rules.specs.Here.{HasRows, lines_from, part_lines}
 use Rattle.node_rules.specs.Notes.{noted}
-use Rattle.node_rules.specs.Settling.{settling_due, settling_if}
+use Rattle.node_rules.specs.Settling.{settling_due, settling_from}
 use Rattle.node_rules.specs.Standing.{is_done, knows_all_settled, knows_settled, others}
 use Rattle.node_rules.specs.Tick as tick
-use Rattle.node_rules.specs.Tick.{done_from, parts_in_order, progress, progress_if}
+use Rattle.node_rules.specs.Tick.{done_from, parts_in_order, progress, progress_message}
 use Rattle.node_rules.proofs.SettlingLaws.{settled_apart}
 use Rattle.node_steps.specs.declared.effects.Effects.{Effects}
 use Rattle.node_steps.specs.Spelled.{then_effects}
@@ -41,14 +41,14 @@ unfolding knows_all_settled
 settled_told f zero p = refl
 settled_told f (suc n) p = ap (λ (b : Bool). knows_settled f p && b) (settled_told f n (p + 1))
 
-told_if : (n : ℕ) (f : Facts) (b : Bool) → progress_if n f b ≡ progress_if n (told_of f.me f.exchange f.batches f.bits) b
+told_if : (n : ℕ) (f : Facts) (b : Bool) → (if b then sends_only (to_each (others f) (progress_message n f true)) else nothing) ≡ (if b then sends_only (to_each (others (told_of f.me f.exchange f.batches f.bits)) (progress_message n (told_of f.me f.exchange f.batches f.bits) true)) else nothing)
 told_if n f true = ap (λ (row : List Bool). sends_only (to_each (others f) (message.Progress (view_key f) true row f.bits.handed f.bits.settled))) (done_told f n 0)
 told_if n f false = refl
 
 progress_told : (n : ℕ) (f : Facts) → progress n f ≡ progress n (told_of f.me f.exchange f.batches f.bits)
 progress_told n f =
     told_if n f (f.exchange.exchanged && not (knows_all_settled f n 0))
-    ∙ ap (λ (b : Bool). progress_if n (told_of f.me f.exchange f.batches f.bits) (f.exchange.exchanged && not b)) (settled_told f n 0)
+    ∙ ap (λ (b : Bool). (if f.exchange.exchanged && not b then sends_only (to_each (others (told_of f.me f.exchange f.batches f.bits)) (progress_message n (told_of f.me f.exchange f.batches f.bits) true)) else nothing)) (settled_told f n 0)
 
 -- the same Progress is due of facts with the same view
 pub progress_alike : (n : ℕ) (f g : Facts) → f.me ≡ g.me → f.exchange ≡ g.exchange → f.batches ≡ g.batches → f.bits ≡ g.bits → progress n f ≡ progress n g
@@ -68,7 +68,7 @@ lines_alike zero p f h stamps = refl
 lines_alike (suc n) p f h stamps = ap (λ (ls : List Line). part_lines f p ++ ls) (lines_alike n (p + 1) f h stamps)
 
 apart_alike : (b : Bool) (f : Facts) (h : Hearing) (stamps : Stamps) → HasRows f
-    → settling_if partition_count (record f { hearing = h; store = record f.store { stamps = stamps } }) b ≡ settling_if partition_count f b
+    → (if b then settling_from partition_count 0 (record f { hearing = h; store = record f.store { stamps = stamps } }) else []) ≡ (if b then settling_from partition_count 0 f else [])
 apart_alike true f h stamps rows =
     settled_apart partition_count 0 (record f { hearing = h; store = record f.store { stamps = stamps } }) (record { handed = rows.handed; settled = rows.settled }) (omega arith)
     ∙ lines_alike partition_count 0 f h stamps

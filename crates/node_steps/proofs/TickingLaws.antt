@@ -2,7 +2,7 @@
 use Rattle.std.proofs.Common.{◌≡◌, ℕ, zero, suc, ◌+◌, Bool, true, false, List, [], ◌∷◌, ◌++◌, Option, Some, None, is_some, IsSome, All, inl, inr, refl, sym, ap, ap₂, subst, ◌∙◌, arith}
 use Rattle.std.specs.Borrow.{Bor}
 use Rattle.std.specs.Global.{Box}
-use Rattle.std.specs.Prelude.{IfSome, option_map}
+use Rattle.std.specs.Prelude.{IfSome, option_map, if◌then◌else◌}
 use Rattle.std.specs.Option.{ForSome}
 use Rattle.std.proofs.lemmas.List.Elements.{All-append, All-cons, All-head, All-nil, All-tail}
 use Rattle.cluster_types.specs.declared.cluster_key.ClusterKey.{ClusterKey}
@@ -24,7 +24,7 @@ use Rattle.node_rules.specs.Facts.{Facts, list_at, view_key}
 use Rattle.node_rules.specs.Hearing.{Hearing, without_quiet}
 use Rattle.node_rules.specs.Here.{HasRows, Here, drops, hands, here, learns, lines_from, lines_here, part_lines, settles}
 use Rattle.node_rules.specs.Notes.{note, noted}
-use Rattle.node_rules.specs.Settling.{settling_due, settling_if}
+use Rattle.node_rules.specs.Settling.{settling_due, settling_from}
 use Rattle.node_rules.specs.Tick as tick
 use Rattle.node_rules.specs.Tick.{parts_in_order, progress}
 use Rattle.node_rules.proofs.SettlingLaws.{settled_apart}
@@ -78,7 +78,7 @@ all_from_one P (suc n) p f each =
 all_due : (P : Line → Type 0) (f : Facts) → HasRows f → HoldsOfLines P f.me (view_key f) → All P (settling_due partition_count f)
 all_due P f rows each = go f.exchange.exchanged
   where
-    go : (b : Bool) → All P (settling_if partition_count f b)
+    go : (b : Bool) → All P (if b then settling_from partition_count 0 f else [])
     go true = subst (All P) (sym (settled_apart partition_count 0 f rows (omega arith))) (all_from_one P partition_count 0 f each)
     go false = All-nil P
 
@@ -104,7 +104,7 @@ lines_apart (suc n) p f a = ap (λ (ls : List Line). part_lines f p ++ ls) (line
 due_apart : (f : Facts) (a : Agreement) → HasRows f → settling_due partition_count (record f { agreement = a }) ≡ settling_due partition_count f
 due_apart f a rows = go f.exchange.exchanged
   where
-    go : (b : Bool) → settling_if partition_count (record f { agreement = a }) b ≡ settling_if partition_count f b
+    go : (b : Bool) → (if b then settling_from partition_count 0 (record f { agreement = a }) else []) ≡ (if b then settling_from partition_count 0 f else [])
     go true =
         settled_apart partition_count 0 (record f { agreement = a }) (record { handed = rows.handed; settled = rows.settled }) (omega arith)
         ∙ lines_apart partition_count 0 f a

@@ -24,7 +24,7 @@ use Rattle.node_rules.specs.Effects.{sends_only, to_each}
 use Rattle.node_rules.specs.Exchange as exchange
 use Rattle.node_rules.specs.Exchange.{Exchange}
 use Rattle.node_rules.specs.Facts.{Facts, list_at, view_key}
-use Rattle.node_rules.specs.Resolving.{done_if, resolving, resolving_want}
+use Rattle.node_rules.specs.Resolving.{resolving, resolving_want}
 use Rattle.node_rules.specs.Stamps.{Writes, applies_at}
 use Rattle.node_rules.specs.Requests.{asking}
 use Rattle.node_rules.specs.Standing.{other_replicas}
@@ -43,6 +43,7 @@ use Rattle.node_steps.specs.declared.resolving.Resolving.{Resolving}
 use Rattle.node_steps.specs.Spelled.{then_effects, spelled, with_lines, with_sends, write_lines}
 use Rattle.node_steps.proofs.SpelledLaws.{each_spelled, told_each}
 use Rattle.node_steps.proofs.ViewLaws.{exchange_is}
+use Rattle.node_rules.specs.Tables.{only_if}
 
 -- ---- a write
 
@@ -53,7 +54,7 @@ write_effects me key nth number digest x to = record {
   sends = to_each to (message.Repl key number nth digest x);
 }
 
-same_lines : (f : Facts) (number : ℕ) (digest : List ℕ) (x : Version) (b : Bool) → line.Apply f.me (view_key f) number digest x ∷ done_if f number b ≡ write_lines f.me (view_key f) number digest x b
+same_lines : (f : Facts) (number : ℕ) (digest : List ℕ) (x : Version) (b : Bool) → line.Apply f.me (view_key f) number digest x ∷ only_if (line.Done f.me (view_key f) number) b ≡ write_lines f.me (view_key f) number digest x b
 same_lines f number digest x true = refl
 same_lines f number digest x false = refl
 

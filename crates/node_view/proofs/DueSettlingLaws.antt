@@ -1,5 +1,5 @@
 -- What is due of the partitions of a view.
-use Rattle.std.proofs.Common.{◌≡◌, ◌<◌, ◌≤◌, ◌+◌, ◌-◌, ℕ, zero, suc, Bool, true, false, List, [], ◌∷◌, ◌++◌, get_or, All, AllPairs, Option, Some, None, refl, sym, ap, ap₂, subst, ◌∙◌, append_assoc, arith}
+use Rattle.std.proofs.Common.{◌≡◌, ◌<◌, ◌≤◌, ◌+◌, ◌-◌, ℕ, zero, suc, Bool, true, false, List, [], ◌∷◌, ◌++◌, get_or, All, AllPairs, Option, Some, None, refl, sym, ap, ap₂, subst, ◌∙◌, append_assoc, arith, if◌then◌else◌}
 use Rattle.std.specs.Option.{option_to_list}
 use Rattle.std.proofs.lemmas.Grind.{flat_map-append}
 use Rattle.std.proofs.lemmas.List.{append-nil}
@@ -14,7 +14,7 @@ use Rattle.node_rules.specs.Exchange.{Exchange}
 use Rattle.node_rules.specs.Facts.{Facts, list_at, view_key}
 use Rattle.node_rules.specs.Here.{HasRows, Here, here, lines_from, lines_here, part_lines}
 use Rattle.node_rules.specs.Notes.{noted}
-use Rattle.node_rules.specs.Settling.{settling_due, settling_if}
+use Rattle.node_rules.specs.Settling.{settling_due, settling_from}
 use Rattle.node_rules.proofs.NoteLaws.{noted-append}
 use Rattle.node_rules.proofs.SettlingLaws.{asleep_is_quiet, over_is_quiet, settled_apart}
 use Rattle.node_view.specs.declared.here.Settling.{Settling}
@@ -199,10 +199,10 @@ none_at_all f = record { exchanged = λ some. absurd (some refl); each = λ k d 
 
 pub none_due : (f : Facts) (ss : List Settling) → ss ≡ [] → f.exchange.exchanged ≡ false → AreDue f ss
 none_due f ss is off =
-    subst (λ (xs : List Settling). AreDue f xs) (sym is) (by_lines f [] (none_at_all f) (λ rows. sym (ap (settling_if partition_count f) off)))
+    subst (λ (xs : List Settling). AreDue f xs) (sym is) (by_lines f [] (none_at_all f) (λ rows. sym (ap (λ (holds : Bool). if holds then settling_from partition_count 0 f else []) off)))
 
 lines_are : (f : Facts) → f.exchange.exchanged ≡ true → HasRows f → lines_from partition_count 0 f ≡ settling_due partition_count f
-lines_are f done rows = sym (settled_apart partition_count 0 f rows (omega arith)) ∙ sym (ap (settling_if partition_count f) done)
+lines_are f done rows = sym (settled_apart partition_count 0 f rows (omega arith)) ∙ sym (ap (λ (holds : Bool). if holds then settling_from partition_count 0 f else []) done)
 
 pub none_live : (f : Facts) (v : Viewed) (m : Moving) (ss : List Settling) → ss ≡ [] → IsMoving v m → IsViewOf f v → ((p : ℕ) → bit m.live p ≡ false) → AreDue f ss
 none_live f v m ss is h k off =

@@ -1,8 +1,8 @@
 -- A view as it is entered.
-use Rattle.std.proofs.Common.{◌≡◌, ◌≢◌, ◌==◌, ◌<◌, ◌||◌, ℕ, Bool, true, false, List, [], ◌∷◌, length, Option, Some, None, find, is_none, refl, sym, ◌∙◌, arith}
+use Rattle.std.proofs.Common.{◌≡◌, ◌≢◌, ◌==◌, ◌<◌, ◌||◌, ℕ, Bool, true, false, List, [], ◌∷◌, length, find, is_none, refl, sym, ◌∙◌, arith}
 use Rattle.std.proofs.lemmas.Bool.Decides.{nat_tests}
-use Rattle.std.specs.FinMap as map
 use Rattle.cluster_types.specs.declared.member.Member.{Member}
+use Rattle.cluster_types.specs.Copies.{state_of_copy}
 use Rattle.cluster_types.specs.Members.{AreMembers, ids_of}
 use Rattle.cluster_types.specs.Partitions.{partition_count}
 use Rattle.cluster_types.specs.StateRows.{IsStateRow, state_of}
@@ -10,23 +10,17 @@ use Rattle.partition_lists.proofs.InOrderLaws.{equal, from_equal, unequal}
 use Rattle.record_store.specs.Store as held
 use Rattle.record_store.proofs.SameRows.{same_rows}
 use Rattle.node_rules.specs.Agreement.{others_among}
-use Rattle.node_rules.specs.Copies as copies
 use Rattle.node_rules.specs.Copies.{Row}
 use Rattle.node_rules.specs.Exchange.{first_missing, is_member, is_single}
 use Rattle.node_rules.specs.Map.{lacks}
 use Rattle.node_rules.proofs.Partitions.{row_tells, row_is_row}
 use Rattle.node_view.specs.Views.{store_row, store_of}
 
-same_state : (ds : List (List ℕ)) (s : Option copies.Stamp) → held.state_with ds s ≡ copies.state_with ds s
-same_state [] s = refl
-same_state (d ∷ ds) None = refl
-same_state (d ∷ ds) (Some s) = refl
-
 -- the row of a store
-pub row_is_own : (s : held.StoreWithRoom) (row : Row) → IsStateRow row → ((p : ℕ) → p < partition_count → state_of row p ≡ held.copy_state_at s p) → row ≡ store_row s
+pub row_is_own : (s : held.StoreWithRoom) (row : Row) → IsStateRow row → ((p : ℕ) → p < partition_count → state_of row p ≡ state_of_copy s.versions s.stamps p) → row ≡ store_row s
 row_is_own s row valid tells =
     same_rows row (store_row s) valid (row_is_row (store_of s) partition_count (omega arith))
-    (λ p within. tells p within ∙ same_state (held.digests_of s.versions p) (map.get s.stamps p) ∙ sym (row_tells (store_of s) partition_count p within))
+    (λ p within. tells p within ∙ sym (row_tells (store_of s) partition_count p within))
 
 -- ---- a member alone
 

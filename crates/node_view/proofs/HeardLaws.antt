@@ -3,6 +3,7 @@ use Rattle.std.proofs.Common.{◌≡◌, ◌<◌, ◌||◌, ℕ, Bool, true, fal
 use Rattle.std.specs.List.{Contains}
 use Rattle.cluster_types.specs.Partitions.{partition_count}
 use Rattle.cluster_types.specs.Rows.{bit}
+use Rattle.cluster_types.proofs.OrRows.{or_bit}
 use Rattle.partition_lists.proofs.ListLaws.{any_is_contained}
 use Rattle.record_store.specs.Store as held
 use Rattle.node_rules.specs.Agreement.{others_among}
@@ -13,7 +14,6 @@ use Rattle.node_rules.specs.Facts.{Facts}
 use Rattle.node_rules.specs.Standing.{knows_settled_by}
 use Rattle.node_rules.specs.Standing as standing
 use Rattle.node_view.specs.Views.{AreLive, IsInView, IsNodeInView, IsOtherMember, Viewed, facts_in, facts_seen, unsettled_count, with_bits, with_live, with_settled_row, with_unsettled}
-use Rattle.node_view.proofs.RowLaws.{or_bits}
 use Rattle.node_view.proofs.SightLaws.{in_view, sees}
 use Rattle.node_view.proofs.StageLaws.{is_other, other_from}
 use Rattle.node_view.proofs.StepLaws.{is_node, node_of}
@@ -30,7 +30,7 @@ contained v n o = (any_is_contained n (others_among v.me (members_of v.exchange.
 
 -- no bit is lost
 pub bits_kept : (a b : List Bool) (p : ℕ) → bit a p ≡ true → bit (or_rows a b) p ≡ true
-bits_kept a b p set = or_bits a b p ∙ rw set refl
+bits_kept a b p set = or_bit a b p ∙ rw set refl
 
 -- so many weren't known settled with the bits before
 pub counted_before : (v : Viewed) (s : held.StoreWithRoom) (bs : Bits) (before : List Bool) → IsNodeInView (facts_in v s) v s → before ≡ v.bits.settled

@@ -6,7 +6,6 @@ use Rattle.cluster_types.specs.Members.{ids_of}
 use Rattle.cluster_types.specs.Partitions.{partition_count}
 use Rattle.cluster_types.specs.Rows.{bit}
 use Rattle.partition_lists.specs.Lists as lists
-use Rattle.record_store.specs.Store.{state_with}
 use Rattle.exchange.specs.Met.{Met}
 use Rattle.exchange.specs.Met as met
 use Rattle.progress.specs.Known.{Known}
@@ -16,7 +15,7 @@ use Rattle.dup_resolve.specs.Open as kept
 use Rattle.node_rules.specs.Agreement as agreement
 use Rattle.node_rules.specs.Batches.{Targets, done_row, is_pending}
 use Rattle.node_rules.specs.Bits.{Bits, knows_each_done}
-use Rattle.node_rules.specs.Copies.{is_nil, is_of}
+use Rattle.node_rules.specs.Copies.{Stamp, is_nil, is_of, state_with}
 use Rattle.node_rules.specs.Exchange.{Exchange, members_of}
 use Rattle.node_rules.specs.Facts.{Facts, list_at, members_of_view}
 use Rattle.node_rules.specs.Map as map
@@ -77,15 +76,15 @@ others_are f i a s =
     a.heard ∙ (a.others ∙ (ap (λ ms. agreement.others_among i.me ms) a.viewed ∙ ap₂ (λ (n : ℕ) (x : Exchange). agreement.others_among n (members_of x.view)) (sym s.me) (sym s.exchange)))
 
 -- a copy has a record where its state isn't Empty
-pub empty_holds : (ds : List (List ℕ)) (stamp : Option (ClusterKey × ℕ)) → Empty ≡ state_with ds stamp → false ≡ not (is_nil ds)
+pub empty_holds : (ds : List (List ℕ)) (stamp : Option Stamp) → Empty ≡ state_with ds stamp → false ≡ not (is_nil ds)
 empty_holds [] stamp e = refl
 empty_holds (d ∷ ds) None e = cc
 empty_holds (d ∷ ds) (Some s) e = cc
 
-pub part_holds : (ds : List (List ℕ)) (stamp : Option (ClusterKey × ℕ)) → Part ≡ state_with ds stamp → true ≡ not (is_nil ds)
+pub part_holds : (ds : List (List ℕ)) (stamp : Option Stamp) → Part ≡ state_with ds stamp → true ≡ not (is_nil ds)
 part_holds [] stamp e = cc
 part_holds (d ∷ ds) stamp e = refl
 
-pub whole_holds : (ds : List (List ℕ)) (stamp : Option (ClusterKey × ℕ)) (key : ClusterKey) (writes : ℕ) → Whole key writes ≡ state_with ds stamp → true ≡ not (is_nil ds)
+pub whole_holds : (ds : List (List ℕ)) (stamp : Option Stamp) (key : ClusterKey) (writes : ℕ) → Whole key writes ≡ state_with ds stamp → true ≡ not (is_nil ds)
 whole_holds [] stamp key writes e = cc
 whole_holds (d ∷ ds) stamp key writes e = refl

@@ -1,6 +1,6 @@
 -- Whose rows are missing in a view, as one more comes.
 use Rattle.std.proofs.Common.{◌≡◌, ◌≢◌, ◌==◌, ◌&&◌, ◌||◌, ℕ, Bool, true, false, not, cond, List, [], ◌∷◌, ◌++◌, Option, Some, None, Contains, filter, refl, sym, ap, ap₂, subst, ◌∙◌}
-use Rattle.std.specs.Prelude.{is_none}
+use Rattle.std.specs.Prelude.{is_none, if◌then◌else◌}
 use Rattle.std.specs.Bool.{beq}
 use Rattle.std.specs.List.{list_all, list_any}
 use Rattle.std.proofs.lemmas.Bool.{and_right, true≢false}
@@ -11,7 +11,7 @@ use Rattle.exchange.proofs.RowsLaws.{full_is_there, lacks_fresh, others_lack}
 use Rattle.node_rules.specs.declared.member_row.MemberRow.{MemberRow}
 use Rattle.node_rules.specs.Agreement.{others_among}
 use Rattle.node_rules.specs.Copies.{Row}
-use Rattle.node_rules.specs.Exchange.{first_missing, is_member, with_row, with_row_if}
+use Rattle.node_rules.specs.Exchange.{first_missing, is_member, with_row}
 use Rattle.node_rules.specs.Map.{lacks, row_of_member}
 use Rattle.node_view.proofs.StageLaws.{is_other}
 
@@ -33,7 +33,7 @@ full_has rows ms n full member = go (lacks rows n) refl
 -- then no row is added
 pub full_stays : (rows : List MemberRow) (ms : List Member) (n : ℕ) (row : Row) → first_missing rows ms ≡ None → is_member ms n ≡ true → is_none (first_missing (with_row rows n row) ms) ≡ true
 full_stays rows ms n row full member =
-    ap (λ (b : Bool). is_none (first_missing (with_row_if rows n row b) ms)) (full_has rows ms n full member) ∙ ap is_none full
+    ap (λ (b : Bool). is_none (first_missing (if b then rows ++ record { node = n; row = row } ∷ [] else rows) ms)) (full_has rows ms n full member) ∙ ap is_none full
 
 -- ---- one row more
 
@@ -70,10 +70,10 @@ last_row (r ∷ rows) n row h = go (r.node == n) refl (last_row rows n row)
 
 pub row_out : (rows : List MemberRow) (n : ℕ) (row : Row) → lacks rows n ≡ true → filter (λ r. not (r.node == n)) (with_row rows n row) ≡ rows
 row_out rows n row absent =
-    ap (λ (b : Bool). filter (λ (r : MemberRow). not (r.node == n)) (with_row_if rows n row b)) absent ∙ less_one rows n row (others_lack rows n ∙ absent)
+    ap (λ (b : Bool). filter (λ (r : MemberRow). not (r.node == n)) (if b then rows ++ record { node = n; row = row } ∷ [] else rows)) absent ∙ less_one rows n row (others_lack rows n ∙ absent)
 
 pub row_there : (rows : List MemberRow) (n : ℕ) (row : Row) → lacks rows n ≡ true → row_of_member (with_row rows n row) n ≡ Some row
-row_there rows n row absent = ap (λ (b : Bool). row_of_member (with_row_if rows n row b) n) absent ∙ last_row rows n row (others_lack rows n ∙ absent)
+row_there rows n row absent = ap (λ (b : Bool). row_of_member (if b then rows ++ record { node = n; row = row } ∷ [] else rows) n) absent ∙ last_row rows n row (others_lack rows n ∙ absent)
 
 -- ---- the last row
 
@@ -127,8 +127,8 @@ pub last_missing : (me from : ℕ) (rows : List MemberRow) (row : Row) (ms : Lis
 last_missing me from rows row ms member other own = go (lacks rows from) refl
   where
     go : (b : Bool) → lacks rows from ≡ b → list_all (λ n. beq (n == from) (lacks rows n)) (others_among me ms) ≡ (lacks rows from && is_none (first_missing (with_row rows from row) ms))
-    go true e = only_missing me from rows row ms e own ∙ sym (ap (λ (b : Bool). b && is_none (first_missing (with_row_if rows from row b) ms)) e)
+    go true e = only_missing me from rows row ms e own ∙ sym (ap (λ (b : Bool). b && is_none (first_missing (if b then rows ++ record { node = from; row = row } ∷ [] else rows) ms)) e)
     go false e =
         let same : (from == from) ≡ true = equal from from refl in
         all_fails (λ n. beq (n == from) (lacks rows n)) (others_among me ms) from (is_other me from ms member other) (rw (same, e) refl)
-        ∙ sym (ap (λ (b : Bool). b && is_none (first_missing (with_row_if rows from row b) ms)) e)
+        ∙ sym (ap (λ (b : Bool). b && is_none (first_missing (if b then rows ++ record { node = from; row = row } ∷ [] else rows) ms)) e)

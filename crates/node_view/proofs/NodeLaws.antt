@@ -153,7 +153,7 @@ dropped_but p f v s none h = record {
 
 -- ---- a record that comes
 
-pub merged_but : (f : Facts) (v : Viewed) (s u : held.StoreWithRoom) (digest : List ℕ) (x : Version) → u.versions ≡ held.joined s.by s.versions digest x
+pub merged_but : (f : Facts) (v : Viewed) (s u : held.StoreWithRoom) (digest : List ℕ) (x : Version) → u.versions ≡ joined s.by s.versions digest x
     → u.stamps ≡ changed_stamps s.stamps (partition_of digest) (spoiled (views.viewed_key v)) (finite.get s.stamps (partition_of digest)) → u.by ≡ s.by
     → IsNodeBut (partition_of digest) f v s → IsNodeBut (partition_of digest) (merged f (view_key f) digest x) v u
 merged_but f v s u digest x versions stamps by h = record {

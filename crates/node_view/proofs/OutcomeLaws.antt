@@ -10,7 +10,7 @@ use Rattle.cluster_types.specs.declared.cluster_key.ClusterKey.{ClusterKey}
 use Rattle.cluster_types.specs.Partitions.{partition_of}
 use Rattle.record_store.specs.Store as held
 use Rattle.record_store.specs.Store.{HasRoom, room_at}
-use Rattle.node_rules.specs.Copies.{Content, Stamps, joined}
+use Rattle.node_rules.specs.Copies.{Content, Stamps, is_of, joined}
 use Rattle.node_rules.specs.Exchange.{Exchange, exchange_key}
 use Rattle.node_rules.specs.Facts.{Facts, list_at, view_key}
 use Rattle.node_rules.specs.Notes.{write_applied, closed, count_in, write_counted}
@@ -95,9 +95,9 @@ counts f v w s u p nth count key is number of stamps versions by h =
 
 -- room for one
 pub one_room : (d : List ℕ) (spare : List ℕ) → 0 < room_at spare (partition_of d) → HasRoom (d ∷ []) spare
-one_room d spare some = record { room = λ p within. at p (held.is_of p d) refl }
+one_room d spare some = record { room = λ p within. at p (is_of p d) refl }
   where
-    at : (p : ℕ) (b : Bool) → held.is_of p d ≡ b → count_by (held.is_of p) (d ∷ []) ≤ room_at spare p
+    at : (p : ℕ) (b : Bool) → is_of p d ≡ b → count_by (is_of p) (d ∷ []) ≤ room_at spare p
     at p true e =
         let here : partition_of d ≡ p = grind (arith, nat_tests, e) in
         let there : 0 < room_at spare p = subst (λ (q : ℕ). 0 < room_at spare q) here some in

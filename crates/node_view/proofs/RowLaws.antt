@@ -1,8 +1,6 @@
 -- Rows of bits by index.
-use Rattle.std.proofs.Common.{◌≡◌, ◌<◌, ◌+◌, ◌||◌, ℕ, zero, suc, Bool, List, [], ◌∷◌, length, refl, sym, ap, ap₂, ◌∙◌, arith}
-use Rattle.std.proofs.Math.Bool.{or-false}
+use Rattle.std.proofs.Common.{◌≡◌, ◌<◌, ◌+◌, ℕ, zero, suc, Bool, List, [], ◌∷◌, length, refl, sym, ap, ap₂, ◌∙◌, arith}
 use Rattle.cluster_types.specs.Rows.{bit}
-use Rattle.node_rules.specs.Bits.{or_rows}
 use Rattle.node_rules.specs.Tables.{bits_from}
 
 -- rows of the same length with the same bits are the same
@@ -36,10 +34,3 @@ row_of_bits row test n size at =
   where
     plain : (p : ℕ) → 0 + p ≡ p
     plain p = omega arith
-
-pub or_bits : (a b : List Bool) (p : ℕ) → bit (or_rows a b) p ≡ (bit a p || bit b p)
-or_bits [] [] p = refl
-or_bits [] (y ∷ b) p = refl
-or_bits (x ∷ a) [] p = sym (or-false (bit (x ∷ a) p))
-or_bits (x ∷ a) (y ∷ b) zero = refl
-or_bits (x ∷ a) (y ∷ b) (suc p) = or_bits a b p

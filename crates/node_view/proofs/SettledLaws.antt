@@ -5,6 +5,7 @@ use Rattle.std.proofs.lemmas.Bool.{and_right, false_from_ne_true, or_right}
 use Rattle.std.proofs.lemmas.List.Sums.{sum_by-cons}
 use Rattle.cluster_types.specs.Partitions.{partition_count}
 use Rattle.cluster_types.specs.Rows.{bit}
+use Rattle.cluster_types.proofs.OrRows.{or_bit}
 use Rattle.partition_lists.proofs.InOrderLaws.{unequal}
 use Rattle.node_rules.specs.Facts.{Facts, list_at}
 use Rattle.node_rules.specs.Here.{Here, here}
@@ -12,7 +13,6 @@ use Rattle.node_rules.specs.Standing.{has_nothing_to_learn_or_drop, has_settled_
 use Rattle.node_rules.proofs.Partitions.{rest_tells, settled_tells}
 use Rattle.node_view.specs.Settlings.{is_to_learn_or_drop}
 use Rattle.node_view.specs.Views.{AreLive, IsInView, IsQuiet, IsViewOf, Viewed, facts_seen, is_known_empty, with_settled_bits}
-use Rattle.node_view.proofs.RowLaws.{or_bits}
 use Rattle.node_view.proofs.SightLaws.{sees}
 
 -- ---- how many partitions aren't known settled
@@ -37,7 +37,7 @@ none_left f v count h is = ap (λ (k : ℕ). k == 0) (is ∙ h.watch.unsettled) 
 pub settled_with : (f : Facts) (v : Viewed) (s : List Bool) (q : ℕ) → IsInView f v → knows_settled (with_settled_bits f s) q ≡ (bit s q || knows_settled (facts_seen v) q)
 settled_with f v s q h =
     let t = sees f v h in
-    ap (λ (b : Bool). b || (f.exchange.exchanged && is_all_empty f q)) (or_bits f.bits.settled s q)
+    ap (λ (b : Bool). b || (f.exchange.exchanged && is_all_empty f q)) (or_bit f.bits.settled s q)
     ∙ three (bit f.bits.settled q) (bit s q) (f.exchange.exchanged && is_all_empty f q)
     ∙ rw (t.bits, t.exchange) refl
   where

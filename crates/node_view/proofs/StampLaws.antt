@@ -8,10 +8,11 @@ use Rattle.node_rules.specs.Copies.{Stamps}
 use Rattle.node_rules.specs.Exchange.{Exchange, finished}
 use Rattle.node_rules.specs.Exchange as exchange
 use Rattle.node_rules.specs.Facts.{Facts, list_at, view_key}
-use Rattle.node_rules.specs.Notes.{count_in, stamped_at, stamped_from}
+use Rattle.node_rules.specs.Notes.{count_in, stamped_at}
 use Rattle.node_rules.specs.Stamps.{stamped_by, stamped_with}
 use Rattle.node_rules.specs.Standing.{is_all_empty, is_own_replica}
 use Rattle.node_rules.proofs.Forms.{stamps_by}
+use Rattle.node_rules.specs.ViewNotes.{stamped_from}
 use Rattle.node_view.specs.Plans.{with_stamps}
 use Rattle.node_view.specs.Views.{IsNodeInView, Viewed, count_seen, is_stamped, viewed_key}
 use Rattle.node_view.proofs.SightLaws.{Sees}

@@ -9,8 +9,9 @@ use Rattle.node_rules.specs.Copies.{is_nil, Row}
 use Rattle.node_rules.specs.Exchange.{with_row}
 use Rattle.node_rules.specs.Facts.{Facts, view_key, list_at}
 use Rattle.node_rules.specs.Merging.{store_merged_all}
-use Rattle.node_rules.specs.Notes.{write_applied, closed, write_counted_if, dropped, exchanged, handed, learnt, merged, settled, stamped_from}
+use Rattle.node_rules.specs.Notes.{write_applied, closed, write_counted_if, dropped, exchanged, handed, learnt, merged, settled}
 use Rattle.node_rules.specs.Transactions as rules
+use Rattle.node_rules.specs.ViewNotes.{stamped_from}
 use Rattle.node_view.specs.declared.here.Settling.{Settling}
 use Rattle.node_view.specs.declared.view_step.Counted.{Counted}
 use Rattle.node_view.specs.declared.view_step.Outcome.{Outcome}

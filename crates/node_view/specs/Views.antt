@@ -14,7 +14,7 @@ use Rattle.node_rules.specs.Batches.{Targets, done_row}
 use Rattle.node_rules.specs.Bits.{Bits, clear_row, no_bits, or_rows, settling}
 use Rattle.node_rules.specs.Exchange as exchange
 use Rattle.node_rules.specs.Exchange.{Exchange, is_member, outside}
-use Rattle.node_rules.specs.Copies.{Content, Row, Store, row_from}
+use Rattle.node_rules.specs.Copies.{Content, Row, Store, row_from, without_copy}
 use Rattle.node_rules.specs.Notes as notes
 use Rattle.record_store.specs.Store as held
 use Rattle.node_rules.specs.Facts.{Facts, fresh, list_at}
@@ -264,7 +264,7 @@ learnt_copy s key p count = record s { stamps = finite.insert s.stamps p (key, c
 -- the store without the partition's copy and its stamp
 abbrev pub without_copy_of : held.StoreWithRoom → ℕ → held.StoreWithRoom
 without_copy_of s p = record s {
-  versions = held.without_copy s.versions p;
+  versions = without_copy s.versions p;
   stamps = finite.remove s.stamps p;
 }
 

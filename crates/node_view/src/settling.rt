@@ -10,8 +10,7 @@ ghost use Rattle.node_view.specs.Views.{AreLive, IsInView, IsMoving, IsQuiet, Is
 
 use crate::here::Here;
 use crate::view::{Moving, View};
-use cluster_types::partition::PARTITIONS;
-use cluster_types::{CopyState, PartitionId};
+use cluster_types::{CopyState, PARTITIONS, PartitionId};
 use record_store::RecordStore;
 
 impl View {

@@ -2,9 +2,10 @@
 ghost use Rattle.std.specs.Prelude.{◌≡◌, ◌<◌, ◌+◌, ◌∷◌, [], ℕ, None, Some, true, false, if◌then◌else◌, is_none, IsSome};
 ghost use Rattle.std.specs.FinMap as finite;
 ghost use Rattle.std.specs.Option.{ForSome};
+ghost use Rattle.conflict_order.specs.Contents.{joined};
 ghost use Rattle.cluster_types.specs.Partitions.{partition_count, partition_of};
 ghost use Rattle.cluster_types.specs.Rows.{bit};
-ghost use Rattle.record_store.specs.Store.{UsesRoom, joined, room_at};
+ghost use Rattle.record_store.specs.Store.{UsesRoom, room_at};
 ghost use Rattle.node_rules.specs.ByParts.{sending_all};
 ghost use Rattle.node_rules.specs.Bits.{handing, learning, progressing};
 ghost use Rattle.node_rules.specs.Exchange.{first_missing, members_of, with_row};
@@ -29,9 +30,9 @@ use crate::notes::Write;
 use crate::settling::partition_at;
 use crate::view::View;
 use crate::view_step::{Counted, LastRow, Outcome, Progressed, Replicated, ViewStep, Writing};
-use cluster_types::partition::PARTITIONS;
 use cluster_types::{
-    ClusterKey, CopyState, Digest, NodeId, NodeList, PartitionId, Row4096, StateRow, partition_of,
+    ClusterKey, CopyState, Digest, NodeId, NodeList, PARTITIONS, PartitionId, Row4096, StateRow,
+    partition_of,
 };
 use conflict_order::{Version, Want};
 use emigrate::drop_copy;

@@ -20,9 +20,8 @@ use crate::live::Live;
 use crate::notes::TxnNotes;
 use crate::view_step::LastRow;
 use crate::writes::Writes;
-use cluster_types::partition::PARTITIONS;
 use cluster_types::{
-    ClusterKey, Members, NoMemory, NodeId, NodeList, PartitionId, Row4096, StateRow,
+    ClusterKey, Members, NoMemory, NodeId, NodeList, PARTITIONS, PartitionId, Row4096, StateRow,
 };
 use conflict_order::Policy;
 use dup_resolve::Txns;

@@ -8,8 +8,8 @@
 #![tactic(auto)]
 
 mod copies;
-pub mod rows;
-pub mod states;
+mod rows;
+mod states;
 
 pub use node_rules::MemberRow;
 pub use rows::{acting, all_empty, class_first, same_class};

@@ -1,29 +1,13 @@
 -- Rows of bits of one length are the same where each bit is.
-use Rattle.std.proofs.Common.{◌≡◌, ℕ, zero, suc, ◌||◌, Bool, true, false, List, [], ◌∷◌, length, replicate, refl, sym, ap, ◌∙◌, arith}
+use Rattle.std.proofs.Common.{◌≡◌, ℕ, zero, suc, ◌||◌, Bool, false, List, [], length, replicate, refl, sym, ◌∙◌}
 use Rattle.std.proofs.lemmas.List.{ext_get_or, length-replicate}
 use Rattle.cluster_types.specs.Partitions.{partition_count}
 use Rattle.cluster_types.specs.Rows.{bit, IsClear}
+use Rattle.cluster_types.proofs.OrRows.{or_bit, or_length}
 use Rattle.node_rules.specs.Bits.{clear_row, or_rows}
 
 same_rows : (a b : List Bool) → length a ≡ length b → ((p : ℕ) → bit a p ≡ bit b p) → a ≡ b
 same_rows a b size each = ext_get_or false a b size (λ i within. each i)
-
-or_length : (a b : List Bool) → length a ≡ length b → length (or_rows a b) ≡ length a
-or_length [] [] same = refl
-or_length [] (b ∷ bs) same = absurd (omega (arith, same))
-or_length (a ∷ rest) [] same = refl
-or_length (a ∷ rest) (b ∷ bs) same = ap suc (or_length rest bs (omega (arith, same)))
-
-or_false : (a : Bool) → a ≡ (a || false)
-or_false true = refl
-or_false false = refl
-
-or_bit : (a b : List Bool) (p : ℕ) → bit (or_rows a b) p ≡ (bit a p || bit b p)
-or_bit [] [] p = refl
-or_bit [] (b ∷ bs) p = refl
-or_bit (a ∷ rest) [] p = or_false (bit (a ∷ rest) p)
-or_bit (a ∷ rest) (b ∷ bs) zero = refl
-or_bit (a ∷ rest) (b ∷ bs) (suc p) = or_bit rest bs p
 
 -- a row that has each bit that either has
 pub or_is : (a b row : List Bool) → length a ≡ partition_count → length b ≡ partition_count → length row ≡ partition_count

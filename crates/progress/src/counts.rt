@@ -5,8 +5,7 @@ ghost use Rattle.cluster_types.specs.Partitions.{partition_count};
 ghost use Rattle.cluster_types.specs.Rows.{bit};
 ghost use Rattle.cluster_types.specs.RowBytes.{bit_number};
 
-use cluster_types::partition::PARTITIONS;
-use cluster_types::{NoMemory, Row4096};
+use cluster_types::{NoMemory, PARTITIONS, Row4096};
 use std::alloc::Global;
 
 /// The bytes of a row.

@@ -7,7 +7,7 @@
 #![tactic(auto)]
 
 mod counts;
-pub mod progress;
+mod progress;
 mod row;
 mod told;
 

@@ -1,6 +1,6 @@
 -- Steps of an endpoint that sends messages: its lines, and the parts of the world after it.
 use Rattle.std.proofs.Common.{◌≡◌, ◌≢◌, ℕ, zero, suc, Bool, true, false, List, [], ◌∷◌, ◌++◌, AllPairs, length, map, Option, Some, None, refl, sym, ap, ap₂, subst, ◌∙◌, set}
-use Rattle.std.specs.Prelude.{slice_get, is_some}
+use Rattle.std.specs.Prelude.{slice_get, is_some, if◌then◌else◌}
 use Rattle.std.proofs.lemmas.List.{length-map}
 use Rattle.conflict_order.specs.declared.want.Want.{Want}
 use Rattle.conflict_order.specs.declared.want.Want.TheVariants as want
@@ -15,7 +15,7 @@ use Rattle.net_script.specs.Network as nets
 use Rattle.net_script.specs.Network.{AreNumbers, flying_ids}
 use Rattle.client_map.specs.declared.client_map.Entry.{Entry}
 use Rattle.node_rules.specs.Client.{node_for}
-use Rattle.node_rules.specs.Effects.{Effects, sends_only, to_one}
+use Rattle.node_rules.specs.Effects.{Effects, sends_only, to_one, lines_only}
 use Rattle.node_rules.specs.Facts.{Facts}
 use Rattle.node_rules.specs.Messages.{due_message_of, client}
 use Rattle.node_rules.specs.Notes.{all_sent, noted, reached}
@@ -43,6 +43,7 @@ use Rattle.world.proofs.ArrivalLaws.{at_node, flying_sent, node_lines}
 use Rattle.world.proofs.EventLaws.{at_itself, at_another, landed_network}
 use Rattle.world.proofs.NetLaws.{all_sent_on, numbered, numbers_left, posted_lines_are, same_network}
 use Rattle.world.proofs.Places.{set_image}
+use Rattle.node_rules.specs.Entering.{closing}
 
 -- ---- the lines
 
@@ -126,7 +127,7 @@ stop_stands r n ids nodes clocks net now entries place node h distinct there num
     stands_acted r (event.Stop n) n (due_stop ((standing r).facts n)) (after_stop ((standing r).facts n)) ids nodes clocks net now entries place node h distinct there numbers refl refl
     (subst (λ m. AreOf m (due_stop ((standing r).facts n)).lines) me (stop_own ((standing r).facts n))) (none_sent ((standing r).facts n) ((standing r).facts n).up) refl is same
   where
-    none_sent : (f : Facts) (b : Bool) → AreRead (Rattle.node_rules.specs.Requests.stop_if f b).sends
+    none_sent : (f : Facts) (b : Bool) → AreRead (if b then lines_only (closing f ++ line.Stop f.me ∷ []) else lines_only (line.Down f.me ∷ [])).sends
     none_sent f true = tt
     none_sent f false = tt
 
@@ -136,16 +137,16 @@ pub start_stands : (r : RunSoFar) (n : ℕ) (ids : List ℕ) (nodes : List Plann
     → node.now ≡ after_start ((standing r).facts n) → Stands (after_step (standing r) (event.Start n)) ids (set nodes place node) clocks net entries
 start_stands r n ids nodes clocks net entries place node h distinct there down me is =
     subst (λ (v : World). Stands v ids (set nodes place node) clocks net entries)
-    (sym (ap (λ b. after_all (event_begun (standing r) (event.Start n)) (map Writes (written (standing r).network n (Rattle.node_rules.specs.Requests.start_if ((standing r).facts n) b)))) down
+    (sym (ap (λ b. after_all (event_begun (standing r) (event.Start n)) (map Writes (written (standing r).network n (if b then lines_only (line.Up ((standing r).facts n).me ∷ []) else lines_only (line.Start ((standing r).facts n).me ∷ []))))) down
     ∙ ap (λ m. after_line (event_begun (standing r) (event.Start n)) (line.Start m)) me))
     (stands_moved (standing r) (after_line (event_begun (standing r) (event.Start n)) (line.Start n)) n (after_start ((standing r).facts n)) (standing r).network ids nodes clocks net net entries place node h distinct there is refl refl refl
-    (at_itself (standing r).facts n _ ∙ sym (ap (λ b. Rattle.node_rules.specs.Steps.facts_after None ((standing r).facts n) (Rattle.node_rules.specs.Requests.start_if ((standing r).facts n) b)) down))
+    (at_itself (standing r).facts n _ ∙ sym (ap (λ b. Rattle.node_rules.specs.Steps.facts_after None ((standing r).facts n) (if b then lines_only (line.Up ((standing r).facts n).me ∷ []) else lines_only (line.Start ((standing r).facts n).me ∷ []))) down))
     (at_another (standing r).facts n _) h.network)
 
 pub start_lines : (r : RunSoFar) (n : ℕ) → ((standing r).facts n).me ≡ n → ((standing r).facts n).up ≡ false → line.Start n ∷ [] ≡ next_lines r (event.Start n)
 unfolding next_lines
 start_lines r n me down =
-    ap (λ m. line.Start m ∷ []) (sym me) ∙ sym (ap (λ b. written (standing r).network n (Rattle.node_rules.specs.Requests.start_if ((standing r).facts n) b)) down)
+    ap (λ m. line.Start m ∷ []) (sym me) ∙ sym (ap (λ b. written (standing r).network n (if b then lines_only (line.Up ((standing r).facts n).me ∷ []) else lines_only (line.Start ((standing r).facts n).me ∷ []))) down)
 
 pub request_stands : (r : RunSoFar) (n : ℕ) (d : List ℕ) (q : Want) (ids : List ℕ) (nodes : List Planning) (clocks : List ℕ) (net now : nets.NetworkState) (entries : List (Option Entry)) (place : ℕ) (node : Planning)
     → Stands (standing r) ids nodes clocks net entries → AllPairs (λ x y. x ≢ y) ids → slice_get ids place ≡ Some n → AreNumbers net.sent (flying_ids net.flying) → ((standing r).facts n).me ≡ n

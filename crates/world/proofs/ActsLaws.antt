@@ -1,5 +1,5 @@
 -- Steps that an endpoint takes, in a world.
-use Rattle.std.proofs.Common.{◌≡◌, ◌==◌, ◌&&◌, ◌||◌, ◌⊎◌, not, ℕ, ◌≤◌, ◌<◌, Bool, true, false, List, [], ◌∷◌, ◌++◌, length, map, set, get_or, Option, Some, None, Result, Ok, Err, OnOk, OnErr, IfSome, refl, sym, ap, ap₂, subst, ◌∙◌, arith}
+use Rattle.std.proofs.Common.{◌≡◌, ◌==◌, ◌&&◌, ◌⊎◌, not, ℕ, ◌≤◌, ◌<◌, Bool, true, false, List, [], ◌∷◌, ◌++◌, length, map, set, get_or, Option, Some, None, Result, Ok, Err, OnOk, OnErr, IfSome, refl, sym, ap, ap₂, subst, ◌∙◌, arith}
 use Rattle.std.specs.Prelude.{IsErrOf, Contains, is_some, option_map}
 use Rattle.std.specs.Borrow.{Bor}
 use Rattle.std.specs.Option.{option_copied}
@@ -27,6 +27,7 @@ use Rattle.node_rules.specs.Facts.{Facts}
 use Rattle.node_rules.specs.Messages.{due_message, client}
 use Rattle.node_rules.specs.Requests.{due_request, due_stop}
 use Rattle.std.proofs.Math.Seq.{map-set_same}
+use Rattle.cluster_types.proofs.BoolFacts.{neither_right as or_right}
 use Rattle.node_rules.specs.Steps.{Planning, after_message, after_request, after_stop, after_tick, planning, unplanned}
 use Rattle.node_rules.specs.Tick.{due_tick}
 use Rattle.node_steps.specs.declared.effects.Effects.{Effects}
@@ -222,10 +223,6 @@ client_acts w now e n place clock d q f effects seen k at here time is proper na
 -- the endpoint of an arriving message is no client, where it is declared
 no_client : (w : Inside) (now : RunSoFar) (place n : ℕ) → run_of w ≡ now → Keeps w → StandsAt now place n → n ≡ client → ⊥
 no_client w now place n seen k at = (known now (fits_of w now seen k).taken).client n (placed_declared now place n at)
-
-or_right : (a b : Bool) → (a || b) ≡ false → b ≡ false
-or_right true b e = cc
-or_right false b e = e
 
 not_down : (b : Bool) → (true && not b) ≡ false → b ≡ true
 not_down true e = refl

@@ -1,6 +1,6 @@
 -- Deliveries: which lines are due of them, and what they leave.
 use Rattle.std.proofs.Common.{◌≡◌, ◌==◌, ℕ, Bool, true, false, List, [], ◌∷◌, ◌++◌, length, map, Option, Some, None, refl, sym, ap, subst, ◌∙◌, arith}
-use Rattle.std.specs.Prelude.{nat_lt, nat_le, option_map, option_and_then, if◌then◌else◌}
+use Rattle.std.specs.Prelude.{nat_lt, nat_le, option_map, option_and_then, if◌then◌else◌, slice_get, ◌-◌}
 use Rattle.std.proofs.lemmas.Bool.Decides.{nat_tests}
 use Rattle.cluster_types.specs.Partitions.{partition_count}
 use Rattle.wire_messages.specs.declared.message.MapTable.{MapTable}
@@ -16,10 +16,10 @@ use Rattle.node_rules.specs.Messages.{due_message_of, client}
 use Rattle.node_rules.specs.Steps.{Planning}
 use Rattle.cluster_rules.specs.declared.event.Event.{Event}
 use Rattle.cluster_rules.specs.declared.event.Event.TheVariants as event
-use Rattle.cluster_rules.specs.DueEvents.{due, due_at_client, due_at_end, due_arrival, arriving, arriving_cut, delivery, unless_blocked, is_blocked, written}
-use Rattle.cluster_rules.specs.Marks.{Writes, after_all, after_line, event_begun, came, came_to, came_to_client, came_to_node, taken_by}
+use Rattle.cluster_rules.specs.DueEvents.{due, due_at_client, due_arrival, arriving, delivery, is_blocked, written}
+use Rattle.cluster_rules.specs.Marks.{Writes, after_all, after_line, event_begun, came, came_to_client, came_to_node, taken_by}
 use Rattle.journal_readings.specs.Messages.{Arrival, Posting, arrived}
-use Rattle.cluster_rules.specs.Network.{Network, flying_at, flying_if, is_flying, landed, posting_at, posting_if}
+use Rattle.cluster_rules.specs.Network.{Network, flying_at, is_flying, landed, posting_at}
 use Rattle.cluster_rules.specs.NodeSteps.{after_step}
 use Rattle.cluster_rules.specs.World.{World}
 use Rattle.run_laws.specs.Taken.{IsProperEvent}
@@ -32,14 +32,14 @@ use Rattle.world.specs.Steps.{RunSoFar, standing, next_lines}
 
 -- ---- what is in flight was sent
 
-flying_sent-if : (n : Network) (i : ℕ) (p : Posting) (b : Bool) → flying_if n i b ≡ Some p → posting_at n i ≡ Some p
+flying_sent-if : (n : Network) (i : ℕ) (p : Posting) (b : Bool) → (if b then posting_at n i else None) ≡ Some p → posting_at n i ≡ Some p
 flying_sent-if n i p true e = e
 flying_sent-if n i p false e = cc
 
 pub flying_sent : (n : Network) (i : ℕ) (p : Posting) → flying_at n i ≡ Some p → posting_at n i ≡ Some p
 flying_sent n i p e = flying_sent-if n i p (is_flying n i) e
 
-landed_posting-if : (n : Network) (i j : ℕ) (b : Bool) → posting_if (landed n j) i b ≡ posting_if n i b
+landed_posting-if : (n : Network) (i j : ℕ) (b : Bool) → (if b then slice_get (landed n j).sent (i - 1) else None) ≡ (if b then slice_get n.sent (i - 1) else None)
 landed_posting-if n i j true = refl
 landed_posting-if n i j false = refl
 
@@ -59,39 +59,39 @@ absent_lines : (w : World) (i : ℕ) (how : Delivery) → flying_at w.network i 
 absent_lines w i delivery_of.Whole e = ap (delivery w i (λ p. line.Deliver i p.from p.to ∷ arriving partition_count w (landed w.network i) p)) e
 absent_lines w i delivery_of.Repeated e = ap (delivery w i (λ p. line.Repeat i p.from p.to ∷ arriving partition_count w w.network p)) e
 absent_lines w i (delivery_of.Cut size) e =
-    ap (delivery w i (λ p. line.Cut i p.from p.to size ∷ arriving_cut partition_count w (landed w.network i) p (nat_lt size (length p.bytes)))) e
+    ap (delivery w i (λ p. line.Cut i p.from p.to size ∷ (if nat_lt size (length p.bytes) then line.Short p.to ∷ [] else arriving partition_count w (landed w.network i) p))) e
 
 blocked_lines : (w : World) (i : ℕ) (how : Delivery) (p : Posting) → flying_at w.network i ≡ Some p → is_blocked w p ≡ true → due w (delivering i how) ≡ line.Blocked i ∷ []
 blocked_lines w i delivery_of.Whole p e b =
     let lines : Posting → List Line = λ p. line.Deliver i p.from p.to ∷ arriving partition_count w (landed w.network i) p in
-    ap (delivery w i lines) e ∙ ap (unless_blocked i lines p) b
+    ap (delivery w i lines) e ∙ ap (λ (holds : Bool). if holds then line.Blocked i ∷ [] else lines p) b
 blocked_lines w i delivery_of.Repeated p e b =
     let lines : Posting → List Line = λ p. line.Repeat i p.from p.to ∷ arriving partition_count w w.network p in
-    ap (delivery w i lines) e ∙ ap (unless_blocked i lines p) b
+    ap (delivery w i lines) e ∙ ap (λ (holds : Bool). if holds then line.Blocked i ∷ [] else lines p) b
 blocked_lines w i (delivery_of.Cut size) p e b =
-    let lines : Posting → List Line = λ p. line.Cut i p.from p.to size ∷ arriving_cut partition_count w (landed w.network i) p (nat_lt size (length p.bytes)) in
-    ap (delivery w i lines) e ∙ ap (unless_blocked i lines p) b
+    let lines : Posting → List Line = λ p. line.Cut i p.from p.to size ∷ (if nat_lt size (length p.bytes) then line.Short p.to ∷ [] else arriving partition_count w (landed w.network i) p) in
+    ap (delivery w i lines) e ∙ ap (λ (holds : Bool). if holds then line.Blocked i ∷ [] else lines p) b
 
 short_lines : (w : World) (i : ℕ) (how : Delivery) (p : Posting) → flying_at w.network i ≡ Some p → is_blocked w p ≡ false → is_short_of (length p.bytes) how ≡ true
     → due w (delivering i how) ≡ line_of_delivery i p.from p.to how ∷ line.Short p.to ∷ []
 short_lines w i delivery_of.Whole p e b s = cc
 short_lines w i delivery_of.Repeated p e b s = cc
 short_lines w i (delivery_of.Cut size) p e b s =
-    let lines : Posting → List Line = λ p. line.Cut i p.from p.to size ∷ arriving_cut partition_count w (landed w.network i) p (nat_lt size (length p.bytes)) in
-    ap (delivery w i lines) e ∙ ap (unless_blocked i lines p) b ∙ ap (λ t. line.Cut i p.from p.to size ∷ arriving_cut partition_count w (landed w.network i) p t) s
+    let lines : Posting → List Line = λ p. line.Cut i p.from p.to size ∷ (if nat_lt size (length p.bytes) then line.Short p.to ∷ [] else arriving partition_count w (landed w.network i) p) in
+    ap (delivery w i lines) e ∙ ap (λ (holds : Bool). if holds then line.Blocked i ∷ [] else lines p) b ∙ ap (λ t. line.Cut i p.from p.to size ∷ (if t then line.Short p.to ∷ [] else arriving partition_count w (landed w.network i) p)) s
 
 -- what arrives whole
 whole_lines : (w : World) (i : ℕ) (how : Delivery) (p : Posting) → flying_at w.network i ≡ Some p → is_blocked w p ≡ false → is_short_of (length p.bytes) how ≡ false
     → due w (delivering i how) ≡ line_of_delivery i p.from p.to how ∷ arriving partition_count w (taken_by w.network (delivering i how)) p
 whole_lines w i delivery_of.Whole p e b s =
     let lines : Posting → List Line = λ p. line.Deliver i p.from p.to ∷ arriving partition_count w (landed w.network i) p in
-    ap (delivery w i lines) e ∙ ap (unless_blocked i lines p) b
+    ap (delivery w i lines) e ∙ ap (λ (holds : Bool). if holds then line.Blocked i ∷ [] else lines p) b
 whole_lines w i delivery_of.Repeated p e b s =
     let lines : Posting → List Line = λ p. line.Repeat i p.from p.to ∷ arriving partition_count w w.network p in
-    ap (delivery w i lines) e ∙ ap (unless_blocked i lines p) b
+    ap (delivery w i lines) e ∙ ap (λ (holds : Bool). if holds then line.Blocked i ∷ [] else lines p) b
 whole_lines w i (delivery_of.Cut size) p e b s =
-    let lines : Posting → List Line = λ p. line.Cut i p.from p.to size ∷ arriving_cut partition_count w (landed w.network i) p (nat_lt size (length p.bytes)) in
-    ap (delivery w i lines) e ∙ ap (unless_blocked i lines p) b ∙ ap (λ t. line.Cut i p.from p.to size ∷ arriving_cut partition_count w (landed w.network i) p t) s
+    let lines : Posting → List Line = λ p. line.Cut i p.from p.to size ∷ (if nat_lt size (length p.bytes) then line.Short p.to ∷ [] else arriving partition_count w (landed w.network i) p) in
+    ap (delivery w i lines) e ∙ ap (λ (holds : Bool). if holds then line.Blocked i ∷ [] else lines p) b ∙ ap (λ t. line.Cut i p.from p.to size ∷ (if t then line.Short p.to ∷ [] else arriving partition_count w (landed w.network i) p)) s
 
 unread_lines : (w : World) (i : ℕ) (how : Delivery) (p : Posting) → flying_at w.network i ≡ Some p → is_blocked w p ≡ false → is_short_of (length p.bytes) how ≡ false
     → message_of p.bytes ≡ None → due w (delivering i how) ≡ line_of_delivery i p.from p.to how ∷ []
@@ -99,7 +99,7 @@ unread_lines w i how p e b s none =
     whole_lines w i how p e b s ∙ ap (λ o. line_of_delivery i p.from p.to how ∷ due_arrival partition_count w (taken_by w.network (delivering i how)) p o) none
 
 read_lines : (w : World) (i : ℕ) (how : Delivery) (p : Posting) (m : Message) → flying_at w.network i ≡ Some p → is_blocked w p ≡ false → is_short_of (length p.bytes) how ≡ false
-    → message_of p.bytes ≡ Some m → due w (delivering i how) ≡ line_of_delivery i p.from p.to how ∷ due_at_end partition_count w (taken_by w.network (delivering i how)) p m (p.to == client)
+    → message_of p.bytes ≡ Some m → due w (delivering i how) ≡ line_of_delivery i p.from p.to how ∷ (if p.to == client then due_at_client m else written (taken_by w.network (delivering i how)) p.to (due_message_of partition_count (w.facts p.to) (w.clocks p.to) p.from m))
 read_lines w i how p m e b s read =
     whole_lines w i how p e b s ∙ ap (λ o. line_of_delivery i p.from p.to how ∷ due_arrival partition_count w (taken_by w.network (delivering i how)) p o) read
 
@@ -107,14 +107,14 @@ pub client_lines : (w : World) (i : ℕ) (how : Delivery) (p : Posting) (m : Mes
     → message_of p.bytes ≡ Some m → p.to ≡ client → due w (delivering i how) ≡ line_of_delivery i p.from p.to how ∷ due_at_client m
 client_lines w i how p m e b s read end =
     let test : (p.to == client) ≡ true = grind (arith, nat_tests, end) in
-    read_lines w i how p m e b s read ∙ ap (λ t. line_of_delivery i p.from p.to how ∷ due_at_end partition_count w (taken_by w.network (delivering i how)) p m t) test
+    read_lines w i how p m e b s read ∙ ap (λ t. line_of_delivery i p.from p.to how ∷ (if t then due_at_client m else written (taken_by w.network (delivering i how)) p.to (due_message_of partition_count (w.facts p.to) (w.clocks p.to) p.from m))) test
 
 pub node_lines : (w : World) (i : ℕ) (how : Delivery) (p : Posting) (m : Message) → flying_at w.network i ≡ Some p → is_blocked w p ≡ false → is_short_of (length p.bytes) how ≡ false
     → message_of p.bytes ≡ Some m → (p.to ≡ client → ⊥)
     → due w (delivering i how) ≡ line_of_delivery i p.from p.to how ∷ written (taken_by w.network (delivering i how)) p.to (due_message_of partition_count (w.facts p.to) (w.clocks p.to) p.from m)
 node_lines w i how p m e b s read end =
     let test : (p.to == client) ≡ false = grind (arith, nat_tests, end) in
-    read_lines w i how p m e b s read ∙ ap (λ t. line_of_delivery i p.from p.to how ∷ due_at_end partition_count w (taken_by w.network (delivering i how)) p m t) test
+    read_lines w i how p m e b s read ∙ ap (λ t. line_of_delivery i p.from p.to how ∷ (if t then due_at_client m else written (taken_by w.network (delivering i how)) p.to (due_message_of partition_count (w.facts p.to) (w.clocks p.to) p.from m))) test
 
 -- ---- the line of a delivery
 
@@ -196,7 +196,7 @@ at_client : (w : World) (i : ℕ) (how : Delivery) (p : Posting) (m : Message) �
 at_client w i how p m e s read end =
     let test : (p.to == client) ≡ true = grind (arith, nat_tests, end) in
     whole_comes w i how p e s ∙ ap (came (event_begun w (delivering i how))) (arrived_some p m read)
-    ∙ ap (came_to (event_begun w (delivering i how)) (record { from = p.from; to = p.to; message = m })) test
+    ∙ ap (λ (holds : Bool). if holds then came_to_client (event_begun w (delivering i how)) m else came_to_node (event_begun w (delivering i how)) (record { from = p.from; to = p.to; message = m })) test
 
 other_due : (m : Message) → ((t : MapTable) → m ≡ message.MapTable t → ⊥) → due_at_client m ≡ line.Stale client ∷ []
 other_due (message.MapTable t) differs = absurd (differs t refl)
@@ -254,7 +254,7 @@ pub at_node : (w : World) (i : ℕ) (how : Delivery) (p : Posting) (m : Message)
 at_node w i how p m e s read end =
     let test : (p.to == client) ≡ false = grind (arith, nat_tests, end) in
     whole_comes w i how p e s ∙ ap (came (event_begun w (delivering i how))) (arrived_some p m read)
-    ∙ ap (came_to (event_begun w (delivering i how)) (record { from = p.from; to = p.to; message = m })) test
+    ∙ ap (λ (holds : Bool). if holds then came_to_client (event_begun w (delivering i how)) m else came_to_node (event_begun w (delivering i how)) (record { from = p.from; to = p.to; message = m })) test
 
 -- ---- of the event as it came
 

@@ -3,6 +3,7 @@ use Rattle.std.proofs.Common.{◌≡◌, ◌==◌, ◌&&◌, ℕ, zero, suc, ◌
 use Rattle.std.specs.Prelude.{nat_lt}
 use Rattle.std.specs.List.{list_all}
 use Rattle.std.proofs.lemmas.Bool.Decides.{nat_tests}
+use Rattle.std.proofs.lemmas.Bool.{and_parts}
 use Rattle.cluster_types.specs.declared.cluster_key.ClusterKey.{ClusterKey}
 use Rattle.cluster_types.specs.declared.member.Member.{Member}
 use Rattle.cluster_types.specs.MembersEqual.{same_members}
@@ -36,10 +37,6 @@ rests_both : (key : ClusterKey) (set : List Member) (f : Facts) → f.up ≡ tru
 rests_both key set f up =
     ap (λ b. (b && is_at_rest f) && (is_view f.exchange.view key && same_members (members_of_view f) set)) up
     ∙ tests f.exchange.exchanged (knows_all_settled f partition_count 0 && (has_nothing_to_learn_or_drop f partition_count 0 && is_nil f.transactions.running)) (is_view f.exchange.view key) (same_members (members_of_view f) set)
-
-and_parts : (a b : Bool) → (a && b) ≡ true → (a ≡ true) × (b ≡ true)
-and_parts true b e = (refl, e)
-and_parts false b e = cc
 
 mixed : (a b c d : Bool) → ((a && b) && (c && d)) ≡ ((a && c) && (b && d))
 mixed true true c d = refl

@@ -1,6 +1,6 @@
 -- What each event that moves no node leaves of a world's parts.
 use Rattle.std.proofs.Common.{◌≡◌, ◌≢◌, ◌==◌, ℕ, ◌+◌, ◌-◌, Bool, true, false, List, [], ◌∷◌, ◌++◌, All, AllPairs, map, Option, Some, None, refl, sym, ap, ap₂, subst, ◌∙◌, arith, set}
-use Rattle.std.specs.Prelude.{slice_get, option_map}
+use Rattle.std.specs.Prelude.{slice_get, option_map, if◌then◌else◌}
 use Rattle.std.specs.FinMap as finite
 use Rattle.std.proofs.lemmas.Bool.Decides.{nat_tests}
 use Rattle.std.proofs.lemmas.List.{append-nil}
@@ -14,10 +14,9 @@ use Rattle.client_map.specs.declared.client_map.Entry.{Entry}
 use Rattle.node_rules.specs.Facts.{Facts}
 use Rattle.node_rules.specs.Map.{entry_of}
 use Rattle.node_rules.specs.Notes.{marked}
-use Rattle.node_rules.specs.Requests.{map_refusal, start_if, stop_if}
+use Rattle.node_rules.specs.Requests.{map_refusal}
 use Rattle.node_rules.specs.Shows.{due_map, map_if, map_line, map_lines}
 use Rattle.node_rules.specs.Steps.{Planning}
-use Rattle.node_rules.specs.Tick.{tick_if}
 use Rattle.cluster_rules.specs.declared.event.Event.{Event}
 use Rattle.cluster_rules.specs.declared.event.Event.TheVariants as event
 use Rattle.cluster_rules.specs.DueEvents.{due, due_place, losing, written}
@@ -35,6 +34,9 @@ use Rattle.world.specs.Stands.{Stands, IsNetwork, AreDivided, flying_posting}
 use Rattle.world.specs.Steps.{RunSoFar, standing, next_lines, marking}
 use Rattle.world.proofs.NetLaws.{found, one_gone, same_network}
 use Rattle.world.proofs.Places.{set_at, set_image}
+use Rattle.node_rules.specs.Effects.{lines_only}
+use Rattle.node_rules.specs.Entering.{closing}
+use Rattle.node_rules.specs.Tick.{parts, parts_in_order}
 
 -- ---- the event does nothing but take a message out of flight
 
@@ -87,33 +89,33 @@ map_only r n from to = record { lands = refl; only = map_none (event_begun (stan
 pub tick_only : (r : RunSoFar) (n : ℕ) → is_up (standing r) n ≡ false
     → OnlyLands r (event.Tick n) None
 tick_only r n down = adds_none r (event.Tick n) None (line.Down ((standing r).facts n).me ∷ [])
-    (ap (λ b. written (standing r).network n (tick_if partition_count ((standing r).facts n) b)) down) refl refl
+    (ap (λ b. written (standing r).network n (if b then parts_in_order (parts partition_count) ((standing r).facts n) else lines_only (line.Down ((standing r).facts n).me ∷ []))) down) refl refl
 
 pub stop_only : (r : RunSoFar) (n : ℕ) → is_up (standing r) n ≡ false
     → OnlyLands r (event.Stop n) None
 stop_only r n down = adds_none r (event.Stop n) None (line.Down ((standing r).facts n).me ∷ [])
-    (ap (λ b. written (standing r).network n (stop_if ((standing r).facts n) b)) down) refl refl
+    (ap (λ b. written (standing r).network n (if b then lines_only (closing ((standing r).facts n) ++ line.Stop ((standing r).facts n).me ∷ []) else lines_only (line.Down ((standing r).facts n).me ∷ []))) down) refl refl
 
 pub start_only : (r : RunSoFar) (n : ℕ) → is_up (standing r) n ≡ true
     → OnlyLands r (event.Start n) None
 start_only r n up = adds_none r (event.Start n) None (line.Up ((standing r).facts n).me ∷ [])
-    (ap (λ b. written (standing r).network n (start_if ((standing r).facts n) b)) up) refl refl
+    (ap (λ b. written (standing r).network n (if b then lines_only (line.Up ((standing r).facts n).me ∷ []) else lines_only (line.Start ((standing r).facts n).me ∷ []))) up) refl refl
 
 -- their lines, where the facts are the node's own
 pub tick_down : (r : RunSoFar) (n : ℕ) → ((standing r).facts n).me ≡ n → is_up (standing r) n ≡ false → line.Down n ∷ [] ≡ next_lines r (event.Tick n)
 unfolding next_lines
 tick_down r n me down =
-    ap (λ m. line.Down m ∷ []) (sym me) ∙ sym (ap (λ b. written (standing r).network n (tick_if partition_count ((standing r).facts n) b)) down)
+    ap (λ m. line.Down m ∷ []) (sym me) ∙ sym (ap (λ b. written (standing r).network n (if b then parts_in_order (parts partition_count) ((standing r).facts n) else lines_only (line.Down ((standing r).facts n).me ∷ []))) down)
 
 pub stop_down : (r : RunSoFar) (n : ℕ) → ((standing r).facts n).me ≡ n → is_up (standing r) n ≡ false → line.Down n ∷ [] ≡ next_lines r (event.Stop n)
 unfolding next_lines
 stop_down r n me down =
-    ap (λ m. line.Down m ∷ []) (sym me) ∙ sym (ap (λ b. written (standing r).network n (stop_if ((standing r).facts n) b)) down)
+    ap (λ m. line.Down m ∷ []) (sym me) ∙ sym (ap (λ b. written (standing r).network n (if b then lines_only (closing ((standing r).facts n) ++ line.Stop ((standing r).facts n).me ∷ []) else lines_only (line.Down ((standing r).facts n).me ∷ []))) down)
 
 pub start_up : (r : RunSoFar) (n : ℕ) → ((standing r).facts n).me ≡ n → is_up (standing r) n ≡ true → line.Up n ∷ [] ≡ next_lines r (event.Start n)
 unfolding next_lines
 start_up r n me up =
-    ap (λ m. line.Up m ∷ []) (sym me) ∙ sym (ap (λ b. written (standing r).network n (start_if ((standing r).facts n) b)) up)
+    ap (λ m. line.Up m ∷ []) (sym me) ∙ sym (ap (λ b. written (standing r).network n (if b then lines_only (line.Up ((standing r).facts n).me ∷ []) else lines_only (line.Start ((standing r).facts n).me ∷ []))) up)
 
 -- ---- a loss
 

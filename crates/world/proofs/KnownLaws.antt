@@ -6,6 +6,7 @@ use Rattle.std.proofs.lemmas.Bool.Decides.{nat_tests}
 use Rattle.std.proofs.lemmas.List.Quantifiers.{position-Some}
 use Rattle.std.proofs.lemmas.Option.{slice_get-get_or, slice_get_within, get_or_from_slice_get}
 use Rattle.cluster_types.specs.Distinct.{AreDistinct}
+use Rattle.cluster_types.proofs.BoolFacts.{and_left}
 use Rattle.partition_lists.specs.Lists.{in_order}
 use Rattle.partition_lists.proofs.InOrderLaws.{Has, differ_distinct, differ_in_order, distinct_differ, has_in_order, index_of, in_order_has, has_at}
 use Rattle.cluster_rules.specs.declared.event.Event.{Event}
@@ -21,10 +22,6 @@ use Rattle.world.specs.Steps.{RunSoFar, MayCome, StandsAt, standing}
 pub same_nodes : (r : RunSoFar) → (standing r).nodes ≡ declared_nodes r.header
 unfolding standing
 same_nodes r = nodes_stay (all_marks r.steps) (opened r.header)
-
-and_left : (a b : Bool) → (a && b) ≡ true → a ≡ true
-and_left true b e = refl
-and_left false b e = e
 
 -- one of the nodes, by a test and by its place
 pub has_contains : (ids : List ℕ) (n : ℕ) → has_node ids n ≡ true → Contains ids n

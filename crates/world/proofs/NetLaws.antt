@@ -1,6 +1,6 @@
 -- The network against that of the world.
 use Rattle.std.proofs.Common.{◌≡◌, ◌==◌, ◌||◌, ◌&&◌, not, ℕ, zero, suc, ◌+◌, ◌-◌, ◌<◌, ◌≤◌, Bool, true, false, cond, List, [], ◌∷◌, ◌++◌, All, length, Option, Some, None, refl, sym, ap, subst, ◌∙◌, arith, length-append}
-use Rattle.std.specs.Prelude.{slice_get, nat_lt, option_map, is_some, AllPairs}
+use Rattle.std.specs.Prelude.{slice_get, nat_lt, option_map, is_some, AllPairs, if◌then◌else◌}
 use Rattle.journal_lines.specs.declared.line.Line.TheVariants as line
 use Rattle.std.proofs.lemmas.Bool.Decides.{nat_tests}
 use Rattle.std.proofs.lemmas.List.{length-map}
@@ -14,9 +14,9 @@ use Rattle.net_script.specs.Network.{AreNumbers, flying_ids, ends_apart, flying_
 use Rattle.cluster_types.specs.Groups.{apart}
 use Rattle.journal_readings.specs.Lines.{has_node}
 use Rattle.journal_readings.specs.Messages.{Posting}
-use Rattle.cluster_rules.specs.Network.{Network, posting_if, posting_at, posting, landed, has_place, flying_if, flying_at, are_apart}
-use Rattle.cluster_rules.specs.DueEvents.{full_unless, one_more_if, sent_lines}
-use Rattle.cluster_rules.specs.NodeSteps.{IsNumbered, full_in, sent_in, all_sent_in}
+use Rattle.cluster_rules.specs.Network.{Network, posting_at, posting, landed, has_place, flying_at, are_apart}
+use Rattle.cluster_rules.specs.DueEvents.{sent_lines}
+use Rattle.cluster_rules.specs.NodeSteps.{IsNumbered, sent_in, all_sent_in}
 use Rattle.wire_messages.specs.declared.message.Message.{Message}
 use Rattle.wire_messages.specs.Spelling.{spelling}
 use Rattle.node_steps.specs.Spelled.{spelled_sends}
@@ -38,7 +38,7 @@ last_sent (z ∷ xs) x = last_sent xs x
 posting_stays : (n : Network) (i j : ℕ) (p q : Posting) → posting_at n j ≡ Some q → posting_at (posting n i p) j ≡ Some q
 posting_stays n i j p q e = go (nat_lt 0 j) e
   where
-    go : (b : Bool) → posting_if n j b ≡ Some q → posting_if (posting n i p) j b ≡ Some q
+    go : (b : Bool) → (if b then slice_get n.sent (j - 1) else None) ≡ Some q → (if b then slice_get (posting n i p).sent (j - 1) else None) ≡ Some q
     go true e = sent_stays n.sent p q (j - 1) e
     go false e = cc
 
@@ -46,7 +46,7 @@ posting_last : (n : Network) (p : Posting) → posting_at (posting n (length n.s
 posting_last n p =
     let above : nat_lt 0 (length n.sent + 1) ≡ true = grind (arith, nat_tests) in
     let place : length n.sent + 1 - 1 ≡ length n.sent = omega arith in
-    ap (posting_if (posting n (length n.sent + 1) p) (length n.sent + 1)) above ∙ ap (slice_get (n.sent ++ p ∷ [])) place ∙ last_sent n.sent p
+    ap (λ (holds : Bool). if holds then slice_get (posting n (length n.sent + 1) p).sent ((length n.sent + 1) - 1) else None) above ∙ ap (slice_get (n.sent ++ p ∷ [])) place ∙ last_sent n.sent p
 
 -- each message in flight is as it was sent
 abbrev Posted : Network → ℕ × Flying → Type 0
@@ -82,7 +82,7 @@ without_new last i (j ∷ ids) l h =
 one_sent-if : (net net' : nets.NetworkState) (n : Network) (m : Flying) (b : Bool) → IsNetwork net n → AreNumbers net.sent (flying_ids net.flying)
     → net'.flying ≡ cond b (net.flying ++ (net.sent + 1, m) ∷ []) net.flying → net'.sent ≡ net.sent + 1 → net'.groups ≡ net.groups
     → IsNetwork net'
-    (full_in (posting n (length n.sent + 1) (flying_posting m)) (length n.sent + 1) b)
+    (if b then posting n (length n.sent + 1) (flying_posting m) else landed (posting n (length n.sent + 1) (flying_posting m)) (length n.sent + 1))
 one_sent-if net net' n m true h k f s g =
     let p : Posting = flying_posting m in
     let i : ℕ = length n.sent + 1 in
@@ -143,20 +143,20 @@ one_gone net net' n i h f s g = record {
 
 -- ---- a message is found
 
-found-from : (n : Network) (i : ℕ) (es : List (ℕ × Flying)) → All (λ e. Posted n e) es → flying_if n i (has_node (flying_ids es) i) ≡ option_map flying_posting (flying_message i es)
+found-from : (n : Network) (i : ℕ) (es : List (ℕ × Flying)) → All (λ e. Posted n e) es → (if has_node (flying_ids es) i then posting_at n i else None) ≡ option_map flying_posting (flying_message i es)
 found-from n i [] h = refl
 found-from n i (e ∷ es) h =
-    let r : flying_if n i (has_node (flying_ids es) i) ≡ option_map flying_posting (flying_message i es) = found-from n i es (All-tail (λ e. Posted n e) e es h) in
+    let r : (if has_node (flying_ids es) i then posting_at n i else None) ≡ option_map flying_posting (flying_message i es) = found-from n i es (All-tail (λ e. Posted n e) e es h) in
     go (e.0 == i) refl (All-head (λ e. Posted n e) e es h) r
   where
-    go : (b : Bool) → (e.0 == i) ≡ b → Posted n e → flying_if n i (has_node (flying_ids es) i) ≡ option_map flying_posting (flying_message i es)
-        → flying_if n i (b || has_node (flying_ids es) i) ≡ option_map flying_posting (cond b (Some e.1) (flying_message i es))
+    go : (b : Bool) → (e.0 == i) ≡ b → Posted n e → (if has_node (flying_ids es) i then posting_at n i else None) ≡ option_map flying_posting (flying_message i es)
+        → (if b || has_node (flying_ids es) i then posting_at n i else None) ≡ option_map flying_posting (cond b (Some e.1) (flying_message i es))
     go true t x r = let same : e.0 ≡ i = grind (arith, nat_tests, t) in ap (posting_at n) (sym same) ∙ x
     go false t x r = r
 
 -- the message of a number is the one that the world finds in flight
 pub found : (net : nets.NetworkState) (n : Network) (i : ℕ) → IsNetwork net n → flying_at n i ≡ option_map flying_posting (flying_message i net.flying)
-found net n i h = ap (λ is. flying_if n i (has_node is i)) (sym h.numbers) ∙ found-from n i net.flying h.postings
+found net n i h = ap (λ is. (if has_node is i then posting_at n i else None)) (sym h.numbers) ∙ found-from n i net.flying h.postings
 
 -- nothing but room has changed
 pub same_network : (net net' : nets.NetworkState) (n : Network) → nets.IsSameNetwork net net' → IsNetwork net n → IsNetwork net' n
@@ -173,7 +173,7 @@ same_network net net' n e h = record {
 pub posted_lines_are : (from sent flying : ℕ) (ms : List (ℕ × Message)) → posted_lines from sent flying (spelled_sends ms) ≡ sent_lines from sent flying ms
 posted_lines_are from sent flying [] = refl
 posted_lines_are from sent flying (m ∷ ms) =
-    ap (λ ls. line.Sent (sent + 1) from m.0 (spelling m.1) ∷ (full_unless (sent + 1) (has_place flying) ++ ls)) (posted_lines_are from (sent + 1) (one_more_if flying (has_place flying)) ms)
+    ap (λ ls. line.Sent (sent + 1) from m.0 (spelling m.1) ∷ ((if has_place flying then [] else line.Full (sent + 1) ∷ []) ++ ls)) (posted_lines_are from (sent + 1) (if has_place flying then flying + 1 else flying) ms)
 
 rises_last : (last : ℕ) (ids : List ℕ) → AllPairs (λ i j. i < j) ids → All (λ i. i ≤ last) ids → AllPairs (λ i j. i < j) (ids ++ (last + 1) ∷ [])
 rises_last last ids h l = all_pairs_push (λ i j. i < j) ids (last + 1) h (λ k d within. let below = l k d within in omega (arith, below))

@@ -9,7 +9,6 @@ use Rattle.journal_lines.specs.declared.line.Line.TheVariants as line
 use Rattle.journal_text.specs.Journals.{IsWithin, line_limit}
 use Rattle.net_script.specs.declared.net.Flying.{Flying}
 use Rattle.net_script.specs.Network as nets
-use Rattle.cluster_rules.specs.DueEvents.{full_unless, one_more_if}
 use Rattle.cluster_rules.specs.Network.{has_place}
 use Rattle.world.specs.Sent.{Sends, all_posted_in, landing_from, posted_in, posted_lines}
 
@@ -28,11 +27,11 @@ drop_at {A} xs i x e =
 
 -- one more message's lines
 pub lines_more : (from sent flying : ℕ) (ms : Sends) (i : ℕ) (m : ℕ × List ℕ) (told told' whole : List Line) → slice_get ms i ≡ Some m
-    → told' ≡ told ++ line.Sent (sent + 1) from m.0 m.1 ∷ full_unless (sent + 1) (has_place flying) → told ++ posted_lines from sent flying (drop i ms) ≡ whole
-    → told' ++ posted_lines from (sent + 1) (one_more_if flying (has_place flying)) (drop (i + 1) ms) ≡ whole
+    → told' ≡ told ++ line.Sent (sent + 1) from m.0 m.1 ∷ (if has_place flying then [] else line.Full (sent + 1) ∷ []) → told ++ posted_lines from sent flying (drop i ms) ≡ whole
+    → told' ++ posted_lines from (sent + 1) (if has_place flying then flying + 1 else flying) (drop (i + 1) ms) ≡ whole
 lines_more from sent flying ms i m told told' whole at more all =
-    ap (λ (ls : List Line). ls ++ posted_lines from (sent + 1) (one_more_if flying (has_place flying)) (drop (i + 1) ms)) more
-    ∙ append_assoc told (line.Sent (sent + 1) from m.0 m.1 ∷ full_unless (sent + 1) (has_place flying)) (posted_lines from (sent + 1) (one_more_if flying (has_place flying)) (drop (i + 1) ms))
+    ap (λ (ls : List Line). ls ++ posted_lines from (sent + 1) (if has_place flying then flying + 1 else flying) (drop (i + 1) ms)) more
+    ∙ append_assoc told (line.Sent (sent + 1) from m.0 m.1 ∷ (if has_place flying then [] else line.Full (sent + 1) ∷ [])) (posted_lines from (sent + 1) (if has_place flying then flying + 1 else flying) (drop (i + 1) ms))
     ∙ ap (λ (xs : Sends). told ++ posted_lines from sent flying xs) (sym (drop_at ms i m at))
     ∙ all
 
@@ -68,8 +67,8 @@ on_ok (Err b) p ok = cc ok
 pub posted_long : (from sent flying : ℕ) (ms : Sends) → length ms ≤ length (posted_lines from sent flying ms)
 posted_long from sent flying [] = omega arith
 posted_long from sent flying (m ∷ ms) =
-    let rest : length ms ≤ length (posted_lines from (sent + 1) (one_more_if flying (has_place flying)) ms) = posted_long from (sent + 1) (one_more_if flying (has_place flying)) ms in
-    let count = length-append (full_unless (sent + 1) (has_place flying)) (posted_lines from (sent + 1) (one_more_if flying (has_place flying)) ms) in
+    let rest : length ms ≤ length (posted_lines from (sent + 1) (if has_place flying then flying + 1 else flying) ms) = posted_long from (sent + 1) (if has_place flying then flying + 1 else flying) ms in
+    let count = length-append (if has_place flying then [] else line.Full (sent + 1) ∷ []) (posted_lines from (sent + 1) (if has_place flying then flying + 1 else flying) ms) in
     omega (arith, rest, count)
 
 -- so many messages are sent, and so many of them fit with the lines

@@ -1,10 +1,9 @@
 -- Messages that are sent as bytes, one after another.
-use Rattle.std.specs.Prelude.{◌≡◌, ℕ, ◌+◌, true, List, [], ◌∷◌, ◌++◌, Option, Some, None, is_some}
+use Rattle.std.specs.Prelude.{◌≡◌, ℕ, ◌+◌, true, List, [], ◌∷◌, ◌++◌, Option, Some, None, is_some, if◌then◌else◌}
 use Rattle.journal_lines.specs.declared.line.Line.{Line}
 use Rattle.journal_lines.specs.declared.line.Line.TheVariants as line
 use Rattle.net_script.specs.declared.net.Flying.{Flying}
 use Rattle.net_script.specs.Network as nets
-use Rattle.cluster_rules.specs.DueEvents.{full_unless, one_more_if}
 use Rattle.cluster_rules.specs.Network.{has_place}
 
 -- receivers and bytes
@@ -16,8 +15,8 @@ abbrev pub posted_lines : ℕ → ℕ → ℕ → Sends → List Line
 posted_lines from sent flying [] = []
 posted_lines from sent flying (m ∷ ms) =
     line.Sent (sent + 1) from m.0 m.1
-    ∷ (full_unless (sent + 1) (has_place flying)
-    ++ posted_lines from (sent + 1) (one_more_if flying (has_place flying)) ms)
+    ∷ ((if has_place flying then [] else line.Full (sent + 1) ∷ [])
+    ++ posted_lines from (sent + 1) (if has_place flying then flying + 1 else flying) ms)
 
 -- the network after one was sent
 abbrev pub posted_in : nets.NetworkState → ℕ → ℕ × List ℕ → nets.NetworkState

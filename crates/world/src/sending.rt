@@ -1,9 +1,9 @@
 //! What an endpoint sends.
-ghost use Rattle.std.specs.Prelude.{◌≡◌, ◌<◌, ◌+◌, ◌-◌, ◌≤◌, ◌^◌, ◌++◌, ◌∷◌, length, IfOk, OnOk};
+ghost use Rattle.std.specs.Prelude.{◌≡◌, ◌<◌, ◌+◌, ◌-◌, ◌≤◌, ◌^◌, ◌++◌, ◌∷◌, [], length, IfOk, OnOk, if◌then◌else◌};
 ghost use Rattle.net_script.specs.Network as nets;
-ghost use Rattle.cluster_rules.specs.DueEvents.{full_unless, one_more_if};
 ghost use Rattle.cluster_rules.specs.Network.{has_place};
 ghost use Rattle.world.specs.Sent.{IsInFlight, all_posted_in, landing_from, posted_lines};
+ghost use Rattle.journal_lines.specs.declared.line.Line.TheVariants as journal_line;
 
 use cluster_types::NoMemory;
 use journal_text::{Line, LineList};
@@ -81,8 +81,10 @@ fn add_sent_line(
     in_flight: usize,
 ) -> Result<usize, NoMemory>
     ensures lines { OnOk result
-        (lines.new ≡ lines.old ++ line ∷ full_unless message (has_place in_flight)) }
-    ensures in_flight { IfOk result (λ count. count ≡ one_more_if in_flight (has_place in_flight)) }
+        (lines.new ≡ lines.old ++ line
+        ∷ (if has_place in_flight then [] else journal_line.Full message ∷ [])) }
+    ensures in_flight { IfOk result
+        (λ count. count ≡ (if has_place in_flight then in_flight + 1 else in_flight)) }
 {
     lines.push(line)?;
     if in_flight < FLIGHT_LIMIT {

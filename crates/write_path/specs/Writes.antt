@@ -6,8 +6,8 @@ use Rattle.conflict_order.specs.declared.version.Body.{Body}
 use Rattle.conflict_order.specs.declared.version.Body.TheVariants as body
 use Rattle.conflict_order.specs.declared.want.Want.{Want}
 use Rattle.conflict_order.specs.declared.want.Want.TheVariants as want
+use Rattle.conflict_order.specs.Contents.{Content, joined}
 use Rattle.conflict_order.specs.Next.{next}
-use Rattle.record_store.specs.Store.{Records, joined}
 use Rattle.dup_resolve.specs.declared.txn.Txn.{Txn}
 
 -- it is a put or a delete
@@ -37,6 +37,6 @@ abbrev pub version_in : ℕ → Option Txn → Option Version
 version_in clock t = option_map (version_of clock) t
 
 -- the records once a version came for the transaction's digest
-abbrev pub records_with : Policy → Records → Option Txn → Version → Records
+abbrev pub records_with : Policy → Content → Option Txn → Version → Content
 records_with by versions None v = versions
 records_with by versions (Some t) v = joined by versions t.digest v

@@ -2,9 +2,10 @@
 ghost use Rattle.std.specs.Prelude.{◌≡◌, ◌∷◌, [], Some, IfOk, OnOk, OnErr, IfSome, IsSomeAnd};
 ghost use Rattle.std.specs.Option.{option_copied};
 ghost use Rattle.std.specs.FinMap as finite;
+ghost use Rattle.conflict_order.specs.Contents.{joined};
 ghost use Rattle.conflict_order.specs.Next.{next};
 ghost use Rattle.cluster_types.specs.Partitions.{partition_of};
-ghost use Rattle.record_store.specs.Store.{HasRoom, UsesRoom, answer, joined};
+ghost use Rattle.record_store.specs.Store.{HasRoom, UsesRoom, answer};
 ghost use Rattle.dup_resolve.specs.Open.{HasOpen, change_txn, txn_digest_at, txn_at, txn_with_write};
 ghost use Rattle.write_path.specs.Writes.{IsToWrite, IsWrite, body_of, records_with, version_in};
 

@@ -1,5 +1,5 @@
 //! The answer to a member that tells how far its partitions have come.
-ghost use Rattle.std.specs.Prelude.{◌≡◌, ◌&&◌, List, Bool, true, false, IfOk};
+ghost use Rattle.std.specs.Prelude.{◌≡◌, ◌&&◌, List, Bool, true, false, IfOk, if◌then◌else◌};
 ghost use Rattle.cluster_types.specs.Partitions.{partition_count};
 ghost use Rattle.wire_messages.specs.declared.message.Message.TheVariants as message;
 ghost use Rattle.wire_messages.specs.Keys.{IsKeyField};
@@ -7,11 +7,12 @@ ghost use Rattle.wire_messages.specs.Rows.{IsRow};
 ghost use Rattle.node_rules.specs.Batches.{done_row};
 ghost use Rattle.node_rules.specs.Bits.{or_rows};
 ghost use Rattle.node_rules.specs.Facts.{Facts};
-ghost use Rattle.node_rules.specs.Messages.{answer_progress};
 ghost use Rattle.node_rules.specs.Notes.{progress_came};
 ghost use Rattle.node_rules.specs.Standing.{knows_all_settled};
 ghost use Rattle.node_steps.specs.Spelled.{spelled};
 ghost use Rattle.node_view.specs.Views.{IsViewOf, viewed_key};
+ghost use Rattle.node_rules.specs.Effects.{nothing, sends_only, to_one};
+ghost use Rattle.node_rules.specs.Tick.{progress_message};
 
 use crate::effects::Effects;
 use cluster_types::{NoMemory, NodeId, Row4096};
@@ -34,11 +35,12 @@ pub fn progress_effects(
     requires own_handed { IsRow view.now.bits.handed }
     requires own_settled { IsRow view.now.bits.settled }
     ensures { (f : Facts) (done : List Bool) → IsViewOf f view.now
-        → IfOk result (λ e. e ≡ spelled (answer_progress partition_count
-        (progress_came f to done handed.now settled.now true) to
-        (wants
+        → IfOk result (λ e. e ≡ spelled (if wants
         && knows_all_settled (progress_came f to done handed.now settled.now true)
-        partition_count 0))) }
+        partition_count 0
+        then sends_only (to_one to (progress_message partition_count
+        (progress_came f to done handed.now settled.now true) false))
+        else nothing)) }
 {
     let mut out = Effects::new(alloc);
     if !wants || !view.knows_all_settled_with(settled) {

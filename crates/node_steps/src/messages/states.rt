@@ -1,14 +1,13 @@
 //! What is told and planned of another member's row.
-ghost use Rattle.std.specs.Prelude.{◌≡◌, false, Contains, IfOk, IsSome, OnOk};
+ghost use Rattle.std.specs.Prelude.{◌≡◌, [], false, Contains, IfOk, IsSome, OnOk, if◌then◌else◌};
 ghost use Rattle.journal_lines.specs.declared.line.Line.TheVariants as line;
 ghost use Rattle.wire_messages.specs.declared.message.Message.TheVariants as message;
 ghost use Rattle.wire_messages.specs.Proper.{IsProper};
 ghost use Rattle.node_rules.specs.Agreement.{others_among};
-ghost use Rattle.node_rules.specs.Effects.{lines_only, sends_only};
+ghost use Rattle.node_rules.specs.Effects.{lines_only, sends_only, to_one};
 ghost use Rattle.node_rules.specs.Exchange.{members_of};
 ghost use Rattle.node_rules.specs.Facts.{Facts};
-ghost use Rattle.node_rules.specs.Messages.{answer_state};
-ghost use Rattle.node_rules.specs.Tick.{own_row_in};
+ghost use Rattle.node_rules.specs.Tick.{own_row_in, state};
 ghost use Rattle.node_steps.specs.Fits.{FitsPlanned};
 ghost use Rattle.node_steps.specs.Plans.{after_row, taken};
 ghost use Rattle.node_rules.specs.Tables.{only_if};
@@ -35,7 +34,8 @@ pub fn state_effects(
     requires { IsProper
         (message.State (viewed_key view.now) false (own_row_in (facts_seen view.now))) }
     ensures { (f : Facts) → IsInView f view.now
-        → IfOk result (λ e. e ≡ spelled (sends_only (answer_state f to wants))) }
+        → IfOk result (λ e. e ≡ spelled (sends_only
+        (if wants then to_one to (state f false) else []))) }
 {
     let mut out = Effects::new(alloc);
     if !wants {

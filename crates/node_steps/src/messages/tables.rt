@@ -8,8 +8,7 @@ ghost use Rattle.node_view.specs.Views.{IsInView, viewed_key};
 
 use crate::effects::Effects;
 use crate::fields::ids_fit;
-use cluster_types::partition::PARTITIONS;
-use cluster_types::{NoMemory, PartitionId, Row4096};
+use cluster_types::{NoMemory, PARTITIONS, PartitionId, Row4096};
 use node_view::View;
 use std::alloc::Global;
 use wire_messages::{BoxedIds, BoxedRow, MapTable, Message};

@@ -1,6 +1,7 @@
 use Rattle.std.proofs.Common.{◌≡◌, ◌<◌, ◌-◌, ◌++◌, ℕ, List, [], Option, Some, None, length, take, append-nil, append_assoc, refl, sym, ap, ◌∙◌, arith}
 use Rattle.std.specs.Prelude.{slice_get}
-use Rattle.record_store.specs.Store.{digests_above, digests_of}
+use Rattle.cluster_types.specs.Copies.{digests_of}
+use Rattle.record_store.specs.Store.{digests_above}
 use Rattle.record_store.proofs.WalkLaws.{digests_rise}
 use Rattle.emigrate.proofs.CollectLaws.{fewer_left, none_left, page_and_left}
 use Rattle.emigrate.proofs.collect.add_copy.Goals as goal

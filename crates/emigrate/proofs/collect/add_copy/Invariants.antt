@@ -1,5 +1,6 @@
 use Rattle.std.proofs.Common.{◌≡◌, ◌++◌, ℕ, length}
-use Rattle.record_store.specs.Store.{digests_above, digests_of}
+use Rattle.cluster_types.specs.Copies.{digests_of}
+use Rattle.record_store.specs.Store.{digests_above}
 use Rattle.emigrate.proofs.collect.add_copy.Given as goal
 
 abbrev pub invariant-loop-page : goal.invariant-loop-page

@@ -1,7 +1,6 @@
-use Rattle.std.proofs.Common.{ℕ, List, ◌+◌, ◌++◌, ◌∷◌, drop, sym, ap, ◌∙◌, arith}
+use Rattle.std.proofs.Common.{ℕ, List, ◌+◌, ◌++◌, ◌∷◌, drop, sym, ap, ◌∙◌, arith, [], if◌then◌else◌}
 use Rattle.std.proofs.lemmas.Option.{slice_get_within}
 use Rattle.journal_lines.specs.declared.line.Line.TheVariants as line
-use Rattle.cluster_rules.specs.DueEvents.{full_unless}
 use Rattle.cluster_rules.specs.Network.{has_place}
 use Rattle.world.specs.Sent.{posted_lines}
 use Rattle.world.proofs.SendingLaws.{lines_end, lines_more}
@@ -18,7 +17,7 @@ loop-to-preserved c =
           ap (λ (n : ℕ). c.add_sent_line.new.lines ++ posted_lines c.args.from (l.message + 1) n (drop (l.count + 1) sends)) c.in_ok-in_flight.ensures.in_flight
           ∙ lines_more c.args.from l.message l.in_flight sends l.count m l.lines c.add_sent_line.new.lines _ (sym c.in-Some.ensures)
           (c.in_ok-in_flight.ensures.lines
-          ∙ ap (λ (b : List ℕ). l.lines ++ line.Sent (l.message + 1) c.args.from m.0 b ∷ full_unless (l.message + 1) (has_place l.in_flight)) c.in_ok-copy.ensures)
+          ∙ ap (λ (b : List ℕ). l.lines ++ line.Sent (l.message + 1) c.args.from m.0 b ∷ (if has_place l.in_flight then [] else line.Full (l.message + 1) ∷ [])) c.in_ok-copy.ensures)
           l.invariant.all;
       counted = omega (arith, l.invariant.counted);
       within = omega (arith, within);

@@ -1,7 +1,6 @@
 use Rattle.std.proofs.Common.{◌≡◌, Bool, true, false, IfOk, sym, ap, subst, ◌∙◌}
-use Rattle.std.specs.Prelude.{IsSome}
+use Rattle.std.specs.Prelude.{IsSome, if◌then◌else◌}
 use Rattle.immigrate.specs.declared.merging.Merged.{Merged}
-use Rattle.node_rules.specs.Messages.{batch_came}
 use Rattle.node_rules.specs.Notes.{in_view}
 use Rattle.node_rules.specs.Steps.{Planning, planning}
 use Rattle.node_view.specs.declared.view_step.ViewStep.TheVariants as step
@@ -15,11 +14,15 @@ use Rattle.node_core.proofs.HandlerLaws.{in_one, still}
 use Rattle.node_core.proofs.NodeLaws.{has_no_plan}
 use Rattle.node_core.proofs.RoomLaws.{more_in_store, node_roomier_planned, node_roomier_still, on_err_if, seen_planned, seen_still}
 use Rattle.node_core.proofs.node.Node.on_batch.Goals as goal
+use Rattle.node_rules.specs.BatchMessages.{merging_all}
+use Rattle.node_rules.specs.Effects.{lines_and_sends, to_one}
+use Rattle.node_rules.specs.StaleMessages.{stale}
+use Rattle.wire_messages.specs.declared.message.Message.TheVariants as message
 
 pub returns-then-is_none-clause-effects : goal.returns-then-is_none-clause-effects
 returns-then-is_none-clause-effects c =
     let out : in_view c.args.self.now.now c.args.batch.now.key ≡ false = sym c.view_of.ensures.some ∙ c.if-is_none.ensures in
-    subst (λ (b : Bool). IfOk c.stale.result (λ e. e ≡ spelled (batch_came c.args.self.now.now c.args.from c.args.batch.now b))) (sym out) c.stale.ensures.effects
+    subst (λ (b : Bool). IfOk c.stale.result (λ e. e ≡ spelled (if b then lines_and_sends (merging_all c.args.self.now.now c.args.batch.now.records) (to_one c.args.from (message.BatchAck c.args.batch.now.key c.args.batch.now.number)) else stale c.args.self.now.now))) (sym out) c.stale.ensures.effects
 
 pub invariant_of-self : goal.invariant_of-self
 invariant_of-self c =

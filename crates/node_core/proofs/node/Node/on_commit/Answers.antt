@@ -1,4 +1,4 @@
-use Rattle.std.proofs.Common.{◌≡◌, ℕ, List, true, false, Some, IfOk, OnErr, OnOk, sym, ap, ap₂, subst, ◌∙◌}
+use Rattle.std.proofs.Common.{◌≡◌, ℕ, List, true, false, Some, IfOk, OnErr, OnOk, sym, ap, ap₂, subst, ◌∙◌, Bool, if◌then◌else◌}
 use Rattle.cluster_types.specs.declared.cluster_key.ClusterKey.{ClusterKey}
 use Rattle.cluster_types.specs.declared.member.Member.{Member}
 use Rattle.wire_messages.specs.Keys.{IsKeyField}
@@ -10,7 +10,6 @@ use Rattle.node_rules.specs.Effects.{lines_only}
 use Rattle.node_rules.specs.Entering.{entering}
 use Rattle.node_rules.specs.Exchange.{is_member}
 use Rattle.node_rules.specs.Facts.{Facts}
-use Rattle.node_rules.specs.Messages.{entry_effects_if}
 use Rattle.node_rules.specs.Steps.{Planning, planning}
 use Rattle.node_view.specs.Views.{view_at_entry}
 use Rattle.node_steps.specs.declared.effects.Effects.{Effects}
@@ -24,6 +23,7 @@ use Rattle.node_core.proofs.LeadLaws.{after_commit, after_stale_commit, committe
 use Rattle.node_core.proofs.CopyLaws.{agreement_is, answer_is, ranges_after}
 use Rattle.node_steps.proofs.RangeLaws.{committed_keys}
 use Rattle.node_core.proofs.node.Node.on_commit.Goals as goal
+use Rattle.node_rules.specs.StaleMessages.{stale}
 
 pub returns-in-Stale-clause-effects : goal.returns-in-Stale-clause-effects
 returns-in-Stale-clause-effects c =
@@ -97,7 +97,7 @@ returns-in_ok-view-in-Enter-clause-effects c =
     c.plan.ensures.same ∙ c.in_ok-view-in-Enter.ensures.lines
     ∙ ap (λ (e : Effects). then_effects e (lines_only (entering p.now c.in-Enter.key c.in-Enter.members))) c.new-out.ensures
     ∙ ap₂ (λ (k : ClusterKey) (ns : List Member). spelled (lines_only (entering p.now k ns))) h.key_of h.members
-    ∙ ap (λ (e : rules.Effects). spelled e) (ap (entry_effects_if p.now key ms) (sym may))
+    ∙ ap (λ (e : rules.Effects). spelled e) (ap (λ (holds : Bool). if holds then lines_only (entering p.now key ms) else stale p.now) (sym may))
 
 pub returns-in_ok-view-in-Enter-clause-planned : goal.returns-in_ok-view-in-Enter-clause-planned
 returns-in_ok-view-in-Enter-clause-planned c =

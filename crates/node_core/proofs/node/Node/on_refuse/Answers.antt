@@ -1,8 +1,7 @@
-use Rattle.std.proofs.Common.{◌≡◌, ℕ, [], ◌∷◌, Bool, true, false, sym, ap, ◌∙◌}
+use Rattle.std.proofs.Common.{◌≡◌, ℕ, [], ◌∷◌, Bool, true, false, sym, ap, ◌∙◌, if◌then◌else◌}
 use Rattle.journal_lines.specs.declared.line.Line.TheVariants as line
 use Rattle.clustering.specs.Answers.{refuse_of}
 use Rattle.node_rules.specs.Agreement.{Agreement, proposes, refusing}
-use Rattle.node_rules.specs.Messages.{unless_stale}
 use Rattle.node_rules.specs.Steps.{Planning, planning}
 use Rattle.node_rules.proofs.PartLaws.{refuse_is}
 use Rattle.node_steps.specs.declared.effects.Effects.{Effects}
@@ -11,6 +10,8 @@ use Rattle.node_core.proofs.HandlerLaws.{is_stale, is_stopped}
 use Rattle.node_core.proofs.CopyLaws.{agreement_is, answer_is, ranges_after}
 use Rattle.node_steps.proofs.RangeLaws.{refused_keys}
 use Rattle.node_core.proofs.node.Node.on_refuse.Goals as goal
+use Rattle.node_rules.specs.Effects.{nothing}
+use Rattle.node_rules.specs.StaleMessages.{stale}
 
 pub plan_agreed-requires-clause-ranges : goal.plan_agreed-requires-clause-ranges
 plan_agreed-requires-clause-ranges c =
@@ -31,7 +32,7 @@ returns-in-Stopped-clause-effects c =
     let p = c.args.self.now in
     let told = answer_is c.self.inside p c.copy.result c.on_refuse-agree.result.1 (λ (a : Agreement). refuse_of a c.args.refused) c.self.view_is c.copy.ensures c.on_refuse-agree.ensures.answer in
     let held : proposes p.now.agreement.proposal c.args.refused ≡ true = is_stopped _ (sym told ∙ c.in-Stopped.is) in
-    c.plan_agreed.ensures.same ∙ c.new.ensures ∙ ap (λ (b : Bool). spelled (unless_stale p.now b)) (sym held)
+    c.plan_agreed.ensures.same ∙ c.new.ensures ∙ ap (λ (b : Bool). spelled (if b then nothing else stale p.now)) (sym held)
 
 pub returns-in-Stopped-clause-planned : goal.returns-in-Stopped-clause-planned
 returns-in-Stopped-clause-planned c =
@@ -47,7 +48,7 @@ returns-in_ok-out-in-Stale-clause-effects c =
     let none : proposes p.now.agreement.proposal c.args.refused ≡ false = is_stale _ (sym told ∙ c.in-Stale.is) in
     let line_of : ℕ → Effects = λ (n : ℕ). record { lines = line.Stale n ∷ []; sends = [] } in
     c.plan_agreed-in-Stale.ensures.same ∙ c.in_ok-out-in-Stale.ensures ∙ ap line_of c.number-endpoint.ensures.same ∙ ap (λ (q : Planning). line_of q.now.me) c.self.view_is
-    ∙ ap (λ (b : Bool). spelled (unless_stale p.now b)) (sym none)
+    ∙ ap (λ (b : Bool). spelled (if b then nothing else stale p.now)) (sym none)
 
 pub returns-in_ok-out-in-Stale-clause-planned : goal.returns-in_ok-out-in-Stale-clause-planned
 returns-in_ok-out-in-Stale-clause-planned c =

@@ -1,5 +1,5 @@
 use Rattle.std.proofs.Common.{◌≡◌, ◌==◌, ℕ, Bool, true, false, Some, IfOk, sym, ap, subst, ◌∙◌}
-use Rattle.std.specs.Prelude.{IsSome}
+use Rattle.std.specs.Prelude.{IsSome, if◌then◌else◌}
 use Rattle.std.specs.Box.{with_value}
 use Rattle.std.specs.FinMap as finite
 use Rattle.std.specs.Global.{Box}
@@ -7,10 +7,9 @@ use Rattle.std.specs.Option.{ForSome}
 use Rattle.conflict_order.specs.Order.{is_newer}
 use Rattle.cluster_types.specs.Partitions.{partition_of}
 use Rattle.wire_messages.specs.declared.message.Message.TheVariants as message
-use Rattle.node_rules.specs.Effects.{sends_only, to_one}
+use Rattle.node_rules.specs.Effects.{sends_only, to_one, lines_and_sends}
 use Rattle.node_rules.specs.Facts.{list_at}
 use Rattle.node_rules.specs.Map.{list_master}
-use Rattle.node_rules.specs.Messages.{repl_came}
 use Rattle.node_rules.specs.Notes.{in_view}
 use Rattle.node_rules.specs.Steps.{Planning, planning}
 use Rattle.node_view.specs.declared.view.View.{View}
@@ -30,12 +29,14 @@ use Rattle.node_core.proofs.PlannedMessageLaws.{count_seen, repl_effects_due, ve
 use Rattle.node_steps.proofs.ReplLaws.{repl_after, repl_fits, repl_ranges}
 use Rattle.node_core.proofs.RoomLaws.{holds_itself, more_in_both, node_roomier_planned, node_roomier_still, on_err_if, planned_for, seen_planned, seen_still}
 use Rattle.node_core.proofs.node.Node.on_repl.Goals as goal
+use Rattle.node_rules.specs.BatchMessages.{merging}
+use Rattle.node_rules.specs.StaleMessages.{stale}
 
 pub returns-then-is_none-clause-effects : goal.returns-then-is_none-clause-effects
 returns-then-is_none-clause-effects c =
     let f = c.args.self.now.now in
     let out : in_view f c.args.key ≡ false = sym c.view_of.ensures.some ∙ c.if-is_none.ensures in
-    subst (λ (b : Bool). IfOk c.stale.result (λ e. e ≡ spelled (repl_came f c.args.from c.args.key c.args.transaction c.args.digest.now c.args.version.now b))) (sym out) c.stale.ensures.effects
+    subst (λ (b : Bool). IfOk c.stale.result (λ e. e ≡ spelled (if b then lines_and_sends (merging f c.args.digest.now c.args.version.now) (to_one c.args.from (message.ReplAck c.args.key c.args.transaction)) else stale f))) (sym out) c.stale.ensures.effects
 
 pub invariant_of-self : goal.invariant_of-self
 invariant_of-self c =

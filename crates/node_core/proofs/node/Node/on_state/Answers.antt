@@ -1,11 +1,10 @@
 use Rattle.std.proofs.Common.{◌≡◌, Bool, true, false, Some, IfOk, refl, sym, ap, subst, ◌∙◌}
-use Rattle.std.specs.Prelude.{IsSome}
+use Rattle.std.specs.Prelude.{IsSome, [], if◌then◌else◌}
 use Rattle.std.specs.Box.{with_value}
 use Rattle.std.specs.Global.{Box}
 use Rattle.journal_lines.specs.declared.line.Line.TheVariants as line
-use Rattle.node_rules.specs.Effects.{lines_only}
-use Rattle.node_rules.specs.Facts.{Facts}
-use Rattle.node_rules.specs.Messages.{state_came}
+use Rattle.node_rules.specs.Effects.{lines_only, lines_and_sends, to_one}
+use Rattle.node_rules.specs.Facts.{Facts, view_key}
 use Rattle.node_rules.specs.Notes.{in_view, row_came}
 use Rattle.node_rules.specs.Steps.{Planning, planning}
 use Rattle.node_rules.specs.Tables.{only_if}
@@ -23,12 +22,15 @@ use Rattle.node_core.proofs.NodeLaws.{has_no_plan}
 use Rattle.node_core.proofs.RoomLaws.{HasMoreRoom, facts_roomier, holds_itself, more_in_both, node_lent, node_roomier_still, same_view}
 use Rattle.node_steps.proofs.RowMessageLaws.{member_lent, row_message_ranges, state_after, state_proper, state_told}
 use Rattle.node_core.proofs.node.Node.on_state.Goals as goal
+use Rattle.node_rules.specs.RowMessages.{finishes}
+use Rattle.node_rules.specs.StaleMessages.{stale}
+use Rattle.node_rules.specs.Tick.{state}
 
 pub returns-then-is_none-clause-effects : goal.returns-then-is_none-clause-effects
 returns-then-is_none-clause-effects c =
     let f = c.args.self.now.now in
     let out : in_view f c.args.key ≡ false = sym c.view_of.ensures.some ∙ c.if-is_none.ensures in
-    subst (λ (b : Bool). IfOk c.stale.result (λ e. e ≡ spelled (state_came f (row_came f c.args.from c.args.row.now b) c.args.from c.args.wants b))) (sym out) c.stale.ensures.effects
+    subst (λ (b : Bool). IfOk c.stale.result (λ e. e ≡ spelled (if b then lines_and_sends (only_if (line.Exchanged f.me (view_key f)) (finishes f (row_came f c.args.from c.args.row.now b))) (if c.args.wants then to_one c.args.from (state f false) else []) else stale f))) (sym out) c.stale.ensures.effects
 
 pub state_effects-requires : goal.state_effects-requires
 state_effects-requires c =

@@ -1,6 +1,5 @@
-use Rattle.std.proofs.Common.{◌≡◌, ◌++◌, Bool, List, append-nil, length, refl, sym, ap, subst, ◌∙◌}
+use Rattle.std.proofs.Common.{◌≡◌, ◌++◌, Bool, List, append-nil, length, refl, sym, ap, subst, ◌∙◌, []}
 use Rattle.cluster_types.specs.declared.member.Member.{Member}
-use Rattle.node_rules.specs.Entering.{exchanging}
 use Rattle.node_rules.specs.Facts.{Facts}
 use Rattle.node_rules.specs.Steps.{Planning}
 use Rattle.node_view.specs.Views.{IsEntered, IsWithStore, Viewed}
@@ -8,6 +7,8 @@ use Rattle.node_core.specs.Nodes.{node_facts}
 use Rattle.node_core.proofs.LeadLaws.{one_member, several_members, told_entering}
 use Rattle.node_core.proofs.node.Node.plan_entering.Goals.{then-len-eq1+in_ok-push-2, else-len-eq1}
 use Rattle.node_core.proofs.node.Node.plan_entering.Goals as goal
+use Rattle.node_rules.specs.Tables.{only_if}
+use Rattle.journal_lines.specs.declared.line.Line.TheVariants as line
 
 pub returns-clause-lines : goal.returns-clause-lines
 returns-clause-lines c =
@@ -23,11 +24,11 @@ returns-clause-lines c =
       | then-len-eq1+in_ok-push-2 w ↦
           w.out-is
           ∙ told_entering c.args.out.now c.close_transactions.new.out f key ms me ls w.push-then-len-eq1.new.self ends own enters
-          (w.in_ok-push-2.ensures.ok ∙ ap (λ (b : Bool). ls ++ exchanging me key b) (sym (one_member (length ms) (sym c.len.ensures.value ∙ w.if-len-eq1.true))))
+          (w.in_ok-push-2.ensures.ok ∙ ap (λ (b : Bool). ls ++ only_if (line.Exchanged me key) b) (sym (one_member (length ms) (sym c.len.ensures.value ∙ w.if-len-eq1.true))))
       | else-len-eq1 w ↦
           w.out-is
           ∙ told_entering c.args.out.now c.close_transactions.new.out f key ms me ls ls ends own enters
-          (sym (append-nil ls) ∙ ap (λ (b : Bool). ls ++ exchanging me key b) (sym (several_members (length ms) (λ e. w.if-len-eq1.false (c.len.ensures.value ∙ e)))))
+          (sym (append-nil ls) ∙ ap (λ (b : Bool). ls ++ only_if (line.Exchanged me key) b) (sym (several_members (length ms) (λ e. w.if-len-eq1.false (c.len.ensures.value ∙ e)))))
     ]
 
 pub returns-clause-view : goal.returns-clause-view

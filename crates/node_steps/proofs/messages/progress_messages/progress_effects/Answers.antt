@@ -1,10 +1,9 @@
-use Rattle.std.proofs.Common.{◌≡◌, ◌&&◌, ℕ, Bool, true, false, [], ◌∷◌, sym, ap, ap₂, subst, ◌∙◌}
+use Rattle.std.proofs.Common.{◌≡◌, ◌&&◌, ℕ, Bool, true, false, [], ◌∷◌, sym, ap, ap₂, subst, ◌∙◌, if◌then◌else◌}
 use Rattle.cluster_types.specs.Partitions.{partition_count}
 use Rattle.wire_messages.specs.declared.message.Message.{Message}
 use Rattle.wire_messages.specs.Proper.{IsProper}
 use Rattle.wire_messages.specs.Spelling.{spelling}
 use Rattle.node_rules.specs.Facts.{Facts}
-use Rattle.node_rules.specs.Messages.{answer_progress}
 use Rattle.node_rules.specs.Notes.{progress_came}
 use Rattle.node_rules.specs.Standing.{knows_all_settled}
 use Rattle.node_steps.specs.declared.effects.Effects.{Effects}
@@ -12,6 +11,8 @@ use Rattle.node_steps.specs.Spelled.{spelled, with_sends}
 use Rattle.node_steps.proofs.RowMessageLaws.{all_settled_came, and_both, and_false, and_no, answer_is_due, answer_proper}
 use Rattle.node_steps.proofs.messages.progress_messages.progress_effects.Goals.{then-not-wants-via-then-not-wants, then-not-wants-via-else-not-wants+then-not-knows_all_settled_with}
 use Rattle.node_steps.proofs.messages.progress_messages.progress_effects.Goals as goal
+use Rattle.node_rules.specs.Effects.{nothing, sends_only, to_one}
+use Rattle.node_rules.specs.Tick.{progress_message}
 
 pub returns-then-not-wants : goal.returns-then-not-wants
 returns-then-not-wants c = λ f done h.
@@ -22,7 +23,7 @@ returns-then-not-wants c = λ f done h.
           and_no c.args.wants (knows_all_settled g partition_count 0)
           (all_settled_came f c.args.to done c.args.handed.now c.args.settled.now ∙ sym (w.knows_all_settled_with.ensures f h) ∙ w.if-not-knows_all_settled_with.true)
     ] in
-    c.new-out.ensures ∙ ap (λ (b : Bool). spelled (answer_progress partition_count g c.args.to b)) (sym none)
+    c.new-out.ensures ∙ ap (λ (b : Bool). spelled (if b then sends_only (to_one c.args.to (progress_message partition_count g false)) else nothing)) (sym none)
 
 pub send-requires : goal.send-requires
 send-requires c =
@@ -40,4 +41,4 @@ returns c = λ f done h.
     ∙ ap (λ (n : ℕ). with_sends c.new-out.result ((n, spelling c.in_ok-answer.answer) ∷ [])) c.number.ensures.same
     ∙ ap₂ (λ (o : Effects) (m : Message). with_sends o ((to, spelling m) ∷ [])) c.new-out.ensures
     (c.in_ok-answer.ensures ∙ answer_is_due f c.args.view.now to done c.args.handed.now c.args.settled.now h.viewed)
-    ∙ ap (λ (b : Bool). spelled (answer_progress partition_count g to b)) (sym all)
+    ∙ ap (λ (b : Bool). spelled (if b then sends_only (to_one to (progress_message partition_count g false)) else nothing)) (sym all)

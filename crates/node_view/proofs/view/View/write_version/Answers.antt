@@ -1,7 +1,8 @@
 use Rattle.std.proofs.Common.{◌≡◌, ◌<◌, ◌+◌, ℕ, List, [], ◌∷◌, Option, Some, refl, sym, ap, subst, ◌∙◌, arith}
 use Rattle.std.specs.Prelude.{IfSome, IsSomeAnd}
+use Rattle.conflict_order.specs.Contents.{joined}
 use Rattle.cluster_types.specs.Partitions.{partition_of}
-use Rattle.record_store.specs.Store.{HasRoom, joined}
+use Rattle.record_store.specs.Store.{HasRoom}
 use Rattle.dup_resolve.specs.declared.txn.Txn.{Txn}
 use Rattle.dup_resolve.specs.Open as table
 use Rattle.write_path.specs.Writes.{IsToWrite, records_with, version_in}
