@@ -1,6 +1,6 @@
 -- What is known of records, and of what was written in views, as a line brings a version.
 use Rattle.std.proofs.Common.{◌≡◌, ℕ, suc, Bool, true, false, ◌&&◌, ◌||◌, cond, List, [], ◌∷◌, Option, Some, None, refl, sym, ap, subst, ◌∙◌, is_some}
-use Rattle.std.specs.Prelude.{take, slice_get, nat_eq}
+use Rattle.std.specs.Prelude.{take, slice_get, nat_eq, bytes_eq}
 use Rattle.std.specs.List.{list_any, count_by}
 use Rattle.std.proofs.lemmas.List.Folds.{list_any-append}
 use Rattle.conflict_order.specs.declared.policy.Policy.{Policy}
@@ -9,7 +9,7 @@ use Rattle.conflict_order.specs.Join.{join, AtMost}
 use Rattle.cluster_types.specs.declared.cluster_key.ClusterKey.{ClusterKey}
 use Rattle.journal_lines.specs.declared.line.Line.{Line}
 use Rattle.journal_lines.specs.declared.line.Line.TheVariants as line
-use Rattle.journal_readings.specs.Lines.{same_key, same_digest, has_node}
+use Rattle.journal_readings.specs.Lines.{same_key, has_node}
 use Rattle.journal_readings.specs.Contents.{applied, joined_if}
 use Rattle.journal_readings.specs.Entries.{applied_in}
 use Rattle.journal_readings.proofs.AlongLaws.{some_same, no_some}
@@ -19,7 +19,7 @@ use Rattle.audit_laws.proofs.Tests.{differ, number_same, number_here}
 use Rattle.audit_core.specs.declared.judge.Judge.{Judge}
 use Rattle.audit_state.specs.declared.records.Records.{Records}
 use Rattle.audit_core.specs.Bringing.{IsBrought}
-use Rattle.audit_core.specs.Holders.{content_now, holds_top, holds_newest, AreCounted}
+use Rattle.audit_core.specs.Holders.{content_now, holds_top, holds_newest, AreHoldersCounted}
 use Rattle.audit_state.specs.Places.{placed, placed_version, is_at_most}
 use Rattle.audit_state.specs.Records.{record_number, record_digest, newest_of, holders_of, AreNumberedRecords, is_at_most_newest, raised, raised_holders}
 use Rattle.audit_core.specs.Stored.{brings, read_of}
@@ -32,25 +32,25 @@ use Rattle.audit_state.proofs.PlaceLaws.{join_first, join_second}
 any_next : (test : Line → Bool) (all : List Line) (i : ℕ) (l : Line) → slice_get all i ≡ Some l → list_any test (take i all) ≡ false → test l ≡ false → list_any test (take (suc i) all) ≡ false
 any_next test all i l here e f = ap (list_any test) (take_next all i l here) ∙ (list_any-append test (take i all) (l ∷ []) ∙ (ap (λ (b : Bool). b || (test l || false)) e ∙ ap (λ (b : Bool). b || false) f))
 
-brings_it : (l : Line) (n : ℕ) (d : List ℕ) (v : Version) (e : List ℕ) → IsBrought l n d v → brings e l ≡ same_digest d e
-brings_it (line.Apply m k t f w) n d v e h = ap (λ (x : List ℕ). same_digest x e) h.1
-brings_it (line.Merge m k f w) n d v e h = ap (λ (x : List ℕ). same_digest x e) h.1
+brings_it : (l : Line) (n : ℕ) (d : List ℕ) (v : Version) (e : List ℕ) → IsBrought l n d v → brings e l ≡ bytes_eq d e
+brings_it (line.Apply m k t f w) n d v e h = ap (λ (x : List ℕ). bytes_eq x e) h.1
+brings_it (line.Merge m k f w) n d v e h = ap (λ (x : List ℕ). bytes_eq x e) h.1
 brings_it l n d v e h = absurd h
 
 -- another record has another digest
-pub apart_digest : (rs : Records) (r q : ℕ) (d e : List ℕ) → AreNumberedRecords rs → record_digest rs r ≡ Some d → record_digest rs q ≡ Some e → nat_eq r q ≡ false → same_digest d e ≡ false
-apart_digest rs r q d e numbered named other apart = go (same_digest d e) refl
+pub apart_digest : (rs : Records) (r q : ℕ) (d e : List ℕ) → AreNumberedRecords rs → record_digest rs r ≡ Some d → record_digest rs q ≡ Some e → nat_eq r q ≡ false → bytes_eq d e ≡ false
+apart_digest rs r q d e numbered named other apart = go (bytes_eq d e) refl
   where
-    go : (b : Bool) → same_digest d e ≡ b → b ≡ false
+    go : (b : Bool) → bytes_eq d e ≡ b → b ≡ false
     go false i = refl
     go true i = differ (subst (λ (x : ℕ). nat_eq r x ≡ true) (some_same (sym (numbered.numbers d r named) ∙ numbered.numbers d q (other ∙ ap Some (sym (same_digest_is d e i))))) (number_here r)) apart
 
 -- no line brought what has no number yet
 pub unbrought_next : (rs : Records) (all : List Line) (i n r : ℕ) (l : Line) (d : List ℕ) (v : Version) → slice_get all i ≡ Some l → IsBrought l n d v → AreNumberedRecords rs → record_digest rs r ≡ Some d
     → (e : List ℕ) → record_number rs e ≡ None → list_any (brings e) (take i all) ≡ false → list_any (brings e) (take (suc i) all) ≡ false
-unbrought_next rs all i n r l d v here brought numbered named e none before = any_next (brings e) all i l here before (brings_it l n d v e brought ∙ go (same_digest d e) refl)
+unbrought_next rs all i n r l d v here brought numbered named e none before = any_next (brings e) all i l here before (brings_it l n d v e brought ∙ go (bytes_eq d e) refl)
   where
-    go : (b : Bool) → same_digest d e ≡ b → b ≡ false
+    go : (b : Bool) → bytes_eq d e ≡ b → b ≡ false
     go false q = refl
     go true q = absurd (no_some (sym none ∙ (ap (record_number rs) (sym (same_digest_is d e q)) ∙ numbered.numbers d r named)))
 
@@ -74,7 +74,7 @@ raised_some by all i v (Some place) stands = go (is_at_most_newest by all i (Som
 
 -- what is read joins the version at this record alone
 pub joined_reads : (rs : Records) (all : List Line) (by : Policy) (i r : ℕ) (d : List ℕ) (v : Version) (before after : List ℕ → Option Version) (old new : ℕ → Option ℕ) → AreNumberedRecords rs → record_digest rs r ≡ Some d → placed_version all i ≡ Some v
-    → ((e : List ℕ) → after e ≡ joined_if (same_digest d e) by (before e) v)
+    → ((e : List ℕ) → after e ≡ joined_if (bytes_eq d e) by (before e) v)
     → ((q : ℕ) → placed all (old q) ≡ read_of before (record_digest rs q))
     → ((q : ℕ) → new q ≡ cond (nat_eq r q) (raised by all i (old r)) (old q))
     → (q : ℕ) → placed all (new q) ≡ read_of after (record_digest rs q)
@@ -94,11 +94,11 @@ joined_reads rs all by i r d v before after old new numbered named stands step t
     go false e = told q ∙ same (record_digest rs q) refl e
 
 pub applied_next : (by : Policy) (all : List Line) (i n t : ℕ) (k : ClusterKey) (d : List ℕ) (v : Version) → slice_get all i ≡ Some (line.Apply n k t d v) → (e : List ℕ)
-    → applied by e (take (suc i) all) ≡ joined_if (same_digest d e) by (applied by e (take i all)) v
+    → applied by e (take (suc i) all) ≡ joined_if (bytes_eq d e) by (applied by e (take i all)) v
 applied_next by all i n t k d v here e = ap (applied by e) (take_next all i (line.Apply n k t d v) here) ∙ applied-more by e (take i all) (line.Apply n k t d v)
 
 pub applied_in_next : (by : Policy) (all : List Line) (i n t : ℕ) (k : ClusterKey) (d : List ℕ) (v : Version) → slice_get all i ≡ Some (line.Apply n k t d v) → (l : ClusterKey) (e : List ℕ)
-    → applied_in by l e (take (suc i) all) ≡ joined_if (same_key k l && same_digest d e) by (applied_in by l e (take i all)) v
+    → applied_in by l e (take (suc i) all) ≡ joined_if (same_key k l && bytes_eq d e) by (applied_in by l e (take i all)) v
 applied_in_next by all i n t k d v here l e = ap (applied_in by l e) (take_next all i (line.Apply n k t d v) here) ∙ applied_in-more by l e (take i all) (line.Apply n k t d v)
 
 pub merged_next : (by : Policy) (all : List Line) (i n : ℕ) (k : ClusterKey) (d : List ℕ) (v : Version) → slice_get all i ≡ Some (line.Merge n k d v) → (e : List ℕ) → applied by e (take (suc i) all) ≡ applied by e (take i all)
@@ -109,7 +109,7 @@ merged_in_next by all i n k d v here l e = ap (applied_in by l e) (take_next all
 
 -- ---- who holds the newest version, as one is applied
 
-module _ (s : Judge) (rs : Records) (i r : ℕ) (v : Version) (ns : List ℕ) (stands : placed_version s.lines.now i ≡ Some v) (counts : AreCounted s ns)
+module _ (s : Judge) (rs : Records) (i r : ℕ) (v : Version) (ns : List ℕ) (stands : placed_version s.lines.now i ≡ Some v) (counts : AreHoldersCounted s ns)
     (newest : (q : ℕ) → newest_of rs q ≡ cond (nat_eq r q) (raised s.by s.lines.now i (newest_of s.records r)) (newest_of s.records q))
     (holders : (q : ℕ) → holders_of rs q ≡ cond (nat_eq r q) (raised_holders s.by s.lines.now i (newest_of s.records r) (holders_of s.records r)) (holders_of s.records q))
     (under : (m : ℕ) → has_node ns m ≡ true → AtMost s.by (placed s.lines.now (content_now s m r)) (placed s.lines.now (newest_of s.records r))) where
@@ -123,7 +123,7 @@ module _ (s : Judge) (rs : Records) (i r : ℕ) (v : Version) (ns : List ℕ) (s
       ap (λ (o : Option Version). count_by (λ m. holds_top s.by o (placed s.lines.now (content_now s m r))) ns) stands
       ∙ none_yet s.by (λ m. placed s.lines.now (content_now s m r)) (placed s.lines.now (newest_of s.records r)) v ns under (ap (λ (o : Option Version). is_at_most s.by o (placed s.lines.now (newest_of s.records r))) (sym stands) ∙ e))
 
-  pub counted_raised : AreCounted (record s { records = rs }) ns
+  pub counted_raised : AreHoldersCounted (record s { records = rs }) ns
   counted_raised q = holders q ∙ go (nat_eq r q) refl
     where
       go : (b : Bool) → nat_eq r q ≡ b → cond b (raised_holders s.by s.lines.now i (newest_of s.records r) (holders_of s.records r)) (holders_of s.records q) ≡ count_by (λ m. holds_newest (record s { records = rs }) m q) ns

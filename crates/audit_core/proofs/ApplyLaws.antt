@@ -2,7 +2,7 @@
 use Rattle.std.proofs.Common.{◌≡◌, ℕ, ◌==◌, ◌+◌, ◌<◌, ◌-◌, ◌^◌, Bool, true, false, not, ◌&&◌, ◌||◌}
 use Rattle.std.proofs.Common.{cond, List, [], ◌∷◌, ◌++◌, Option, Some, None, ◌↔◌, refl, sym, ap}
 use Rattle.std.proofs.Common.{ap₂, subst, ◌∙◌, arith}
-use Rattle.std.specs.Prelude.{take, is_some, slice_get, IsTrue, option_and_then}
+use Rattle.std.specs.Prelude.{take, is_some, slice_get, IsTrue, option_and_then, bytes_eq}
 use Rattle.std.specs.Prelude.{nat_eq}
 use Rattle.std.specs.HashMap as hash
 use Rattle.std.specs.List.{list_any}
@@ -12,12 +12,13 @@ use Rattle.conflict_order.specs.Next.{next}
 use Rattle.cluster_types.specs.ClusterKeys.{is_view_key}
 use Rattle.cluster_types.specs.declared.cluster_key.ClusterKey.{ClusterKey}
 use Rattle.cluster_types.specs.Partitions.{partition_of}
+use Rattle.partition_lists.specs.Classes.{is_that}
 use Rattle.partition_lists.specs.Lists.{list}
 use Rattle.journal_lines.specs.declared.line.Line.{Line}
 use Rattle.journal_lines.specs.declared.line.Line.TheVariants as line
 use Rattle.journal_readings.specs.Claims.{JoinsView}
 use Rattle.journal_readings.specs.Entries.{fold_of}
-use Rattle.journal_readings.specs.Lines.{same_key, same_digest, has_node}
+use Rattle.journal_readings.specs.Lines.{same_key, has_node}
 use Rattle.journal_readings.specs.Settings.{policy_of, nodes, clock_of}
 use Rattle.journal_readings.specs.Settled.{is_open_write}
 use Rattle.journal_readings.specs.Shape.{Shape, named_nodes}
@@ -45,21 +46,21 @@ use Rattle.audit_state.specs.Places.{placed, placed_version, brought_version}
 use Rattle.audit_state.specs.Records.{record_number, record_digest, Opens}
 use Rattle.audit_state.specs.Views.{SameEntries}
 use Rattle.audit_state.specs.Written.{Stand, WritesRecord, stand_of, written_of}
-use Rattle.audit_core.specs.Audits.{Comes, Takes, so_far}
+use Rattle.audit_core.specs.Audits.{Comes, AcceptsLine, so_far}
 use Rattle.audit_core.specs.Bringing.{AppliesWrite, WritesHere}
 use Rattle.audit_core.specs.Covering.{SeesCovers}
 use Rattle.audit_core.specs.Folds.{KnowsView, clock_at, clock_in}
 use Rattle.audit_core.specs.Frames.{Both, SameStand, KeepsFrame}
-use Rattle.audit_core.specs.Known.{node_at, view_at, view_of}
+use Rattle.audit_core.specs.Known.{node_at, view_at, kept_view}
 use Rattle.audit_core.specs.Sees.{SeesFrame, SeesStand, SeesWrites, SeesStays, SeesTried}
 use Rattle.audit_core.specs.Sees.{SeesView}
-use Rattle.audit_core.specs.Settling.{TakesMasterWrite, stand_from, stand_at, master_from, is_first}
+use Rattle.audit_core.specs.Settling.{TakesMasterWrite, stand_from, stand_at, master_from}
 use Rattle.audit_core.specs.Settling.{is_master_in}
 use Rattle.audit_core.specs.Steps.{ChangesNode, HasChanged}
-use Rattle.audit_core.specs.Stored.{Knows, SeesContents, SeesStores, IsOf}
-use Rattle.audit_core.specs.Trying.{SeesLines, SeesStands, IsRecord, IsTrying, KeepsKnown}
-use Rattle.audit_core.specs.Trying.{TriesRecord, TriesPresent, StopsRecord, with_record}
-use Rattle.audit_core.specs.Trying.{with_present}
+use Rattle.audit_core.specs.Stored.{Knows, SeesContents, SeesStores, IsRecordOf}
+use Rattle.audit_core.specs.Trying.{SeesLines, SeesStands, IsKnownRecord, IsTrying, KeepsKnown}
+use Rattle.audit_core.specs.Trying.{TriesRecord, TriesPresent, StopsRecord, tried_with_record}
+use Rattle.audit_core.specs.Trying.{tried_with_present}
 use Rattle.audit_core.specs.Verdicts.{BreaksFirst, StopsRightly}
 use Rattle.audit_core.proofs.BoundLaws.{present_so, master_so, unlisted}
 use Rattle.audit_core.proofs.MergeLaws.{covers_open, covers_next}
@@ -89,22 +90,6 @@ entries_then a b c h q = record {
   entered = q.entered ∙ h.entered;
   exchanged = q.exchanged ∙ h.exchanged;
 }
-
-both_then : (o p q : Option View) → Both SameEntries o p → Both SameEntries p q
-    → Both SameEntries o q
-both_then None None None h x = tt
-both_then (Some a) (Some b) (Some c) h x = entries_then a b c h x
-both_then None None (Some c) h x = absurd x
-both_then None (Some b) q h x = absurd h
-both_then (Some a) None q h x = absurd h
-both_then (Some a) (Some b) None h x = absurd x
-
-both_weaker : (R : View → View → Type 0) → ((a b : View) → R a b → SameEntries a b)
-    → (o q : Option View) → Both R o q → Both SameEntries o q
-both_weaker R f None None h = tt
-both_weaker R f (Some a) (Some b) h = f a b h
-both_weaker R f None (Some b) h = absurd h
-both_weaker R f (Some a) None h = absurd h
 
 -- where each view that is known was known, and the other way round
 both_known : (o q : Option View) → ((y : View) → q ≡ Some y → (x : View) × (o ≡ Some x)
@@ -147,7 +132,8 @@ opened_entries b n t p x y h = record {
 -- what was written stays as a write is opened
 opened_stores : (s new : Judge) (i : ℕ) (all j : List Line) (b : ClusterKey → Bool) (n t p : ℕ)
     → record new { views = s.views } ≡ s
-    → ((l : ClusterKey) (y : View) → view_of new l ≡ Some y → (x : View) × (view_of s l ≡ Some x)
+    → ((l : ClusterKey) (y : View) → kept_view new l ≡ Some y → (x : View)
+    × (kept_view s l ≡ Some x)
     × OpensHere (b l) n t p x y) → SeesStores s i all j → SeesStores new i all j
 opened_stores s new i all j b n t p rest views h =
     let moved : SeesStores (record new { views = s.views }) i all j =
@@ -162,22 +148,22 @@ opened_stores s new i all j b n t p rest views h =
       contents = moved.contents;
       copies = moved.copies;
       written = record {
-        applied = λ l y q e. let w : (x : View) × (view_of s l ≡ Some x)
+        applied = λ l y q e. let w : (x : View) × (kept_view s l ≡ Some x)
             × OpensHere (b l) n t p x y = views l y e in
             ap (λ (z : View). placed all (hash.get nat_eq z.applied q)) w.2.rest
             ∙ moved.written.applied l w.0 q w.1;
-        written = λ l y q e. let w : (x : View) × (view_of s l ≡ Some x)
+        written = λ l y q e. let w : (x : View) × (kept_view s l ≡ Some x)
             × OpensHere (b l) n t p x y = views l y e in
             ap (λ (z : View). has_node z.written.items q) w.2.rest
             ∙ (moved.written.written l w.0 q w.1 ∙ sym (ap
             (λ (z : View). is_some (hash.get nat_eq z.applied q)) w.2.rest));
-        listed = λ l y q e some. let w : (x : View) × (view_of s l ≡ Some x)
+        listed = λ l y q e some. let w : (x : View) × (kept_view s l ≡ Some x)
             × OpensHere (b l) n t p x y = views l y e in
-            let u : (u : ℕ) × IsOf new.records q u × (has_node (written_of w.0 u) q ≡ true) =
+            let u : (u : ℕ) × IsRecordOf new.records q u × (has_node (written_of w.0 u) q ≡ true) =
             moved.written.listed l w.0 q w.1 (sym (ap
             (λ (z : View). is_some (hash.get nat_eq z.applied q)) w.2.rest) ∙ some) in
             (u.0, u.1, ap (λ (ns : List ℕ). has_node ns q) (w.2.written u.0) ∙ u.2);
-        listed_only = λ l y u q e has. let w : (x : View) × (view_of s l ≡ Some x)
+        listed_only = λ l y u q e has. let w : (x : View) × (kept_view s l ≡ Some x)
             × OpensHere (b l) n t p x y = views l y e in
             moved.written.listed_only l w.0 u q w.1
             (sym (ap (λ (ns : List ℕ). has_node ns q) (w.2.written u)) ∙ has);
@@ -256,17 +242,17 @@ module _ (old opened held noted written : Judge) (i n r t p : ℕ) (k : ClusterK
 
   -- ---- views
 
-  noted_view : (l : ClusterKey) → view_of noted l ≡ view_of held l
-  noted_view l = ap (λ (s : Judge). view_of s l) x.notes.rest
+  noted_view : (l : ClusterKey) → kept_view noted l ≡ kept_view held l
+  noted_view l = ap (λ (s : Judge). kept_view s l) x.notes.rest
 
-  opened_view : (l : ClusterKey) → view_of opened l ≡ view_of old l
-  opened_view l = ap (λ (s : Judge). view_of s l) x.rest
+  opened_view : (l : ClusterKey) → kept_view opened l ≡ kept_view old l
+  opened_view l = ap (λ (s : Judge). kept_view s l) x.rest
 
-  wrote : (l : ClusterKey) (z : View) → view_of noted l ≡ Some z → (y : View)
-      × (view_of old l ≡ Some y) × WroteHere y z
+  wrote : (l : ClusterKey) (z : View) → kept_view noted l ≡ Some z → (y : View)
+      × (kept_view old l ≡ Some y) × WroteHere y z
   wrote l z there = go (same_key k l) refl
     where
-      go : (b : Bool) → same_key k l ≡ b → (y : View) × (view_of old l ≡ Some y) × WroteHere y z
+      go : (b : Bool) → same_key k l ≡ b → (y : View) × (kept_view old l ≡ Some y) × WroteHere y z
       go false e = (
         z,
         sym (noted_view l ∙ (x.keeps.others l e ∙ opened_view l))
@@ -274,11 +260,11 @@ module _ (old opened held noted written : Judge) (i n r t p : ℕ) (k : ClusterK
         wrote_itself z,
       )
       go true e =
-          let w : (y : View) × (view_of opened k ≡ Some y) × WritesIn opened i r d y z =
-          both_before (WritesIn opened i r d) (view_of opened k) (view_of held k) z x.keeps.here
-          (ap (view_of held) (same_key_is k l e) ∙ (sym (noted_view l) ∙ there)) in (
+          let w : (y : View) × (kept_view opened k ≡ Some y) × WritesIn opened i r d y z =
+          both_before (WritesIn opened i r d) (kept_view opened k) (kept_view held k) z x.keeps.here
+          (ap (kept_view held) (same_key_is k l e) ∙ (sym (noted_view l) ∙ there)) in (
             w.0,
-            ap (view_of old) (sym (same_key_is k l e))
+            ap (kept_view old) (sym (same_key_is k l e))
                 ∙ (sym (opened_view k) ∙ w.1),
             record {
               entries = w.2.entries;
@@ -292,40 +278,40 @@ module _ (old opened held noted written : Judge) (i n r t p : ℕ) (k : ClusterK
   entered = entered_key k n front c.shape.in_view
 
   -- the node is the list master as the lines say
-  first_so : (y : View) → view_of old k ≡ Some y
+  first_so : (y : View) → kept_view old k ≡ Some y
       → is_master_in (Some y) n p ≡ (master k p front == n)
-  first_so y there = go (master_from (view_of old k) p) refl
+  first_so y there = go (master_from (kept_view old k) p) refl
     where
-      go : (o : Option ℕ) → master_from (view_of old k) p ≡ o
+      go : (o : Option ℕ) → master_from (kept_view old k) p ≡ o
           → is_master_in (Some y) n p ≡ (master k p front == n)
       go None e = absurd (unlisted old i k p known_lines e entered)
-      go (Some m) e = ap (λ (o : Option View). is_first (master_from o p) n) (sym there)
-          ∙ (ap (λ (o : Option ℕ). is_first o n) e
+      go (Some m) e = ap (λ (o : Option View). is_that (master_from o p) n) (sym there)
+          ∙ (ap (λ (o : Option ℕ). is_that o n) e
           ∙ ap (λ (z : ℕ). z == n) (sym (master_so old i k p m known_lines e)))
 
-  opens_so : (z : View) → view_of noted k ≡ Some z → opens_known ≡ is_opened front n t p k
+  opens_so : (z : View) → kept_view noted k ≡ Some z → opens_known ≡ is_opened front n t p k
   opens_so z there =
-      let w : (y : View) × (view_of old k ≡ Some y) × WroteHere y z = wrote k z there in
+      let w : (y : View) × (kept_view old k ≡ Some y) × WroteHere y z = wrote k z there in
       ap (λ (o : Option View). is_master_in o n p && not (is_done_from o n t)) there
       ∙ ap₂ (λ (a b : Bool). a && not b)
-      (ap (λ (ms : _). is_first (slice_get (list ms p) 0) n) w.2.entries.ranks ∙ first_so w.0 w.1)
+      (ap (λ (ms : _). is_that (slice_get (list ms p) 0) n) w.2.entries.ranks ∙ first_so w.0 w.1)
       (ap (λ (m : _). done_in (hash.get pair_eq m (n, t))) w.2.writes
       ∙ c.audits.state.writes.done k w.0 n t w.1)
 
   -- a view that is known was known, and the line's write is one more
   record ViewBefore (l : ClusterKey) (y : View) : Type 0 where
     pub between : View
-    pub there : view_of noted l ≡ Some between
+    pub there : kept_view noted l ≡ Some between
     pub opens : OpensHere (opens_in l) n t p between y
     pub was : View
-    pub known : view_of old l ≡ Some was
+    pub known : kept_view old l ≡ Some was
     pub wrote : WroteHere was between
 
-  view_before : (l : ClusterKey) (y : View) → view_of written l ≡ Some y → ViewBefore l y
+  view_before : (l : ClusterKey) (y : View) → kept_view written l ≡ Some y → ViewBefore l y
   view_before l y there =
       let z : OpensFrom k n t p noted written x.takes l y =
       opens_view k n t p noted written x.takes l y there in
-      let w : (w : View) × (view_of old l ≡ Some w) × WroteHere w z.0 = wrote l z.0 z.1 in
+      let w : (w : View) × (kept_view old l ≡ Some w) × WroteHere w z.0 = wrote l z.0 z.1 in
       record {
         between = z.0;
         there = z.1;
@@ -336,12 +322,12 @@ module _ (old opened held noted written : Judge) (i n r t p : ℕ) (k : ClusterK
         wrote = w.2;
       }
     where
-      same : (b : Bool) → same_key k l ≡ b → (z : View) → view_of noted l ≡ Some z
+      same : (b : Bool) → same_key k l ≡ b → (z : View) → kept_view noted l ≡ Some z
           → (same_key k l && opens_known) ≡ opens_in l
       same false e z f = ap (λ (b : Bool). b && opens_known) e
           ∙ sym (ap (λ (b : Bool). b && is_opened front n t p k) e)
       same true e z f = ap (λ (b : Bool). same_key k l && b)
-          (opens_so z (ap (view_of noted) (same_key_is k l e) ∙ f))
+          (opens_so z (ap (kept_view noted) (same_key_is k l e) ∙ f))
 
   abbrev TakenHere : ClusterKey → View → Type 0
   TakenHere l y = TakenFrom front n t p k d v part old l y
@@ -363,11 +349,11 @@ module _ (old opened held noted written : Judge) (i n r t p : ℕ) (k : ClusterK
         },
       )
 
-  view_there : (l : ClusterKey) (y : View) → view_of old l ≡ Some y
-      → is_some (view_of written l) ≡ true
-  view_there l y there = go (view_of written l) refl
+  view_there : (l : ClusterKey) (y : View) → kept_view old l ≡ Some y
+      → is_some (kept_view written l) ≡ true
+  view_there l y there = go (kept_view written l) refl
     where
-      held_there : is_some (view_of noted l) ≡ true
+      held_there : is_some (kept_view noted l) ≡ true
       held_there = ap is_some (noted_view l) ∙ at (same_key k l) refl
         where
           both_there : (o q : Option View) → Both (WritesIn opened i r d) o q
@@ -377,17 +363,17 @@ module _ (old opened held noted written : Judge) (i n r t p : ℕ) (k : ClusterK
           both_there None (Some b) h = absurd h
           both_there (Some a) None h = absurd h
 
-          at : (b : Bool) → same_key k l ≡ b → is_some (view_of held l) ≡ true
+          at : (b : Bool) → same_key k l ≡ b → is_some (kept_view held l) ≡ true
           at false e = ap is_some (x.keeps.others l e ∙ (opened_view l ∙ there))
           at true e =
-              ap (λ (z : ClusterKey). is_some (view_of held z)) (sym (same_key_is k l e))
-              ∙ (both_there (view_of opened k) (view_of held k) x.keeps.here
-              ∙ (ap is_some (opened_view k) ∙ (ap (λ (z : ClusterKey). is_some (view_of old z))
+              ap (λ (z : ClusterKey). is_some (kept_view held z)) (sym (same_key_is k l e))
+              ∙ (both_there (kept_view opened k) (kept_view held k) x.keeps.here
+              ∙ (ap is_some (opened_view k) ∙ (ap (λ (z : ClusterKey). is_some (kept_view old z))
               (same_key_is k l e) ∙ ap is_some there)))
 
-      go : (o : Option View) → view_of written l ≡ o → is_some (view_of written l) ≡ true
+      go : (o : Option View) → kept_view written l ≡ o → is_some (kept_view written l) ≡ true
       go (Some y) e = ap is_some e
-      go None e = differ held_there (kept (is_master_in (view_of noted k) n p) refl)
+      go None e = differ held_there (kept (is_master_in (kept_view noted k) n p) refl)
         where
           opened_there : (o q : Option View) → Both (OpensWrite n t p) o q → is_some o ≡ is_some q
           opened_there None None h = refl
@@ -395,17 +381,17 @@ module _ (old opened held noted written : Judge) (i n r t p : ℕ) (k : ClusterK
           opened_there None (Some b) h = absurd h
           opened_there (Some a) None h = absurd h
 
-          kept : (b : Bool) → is_master_in (view_of noted k) n p ≡ b
-              → is_some (view_of noted l) ≡ false
-          kept false f = ap is_some (sym (ap (λ (s : Judge). view_of s l) (x.takes.passed f)) ∙ e)
+          kept : (b : Bool) → is_master_in (kept_view noted k) n p ≡ b
+              → is_some (kept_view noted l) ≡ false
+          kept false f = ap is_some (sym (ap (λ (s : Judge). kept_view s l) (x.takes.passed f)) ∙ e)
           kept true f = at (same_key k l) refl
             where
-              at : (b : Bool) → same_key k l ≡ b → is_some (view_of noted l) ≡ false
+              at : (b : Bool) → same_key k l ≡ b → is_some (kept_view noted l) ≡ false
               at false g = ap is_some (sym ((x.takes.opened f).others l g) ∙ e)
               at true g =
-                  ap (λ (z : ClusterKey). is_some (view_of noted z)) (sym (same_key_is k l g))
-                  ∙ (opened_there (view_of noted k) (view_of written k) (x.takes.opened f).here
-                  ∙ (ap (λ (z : ClusterKey). is_some (view_of written z)) (same_key_is k l g)
+                  ap (λ (z : ClusterKey). is_some (kept_view noted z)) (sym (same_key_is k l g))
+                  ∙ (opened_there (kept_view noted k) (kept_view written k) (x.takes.opened f).here
+                  ∙ (ap (λ (z : ClusterKey). is_some (kept_view written z)) (same_key_is k l g)
                   ∙ ap is_some e))
 
   -- ---- what is known of the lines
@@ -435,7 +421,7 @@ module _ (old opened held noted written : Judge) (i n r t p : ℕ) (k : ClusterK
         (sym (ap (λ (s : Judge). node_at s m) written_rest))
         (changed_nodes (HasChanged r) n held noted x.notes (λ y. SameStand) (λ a b h. h.same)
         (λ y a e. record { view = refl; clock = refl; exchanged = refl }) m));
-    views = λ l. both_known (view_of old l) (view_of written l)
+    views = λ l. both_known (kept_view old l) (kept_view written l)
         (λ y there. let b : ViewBefore l y = view_before l y there in (
           b.was,
           b.known,
@@ -544,7 +530,7 @@ module _ (old opened held noted written : Judge) (i n r t p : ℕ) (k : ClusterK
   trying : IsTrying written (i + 1) (unparted front it)
   trying = trying_next old written i it c (content_line it refl) taken
 
-  record_here : IsRecord written r p d
+  record_here : IsKnownRecord written r p d
   record_here = record { named = named; part = sym part }
 
   present : (s : Judge) → SeesLines s (i + 1) → so_far s (i + 1) ≡ front ++ it ∷ []
@@ -553,15 +539,15 @@ module _ (old opened held noted written : Judge) (i n r t p : ℕ) (k : ClusterK
 
   -- the record is tried in the view and in the node's, and no other may part
   all_here : (o : Option ClusterKey) → o ≡ view n front → (l : ClusterKey) (e : List ℕ)
-      → with_present (with_record (unparted front it) k d) o d l e ≡ true
-  all_here None h l e = none (same_digest d e) (same_key k l) (is_view_key (view n front) l)
+      → tried_with_present (tried_with_record (unparted front it) k d) o d l e ≡ true
+  all_here None h l e = none (bytes_eq d e) (same_key k l) (is_view_key (view n front) l)
       (ap (λ (o : Option ClusterKey). is_view_key o l) (sym h))
     where
       none : (a b z : Bool) → z ≡ false → (not (a && (b || z)) || (b && a)) ≡ true
       none true true z q = refl
       none true false z q = ap (λ (w : Bool). not w || false) q
       none false b z q = refl
-  all_here (Some o) h l e = both (same_digest d e) (same_key k l) (is_view_key (view n front) l)
+  all_here (Some o) h l e = both (bytes_eq d e) (same_key k l) (is_view_key (view n front) l)
       (same_key o l) (ap (λ (o : Option ClusterKey). is_view_key o l) (sym h))
     where
       both : (a b z w : Bool) → z ≡ w → ((not (a && (b || z)) || (b && a)) || (w && a)) ≡ true
@@ -587,10 +573,10 @@ module _ (old opened held noted written : Judge) (i n r t p : ℕ) (k : ClusterK
     lines_touched : SeesLines touched (i + 1)
     lines_touched = lines_kept written touched (i + 1) keeps lines_written
 
-    record_touched : IsRecord touched r p d
+    record_touched : IsKnownRecord touched r p d
     record_touched = record_kept written touched r p d keeps record_here
 
-    trying_touched : IsTrying touched (i + 1) (with_record (unparted front it) k d)
+    trying_touched : IsTrying touched (i + 1) (tried_with_record (unparted front it) k d)
     unfolding TriesRecord
     trying_touched = tries (i + 1) d (unparted front it) lines_written record_here trying
 
@@ -601,20 +587,22 @@ module _ (old opened held noted written : Judge) (i n r t p : ℕ) (k : ClusterK
     apply_stops_at stop h =
         parted_stops front (so_far touched (i + 1)) it stop front_touched c.audits.lawful.shape
         c.audits.lawful.settled_join c.shape tt tt
-        (h (i + 1) d (with_record (unparted front it) k d) lines_touched record_touched
+        (h (i + 1) d (tried_with_record (unparted front it) k d) lines_touched record_touched
         trying_touched)
 
     module _ (after : Judge) (tries_at : TriesPresent (view_at touched n) (Some k) r p touched
         after) (keeps_at : KeepsKnown touched after) where
-      trying_after : IsTrying after (i + 1) (with_present (with_record (unparted front it) k d)
+      trying_after : IsTrying after (i + 1) (tried_with_present
+          (tried_with_record (unparted front it) k d)
           (view_at touched n) d)
       unfolding TriesPresent
-      trying_after = tries_at (i + 1) d (with_record (unparted front it) k d) lines_touched
+      trying_after = tries_at (i + 1) d (tried_with_record (unparted front it) k d) lines_touched
           record_touched
           (λ l e. tried_there l (some_same e)) trying_touched
         where
-          tried_there : (l : ClusterKey) → k ≡ l → with_record (unparted front it) k d l d ≡ true
-          tried_there l e = go (same_digest d d) (same_digest_itself d) (same_key k l)
+          tried_there : (l : ClusterKey) → k ≡ l
+              → tried_with_record (unparted front it) k d l d ≡ true
+          tried_there l e = go (bytes_eq d d) (same_digest_itself d) (same_key k l)
               (subst (λ (z : ClusterKey). same_key k z ≡ true) e (same_key_itself k))
             where
               go : (a : Bool) → a ≡ true → (b : Bool) → b ≡ true
@@ -640,7 +628,7 @@ module _ (old opened held noted written : Judge) (i n r t p : ℕ) (k : ClusterK
       replicas = joins_all after (i + 1) front it
           (ap (λ (s : Judge). so_far s (i + 1)) keeps_both.rest ∙ front_next) seen_after tried_after
 
-      pub apply_takes : JoinsView front front it → Takes old after i it
+      pub apply_takes : JoinsView front front it → AcceptsLine old after i it
       apply_takes joins = record {
         lines = lines_after;
         fits = record {
@@ -708,7 +696,7 @@ pub apply_follows : (old opened : Judge) (i n r t : ℕ) (k : ClusterKey) (d : L
     → IsTrue b ↔ (w ≡ next (fold_of (policy_of (take a opened.lines.now)) k e
     (take a opened.lines.now)) (clock_at opened n) w.body))
     → IsTrue b ↔ JoinsView (so_far old i) (so_far old i) (line.Apply n k t d v)
-apply_follows old opened i n r t k d v b opens rest knows c told = go (view_of old k) refl
+apply_follows old opened i n r t k d v b opens rest knows c told = go (kept_view old k) refl
   where
     lines : opened.lines.now ≡ old.lines.now
     lines = ap (λ (s : Judge). s.lines.now) rest
@@ -724,7 +712,7 @@ apply_follows old opened i n r t k d v b opens rest knows c told = go (view_of o
         at (Some node) e = ap clock_in e ∙ (c.audits.state.frame.nodes n node e).clock
         at None e = differ (c.audits.state.frame.header.declared n ∙ declared) (ap is_some e)
 
-    go : (o : Option View) → view_of old k ≡ o → IsTrue b
+    go : (o : Option View) → kept_view old k ≡ o → IsTrue b
         ↔ JoinsView (so_far old i) (so_far old i) (line.Apply n k t d v)
     go None e = differ (known_view old i k n c.audits c.shape.in_view) (ap is_some e)
     go (Some y) e =
@@ -734,7 +722,7 @@ apply_follows old opened i n r t k d v b opens rest knows c told = go (view_of o
         (fold_of (policy_of (take i ls)) k d (take i ls)) (clock_at opened n) v.body)) lines
         (told i d v y (record {
           knows = knows;
-          there = ap (λ (s : Judge). view_of s k) rest ∙ e;
+          there = ap (λ (s : Judge). kept_view s k) rest ∙ e;
           sees = subst (λ (ls : List Line). SeesView (take i ls) k y) (sym lines)
               (c.audits.state.frame.views k y e);
         }) (knows.stores.records.numbered.digests d r opens.number)
@@ -748,16 +736,18 @@ pub apply_room : (old opened held noted : Judge) (i n r t p : ℕ) (k : ClusterK
     → AppliesWrite opened held i r (partition_of d) k
     → ChangesNode (HasChanged r) n held noted → i < 2 ^ 63
     → (stand_at noted k p).open_writes < 2 ^ 64 - 1
-apply_room old opened held noted i n r t p k d v c rest keeps notes room = go (view_of noted k) refl
+apply_room old opened held noted i n r t p k d v c rest keeps notes room =
+    go (kept_view noted k) refl
   where
-    go : (o : Option View) → view_of noted k ≡ o → (stand_at noted k p).open_writes < 2 ^ 64 - 1
+    go : (o : Option View) → kept_view noted k ≡ o → (stand_at noted k p).open_writes < 2 ^ 64 - 1
     go None e = let none : (stand_at noted k p).open_writes ≡ 0 =
         ap (λ (o : Option View). (stand_from o p).open_writes) e in omega (arith, none)
     go (Some z) e =
-        let w : (y : View) × (view_of opened k ≡ Some y) × WritesIn opened i r d y z =
-        both_before (WritesIn opened i r d) (view_of opened k) (view_of held k) z keeps.here
-        (sym (ap (λ (s : Judge). view_of s k) notes.rest) ∙ e) in
-        let there : view_of old k ≡ Some w.0 = sym (ap (λ (s : Judge). view_of s k) rest) ∙ w.1 in
+        let w : (y : View) × (kept_view opened k ≡ Some y) × WritesIn opened i r d y z =
+        both_before (WritesIn opened i r d) (kept_view opened k) (kept_view held k) z keeps.here
+        (sym (ap (λ (s : Judge). kept_view s k) notes.rest) ∙ e) in
+        let there : kept_view old k ≡ Some w.0 = sym (ap (λ (s : Judge). kept_view s k) rest)
+        ∙ w.1 in
         let same : (stand_at noted k p).open_writes ≡ (stand_of w.0 p).open_writes =
         ap (λ (o : Option View). (stand_from o p).open_writes) e
         ∙ ap (λ (x : Stand). x.open_writes) (w.2.stands p) in

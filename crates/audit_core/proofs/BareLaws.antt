@@ -3,14 +3,13 @@ use Rattle.std.proofs.Common.{◌≡◌, ℕ, ◌<◌, ◌+◌, Bool, true, fals
 use Rattle.std.specs.Prelude.{is_some, fold, take, slice_get, option_and_then, All, Contains}
 use Rattle.std.specs.List.{count_by}
 use Rattle.conflict_order.specs.declared.policy.Policy.{Policy}
-use Rattle.conflict_order.specs.declared.version.Version.{Version}
 use Rattle.cluster_types.specs.declared.cluster_key.ClusterKey.{ClusterKey}
 use Rattle.cluster_types.specs.Partitions.{partition_of}
 use Rattle.journal_lines.specs.declared.line.Line.{Line}
 use Rattle.journal_lines.specs.declared.line.Line.TheVariants as line
 use Rattle.journal_readings.specs.Lines.{has_node}
 use Rattle.journal_readings.specs.Settings.{policy_of, factor_of, nodes, clock_of, clock_step}
-use Rattle.journal_readings.specs.Contents.{content, content_step, holds_any, copy_step, applied, applied_step}
+use Rattle.journal_readings.specs.Contents.{content, holds_any, copy_step, applied}
 use Rattle.journal_readings.specs.Views.{view, view_step}
 use Rattle.journal_readings.specs.Shape.{is_header}
 use Rattle.journal_readings.proofs.AlongLaws.{no_some}
@@ -30,10 +29,11 @@ use Rattle.audit_state.specs.Places.{placed}
 use Rattle.audit_core.specs.Holders.{holds_newest}
 use Rattle.audit_state.specs.Records.{newest_in, newest_of, holders_in, record_digest}
 use Rattle.audit_core.specs.Covering.{cover_number}
-use Rattle.audit_core.specs.Sees.{SeesHeader, SeesNode, SeesFrame, SeesState, Sees}
-use Rattle.audit_core.specs.Stamped.{SeesStamps, mark_of, finishes, finished_from}
+use Rattle.audit_core.specs.Sees.{SeesHeader, SeesNode, SeesFrame, SeesState, SeesJournal}
+use Rattle.audit_core.specs.Stamped.{SeesStamps, mark_of, finishes_exchange, exchanged_places_from}
 use Rattle.audit_core.specs.Steps.{KnowsNoEvents, KnowsNothing}
-use Rattle.audit_core.specs.Stored.{SeesRecords, SeesContents, SeesCopies, brings, read_of, IsOf}
+use Rattle.audit_core.specs.Stored.{SeesRecords, SeesContents, SeesCopies, brings, read_of}
+use Rattle.audit_core.specs.Stored.{IsRecordOf}
 use Rattle.audit_core.proofs.VerdictLaws.{front_of_front}
 
 -- ---- what the header says of nothing else
@@ -51,21 +51,11 @@ view_header n v (line.Enter m k ms) e = differ e refl
 view_header n v (line.Stop m) e = differ e refl
 view_header n v x e = refl
 
-content_header : (by : Policy) (n : ℕ) (d : List ℕ) (held : Option Version) (x : Line) → is_header x ≡ true → content_step by n d held x ≡ held
-content_header by n d held (line.Apply m k t e v) i = differ i refl
-content_header by n d held (line.Merge m k e v) i = differ i refl
-content_header by n d held (line.Drop m k p) i = differ i refl
-content_header by n d held x i = refl
-
 copy_header : (n p : ℕ) (holds : Bool) (x : Line) → is_header x ≡ true → copy_step n p holds x ≡ holds
 copy_header n p holds (line.Apply m k t e v) i = differ i refl
 copy_header n p holds (line.Merge m k e v) i = differ i refl
 copy_header n p holds (line.Drop m k q) i = differ i refl
 copy_header n p holds x i = refl
-
-applied_header : (by : Policy) (d : List ℕ) (held : Option Version) (x : Line) → is_header x ≡ true → applied_step by d held x ≡ held
-applied_header by d held (line.Apply m k t e v) i = differ i refl
-applied_header by d held x i = refl
 
 enters_header : (k : ClusterKey) (x : Line) → is_header x ≡ true → enters_key k x ≡ false
 enters_header k (line.Enter m l ms) e = differ e refl
@@ -76,7 +66,7 @@ brings_header d (line.Apply m k t e v) i = differ i refl
 brings_header d (line.Merge m k e v) i = differ i refl
 brings_header d x i = refl
 
-finishes_header : (n : ℕ) (x : Line) → is_header x ≡ true → finishes n x ≡ false
+finishes_header : (n : ℕ) (x : Line) → is_header x ≡ true → finishes_exchange n x ≡ false
 finishes_header n (line.Exchanged m k) e = differ e refl
 finishes_header n x e = refl
 
@@ -93,23 +83,15 @@ bare_view : (n : ℕ) (j : List Line) → IsBare j → view n j ≡ None
 unfolding view
 bare_view n j e = fold_bare (view_step n) (view_header n) None j e
 
-bare_content : (by : Policy) (n : ℕ) (d : List ℕ) (j : List Line) → IsBare j → content by n d j ≡ None
-unfolding content
-bare_content by n d j e = fold_bare (content_step by n d) (content_header by n d) None j e
-
 bare_holds : (n p : ℕ) (j : List Line) → IsBare j → holds_any n p j ≡ false
 unfolding holds_any
 bare_holds n p j e = fold_bare (copy_step n p) (copy_header n p) false j e
 
-bare_applied : (by : Policy) (d : List ℕ) (j : List Line) → IsBare j → applied by d j ≡ None
-unfolding applied
-bare_applied by d j e = fold_bare (applied_step by d) (applied_header by d) None j e
-
-bare_finished : (n place : ℕ) (j : List Line) → IsBare j → finished_from n place j ≡ []
+bare_finished : (n place : ℕ) (j : List Line) → IsBare j → exchanged_places_from n place j ≡ []
 bare_finished n place [] e = refl
-bare_finished n place (x ∷ j) e = go (finishes n x) (finishes_header n x (and_left (is_header x) _ e)) (bare_finished n (place + 1) j (and_right (is_header x) _ e))
+bare_finished n place (x ∷ j) e = go (finishes_exchange n x) (finishes_header n x (and_left (is_header x) _ e)) (bare_finished n (place + 1) j (and_right (is_header x) _ e))
   where
-    go : (b : Bool) → b ≡ false → finished_from n (place + 1) j ≡ [] → cond b (place ∷ finished_from n (place + 1) j) (finished_from n (place + 1) j) ≡ []
+    go : (b : Bool) → b ≡ false → exchanged_places_from n (place + 1) j ≡ [] → cond b (place ∷ exchanged_places_from n (place + 1) j) (exchanged_places_from n (place + 1) j) ≡ []
     go true i r = differ refl i
     go false i r = r
 
@@ -159,7 +141,7 @@ bare_frame s j e header h = record {
 digest_none : (s : Judge) (r : ℕ) → KnowsNoEvents s → record_digest s.records r ≡ None
 digest_none s r h = ap (option_map (λ (x : Record). x.digest)) (h.records.records r)
 
-no_digest : (s : Judge) (r p : ℕ) → KnowsNoEvents s → IsOf s.records r p → ⊥
+no_digest : (s : Judge) (r p : ℕ) → KnowsNoEvents s → IsRecordOf s.records r p → ⊥
 no_digest s r p h e = no_some (sym (ap (option_map partition_of) (digest_none s r h)) ∙ e)
 
 none_added : {A : Type 0} (test : A → Bool) → ((x : A) → test x ≡ false) → (a : ℕ) (xs : List A) → a ≡ fold (λ b x. b + cond (test x) 1 0) a xs
@@ -233,7 +215,7 @@ unfolding policy_of factor_of nodes
 start_header lines s h = record { policy = h.policy; factor = h.factor; declared = λ n. ap is_some (h.nodes n) }
 
 -- before the first line nothing is known
-pub sees_nothing : (lines : List Line) (s : Judge) → KnowsNothing lines s → Sees s 0 lines
+pub sees_nothing : (lines : List Line) (s : Judge) → KnowsNothing lines s → SeesJournal s 0 lines
 sees_nothing lines s h = record {
   state = bare_state s 0 lines h.lines refl (start_header lines s h) h.events;
   begun = h.begun;

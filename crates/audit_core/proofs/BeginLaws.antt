@@ -10,8 +10,8 @@ use Rattle.audit_core.specs.declared.verdict.Stop.{Stop}
 use Rattle.audit_state.specs.declared.views.View.{View}
 use Rattle.audit_core.specs.Audits.{so_far}
 use Rattle.audit_core.specs.Frames.{Both}
-use Rattle.audit_core.specs.Known.{view_of}
-use Rattle.audit_core.specs.Trying.{IsTrying, KeepsKnown, SameButStands, StopsParted, TriesPartition, TriesPartitions, StopsTrying, settled_item, settled_list, with_partition, with_partitions}
+use Rattle.audit_core.specs.Known.{kept_view}
+use Rattle.audit_core.specs.Trying.{IsTrying, KeepsKnown, SameButStands, StopsParted, TriesPartition, TriesPartitions, StopsTrying, settled_item, settled_list, tried_with_partition, tried_with_partitions}
 use Rattle.audit_core.proofs.TryLaws.{keeps_itself, keeps_then, lines_kept, front_kept, widened}
 
 -- so far these were tried
@@ -27,7 +27,7 @@ none_part false false e = e
 pub beginning_none : (i : ℕ) (k : ClusterKey) (s : Judge) (ps : List ℕ) → ps ≡ [] → Beginning i k ps s s
 unfolding TriesPartitions
 beginning_none i k s ps e = record {
-  tries = λ tried h t. widened s i tried (with_partitions tried k ps) (λ l d m. inl (none_part (tried l d) (same_key k l)
+  tries = λ tried h t. widened s i tried (tried_with_partitions tried k ps) (λ l d m. inl (none_part (tried l d) (same_key k l)
       (subst (λ (xs : List ℕ). (tried l d || (same_key k l && has_node xs (partition_of d))) ≡ true) e m))) t;
   keeps = keeps_itself s;
 }
@@ -41,10 +41,11 @@ append_part false false a b e = e
 pub beginning_more : (i : ℕ) (k : ClusterKey) (ps qs : List ℕ) (old now next : Judge) → Beginning i k ps old now → TriesPartitions i k qs now next → KeepsKnown now next → Beginning i k (ps ++ qs) old next
 unfolding TriesPartitions
 beginning_more i k ps qs old now next g tries keeps = record {
-  tries = λ tried h t. widened next i (with_partitions (with_partitions tried k ps) k qs) (with_partitions tried k (ps ++ qs))
+  tries = λ tried h t. widened next i (tried_with_partitions (tried_with_partitions tried k ps) k qs) (tried_with_partitions tried k (ps ++ qs))
       (λ l d m. inl (append_part (tried l d) (same_key k l) (has_node ps (partition_of d)) (has_node qs (partition_of d))
       (subst (λ (b : Bool). (tried l d || (same_key k l && b)) ≡ true) (list_any-append (λ q. q == partition_of d) ps qs) m)))
-      (tries (with_partitions tried k ps) (lines_kept old now i g.keeps h) (g.tries tried h t));
+      (tries (tried_with_partitions tried k ps) (lines_kept old now i g.keeps h)
+      (g.tries tried h t));
   keeps = keeps_then old now next g.keeps keeps;
 }
 
@@ -61,12 +62,13 @@ single false false a e = e
 pub begins_one : (i : ℕ) (k : ClusterKey) (p : ℕ) (o : Option ℕ) (old new : Judge) → o ≡ Some p → TriesPartition i k p old new → TriesPartitions i k (option_to_list o) old new
 unfolding TriesPartitions TriesPartition
 begins_one i k p o old new e tries tried h t =
-    subst (λ (q : Option ℕ). IsTrying new i (with_partitions tried k (option_to_list q))) (sym e)
-    (widened new i (with_partition tried k p) (with_partitions tried k (p ∷ [])) (λ l d m. inl (single (tried l d) (same_key k l) (p == partition_of d) m)) (tries tried h t))
+    subst (λ (q : Option ℕ). IsTrying new i (tried_with_partitions tried k (option_to_list q)))
+    (sym e)
+    (widened new i (tried_with_partition tried k p) (tried_with_partitions tried k (p ∷ [])) (λ l d m. inl (single (tried l d) (same_key k l) (p == partition_of d) m)) (tries tried h t))
 
 -- the partitions stay
-settled_same : (old now : Judge) (k : ClusterKey) → KeepsKnown old now → settled_list (view_of now k) ≡ settled_list (view_of old k)
-settled_same old now k keeps = go (view_of old k) (view_of now k) (keeps.views k)
+settled_same : (old now : Judge) (k : ClusterKey) → KeepsKnown old now → settled_list (kept_view now k) ≡ settled_list (kept_view old k)
+settled_same old now k keeps = go (kept_view old k) (kept_view now k) (keeps.views k)
   where
     go : (o q : Option View) → Both SameButStands o q → settled_list q ≡ settled_list o
     go None None h = refl
@@ -96,19 +98,19 @@ item_of : (o : Option View) (a : ℕ) → settled_item o a ≡ slice_get (settle
 item_of None a = refl
 item_of (Some x) a = refl
 
-pub beginning_next : (i : ℕ) (k : ClusterKey) (a : ℕ) (r : Option ℕ) (old now next : Judge) → r ≡ settled_item (view_of now k) a
-    → Beginning i k (take a (settled_list (view_of old k))) old now → TriesPartitions i k (option_to_list r) now next → KeepsKnown now next → Beginning i k (take (a + 1) (settled_list (view_of old k))) old next
+pub beginning_next : (i : ℕ) (k : ClusterKey) (a : ℕ) (r : Option ℕ) (old now next : Judge) → r ≡ settled_item (kept_view now k) a
+    → Beginning i k (take a (settled_list (kept_view old k))) old now → TriesPartitions i k (option_to_list r) now next → KeepsKnown now next → Beginning i k (take (a + 1) (settled_list (kept_view old k))) old next
 beginning_next i k a r old now next read g tries keeps =
-    let got : r ≡ slice_get (settled_list (view_of old k)) a = read ∙ (item_of (view_of now k) a ∙ ap (λ (ps : List ℕ). slice_get ps a) (settled_same old now k g.keeps)) in
-    subst (λ (ps : List ℕ). Beginning i k ps old next) (ap (λ (o : Option ℕ). take a (settled_list (view_of old k)) ++ option_to_list o) got ∙ sym (take_item (settled_list (view_of old k)) a))
-    (beginning_more i k (take a (settled_list (view_of old k))) (option_to_list r) old now next g tries keeps)
+    let got : r ≡ slice_get (settled_list (kept_view old k)) a = read ∙ (item_of (kept_view now k) a ∙ ap (λ (ps : List ℕ). slice_get ps a) (settled_same old now k g.keeps)) in
+    subst (λ (ps : List ℕ). Beginning i k ps old next) (ap (λ (o : Option ℕ). take a (settled_list (kept_view old k)) ++ option_to_list o) got ∙ sym (take_item (settled_list (kept_view old k)) a))
+    (beginning_more i k (take a (settled_list (kept_view old k))) (option_to_list r) old now next g tries keeps)
 
 -- all were tried
-pub beginning_all : (i : ℕ) (k : ClusterKey) (a c : ℕ) (old now : Judge) → c ≡ length (settled_list (view_of old k)) → c ≤ a → Beginning i k (take a (settled_list (view_of old k))) old now → Beginning i k (settled_list (view_of old k)) old now
-beginning_all i k a c old now count done g = subst (λ (ps : List ℕ). Beginning i k ps old now) (take_whole (settled_list (view_of old k)) a (omega (arith, count, done))) g
+pub beginning_all : (i : ℕ) (k : ClusterKey) (a c : ℕ) (old now : Judge) → c ≡ length (settled_list (kept_view old k)) → c ≤ a → Beginning i k (take a (settled_list (kept_view old k))) old now → Beginning i k (settled_list (kept_view old k)) old now
+beginning_all i k a c old now count done g = subst (λ (ps : List ℕ). Beginning i k ps old now) (take_whole (settled_list (kept_view old k)) a (omega (arith, count, done))) g
 
 -- one of them stops
 pub beginning_stops : (i : ℕ) (k : ClusterKey) (ps : List ℕ) (old now : Judge) (x y : Stop) → y ≡ x → Beginning i k ps old now → StopsTrying now i x → StopsTrying old i y
 unfolding TriesPartitions StopsTrying
 beginning_stops i k ps old now x y same g stops tried h t =
-    subst (λ (z : Stop). StopsParted z (so_far old i)) (sym same) (subst (StopsParted x) (front_kept old now i g.keeps) (stops (with_partitions tried k ps) (lines_kept old now i g.keeps h) (g.tries tried h t)))
+    subst (λ (z : Stop). StopsParted z (so_far old i)) (sym same) (subst (StopsParted x) (front_kept old now i g.keeps) (stops (tried_with_partitions tried k ps) (lines_kept old now i g.keeps h) (g.tries tried h t)))

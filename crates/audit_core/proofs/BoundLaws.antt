@@ -26,7 +26,7 @@ use Rattle.audit_state.specs.Views.{entry_line, has_exchanged}
 use Rattle.audit_state.specs.Written.{stand_of}
 use Rattle.audit_core.specs.Audits.{so_far}
 use Rattle.audit_state.specs.declared.nodes.Node.{Node}
-use Rattle.audit_core.specs.Known.{node_at, view_in, view_at, view_of}
+use Rattle.audit_core.specs.Known.{node_at, view_in, view_at, kept_view}
 use Rattle.audit_core.specs.Sees.{IsBound}
 use Rattle.audit_core.specs.Settling.{master_from, is_settled_in, stand_from}
 use Rattle.audit_core.specs.Trying.{SeesLines, SeesSettled}
@@ -101,10 +101,10 @@ first_read : (ids : List ℕ) (m : ℕ) → slice_get ids 0 ≡ Some m → slice
 first_read [] m e = absurd (no_some e)
 first_read (n ∷ ids) m e = some_same e
 
-pub master_so : (s : Judge) (i : ℕ) (k : ClusterKey) (p m : ℕ) → SeesLines s i → master_from (view_of s k) p ≡ Some m → master k p (so_far s i) ≡ m
-master_so s i k p m h = go (view_of s k) refl
+pub master_so : (s : Judge) (i : ℕ) (k : ClusterKey) (p m : ℕ) → SeesLines s i → master_from (kept_view s k) p ≡ Some m → master k p (so_far s i) ≡ m
+master_so s i k p m h = go (kept_view s k) refl
   where
-    go : (o : Option View) → view_of s k ≡ o → master_from o p ≡ Some m → master k p (so_far s i) ≡ m
+    go : (o : Option View) → kept_view s k ≡ o → master_from o p ≡ Some m → master k p (so_far s i) ≡ m
     go None e q = absurd (no_some q)
     go (Some x) e q = first_read (lists.list (members k (so_far s i)) p) m (ap (λ (ms : List Member). slice_get (lists.list ms p) 0) (sym (h.frame.views k x e).ranks) ∙ q)
 
@@ -113,8 +113,8 @@ none_read [] h e = absurd (omega (arith, h))
 none_read (n ∷ ids) h e = no_some (sym e)
 
 -- a view that was entered has one
-pub unlisted : (s : Judge) (i : ℕ) (k : ClusterKey) (p : ℕ) → SeesLines s i → master_from (view_of s k) p ≡ None → list_any (enters_key k) (so_far s i) ≡ true → ⊥
-unlisted s i k p h none entered = go (view_of s k) refl none
+pub unlisted : (s : Judge) (i : ℕ) (k : ClusterKey) (p : ℕ) → SeesLines s i → master_from (kept_view s k) p ≡ None → list_any (enters_key k) (so_far s i) ≡ true → ⊥
+unlisted s i k p h none entered = go (kept_view s k) refl none
   where
     some : 0 < length (lists.list (members k (so_far s i)) p)
     some =
@@ -122,12 +122,12 @@ unlisted s i k p h none entered = go (view_of s k) refl none
         let listed : 0 < length (members k (so_far s i)) = some_members (so_far s i) first.0 first.1 k h.shape first.2 first.3 in
         omega (arith, list_length (members k (so_far s i)) p, listed)
 
-    go : (o : Option View) → view_of s k ≡ o → master_from o p ≡ None → ⊥
+    go : (o : Option View) → kept_view s k ≡ o → master_from o p ≡ None → ⊥
     go None e q = differ (h.frame.known_views k ∙ entered) (ap is_some e)
     go (Some x) e q = none_read (lists.list (members k (so_far s i)) p) some (ap (λ (ms : List Member). slice_get (lists.list ms p) 0) (sym (h.frame.views k x e).ranks) ∙ q)
 
 -- where there is no list master the partition isn't bound
-pub unbound : (s : Judge) (i : ℕ) (k : ClusterKey) (p : ℕ) → SeesLines s i → master_from (view_of s k) p ≡ None → IsBound k p (so_far s i) → ⊥
+pub unbound : (s : Judge) (i : ℕ) (k : ClusterKey) (p : ℕ) → SeesLines s i → master_from (kept_view s k) p ≡ None → IsBound k p (so_far s i) → ⊥
 unbound s i k p h none bound = unlisted s i k p h none (view_entered (master k p (so_far s i)) k (so_far s i) bound.remains)
 
 -- ---- copies that were empty
@@ -141,7 +141,7 @@ empty_then : (s : Judge) (i n p : ℕ) (o : Option (List Line)) → SeesLines s 
 empty_then s i n p None h f = refl
 empty_then s i n p (Some b) h f = ap not (held_then s i n p b h (f b refl))
 
-pub everywhere_then : (s : Judge) (i : ℕ) (k : ClusterKey) (p : ℕ) (x : View) → SeesLines s i → view_of s k ≡ Some x → known.empty_in s p (Some x) ≡ is_empty_everywhere k p (so_far s i)
+pub everywhere_then : (s : Judge) (i : ℕ) (k : ClusterKey) (p : ℕ) (x : View) → SeesLines s i → kept_view s k ≡ Some x → known.empty_in s p (Some x) ≡ is_empty_everywhere k p (so_far s i)
 unfolding is_empty_everywhere is_empty_at_entry
 everywhere_then s i k p x h e =
     ap (list_all (λ (m : Member). known.empty_at s m.id p (entry_line x m.id))) (h.frame.views k x e).members
@@ -151,18 +151,19 @@ everywhere_then s i k p x h e =
 
 -- ---- settled partitions
 
-settled_by : (s : Judge) (i : ℕ) (k : ClusterKey) (p : ℕ) (x : View) → SeesLines s i → SeesSettled s i → view_of s k ≡ Some x
+settled_by : (s : Judge) (i : ℕ) (k : ClusterKey) (p : ℕ) (x : View) → SeesLines s i → SeesSettled s i → kept_view s k ≡ Some x
     → ((stand_of x p).settled || (has_exchanged x (master k p (so_far s i)) && known.empty_in s p (Some x))) ≡ is_settled k p (so_far s i)
 unfolding is_settled
 settled_by s i k p x h stands e =
     ap₂ (λ (a b : Bool). a || b) (stands k p x e)
     (ap₂ (λ (a b : Bool). a && b) ((h.frame.views k x e).exchanged (master k p (so_far s i))) (everywhere_then s i k p x h e))
 
-pub settled_so : (s : Judge) (i : ℕ) (k : ClusterKey) (p m : ℕ) → SeesLines s i → SeesSettled s i → master_from (view_of s k) p ≡ Some m → is_settled_in s m k p ≡ is_settled k p (so_far s i)
+pub settled_so : (s : Judge) (i : ℕ) (k : ClusterKey) (p m : ℕ) → SeesLines s i → SeesSettled s i → master_from (kept_view s k) p ≡ Some m → is_settled_in s m k p ≡ is_settled k p (so_far s i)
 settled_so s i k p m h stands e =
-    ap (λ (n : ℕ). is_settled_in s n k p) (sym (master_so s i k p m h e)) ∙ go (view_of s k) refl e
+    ap (λ (n : ℕ). is_settled_in s n k p) (sym (master_so s i k p m h e))
+    ∙ go (kept_view s k) refl e
   where
-    go : (o : Option View) → view_of s k ≡ o → master_from o p ≡ Some m → is_settled_in s (master k p (so_far s i)) k p ≡ is_settled k p (so_far s i)
+    go : (o : Option View) → kept_view s k ≡ o → master_from o p ≡ Some m → is_settled_in s (master k p (so_far s i)) k p ≡ is_settled k p (so_far s i)
     go None q r = absurd (no_some r)
     go (Some x) q r =
         subst (λ (o : Option View). ((stand_from o p).settled || (Rattle.audit_core.specs.NextFrames.finished_in o (master k p (so_far s i)) && known.empty_in s p o)) ≡ is_settled k p (so_far s i)) (sym q)
@@ -170,7 +171,7 @@ settled_so s i k p m h stands e =
 
 -- ---- both
 
-pub bound_then : (s : Judge) (i : ℕ) (k : ClusterKey) (p m : ℕ) (b : Bool) → SeesLines s i → SeesSettled s i → master_from (view_of s k) p ≡ Some m → view_at s m ≡ Some k → b ≡ is_settled_in s m k p → IsTrue b ↔ IsBound k p (so_far s i)
+pub bound_then : (s : Judge) (i : ℕ) (k : ClusterKey) (p m : ℕ) (b : Bool) → SeesLines s i → SeesSettled s i → master_from (kept_view s k) p ≡ Some m → view_at s m ≡ Some k → b ≡ is_settled_in s m k p → IsTrue b ↔ IsBound k p (so_far s i)
 bound_then s i k p m b h stands e present told = (
   λ q. record {
     settled = sym (settled_so s i k p m h stands e) ∙ (sym told ∙ q);
@@ -180,7 +181,7 @@ bound_then s i k p m b h stands e present told = (
 )
 
 -- its list master isn't in the view
-pub bound_else : (s : Judge) (i : ℕ) (k : ClusterKey) (p m : ℕ) → SeesLines s i → master_from (view_of s k) p ≡ Some m → (view_at s m ≡ Some k → ⊥)
+pub bound_else : (s : Judge) (i : ℕ) (k : ClusterKey) (p m : ℕ) → SeesLines s i → master_from (kept_view s k) p ≡ Some m → (view_at s m ≡ Some k → ⊥)
     → IsTrue false ↔ IsBound k p (so_far s i)
 bound_else s i k p m h e absent = (
   λ q. differ q refl,

@@ -15,7 +15,7 @@ use Rattle.audit_core.specs.declared.judge.Judge.{Judge}
 use Rattle.audit_state.specs.declared.records.Records.{Records}
 use Rattle.audit_state.specs.declared.stores.Stores.{Stores}
 use Rattle.audit_state.specs.Histories.{AreUpTo, value_now}
-use Rattle.audit_core.specs.Holders.{holds_top, holds_newest, AreCounted}
+use Rattle.audit_core.specs.Holders.{holds_top, holds_newest, AreHoldersCounted}
 use Rattle.audit_state.specs.Keys.{pair_eq}
 use Rattle.audit_state.specs.Places.{placed}
 use Rattle.audit_state.specs.Records.{newest_of, holders_of, holder_count}
@@ -58,10 +58,10 @@ nodes_within all i = omega (arith, within (take i all), length-take i all)
     within (l ∷ ls) = omega (arith, one (declared_in l) (filter_map declared_in ls) (length ls) (within ls))
 
 -- there is room to count one more
-pub counts_within : (s : Judge) (r : ℕ) (all : List Line) (i limit : ℕ) → AreCounted s (nodes (take i all)) → i < limit → holders_of s.records r < limit
+pub counts_within : (s : Judge) (r : ℕ) (all : List Line) (i limit : ℕ) → AreHoldersCounted s (nodes (take i all)) → i < limit → holders_of s.records r < limit
 counts_within s r all i limit counts e = omega (arith, counts r, count_by-le-length (λ n. holds_newest s n r) (nodes (take i all)), nodes_within all i, e)
 
-pub counts_holder : (s : Judge) (n r : ℕ) (ns : List ℕ) (b : Bool) → AreCounted s ns → has_node ns n ≡ true → b ≡ holds_newest s n r → b ≡ true → 0 < holders_of s.records r
+pub counts_holder : (s : Judge) (n r : ℕ) (ns : List ℕ) (b : Bool) → AreHoldersCounted s ns → has_node ns n ≡ true → b ≡ holds_newest s n r → b ≡ true → 0 < holders_of s.records r
 counts_holder s n r ns b counts declared said e = subst (λ (c : ℕ). 0 < c) (sym (counts r)) (counted_some (λ m. holds_newest s m r) ns n declared (sym said ∙ e))
 
 -- ---- one node holds another version of one record
@@ -83,7 +83,7 @@ module _ (old new : Judge) (n r : ℕ) (held holds : Bool) (changes : Changes ol
       ∙ (ap (λ (o : Option ℕ). holds_top new.by (placed new.lines.now o) (placed new.lines.now (value_now (history_of old.stores m q)))) (sym (changes.newest q))
       ∙ ap (λ (h : List Change). holds_top new.by (placed new.lines.now (newest_of new.records q)) (placed new.lines.now (value_now h))) (sym (changes.contents m q e))))
 
-  pub counts_still : (ns : List ℕ) → AreDistinct ns → has_node ns n ≡ true → AreCounted old ns → AreCounted new ns
+  pub counts_still : (ns : List ℕ) → AreDistinct ns → has_node ns n ≡ true → AreHoldersCounted old ns → AreHoldersCounted new ns
   counts_still ns distinct declared counts q = changes.holders q ∙ go (nat_eq r q) refl
     where
       turn : holder_count held holds (holders_of old.records r) ≡ count_by
@@ -114,20 +114,37 @@ module _ (old : Judge) (st : Stores) (rs : Records) (n r : ℕ) (c : Change) (he
     holders = holders;
   }
 
-  pub counted_anew : (ns : List ℕ) → AreDistinct ns → has_node ns n ≡ true → AreCounted old ns → AreCounted (record old { stores = st; records = rs }) ns
+  pub counted_anew : (ns : List ℕ) → AreDistinct ns → has_node ns n ≡ true → AreHoldersCounted old ns → AreHoldersCounted (record old { stores = st; records = rs }) ns
   counted_anew = counts_still old (record old { stores = st; records = rs }) n r held holds changes
 
--- who holds nothing doesn't hold the newest version
-pub holds_none : (old : Judge) (st : Stores) (n r line : ℕ) → PutsContent old.stores st n r (record { line = line; value = None }) → AreUpTo line (history_of old.stores n r) → false ≡ holds_newest (record old { stores = st }) n r
-holds_none old st n r line puts up = sym (ap (λ (o : Option ℕ). holds_top old.by (placed old.lines.now (newest_of old.records r)) (placed old.lines.now o)) nothing ∙ never (placed old.lines.now (newest_of old.records r)))
+-- what the node holds of the record behind the change
+changed_now : (old : Judge) (st : Stores) (n r line : ℕ) (o : Option ℕ)
+    → PutsContent old.stores st n r (record { line = line; value = o })
+    → AreUpTo line (history_of old.stores n r) → value_now (history_of st n r) ≡ o
+changed_now old st n r line o puts up =
+    ap value_now (puts n r
+    ∙ ap (λ (b : Bool). cond b (history_of old.stores n r ++ record { line = line; value = o } ∷ [])
+    (history_of old.stores n r)) place)
+    ∙ put_now (history_of old.stores n r) (record { line = line; value = o }) up
   where
     place : pair_eq (n, r) (n, r) ≡ true
     place = subst (λ (b : Bool). (b && nat_eq r r) ≡ true) (sym (number_here n)) (number_here r)
 
-    nothing : value_now (history_of st n r) ≡ None
-    nothing = ap value_now (puts n r ∙ ap (λ (b : Bool). cond b (history_of old.stores n r ++ record { line = line; value = None } ∷ []) (history_of old.stores n r)) place)
-        ∙ put_now (history_of old.stores n r) (record { line = line; value = None }) up
-
+-- who holds nothing doesn't hold the newest version
+pub holds_none : (old : Judge) (st : Stores) (n r line : ℕ) → PutsContent old.stores st n r (record { line = line; value = None }) → AreUpTo line (history_of old.stores n r) → false ≡ holds_newest (record old { stores = st }) n r
+holds_none old st n r line puts up = sym (ap (λ (o : Option ℕ). holds_top old.by (placed old.lines.now (newest_of old.records r)) (placed old.lines.now o)) (changed_now old st n r line None puts up) ∙ never (placed old.lines.now (newest_of old.records r)))
+  where
     never : (top : Option Version) → holds_top old.by top None ≡ false
     never None = refl
     never (Some v) = refl
+
+-- who holds the version at the line holds the newest where that version is the newest
+pub holds_stored : (old : Judge) (st : Stores) (n r line : ℕ) (b : Bool)
+    → PutsContent old.stores st n r (record { line = line; value = Some line })
+    → AreUpTo line (history_of old.stores n r)
+    → b ≡ holds_top old.by (placed old.lines.now (newest_of old.records r))
+    (placed old.lines.now (Some line))
+    → b ≡ holds_newest (record old { stores = st }) n r
+holds_stored old st n r line b puts up is = is
+    ∙ sym (ap (λ (o : Option ℕ). holds_top old.by (placed old.lines.now (newest_of old.records r))
+    (placed old.lines.now o)) (changed_now old st n r line (Some line) puts up))

@@ -7,7 +7,7 @@ use Rattle.conflict_order.proofs.OrderLaws.{no_version_AtMost_none}
 use Rattle.cluster_types.specs.Partitions.{partition_of}
 use Rattle.journal_lines.specs.declared.line.Line.{Line}
 use Rattle.journal_lines.specs.declared.line.Line.TheVariants as line
-use Rattle.journal_readings.specs.Lines.{same_digest}
+use Rattle.std.specs.Prelude.{bytes_eq}
 use Rattle.journal_readings.specs.Contents.{content, content_step, holds_any, copy_step, joined_if}
 use Rattle.journal_readings.proofs.CopyLaws.{no_record-empty}
 use Rattle.audit_laws.proofs.Tests.{differ, number_same}
@@ -31,15 +31,15 @@ version_brought (line.Apply m k t e w) n d v h = ap Some h.2
 version_brought (line.Merge m k e w) n d v h = ap Some h.2
 version_brought l n d v h = absurd h
 
-content_brought : (by : Policy) (l : Line) (n : ℕ) (d : List ℕ) (v : Version) → IsBrought l n d v → (m : ℕ) (e : List ℕ) (held : Option Version) → content_step by m e held l ≡ joined_if ((n == m) && same_digest d e) by held v
+content_brought : (by : Policy) (l : Line) (n : ℕ) (d : List ℕ) (v : Version) → IsBrought l n d v → (m : ℕ) (e : List ℕ) (held : Option Version) → content_step by m e held l ≡ joined_if ((n == m) && bytes_eq d e) by held v
 content_brought by (line.Apply o k t f w) n d v h m e held = same o f w h.0 h.1 h.2
   where
-    same : (o : ℕ) (f : List ℕ) (w : Version) → o ≡ n → f ≡ d → w ≡ v → joined_if ((o == m) && same_digest f e) by held w ≡ joined_if ((n == m) && same_digest d e) by held v
-    same o f w p q r = ap (λ (x : ℕ). joined_if ((x == m) && same_digest f e) by held w) p ∙ (ap (λ (x : List ℕ). joined_if ((n == m) && same_digest x e) by held w) q ∙ ap (λ (x : Version). joined_if ((n == m) && same_digest d e) by held x) r)
+    same : (o : ℕ) (f : List ℕ) (w : Version) → o ≡ n → f ≡ d → w ≡ v → joined_if ((o == m) && bytes_eq f e) by held w ≡ joined_if ((n == m) && bytes_eq d e) by held v
+    same o f w p q r = ap (λ (x : ℕ). joined_if ((x == m) && bytes_eq f e) by held w) p ∙ (ap (λ (x : List ℕ). joined_if ((n == m) && bytes_eq x e) by held w) q ∙ ap (λ (x : Version). joined_if ((n == m) && bytes_eq d e) by held x) r)
 content_brought by (line.Merge o k f w) n d v h m e held = same o f w h.0 h.1 h.2
   where
-    same : (o : ℕ) (f : List ℕ) (w : Version) → o ≡ n → f ≡ d → w ≡ v → joined_if ((o == m) && same_digest f e) by held w ≡ joined_if ((n == m) && same_digest d e) by held v
-    same o f w p q r = ap (λ (x : ℕ). joined_if ((x == m) && same_digest f e) by held w) p ∙ (ap (λ (x : List ℕ). joined_if ((n == m) && same_digest x e) by held w) q ∙ ap (λ (x : Version). joined_if ((n == m) && same_digest d e) by held x) r)
+    same : (o : ℕ) (f : List ℕ) (w : Version) → o ≡ n → f ≡ d → w ≡ v → joined_if ((o == m) && bytes_eq f e) by held w ≡ joined_if ((n == m) && bytes_eq d e) by held v
+    same o f w p q r = ap (λ (x : ℕ). joined_if ((x == m) && bytes_eq f e) by held w) p ∙ (ap (λ (x : List ℕ). joined_if ((n == m) && bytes_eq x e) by held w) q ∙ ap (λ (x : Version). joined_if ((n == m) && bytes_eq d e) by held x) r)
 content_brought by l n d v h m e held = absurd h
 
 copy_brought : (l : Line) (n : ℕ) (d : List ℕ) (v : Version) (p : ℕ) → partition_of d ≡ p → IsBrought l n d v → (m q : ℕ) (b : Bool) → copy_step m q b l ≡ (b || ((n == m) && (p == q)))

@@ -6,7 +6,7 @@ use Rattle.conflict_order.specs.declared.policy.Policy.{Policy}
 use Rattle.conflict_order.specs.declared.version.Version.{Version}
 use Rattle.conflict_order.specs.Join.{join}
 use Rattle.journal_lines.specs.declared.line.Line.{Line}
-use Rattle.journal_readings.specs.Lines.{same_digest}
+use Rattle.std.specs.Prelude.{bytes_eq}
 use Rattle.journal_readings.specs.Contents.{content, content_step, joined_if}
 use Rattle.journal_readings.proofs.AlongLaws.{some_same, no_some}
 use Rattle.journal_readings.proofs.CopyLaws.{same_digest_is, same_digest_itself}
@@ -119,12 +119,12 @@ module _ (rs : Records) (all : List Line) (by : Policy) (i : ℕ) (l : Line) (he
   -- ---- a version comes to a node
 
   module _ (n r : ℕ) (d : List ℕ) (v : Version) (named : record_digest rs r ≡ Some d) (numbered : AreNumberedRecords rs) (stands : placed_version all i ≡ Some v)
-      (step : (m : ℕ) (e : List ℕ) (held : Option Version) → content_step by m e held l ≡ joined_if ((n == m) && same_digest d e) by held v) where
+      (step : (m : ℕ) (e : List ℕ) (held : Option Version) → content_step by m e held l ≡ joined_if ((n == m) && bytes_eq d e) by held v) where
     -- others hold what they held
-    elsewhere : (m q : ℕ) (e : List ℕ) → pair_eq (n, r) (m, q) ≡ false → record_digest rs q ≡ Some e → ((n == m) && same_digest d e) ≡ false
-    elsewhere m q e apart f = go ((n == m) && same_digest d e) refl
+    elsewhere : (m q : ℕ) (e : List ℕ) → pair_eq (n, r) (m, q) ≡ false → record_digest rs q ≡ Some e → ((n == m) && bytes_eq d e) ≡ false
+    elsewhere m q e apart f = go ((n == m) && bytes_eq d e) refl
       where
-        go : (b : Bool) → ((n == m) && same_digest d e) ≡ b → b ≡ false
+        go : (b : Bool) → ((n == m) && bytes_eq d e) ≡ b → b ≡ false
         go false i = refl
         go true i =
             let same : r ≡ q = some_same (sym (numbered.numbers d r named) ∙ numbered.numbers d q (f ∙ ap Some (sym (same_digest_is d e (and_right (n == m) _ i))))) in
@@ -140,7 +140,7 @@ module _ (rs : Records) (all : List Line) (by : Policy) (i : ℕ) (l : Line) (he
     joins_here : content by n d (take (suc i) all) ≡ join by (content by n d (take i all)) (Some v)
     joins_here = content_next by n d all i l here ∙ (step n d (content by n d (take i all)) ∙ ap (λ (b : Bool). joined_if b by (content by n d (take i all)) v) (both (n == n) (number_here n)))
       where
-        both : (b : Bool) → b ≡ true → (b && same_digest d d) ≡ true
+        both : (b : Bool) → b ≡ true → (b && bytes_eq d d) ≡ true
         both true e = same_digest_itself d
         both false e = absurd (differ {C = ⊥} e refl)
 

@@ -38,16 +38,16 @@ use Rattle.audit_state.specs.Records.{record_number, record_digest}
 use Rattle.audit_state.specs.Stores.{held_of}
 use Rattle.audit_state.specs.Views.{SameEntries}
 use Rattle.audit_state.specs.Written.{stand_of}
-use Rattle.audit_core.specs.Audits.{Comes, Takes, so_far}
+use Rattle.audit_core.specs.Audits.{Comes, AcceptsLine, so_far}
 use Rattle.audit_core.specs.Bringing.{KeepsLines}
 use Rattle.audit_core.specs.Covering.{SeesCovers}
 use Rattle.audit_core.specs.Frames.{Both, SameStand}
-use Rattle.audit_core.specs.Known.{node_at, view_at, view_of, stamps_at}
+use Rattle.audit_core.specs.Known.{node_at, view_at, kept_view, stamps_at}
 use Rattle.audit_core.specs.NextFrames.{NextFrame, NextStamps}
 use Rattle.audit_core.specs.Sees.{SeesFrame, SeesStand, SeesTried, SeesWrites, SeesStays, AllJoin}
 use Rattle.audit_core.specs.Steps.{ChangesNode, ChangesStamps, HasMark, HaveChanged}
 use Rattle.audit_core.specs.Stored.{Knows, SeesContents, SeesStores}
-use Rattle.audit_core.specs.Trying.{SeesLines, SeesStands, IsTrying, KeepsKnown, AreOf, TriesRecords, StopsRecords, is_digest, with_records}
+use Rattle.audit_core.specs.Trying.{SeesLines, SeesStands, IsTrying, KeepsKnown, AreRecordsOf, TriesRecords, StopsRecords, is_digest, tried_with_records}
 use Rattle.audit_core.specs.Verdicts.{StopsRightly}
 use Rattle.audit_core.proofs.BoundLaws.{present_so}
 use Rattle.audit_core.proofs.DroppedLaws.{held_none}
@@ -111,8 +111,8 @@ module _ (old marked held noted : Judge) (i n p : ℕ) (k : ClusterKey) (dropped
   marked_lines : marked.lines.now ≡ old.lines.now
   marked_lines = ap (λ (s : Judge). s.lines.now) x.marks.rest
 
-  views_same : (l : ClusterKey) → view_of noted l ≡ view_of old l
-  views_same l = ap (λ (s : Judge). view_of s l) x.notes.rest ∙ (ap (λ (s : Judge). view_of s l) x.keeps.rest ∙ ap (λ (s : Judge). view_of s l) x.marks.rest)
+  views_same : (l : ClusterKey) → kept_view noted l ≡ kept_view old l
+  views_same l = ap (λ (s : Judge). kept_view s l) x.notes.rest ∙ (ap (λ (s : Judge). kept_view s l) x.keeps.rest ∙ ap (λ (s : Judge). kept_view s l) x.marks.rest)
 
   pub drop_front : so_far noted (i + 1) ≡ so_far old i ++ line.Drop n k p ∷ []
   drop_front = ap (take (i + 1)) lines_now ∙ taken_next old.lines.now i (line.Drop n k p) c.stands
@@ -140,8 +140,8 @@ module _ (old marked held noted : Judge) (i n p : ℕ) (k : ClusterKey) (dropped
     policy = ap (λ (s : Judge). s.by) x.notes.rest ∙ (ap (λ (s : Judge). s.by) x.keeps.rest ∙ ap (λ (s : Judge). s.by) x.marks.rest);
     factor = ap (λ (s : Judge). s.factor) x.notes.rest ∙ (ap (λ (s : Judge). s.factor) x.keeps.rest ∙ ap (λ (s : Judge). s.factor) x.marks.rest);
     nodes = λ m. node_stays m i (line.Drop n k p) (λ t. refl) (λ v. refl) refl (node_at old m) (node_at noted m) (stands_same m);
-    views = λ l. view_stays l i (line.Drop n k p) refl (λ m. refl) (λ m. refl) (view_of old l) (view_of noted l)
-        (both_same SameEntries (λ y. same_entries (Some y)) (view_of old l) (view_of noted l) (views_same l));
+    views = λ l. view_stays l i (line.Drop n k p) refl (λ m. refl) (λ m. refl) (kept_view old l) (kept_view noted l)
+        (both_same SameEntries (λ y. same_entries (Some y)) (kept_view old l) (kept_view noted l) (views_same l));
     stamps = λ m q. subst (λ (o : Option Stamps). NextStamps m q i (line.Drop n k p) (stamps_at old m q) o) (sym (stamps_same m q))
         (marked_stamps i n p (line.Drop n k p) None old marked (λ y z. refl) x.marks m q);
   }
@@ -257,7 +257,7 @@ module _ (old marked held noted : Judge) (i n p : ℕ) (k : ClusterKey) (dropped
   present : view_at noted n ≡ view n before
   present = present_so noted (i + 1) n drop_lines ∙ (ap (view n) drop_front ∙ view-more n before (line.Drop n k p))
 
-  all_here : (l : ClusterKey) (e : List ℕ) → with_records others noted.records (view_at noted n) dropped l e ≡ true
+  all_here : (l : ClusterKey) (e : List ℕ) → tried_with_records others noted.records (view_at noted n) dropped l e ≡ true
   all_here l e = go (is_view_key (view n before) l) (is_view_key (view_at noted n) l) _ (ap (λ (o : Option ClusterKey). is_view_key o l) (sym present))
     where
       go : (a b z : Bool) → a ≡ b → (not (a && z) || (b && z)) ≡ true
@@ -266,7 +266,7 @@ module _ (old marked held noted : Judge) (i n p : ℕ) (k : ClusterKey) (dropped
       go true false z q = differ refl q
       go false b z q = refl
 
-  are_of : AreOf noted.records dropped p
+  are_of : AreRecordsOf noted.records dropped p
   are_of = λ r e. ap (Rattle.std.proofs.Common.option_map partition_of) (digests_same r) ∙ known.stores.copies.held_only n p r (ap (λ (rs : List ℕ). has_node rs r) (sym dropped_same) ∙ e)
 
   -- ---- stays
@@ -319,10 +319,10 @@ module _ (old marked held noted : Judge) (i n p : ℕ) (k : ClusterKey) (dropped
 
   -- ---- the line is taken, or breaks a law
 
-  pub drop_takes : (after : Judge) → LosesNothing (so_far old i) (line.Drop n k p) → TriesRecords (view_at noted n) dropped p noted after → KeepsKnown noted after → Takes old after i (line.Drop n k p)
+  pub drop_takes : (after : Judge) → LosesNothing (so_far old i) (line.Drop n k p) → TriesRecords (view_at noted n) dropped p noted after → KeepsKnown noted after → AcceptsLine old after i (line.Drop n k p)
   unfolding TriesRecords
   drop_takes after losses tries keeps =
-      let t : IsTrying after (i + 1) (with_records others noted.records (view_at noted n) dropped) = tries (i + 1) others drop_lines are_of trying in
+      let t : IsTrying after (i + 1) (tried_with_records others noted.records (view_at noted n) dropped) = tries (i + 1) others drop_lines are_of trying in
       let tried : SeesTried after (so_far after (i + 1)) = all_tried after (i + 1) _ t all_here in
       let seen : SeesLines after (i + 1) = lines_kept noted after (i + 1) keeps drop_lines in
       let lines : after.lines.now ≡ old.lines.now = ap (λ (s : Judge). s.lines.now) keeps.rest ∙ lines_now in

@@ -18,7 +18,7 @@ use Rattle.audit_state.specs.Copies.{held_since, holding_since}
 use Rattle.audit_state.specs.Histories.{AreBelow, value_after, value_now}
 use Rattle.audit_state.specs.Keys.{pair_eq}
 use Rattle.audit_state.specs.Stores.{history_of, held_of, touched_of, holding_of, changes_of, PutsContent, AddsToCopy}
-use Rattle.audit_core.specs.Stored.{SeesCopies, IsUnchanged, IsOf}
+use Rattle.audit_core.specs.Stored.{SeesCopies, IsUnchanged, IsRecordOf}
 use Rattle.audit_core.proofs.ContentLaws.{take_next, up_to_next, pair_left, pair_right}
 use Rattle.audit_state.proofs.HistoryLaws.{now_at, stays_at, below_more, up_to, put_before, put_behind, put_below}
 
@@ -92,7 +92,7 @@ module _ (rs : Records) (all : List Line) (i : ℕ) (l : Line) (here : slice_get
 
   -- ---- a version comes to a copy
 
-  module _ (old new : Stores) (n p r : ℕ) (named : IsOf rs r p) (sees : SeesCopies old rs all i) (below : (m q : ℕ) → AreBelow i (history_of old m q))
+  module _ (old new : Stores) (n p r : ℕ) (named : IsRecordOf rs r p) (sees : SeesCopies old rs all i) (below : (m q : ℕ) → AreBelow i (history_of old m q))
       (puts : PutsContent old new n r (record { line = i; value = Some i }))
       (adds : AddsToCopy old new i n p r (is_some (value_now (history_of old n r))) (not (length (history_of old n r) == 0)))
       (step : (m q : ℕ) (b : Bool) → copy_step m q b l ≡ (b || ((n == m) && (p == q)))) where
@@ -158,7 +158,7 @@ module _ (rs : Records) (all : List Line) (i : ℕ) (l : Line) (here : slice_get
         go false = more_below (changes_of old m q) (sees.changes_below m q)
 
     -- the same partition
-    same_part : (q : ℕ) → IsOf rs r q → p ≡ q
+    same_part : (q : ℕ) → IsRecordOf rs r q → p ≡ q
     same_part q e = some_same (sym named ∙ e)
 
     -- what was in a list of the copy is in it still
@@ -181,25 +181,25 @@ module _ (rs : Records) (all : List Line) (i : ℕ) (l : Line) (here : slice_get
     place_here : (m q : ℕ) → n ≡ m → p ≡ q → pair_eq (n, p) (m, q) ≡ true
     place_here m q e f = subst (λ (y : ℕ). (nat_eq n m && nat_eq p y) ≡ true) f (subst (λ (x : ℕ). (nat_eq n x && nat_eq p p) ≡ true) e (subst (λ (b : Bool). (b && nat_eq p p) ≡ true) (sym (number_here n)) (number_here p)))
 
-    held_new : (m q x : ℕ) → IsOf rs x q → is_some (value_now (history_of new m x)) ≡ true → has_node (held_of new m q) x ≡ true
+    held_new : (m q x : ℕ) → IsRecordOf rs x q → is_some (value_now (history_of new m x)) ≡ true → has_node (held_of new m q) x ≡ true
     held_new m q x of h = go (pair_eq (n, r) (m, x)) refl (subst (λ (c : List Change). is_some (value_now c) ≡ true) (puts m x) h)
       where
         go : (b : Bool) → pair_eq (n, r) (m, x) ≡ b → is_some (value_now (cond b (history_of old n r ++ record { line = i; value = Some i } ∷ []) (history_of old m x))) ≡ true → has_node (held_of new m q) x ≡ true
         go true e t =
-            let same : p ≡ q = same_part q (subst (λ (y : ℕ). IsOf rs y q) (sym (pair_right n r m x e)) of) in
+            let same : p ≡ q = same_part q (subst (λ (y : ℕ). IsRecordOf rs y q) (sym (pair_right n r m x e)) of) in
             subst (λ (xs : List ℕ). has_node xs x ≡ true) (sym (adds.held m q ∙ ap (λ (b : Bool). cond b (held_since (is_some (value_now (history_of old n r))) r (held_of old n p)) (held_of old m q)) (place_here m q (pair_left n r m x e) same)))
             (subst (λ (y : ℕ). has_node (held_since (is_some (value_now (history_of old n r))) r (held_of old n p)) y ≡ true) (pair_right n r m x e)
             (since_has (is_some (value_now (history_of old n r))) r (held_of old n p) (sees.held n p r named)))
         go false e t = grows_held m q x (sees.held m q x of t)
 
-    held_only_new : (m q x : ℕ) → has_node (held_of new m q) x ≡ true → IsOf rs x q
+    held_only_new : (m q x : ℕ) → has_node (held_of new m q) x ≡ true → IsRecordOf rs x q
     held_only_new m q x h = go (pair_eq (n, p) (m, q)) refl (subst (λ (xs : List ℕ). has_node xs x ≡ true) (adds.held m q) h)
       where
-        pick : p ≡ q → n ≡ m → (has_node (held_of old n p) x ≡ true) ⊎ (r ≡ x) → IsOf rs x q
-        pick e f (inl t) = subst (IsOf rs x) e (sees.held_only n p x t)
-        pick e f (inr t) = subst (IsOf rs x) e (subst (λ (y : ℕ). IsOf rs y p) t named)
+        pick : p ≡ q → n ≡ m → (has_node (held_of old n p) x ≡ true) ⊎ (r ≡ x) → IsRecordOf rs x q
+        pick e f (inl t) = subst (IsRecordOf rs x) e (sees.held_only n p x t)
+        pick e f (inr t) = subst (IsRecordOf rs x) e (subst (λ (y : ℕ). IsRecordOf rs y p) t named)
 
-        go : (b : Bool) → pair_eq (n, p) (m, q) ≡ b → has_node (cond b (held_since (is_some (value_now (history_of old n r))) r (held_of old n p)) (held_of old m q)) x ≡ true → IsOf rs x q
+        go : (b : Bool) → pair_eq (n, p) (m, q) ≡ b → has_node (cond b (held_since (is_some (value_now (history_of old n r))) r (held_of old n p)) (held_of old m q)) x ≡ true → IsRecordOf rs x q
         go true e t = pick (pair_right n p m q e) (pair_left n p m q e) (since_only (is_some (value_now (history_of old n r))) r (held_of old n p) x t)
         go false e t = sees.held_only m q x t
 
@@ -225,12 +225,12 @@ module _ (rs : Records) (all : List Line) (i : ℕ) (l : Line) (here : slice_get
         go true e t = pick (pair_left n p m q e) (pair_right n p m q e) (since_only (is_some (value_now (history_of old n r))) r (held_of old n p) x t)
         go false e t = grows_touched m q x (sees.held_ever m q x t)
 
-    touched_new : (m q x : ℕ) → IsOf rs x q → has_node (touched_of new m q) x ≡ false → history_of new m x ≡ []
+    touched_new : (m q x : ℕ) → IsRecordOf rs x q → has_node (touched_of new m q) x ≡ false → history_of new m x ≡ []
     touched_new m q x of h = puts m x ∙ go (pair_eq (n, r) (m, x)) refl
       where
         go : (b : Bool) → pair_eq (n, r) (m, x) ≡ b → cond b (history_of old n r ++ record { line = i; value = Some i } ∷ []) (history_of old m x) ≡ []
         go true e =
-            let same : p ≡ q = same_part q (subst (λ (y : ℕ). IsOf rs y q) (sym (pair_right n r m x e)) of) in
+            let same : p ≡ q = same_part q (subst (λ (y : ℕ). IsRecordOf rs y q) (sym (pair_right n r m x e)) of) in
             differ
             (subst (λ (xs : List ℕ). has_node xs x ≡ true) (sym (adds.touched m q ∙ ap (λ (b : Bool). cond b (held_since (not (length (history_of old n r) == 0)) r (touched_of old n p)) (touched_of old m q)) (place_here m q (pair_left n r m x e) same)))
             (subst (λ (y : ℕ). has_node (held_since (not (length (history_of old n r) == 0)) r (touched_of old n p)) y ≡ true) (pair_right n r m x e)
@@ -238,26 +238,26 @@ module _ (rs : Records) (all : List Line) (i : ℕ) (l : Line) (here : slice_get
             h
         go false e = sees.touched m q x of (absent (touched_of old m q) (touched_of new m q) x (grows_touched m q x) h)
 
-    touched_only_new : (m q x : ℕ) → has_node (touched_of new m q) x ≡ true → IsOf rs x q
+    touched_only_new : (m q x : ℕ) → has_node (touched_of new m q) x ≡ true → IsRecordOf rs x q
     touched_only_new m q x h = go (pair_eq (n, p) (m, q)) refl (subst (λ (xs : List ℕ). has_node xs x ≡ true) (adds.touched m q) h)
       where
-        pick : (has_node (touched_of old n p) x ≡ true) ⊎ (r ≡ x) → IsOf rs x p
+        pick : (has_node (touched_of old n p) x ≡ true) ⊎ (r ≡ x) → IsRecordOf rs x p
         pick (inl t) = sees.touched_only n p x t
-        pick (inr t) = subst (λ (y : ℕ). IsOf rs y p) t named
+        pick (inr t) = subst (λ (y : ℕ). IsRecordOf rs y p) t named
 
-        go : (b : Bool) → pair_eq (n, p) (m, q) ≡ b → has_node (cond b (held_since (not (length (history_of old n r) == 0)) r (touched_of old n p)) (touched_of old m q)) x ≡ true → IsOf rs x q
-        go true e t = subst (IsOf rs x) (pair_right n p m q e) (pick (since_only (not (length (history_of old n r) == 0)) r (touched_of old n p) x t))
+        go : (b : Bool) → pair_eq (n, p) (m, q) ≡ b → has_node (cond b (held_since (not (length (history_of old n r) == 0)) r (touched_of old n p)) (touched_of old m q)) x ≡ true → IsRecordOf rs x q
+        go true e t = subst (IsRecordOf rs x) (pair_right n p m q e) (pick (since_only (not (length (history_of old n r) == 0)) r (touched_of old n p) x t))
         go false e t = sees.touched_only m q x t
 
-    changes_only_new : (m q : ℕ) (y : RecordChange) → Contains (changes_of new m q) y → IsOf rs y.number q
+    changes_only_new : (m q : ℕ) (y : RecordChange) → Contains (changes_of new m q) y → IsRecordOf rs y.number q
     changes_only_new m q y h = go (pair_eq (n, p) (m, q)) refl (subst (λ (ys : List RecordChange). Contains ys y) (adds.changes m q) h)
       where
-        pick : Contains (changes_of old n p) y ⊎ Contains (record { line = i; number = r } ∷ []) y → IsOf rs y.number p
+        pick : Contains (changes_of old n p) y ⊎ Contains (record { line = i; number = r } ∷ []) y → IsRecordOf rs y.number p
         pick (inl t) = sees.changes_only n p y t
-        pick (inr t) = subst (λ (z : RecordChange). IsOf rs z.number p) (contained_one (record { line = i; number = r }) y t) named
+        pick (inr t) = subst (λ (z : RecordChange). IsRecordOf rs z.number p) (contained_one (record { line = i; number = r }) y t) named
 
-        go : (b : Bool) → pair_eq (n, p) (m, q) ≡ b → Contains (cond b (changes_of old n p ++ record { line = i; number = r } ∷ []) (changes_of old m q)) y → IsOf rs y.number q
-        go true e t = subst (IsOf rs y.number) (pair_right n p m q e) (pick (Contains-append_cases (changes_of old n p) (record { line = i; number = r } ∷ []) y t))
+        go : (b : Bool) → pair_eq (n, p) (m, q) ≡ b → Contains (cond b (changes_of old n p ++ record { line = i; number = r } ∷ []) (changes_of old m q)) y → IsRecordOf rs y.number q
+        go true e t = subst (IsRecordOf rs y.number) (pair_right n p m q e) (pick (Contains-append_cases (changes_of old n p) (record { line = i; number = r } ∷ []) y t))
         go false e t = sees.changes_only m q y t
 
     -- what didn't change in the longer list didn't in the shorter
@@ -291,12 +291,12 @@ module _ (rs : Records) (all : List Line) (i : ℕ) (l : Line) (here : slice_get
         go (inl low) = later low (cases_lt i a)
         go (inr low) = up a (omega (arith, le, low)) ∙ (sees.changes n p r a b named le (unchanged_before n p r a b h) ∙ sym (up b low))
 
-    changes_new : (m q x a b : ℕ) → IsOf rs x q → a ≤ b → IsUnchanged (changes_of new m q) x a b → value_after (history_of new m x) a ≡ value_after (history_of new m x) b
+    changes_new : (m q x a b : ℕ) → IsRecordOf rs x q → a ≤ b → IsUnchanged (changes_of new m q) x a b → value_after (history_of new m x) a ≡ value_after (history_of new m x) b
     changes_new m q x a b of le h = subst (λ (c : List Change). value_after c a ≡ value_after c b) (sym (puts m x)) (go (pair_eq (n, r) (m, x)) refl)
       where
         go : (t : Bool) → pair_eq (n, r) (m, x) ≡ t → value_after (cond t (history_of old n r ++ record { line = i; value = Some i } ∷ []) (history_of old m x)) a ≡ value_after (cond t (history_of old n r ++ record { line = i; value = Some i } ∷ []) (history_of old m x)) b
         go true e =
-            let same : p ≡ q = same_part q (subst (λ (y : ℕ). IsOf rs y q) (sym (pair_right n r m x e)) of) in
+            let same : p ≡ q = same_part q (subst (λ (y : ℕ). IsRecordOf rs y q) (sym (pair_right n r m x e)) of) in
             changes_here a b le (subst (λ (y : ℕ). IsUnchanged (changes_of new n p) y a b) (sym (pair_right n r m x e))
             (subst (λ (y : ℕ). IsUnchanged (changes_of new n y) x a b) (sym same) (subst (λ (y : ℕ). IsUnchanged (changes_of new y q) x a b) (sym (pair_left n r m x e)) h)))
         go false e = sees.changes m q x a b of le (unchanged_before m q x a b h)

@@ -22,7 +22,7 @@ use Rattle.audit_state.proofs.PlaceLaws.{none_at_most}
 use Rattle.audit_core.specs.Covering.{SeesCovers, IsCover, HaveNumber}
 use Rattle.audit_core.specs.Holders.{content_now}
 use Rattle.audit_core.specs.Replicas.{TellsCover, TellsChanges, TellsNoMore, LearnsCover, covers_change, holds_change}
-use Rattle.audit_core.specs.Stored.{IsOf, IsUnchanged}
+use Rattle.audit_core.specs.Stored.{IsRecordOf, IsUnchanged}
 use Rattle.audit_core.specs.Trying.{SeesLines, KeepsStands, NotesCover, covers_record}
 use Rattle.audit_core.proofs.CoverLaws.{covers_noted}
 use Rattle.audit_core.proofs.JoinedLaws.{passed}
@@ -93,7 +93,7 @@ changed_or (x ∷ xs) r a b = go (changed_first x r a b) (changed_or xs r a b)
 pub touched_told : (s : Judge) (i n m of p : ℕ) (b : Bool) → SeesLines s i → b ≡ list_all (covers_record s n m of) (touched_of s.stores m p) → TellsCover s n m of p b
 touched_told s i n m of p true h e = λ r part. go r part (has_node (touched_of s.stores m p) r) refl
   where
-    go : (r : ℕ) → IsOf s.records r p → (b : Bool) → has_node (touched_of s.stores m p) r ≡ b → covers_record s n m of r ≡ true
+    go : (r : ℕ) → IsRecordOf s.records r p → (b : Bool) → has_node (touched_of s.stores m p) r ≡ b → covers_record s n m of r ≡ true
     go r part true f = passed (covers_record s n m of) (touched_of s.stores m p) r (sym e) f
     go r part false f =
         ap (λ (cs : List Change). is_at_most s.by (placed s.lines.now (value_after cs of)) (placed s.lines.now (content_now s n r))) (h.stores.copies.touched m p r part f)
@@ -109,7 +109,7 @@ changed_less s i n c m from to of p true h told e = differ refl e
 changed_less s i n c m from to of p false h told e = record { number = told.0.number; part = h.stores.copies.changes_only c p told.0 told.1; less = told.2 }
 
 -- what held before holds now, where the record changed at neither of both
-still_covers : (s : Judge) (i n m of p : ℕ) (c : Cover) (r : ℕ) → SeesLines s i → IsCover s i n m p c → IsOf s.records r p → value_after (history_of s.stores n r) c.held ≡ value_after (history_of s.stores n r) i
+still_covers : (s : Judge) (i n m of p : ℕ) (c : Cover) (r : ℕ) → SeesLines s i → IsCover s i n m p c → IsRecordOf s.records r p → value_after (history_of s.stores n r) c.held ≡ value_after (history_of s.stores n r) i
     → value_after (history_of s.stores m r) c.of ≡ value_after (history_of s.stores m r) of → covers_record s n m of r ≡ true
 still_covers s i n m of p c r h known part holds held =
     ap₂ (λ (x y : Option ℕ). is_at_most s.by (placed s.lines.now x) (placed s.lines.now y)) (sym held) (now_at (history_of s.stores n r) i (h.stores.contents.below n r) ∙ sym holds)
@@ -124,7 +124,7 @@ since_covers s i n m of p first last c true true h known order ends at_node e at
     ended r (inl q) same = ap (value_after (history_of s.stores m r)) (sym q.0) ∙ (same ∙ ap (value_after (history_of s.stores m r)) q.1)
     ended r (inr q) same = ap (value_after (history_of s.stores m r)) (sym q.1) ∙ (sym same ∙ ap (value_after (history_of s.stores m r)) q.0)
 
-    go : (r : ℕ) → IsOf s.records r p → ChangedBetween (changes_of s.stores n p) r c.held i ⊎ IsUnchanged (changes_of s.stores n p) r c.held i → ChangedBetween (changes_of s.stores m p) r first last ⊎ IsUnchanged (changes_of s.stores m p) r first last → covers_record s n m of r ≡ true
+    go : (r : ℕ) → IsRecordOf s.records r p → ChangedBetween (changes_of s.stores n p) r c.held i ⊎ IsUnchanged (changes_of s.stores n p) r c.held i → ChangedBetween (changes_of s.stores m p) r first last ⊎ IsUnchanged (changes_of s.stores m p) r first last → covers_record s n m of r ≡ true
     go r part (inl y) o = subst (λ (z : ℕ). covers_record s n m of z ≡ true) y.2 (at_node y.0 y.1 y.3 y.4)
     go r part (inr same) (inl y) = subst (λ (z : ℕ). covers_record s n m of z ≡ true) y.2 (at_member y.0 y.1 y.3 y.4)
     go r part (inr same) (inr still) = still_covers s i n m of p c r h known part

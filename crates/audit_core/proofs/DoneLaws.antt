@@ -22,14 +22,14 @@ use Rattle.audit_laws.proofs.Steps.{shape_step}
 use Rattle.audit_laws.proofs.Tests.{differ, number_same, number_here}
 use Rattle.audit_core.specs.declared.judge.Judge.{Judge}
 use Rattle.audit_core.specs.declared.verdict.Stop.{Stop}
-use Rattle.audit_core.specs.Audits.{Comes, Takes, so_far}
+use Rattle.audit_core.specs.Audits.{Comes, AcceptsLine, so_far}
 use Rattle.audit_core.specs.Ending.{IsEnding, SeesEndedStand, ended_in}
 use Rattle.audit_core.specs.Frames.{Both, KeepsFrame, SameStand}
-use Rattle.audit_core.specs.Known.{node_at, view_of}
+use Rattle.audit_core.specs.Known.{node_at, kept_view}
 use Rattle.audit_core.specs.Sees.{SeesFrame, SeesStand, SeesWrites, SeesStays, SeesTried, IsBound, IsTried, HasNoDoubts, IsSuspect, is_open_in}
 use Rattle.audit_core.specs.Settling.{open_from}
 use Rattle.audit_core.specs.Steps.{ChangesView}
-use Rattle.audit_core.specs.Stored.{SeesStores, IsOf}
+use Rattle.audit_core.specs.Stored.{SeesStores, IsRecordOf}
 use Rattle.audit_core.specs.Trying.{SeesLines, StopsParted}
 use Rattle.audit_core.specs.Verdicts.{StopsRightly}
 use Rattle.audit_core.proofs.FinishLaws.{CountsOut}
@@ -192,10 +192,10 @@ module _ (s : Judge) (j : List Line) (n t : ℕ) (k : ClusterKey) (h : SeesWrite
       ∙ none_added (count_by (is_open_write l p (master l p j) after) j))
 
   -- of those that were open as many are open still as aren't among those that the line ends
-  ended_counts : (l : ClusterKey) (p : ℕ) (x : View) → view_of s l ≡ Some x
+  ended_counts : (l : ClusterKey) (p : ℕ) (x : View) → kept_view s l ≡ Some x
       → count_by (is_open_write l p (master l p j) j) j
       ≡ count_by (is_open_write l p (master l p j) after) j
-      + ended_in k (open_from (view_of s k) n t) l p
+      + ended_in k (open_from (kept_view s k) n t) l p
   ended_counts l p x there = go (same_key k l) (n == master l p j) refl refl
     where
       none_ended : (a b c : Bool) → (a && b) ≡ false → (b && (a && c)) ≡ false
@@ -215,23 +215,23 @@ module _ (s : Judge) (j : List Line) (n t : ℕ) (k : ClusterKey) (h : SeesWrite
       go : (a b : Bool) → same_key k l ≡ a → (n == master l p j) ≡ b
           → count_by (is_open_write l p (master l p j) j) j
           ≡ count_by (is_open_write l p (master l p j) (j ++ line.Done n k t ∷ [])) j
-          + cond a (count_by (λ (q : ℕ). q == p) (open_from (view_of s k) n t)) 0
+          + cond a (count_by (λ (q : ℕ). q == p) (open_from (kept_view s k) n t)) 0
       go false b e f = unended (ap (λ (c : Bool). c && (n == master l p j)) e) ∙ sym (none_added _)
       go true false e f =
           unended (ap₂ (λ (a b : Bool). a && b) e f)
           ∙ (sym (none_added _)
           ∙ ap (λ (c : ℕ). count_by
           (is_open_write l p (master l p j) (j ++ line.Done n k t ∷ [])) j + c)
-          (sym (count_unlisted p (open_from (view_of s k) n t)
-          (unlisted (has_node (open_from (view_of s k) n t) p) refl))))
+          (sym (count_unlisted p (open_from (kept_view s k) n t)
+          (unlisted (has_node (open_from (kept_view s k) n t) p) refl))))
         where
-          unlisted : (b : Bool) → has_node (open_from (view_of s k) n t) p ≡ b
-              → has_node (open_from (view_of s k) n t) p ≡ false
+          unlisted : (b : Bool) → has_node (open_from (kept_view s k) n t) p ≡ b
+              → has_node (open_from (kept_view s k) n t) p ≡ false
           unlisted false q = q
           unlisted true q =
               let listed : has_node (open_of x n t) p ≡ true =
               sym (ap (λ (o : Option View). has_node (open_from o n t) p)
-              (ap (view_of s) (same_key_is k l e) ∙ there)) ∙ q in
+              (ap (kept_view s) (same_key_is k l e) ∙ there)) ∙ q in
               differ (subst (λ (m : ℕ). (n == m) ≡ true) (sym (h.by_master l x n t p there listed))
               (number_here n)) f
       go true true e f =
@@ -244,12 +244,12 @@ module _ (s : Judge) (j : List Line) (n t : ℕ) (k : ClusterKey) (h : SeesWrite
           ∙ ap (count_by (λ (q : ℕ). q == p))
           (ap (λ (m : ℕ). open_of x m t) (sym (number_same n (master l p j) f))
           ∙ sym (ap (λ (o : Option View). open_from o n t)
-          (ap (view_of s) (same_key_is k l e) ∙ there))))
+          (ap (kept_view s) (same_key_is k l e) ∙ there))))
 
-  pub stand_ended : (l : ClusterKey) (p : ℕ) (x : View) → view_of s l ≡ Some x
+  pub stand_ended : (l : ClusterKey) (p : ℕ) (x : View) → kept_view s l ≡ Some x
       → SeesStand j l p (stand_of x p)
       → SeesEndedStand (j ++ line.Done n k t ∷ []) l p
-      (ended_in k (open_from (view_of s k) n t) l p) (stand_of x p)
+      (ended_in k (open_from (kept_view s k) n t) l p) (stand_of x p)
   stand_ended l p x there stand = record {
     settled =
         stand.settled
@@ -259,7 +259,8 @@ module _ (s : Judge) (j : List Line) (n t : ℕ) (k : ClusterKey) (h : SeesWrite
     open_writes =
         stand.open_writes
         ∙ (ended_counts l p x there
-        ∙ ap (λ (c : ℕ). c + ended_in k (open_from (view_of s k) n t) l p) (sym (same_count l p)));
+        ∙ ap (λ (c : ℕ). c + ended_in k (open_from (kept_view s k) n t) l p)
+        (sym (same_count l p)));
   }
 
   -- ---- the transaction's writes
@@ -322,7 +323,8 @@ module _ (s : Judge) (j : List Line) (n t : ℕ) (k : ClusterKey) (h : SeesWrite
           (done (number_same w u e))
   same_still l p m u ends x = refl
 
-  open_ended : (l : ClusterKey) (p m u : ℕ) (x : View) → view_of s l ≡ Some x → master l p after ≡ m
+  open_ended : (l : ClusterKey) (p m u : ℕ) (x : View) → kept_view s l ≡ Some x
+      → master l p after ≡ m
       → count_by (λ (q : ℕ). q == p) (cond (ends_here n t k l m u) [] (open_of x m u))
       ≡ count_by (is_open_in l p m u after) after
   open_ended l p m u x there is = go (ends_here n t k l m u) refl
@@ -343,7 +345,7 @@ module _ (s : Judge) (j : List Line) (n t : ℕ) (k : ClusterKey) (h : SeesWrite
 -- a view that is known was known, and but for its writes it is as it was
 record WasKnown (old : Judge) (n t : ℕ) (k l : ClusterKey) (y : View) : Type 0 where
   pub was : View
-  pub there : view_of old l ≡ Some was
+  pub there : kept_view old l ≡ Some was
   pub rest : record y { writes = was.writes } ≡ was
   pub partitions : (m u : ℕ) → open_of y m u ≡ cond (ends_here n t k l m u) [] (open_of was m u)
   pub done : (m u : ℕ)
@@ -365,7 +367,7 @@ module _ (old closed : Judge) (i n t : ℕ) (k : ClusterKey) (c : Comes old i (l
   was_view None (Some z) y r e = absurd r
   was_view (Some a) None y r e = absurd r
 
-  was_known : (l : ClusterKey) (y : View) → view_of closed l ≡ Some y → WasKnown old n t k l y
+  was_known : (l : ClusterKey) (y : View) → kept_view closed l ≡ Some y → WasKnown old n t k l y
   was_known l y e = go (same_key k l) refl
     where
       here : (b a c : Bool) → b ≡ true → (a && c) ≡ (a && (b && c))
@@ -378,12 +380,12 @@ module _ (old closed : Judge) (i n t : ℕ) (k : ClusterKey) (c : Comes old i (l
 
       go : (b : Bool) → same_key k l ≡ b → WasKnown old n t k l y
       go true f =
-          let z : (z : View) × (view_of old k ≡ Some z) × FinishesWrites n t z y =
-          was_view (view_of old k) (view_of closed k) y x.here
-          (ap (λ (m : ClusterKey). view_of closed m) (same_key_is k l f) ∙ e) in
+          let z : (z : View) × (kept_view old k ≡ Some z) × FinishesWrites n t z y =
+          was_view (kept_view old k) (kept_view closed k) y x.here
+          (ap (λ (m : ClusterKey). kept_view closed m) (same_key_is k l f) ∙ e) in
           record {
             was = z.0;
-            there = ap (λ (m : ClusterKey). view_of old m) (sym (same_key_is k l f)) ∙ z.1;
+            there = ap (λ (m : ClusterKey). kept_view old m) (sym (same_key_is k l f)) ∙ z.1;
             rest = z.2.rest;
             partitions =
                 λ m u. z.2.partitions m u
@@ -437,12 +439,12 @@ module _ (old closed : Judge) (i n t : ℕ) (k : ClusterKey) (c : Comes old i (l
       entries (Some a) None h = absurd h
 
       view_kept : (l : ClusterKey) (b : Bool) → same_key k l ≡ b
-          → Both SameEntries (view_of old l) (view_of closed l)
+          → Both SameEntries (kept_view old l) (kept_view closed l)
       view_kept l true e =
-          subst (λ (z : ClusterKey). Both SameEntries (view_of old z) (view_of closed z))
-          (same_key_is k l e) (entries (view_of old k) (view_of closed k) x.here)
+          subst (λ (z : ClusterKey). Both SameEntries (kept_view old z) (kept_view closed z))
+          (same_key_is k l e) (entries (kept_view old k) (kept_view closed k) x.here)
       view_kept l false e =
-          both_same SameEntries (λ y. same_entries (Some y)) (view_of old l) (view_of closed l)
+          both_same SameEntries (λ y. same_entries (Some y)) (kept_view old l) (kept_view closed l)
           (x.others l e)
 
   stores_closed : SeesStores closed (i + 1) old.lines.now (take (i + 1) old.lines.now)
@@ -475,7 +477,8 @@ module _ (old closed : Judge) (i n t : ℕ) (k : ClusterKey) (c : Comes old i (l
               ∙ (moved.written.written l w.was r w.there
               ∙ sym (ap (λ (v : View). is_some (hash.get nat_eq v.applied r)) w.rest));
           listed = λ l y r e some. let w : WasKnown old n t k l y = was_known l y e in
-              let u : (u : ℕ) × IsOf closed.records r u × (has_node (written_of w.was u) r ≡ true) =
+              let u : (u : ℕ) × IsRecordOf closed.records r u
+              × (has_node (written_of w.was u) r ≡ true) =
               moved.written.listed l w.was r w.there
               (sym (ap (λ (v : View). is_some (hash.get nat_eq v.applied r)) w.rest) ∙ some) in
               (u.0, u.1, ap (λ (v : View). has_node (written_of v u.0) r) w.rest ∙ u.2);
@@ -552,14 +555,14 @@ module _ (old closed : Judge) (i n t : ℕ) (k : ClusterKey) (c : Comes old i (l
         (sym (master-other l q (so_far old i) (line.Done n k t) refl)) ∙ h.remains);
   }
 
-  pub ending_closed : (ended : List ℕ) → ended ≡ open_from (view_of old k) n t
+  pub ending_closed : (ended : List ℕ) → ended ≡ open_from (kept_view old k) n t
       → IsEnding closed (i + 1) k ended
   ending_closed ended is = subst (IsEnding closed (i + 1) k) (sym is) (record {
     stands = λ l q y e. let w : WasKnown old n t k l y = was_known l y e in
         subst (λ (z : Stand). SeesEndedStand (so_far closed (i + 1)) l q
-        (ended_in k (open_from (view_of old k) n t) l q) z) (sym (same_stands l y w q))
+        (ended_in k (open_from (kept_view old k) n t) l q) z) (sym (same_stands l y w q))
         (subst (λ (ls : List Line). SeesEndedStand ls l q
-        (ended_in k (open_from (view_of old k) n t) l q) (stand_of w.was q)) (sym closed_front)
+        (ended_in k (open_from (kept_view old k) n t) l q) (stand_of w.was q)) (sym closed_front)
         (stand_ended old (so_far old i) n t k c.audits.state.writes l q w.was w.there
         (tried_old.stands l q w.was w.there)));
     listed = λ l q y e. let w : WasKnown old n t k l y = was_known l y e in
@@ -578,8 +581,8 @@ module _ (old closed : Judge) (i n t : ℕ) (k : ClusterKey) (c : Comes old i (l
         (tried_old.tried l q w.was w.there
         (bound_before l q (subst (IsBound l q) closed_front bound)))));
     covers = covers_kept old closed (i + 1) x.rest (covers_later old i c.audits.state.covers);
-    known = λ q has. both_there (view_of old k) (view_of closed k) x.here
-        ∙ some_open (view_of old k) q has;
+    known = λ q has. both_there (kept_view old k) (kept_view closed k) x.here
+        ∙ some_open (kept_view old k) q has;
   })
     where
       tried_old : SeesTried old (so_far old i)
@@ -632,7 +635,7 @@ all_ended s i k e = record {
 
 pub finish_first : (old closed : Judge) (i n t : ℕ) (k : ClusterKey) (ended : List ℕ)
     → Comes old i (line.Done n k t) → ChangesView (FinishesWrites n t) k old closed
-    → ended ≡ open_from (view_of old k) n t → CountsOut (i + 1) k ended closed closed
+    → ended ≡ open_from (kept_view old k) n t → CountsOut (i + 1) k ended closed closed
 finish_first old closed i n t k ended c x is =
     record {
       lines = lines_closed old closed i n t k c x;
@@ -643,7 +646,7 @@ finish_first old closed i n t k ended c x is =
 
 pub finish_takes : (old closed after : Judge) (i n t : ℕ) (k : ClusterKey)
     → Comes old i (line.Done n k t) → ChangesView (FinishesWrites n t) k old closed
-    → CountsOut (i + 1) k [] closed after → Takes old after i (line.Done n k t)
+    → CountsOut (i + 1) k [] closed after → AcceptsLine old after i (line.Done n k t)
 finish_takes old closed after i n t k c x g =
     let tried : SeesTried after (so_far after (i + 1)) = all_ended after (i + 1) k g.ending in
     let same : so_far after (i + 1) ≡ so_far closed (i + 1) =

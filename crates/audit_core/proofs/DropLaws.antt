@@ -1,32 +1,24 @@
 -- What nodes hold, as one copy's records are removed one by one.
-use Rattle.std.proofs.Common.{◌≡◌, ℕ, zero, suc, option_map, ◌==◌, ◌<◌, ◌≤◌, ◌+◌, Bool, true, false, ◌&&◌, ◌||◌, cond, List, [], ◌∷◌, ◌++◌, length, get_or, Option, Some, None, ◌⊎◌, inl, inr, refl, sym, ap, ap₂, subst, ◌∙◌, append-nil, append_assoc, arith}
-use Rattle.std.specs.Prelude.{take, IsSome}
+use Rattle.std.proofs.Common.{◌≡◌, ℕ, zero, suc, ◌==◌, ◌<◌, ◌≤◌, ◌+◌, Bool, true, false, ◌&&◌, ◌||◌, cond, List, [], ◌∷◌, ◌++◌, length, get_or, None, ◌⊎◌, inl, inr, refl, sym, ap, subst, ◌∙◌, append_assoc, arith}
+use Rattle.std.specs.Prelude.{take}
 use Rattle.std.proofs.lemmas.Bool.{or_cases, or_left, or_right}
 use Rattle.std.proofs.lemmas.List.{take_more}
 use Rattle.std.proofs.lemmas.List.Elements.{All-push, All-cons, All-append}
 use Rattle.std.proofs.lemmas.List.Folds.{list_any-append}
-use Rattle.journal_lines.specs.declared.line.Line.{Line}
 use Rattle.journal_readings.specs.Lines.{has_node}
-use Rattle.journal_readings.specs.Settings.{nodes}
-use Rattle.journal_readings.proofs.AlongLaws.{no_some}
 use Rattle.audit_laws.proofs.Tests.{differ, number_here}
 use Rattle.audit_state.specs.declared.copies.RecordChange.{RecordChange}
 use Rattle.audit_state.specs.declared.history.Change.{Change}
 use Rattle.audit_core.specs.declared.judge.Judge.{Judge}
-use Rattle.audit_state.specs.declared.records.Record.{Record}
 use Rattle.audit_core.specs.Bringing.{KeepsLines, RemovesRecord}
 use Rattle.audit_state.specs.Copies.{StandUpTo}
 use Rattle.audit_core.specs.Dropping.{EndsAt, RemovesAll, changes_at}
 use Rattle.audit_state.specs.Histories.{AreUpTo, value_after}
-use Rattle.audit_core.specs.Holders.{AreCounted}
+use Rattle.audit_core.specs.Holders.{AreHoldersCounted}
 use Rattle.audit_state.specs.Keys.{pair_eq}
-use Rattle.audit_state.specs.Records.{numbered_record}
 use Rattle.audit_state.specs.Stores.{history_of, changes_of}
-use Rattle.audit_core.proofs.ContentLaws.{pair_left, pair_right}
+use Rattle.audit_core.proofs.ContentLaws.{pair_right}
 use Rattle.audit_state.proofs.HistoryLaws.{put_before, put_behind}
-
-keeps_itself : (s : Judge) → KeepsLines s s
-keeps_itself s = record { rest = refl; numbers = record { numbers = λ d. refl; digests = λ r. refl }; newest = λ r. refl }
 
 keeps_then : (a b c : Judge) → KeepsLines a b → KeepsLines b c → KeepsLines a c
 keeps_then a b c g h = record {
@@ -34,23 +26,6 @@ keeps_then a b c g h = record {
   numbers = record { numbers = λ d. h.numbers.numbers d ∙ g.numbers.numbers d; digests = λ r. h.numbers.digests r ∙ g.numbers.digests r };
   newest = λ r. h.newest r ∙ g.newest r;
 }
-
--- none is removed
-pub removes_none : (line n p : ℕ) (s : Judge) → RemovesAll line n p [] s s
-removes_none line n p s = record {
-  keeps = keeps_itself s;
-  ended = λ q h. differ h refl;
-  others = λ m q h. refl;
-  up_to = λ q h. h;
-  held = λ m q. refl;
-  touched = λ m q. refl;
-  holding = λ m q. refl;
-  changes = λ m q. go m q (pair_eq (n, p) (m, q)) refl;
-}
-  where
-    go : (m q : ℕ) (b : Bool) → pair_eq (n, p) (m, q) ≡ b → changes_of s.stores m q ≡ cond b (changes_of s.stores n p ++ []) (changes_of s.stores m q)
-    go m q true e = ap₂ (λ (x y : ℕ). changes_of s.stores x y) (sym (pair_left n p m q e)) (sym (pair_right n p m q e)) ∙ sym (append-nil (changes_of s.stores n p))
-    go m q false e = refl
 
 -- one more
 module _ (line n p r : ℕ) (rs : List ℕ) (old now next : Judge) (g : RemovesAll line n p rs old now) (x : RemovesRecord now next line n r p) (up : (q : ℕ) → AreUpTo line (history_of old.stores n q)) where
@@ -156,26 +131,14 @@ module _ (line n p r : ℕ) (rs : List ℕ) (old now next : Judge) (g : RemovesA
 -- so far these are removed
 pub record Removing (line n p : ℕ) (rs : List ℕ) (ns : List ℕ) (old now : Judge) : Type 0 where
   pub removes : RemovesAll line n p rs old now
-  pub counted : AreCounted now ns
-
-pub removing_first : (line n p : ℕ) (ns : List ℕ) (s : Judge) (rs : List ℕ) → rs ≡ [] → AreCounted s ns → Removing line n p rs ns s s
-removing_first line n p ns s rs e h = record { removes = subst (λ (xs : List ℕ). RemovesAll line n p xs s s) (sym e) (removes_none line n p s); counted = h }
+  pub counted : AreHoldersCounted now ns
 
 pub removing_more : (line n p : ℕ) (ids ns : List ℕ) (old now next : Judge) (a r : ℕ) → a < length ids → r ≡ get_or ids a r → ((q : ℕ) → AreUpTo line (history_of old.stores n q)) → Removing line n p (take a ids) ns old now
-    → RemovesRecord now next line n r p → AreCounted next ns → Removing line n p (take (a + 1) ids) ns old next
+    → RemovesRecord now next line n r p → AreHoldersCounted next ns → Removing line n p (take (a + 1) ids) ns old next
 removing_more line n p ids ns old now next a r within read up g x counts = record {
   removes = subst (λ (xs : List ℕ). RemovesAll line n p xs old next) (ap (λ (m : ℕ). take a ids ++ m ∷ []) read ∙ sym (take_more ids a r within)) (removes_more line n p r (take a ids) old now next g.removes x up);
   counted = counts;
 }
-
--- what the next record's removal requires
-pub still_there : (line n p r : ℕ) (rs ns : List ℕ) (old now : Judge) → Removing line n p rs ns old now → IsSome (numbered_record old.records r) → IsSome (numbered_record now.records r)
-still_there line n p r rs ns old now g h = go (numbered_record now.records r) (numbered_record old.records r) (g.removes.keeps.numbers.digests r) h
-  where
-    go : (x y : Option Record) → option_map (λ (z : Record). z.digest) x ≡ option_map (λ (z : Record). z.digest) y → IsSome y → IsSome x
-    go (Some x) y e h = refl
-    go None None e h = h
-    go None (Some y) e h = absurd (no_some e)
 
 pub still_stand : (line n p : ℕ) (rs ns : List ℕ) (old now : Judge) → Removing line n p rs ns old now → StandUpTo line (changes_of old.stores n p) → StandUpTo line (changes_of now.stores n p)
 still_stand line n p rs ns old now g h = subst (StandUpTo line) (sym (g.removes.changes n p)) (go (pair_eq (n, p) (n, p)))
@@ -195,12 +158,3 @@ pub among_got : (ids : List ℕ) (a r : ℕ) → a < length ids → r ≡ get_or
 among_got [] a r within read = absurd (omega (arith, within))
 among_got (m ∷ ids) zero r within read = ap (λ (y : ℕ). (m == y) || has_node ids y) read ∙ or_left (m == m) (has_node ids m) (number_here m)
 among_got (m ∷ ids) (suc a) r within read = or_right (m == r) (has_node ids r) (among_got ids a r (omega (arith, within)) read)
-
-pub still_counted : (line n p : ℕ) (rs : List ℕ) (old now : Judge) → Removing line n p rs (nodes (take line old.lines.now)) old now → AreCounted now (nodes (take line now.lines.now))
-still_counted line n p rs old now g = subst (λ (ls : List Line). AreCounted now (nodes (take line ls))) (sym (same_lines line n p rs (nodes (take line old.lines.now)) old now g)) g.counted
-
-pub still_of : (P : List ℕ → Type 0) (line n p : ℕ) (rs ns : List ℕ) (old now : Judge) → Removing line n p rs ns old now → P (nodes (take line old.lines.now)) → P (nodes (take line now.lines.now))
-still_of P line n p rs ns old now g h = subst (λ (ls : List Line). P (nodes (take line ls))) (sym (same_lines line n p rs ns old now g)) h
-
-pub still_up : (line n p q : ℕ) (rs ns : List ℕ) (old now : Judge) → Removing line n p rs ns old now → AreUpTo line (history_of old.stores n q) → AreUpTo line (history_of now.stores n q)
-still_up line n p q rs ns old now g h = g.removes.up_to q h

@@ -32,9 +32,9 @@ use Rattle.audit_state.specs.Records.{record_digest}
 use Rattle.audit_state.specs.Stores.{history_of, held_of, touched_of, holding_of, changes_of, ClearsCopy}
 use Rattle.audit_state.specs.Written.{written_of}
 use Rattle.audit_core.specs.Dropping.{EndsAt, RemovesAll, changes_at}
-use Rattle.audit_core.specs.Holders.{AreCounted}
-use Rattle.audit_core.specs.Known.{view_of}
-use Rattle.audit_core.specs.Stored.{SeesRecords, SeesContents, SeesCopies, SeesWritten, SeesStores, Knows, IsUnchanged, IsOf, brings, read_of}
+use Rattle.audit_core.specs.Holders.{AreHoldersCounted}
+use Rattle.audit_core.specs.Known.{kept_view}
+use Rattle.audit_core.specs.Stored.{SeesRecords, SeesContents, SeesCopies, SeesWritten, SeesStores, Knows, IsUnchanged, IsRecordOf, brings, read_of}
 use Rattle.audit_core.proofs.ContentLaws.{take_next, content_next, up_to_next, pair_left, pair_right}
 use Rattle.audit_core.proofs.CopySteps.{holds_next, holding_still, more_below, contained_one}
 use Rattle.audit_core.proofs.WriteLaws.{next_stores}
@@ -89,7 +89,7 @@ held_none s i n p q d knows off named part =
 -- ---- the line
 
 module _ (s new : Judge) (taken : Stores) (i n p : ℕ) (k : ClusterKey) (knows : Knows s i) (here : slice_get s.lines.now i ≡ Some (line.Drop n k p))
-    (same : taken.contents ≡ s.stores.contents) (clears : ClearsCopy s.stores taken i n p) (removes : RemovesAll i n p (held_of s.stores n p) (record s { stores = taken }) new) (counts : AreCounted new (nodes (take i s.lines.now))) where
+    (same : taken.contents ≡ s.stores.contents) (clears : ClearsCopy s.stores taken i n p) (removes : RemovesAll i n p (held_of s.stores n p) (record s { stores = taken }) new) (counts : AreHoldersCounted new (nodes (take i s.lines.now))) where
   abbrev all : List Line
   all = s.lines.now
 
@@ -102,10 +102,10 @@ module _ (s new : Judge) (taken : Stores) (i n p : ℕ) (k : ClusterKey) (knows 
   digest_eq : (q : ℕ) → record_digest new.records q ≡ record_digest s.records q
   digest_eq q = removes.keeps.numbers.digests q
 
-  of_old : (q x : ℕ) → IsOf new.records q x → IsOf s.records q x
+  of_old : (q x : ℕ) → IsRecordOf new.records q x → IsRecordOf s.records q x
   of_old q x h = ap (option_map partition_of) (sym (digest_eq q)) ∙ h
 
-  of_new : (q x : ℕ) → IsOf s.records q x → IsOf new.records q x
+  of_new : (q x : ℕ) → IsRecordOf s.records q x → IsRecordOf new.records q x
   of_new q x h = ap (option_map partition_of) (digest_eq q) ∙ h
 
   next_front : take (suc i) all ≡ take i all ++ line.Drop n k p ∷ []
@@ -152,7 +152,7 @@ module _ (s new : Judge) (taken : Stores) (i n p : ℕ) (k : ClusterKey) (knows 
   reads_before : (m q a : ℕ) → a ≤ i → placed all (value_after (history_of s.stores m q) a) ≡ read_of (λ d. content by_then m d (take a all)) (record_digest s.records q)
   reads_before m q a le = knows.stores.contents.held m q a le
 
-  gone : (q : ℕ) → IsOf s.records q p → read_of (λ d. content by_then n d (take (suc i) all)) (record_digest s.records q) ≡ None
+  gone : (q : ℕ) → IsRecordOf s.records q p → read_of (λ d. content by_then n d (take (suc i) all)) (record_digest s.records q) ≡ None
   gone q named = go (record_digest s.records q) named
     where
       step : (d : List ℕ) → partition_of d ≡ p → content by_then n d (take (suc i) all) ≡ None
@@ -267,13 +267,13 @@ module _ (s new : Judge) (taken : Stores) (i n p : ℕ) (k : ClusterKey) (knows 
   held_after m q = removes.held m q ∙ clears.held m q
 
   -- a record that was dropped is one of the partition
-  same_part : (q x : ℕ) → has_node dropped q ≡ true → IsOf s.records q x → p ≡ x
+  same_part : (q x : ℕ) → has_node dropped q ≡ true → IsRecordOf s.records q x → p ≡ x
   same_part q x e f = some_same (sym (knows.stores.copies.held_only n p q e) ∙ f)
 
   pair_of : (m x : ℕ) → n ≡ m → p ≡ x → pair_eq (n, p) (m, x) ≡ true
   pair_of m x e f = subst (λ (y : ℕ). pair_eq (n, p) (y, x) ≡ true) e (subst (λ (y : ℕ). (nat_eq n n && nat_eq p y) ≡ true) f (subst (λ (b : Bool). (b && nat_eq p p) ≡ true) (sym (number_here n)) (number_here p)))
 
-  held_dropped : (m x q : ℕ) → IsOf s.records q x → is_some (value_now (history_of new.stores m q)) ≡ true → has_node (held_of new.stores m x) q ≡ true
+  held_dropped : (m x q : ℕ) → IsRecordOf s.records q x → is_some (value_now (history_of new.stores m q)) ≡ true → has_node (held_of new.stores m x) q ≡ true
   held_dropped m x q of some = subst (λ (rs : List ℕ). has_node rs q ≡ true) (sym (held_after m x)) (go ((n == m) && has_node dropped q) refl)
     where
       ended : has_node dropped q ≡ true → is_some (value_now (history_of new.stores n q)) ≡ false
@@ -308,7 +308,7 @@ module _ (s new : Judge) (taken : Stores) (i n p : ℕ) (k : ClusterKey) (knows 
   touched_after : (m x : ℕ) → touched_of new.stores m x ≡ touched_of s.stores m x
   touched_after m x = removes.touched m x ∙ clears.touched m x
 
-  touched_dropped : (m x q : ℕ) → IsOf s.records q x → has_node (touched_of s.stores m x) q ≡ false → history_of new.stores m q ≡ []
+  touched_dropped : (m x q : ℕ) → IsRecordOf s.records q x → has_node (touched_of s.stores m x) q ≡ false → history_of new.stores m q ≡ []
   touched_dropped m x q of off = go ((n == m) && has_node dropped q) refl
     where
       go : (b : Bool) → ((n == m) && has_node dropped q) ≡ b → history_of new.stores m q ≡ []
@@ -342,7 +342,7 @@ module _ (s new : Judge) (taken : Stores) (i n p : ℕ) (k : ClusterKey) (knows 
       go (inl below) = later below (cases_lt i a)
       go (inr under) = (ends q e).before a (omega (arith, le, under)) ∙ (knows.stores.copies.changes n p q a b (knows.stores.copies.held_only n p q e) le (unchanged_was n p q a b h) ∙ sym ((ends q e).before b under))
 
-  changes_dropped : (m x q a b : ℕ) → IsOf s.records q x → a ≤ b → IsUnchanged (changes_of new.stores m x) q a b → value_after (history_of new.stores m q) a ≡ value_after (history_of new.stores m q) b
+  changes_dropped : (m x q a b : ℕ) → IsRecordOf s.records q x → a ≤ b → IsUnchanged (changes_of new.stores m x) q a b → value_after (history_of new.stores m q) a ≡ value_after (history_of new.stores m q) b
   changes_dropped m x q a b of le h = go ((n == m) && has_node dropped q) refl
     where
       go : (t : Bool) → ((n == m) && has_node dropped q) ≡ t → value_after (history_of new.stores m q) a ≡ value_after (history_of new.stores m q) b
@@ -353,15 +353,15 @@ module _ (s new : Judge) (taken : Stores) (i n p : ℕ) (k : ClusterKey) (knows 
           subst (λ (z : ℕ). value_after (history_of new.stores z q) a ≡ value_after (history_of new.stores z q) b) node
           (changes_ended q a b (and_right (n == m) _ e) le (subst (λ (z : ℕ). IsUnchanged (changes_of new.stores n z) q a b) (sym part) (subst (λ (z : ℕ). IsUnchanged (changes_of new.stores z x) q a b) (sym node) h)))
 
-  changes_only : (m x : ℕ) (y : RecordChange) → Contains (changes_of new.stores m x) y → IsOf s.records y.number x
+  changes_only : (m x : ℕ) (y : RecordChange) → Contains (changes_of new.stores m x) y → IsRecordOf s.records y.number x
   changes_only m x y h = go (pair_eq (n, p) (m, x)) refl (subst (λ (ys : List RecordChange). Contains ys y) (changed m x) h)
     where
-      pick : Contains (changes_of s.stores n p) y ⊎ Contains (changes_at i dropped) y → IsOf s.records y.number p
+      pick : Contains (changes_of s.stores n p) y ⊎ Contains (changes_at i dropped) y → IsRecordOf s.records y.number p
       pick (inl t) = knows.stores.copies.changes_only n p y t
       pick (inr t) = knows.stores.copies.held_only n p y.number (only_at i dropped y t)
 
-      go : (b : Bool) → pair_eq (n, p) (m, x) ≡ b → Contains (cond b (changes_of s.stores n p ++ changes_at i dropped) (changes_of s.stores m x)) y → IsOf s.records y.number x
-      go true e t = subst (IsOf s.records y.number) (pair_right n p m x e) (pick (Contains-append_cases (changes_of s.stores n p) (changes_at i dropped) y t))
+      go : (b : Bool) → pair_eq (n, p) (m, x) ≡ b → Contains (cond b (changes_of s.stores n p ++ changes_at i dropped) (changes_of s.stores m x)) y → IsRecordOf s.records y.number x
+      go true e t = subst (IsRecordOf s.records y.number) (pair_right n p m x e) (pick (Contains-append_cases (changes_of s.stores n p) (changes_at i dropped) y t))
       go false e t = knows.stores.copies.changes_only m x y t
 
   copies_dropped : SeesCopies new.stores new.records all (suc i)
@@ -402,11 +402,11 @@ module _ (s new : Judge) (taken : Stores) (i n p : ℕ) (k : ClusterKey) (knows 
         ∙ (ap (read_of (λ e. applied (policy_of (take (suc i) all)) e (take i all))) (sym (digest_eq q))
         ∙ same_reads (λ e. applied (policy_of (take (suc i) all)) e (take i all)) (λ e. applied (policy_of (take (suc i) all)) e (take (suc i) all))
         (λ e. sym (ap (applied (policy_of (take (suc i) all)) e) next_front ∙ applied-more (policy_of (take (suc i) all)) e (take i all) (line.Drop n k p))) (record_digest new.records q))));
-    holders = subst (AreCounted new) (sym (ap nodes next_front ∙ nodes_stay (take i all) (line.Drop n k p) refl)) counts;
+    holders = subst (AreHoldersCounted new) (sym (ap nodes next_front ∙ nodes_stay (take i all) (line.Drop n k p) refl)) counts;
   }
 
-  same_view : (l : ClusterKey) → view_of new l ≡ view_of s l
-  same_view l = ap (λ (y : Judge). view_of y l) removes.keeps.rest
+  same_view : (l : ClusterKey) → kept_view new l ≡ kept_view s l
+  same_view l = ap (λ (y : Judge). kept_view y l) removes.keeps.rest
 
   written_dropped : SeesWritten new all (take (suc i) all)
   written_dropped = record {
@@ -416,7 +416,7 @@ module _ (s new : Judge) (taken : Stores) (i n p : ℕ) (k : ClusterKey) (knows 
         ∙ same_reads (λ e. applied_in (policy_of (take (suc i) all)) l e (take i all)) (λ e. applied_in (policy_of (take (suc i) all)) l e (take (suc i) all))
         (λ e. sym (ap (applied_in (policy_of (take (suc i) all)) l e) next_front ∙ applied_in-more (policy_of (take (suc i) all)) l e (take i all) (line.Drop n k p))) (record_digest new.records q)));
     written = λ l x q there. knows.stores.written.written l x q (sym (same_view l) ∙ there);
-    listed = λ l x q there some. let w : (z : ℕ) × IsOf s.records q z × (has_node (written_of x z) q ≡ true) = knows.stores.written.listed l x q (sym (same_view l) ∙ there) some in
+    listed = λ l x q there some. let w : (z : ℕ) × IsRecordOf s.records q z × (has_node (written_of x z) q ≡ true) = knows.stores.written.listed l x q (sym (same_view l) ∙ there) some in
         (w.0, of_new q w.0 w.1, w.2);
     listed_only = λ l x z q there some. of_new q z (knows.stores.written.listed_only l x z q (sym (same_view l) ∙ there) some);
   }

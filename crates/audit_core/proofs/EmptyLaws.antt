@@ -1,6 +1,6 @@
 -- Records of partitions that were empty everywhere are tried in a view, one by one.
 use Rattle.std.proofs.Common.{◌≡◌, ℕ, zero, suc, ◌+◌, ◌<◌, ◌≤◌, Bool, true, false, cond, ◌&&◌, ◌||◌, List, [], ◌∷◌, ◌++◌, length, get_or, Option, Some, None, option_map, ◌↔◌, ◌⊎◌, inl, inr, refl, sym, ap, ap₂, subst, ◌∙◌, append-nil, append_assoc, arith}
-use Rattle.std.specs.Prelude.{take, slice_get, option_to_list, IsTrue}
+use Rattle.std.specs.Prelude.{take, slice_get, option_to_list, IsTrue, bytes_eq}
 use Rattle.std.specs.List.{list_any, flat_map}
 use Rattle.std.proofs.lemmas.Grind.{flat_map-append}
 use Rattle.std.proofs.lemmas.List.{take_more}
@@ -9,7 +9,7 @@ use Rattle.cluster_types.specs.ClusterKeys.{is_view_key}
 use Rattle.cluster_types.specs.declared.cluster_key.ClusterKey.{ClusterKey}
 use Rattle.cluster_types.specs.declared.member.Member.{Member}
 use Rattle.cluster_types.specs.Partitions.{partition_of}
-use Rattle.journal_readings.specs.Lines.{same_key, same_digest}
+use Rattle.journal_readings.specs.Lines.{same_key}
 use Rattle.journal_readings.proofs.AlongLaws.{no_some, some_same}
 use Rattle.journal_readings.proofs.CopyLaws.{same_digest_is}
 use Rattle.journal_readings.proofs.Fronts.{same_key_is}
@@ -22,11 +22,11 @@ use Rattle.audit_state.specs.declared.records.Records.{Records}
 use Rattle.audit_state.specs.declared.views.View.{View}
 use Rattle.audit_state.specs.Records.{record_digest}
 use Rattle.audit_core.specs.Audits.{so_far}
-use Rattle.audit_core.specs.Emptied.{written_list, stay_list, stay_in, members_in, is_empty_for, with_empty, TriesEmpty, StopsEmpty}
+use Rattle.audit_core.specs.Emptied.{written_list, stay_list, stay_in, members_in, is_empty_for, tried_with_empty, TriesEmpty, StopsEmpty}
 use Rattle.audit_core.specs.Frames.{Both}
-use Rattle.audit_core.specs.Known.{node_at, view_at, view_of}
+use Rattle.audit_core.specs.Known.{node_at, view_at, kept_view}
 use Rattle.audit_core.specs.Settling.{is_master_in}
-use Rattle.audit_core.specs.Trying.{KeepsKnown, SameButStands, StopsParted, StopsTrying, StopsRecord, TriesRecord, is_digest, with_record, written_item, changed_item}
+use Rattle.audit_core.specs.Trying.{KeepsKnown, SameButStands, StopsParted, StopsTrying, StopsRecord, TriesRecord, is_digest, tried_with_record, written_item, changed_item}
 use Rattle.audit_core.specs.Wholes.{empty_in}
 use Rattle.audit_core.proofs.BeginLaws.{take_item, take_whole}
 use Rattle.audit_core.proofs.TryLaws.{keeps_itself, keeps_then, lines_kept, front_kept, widened}
@@ -41,9 +41,9 @@ view_same {A} f h (Some a) None x = absurd x
 
 empty_same : (old now : Judge) (k : ClusterKey) (m p : ℕ) → KeepsKnown old now → is_empty_for now k m p ≡ is_empty_for old k m p
 empty_same old now k m p keeps = ap₂ (λ (a b : Bool). a && b)
-    (view_same (λ o. is_master_in o m p) (λ a b h. ap (λ (x : View). is_master_in (Some x) m p) h.rest) (view_of old k) (view_of now k) (keeps.views k))
-    (ap (λ (s : Judge). empty_in s p (view_of now k)) keeps.rest
-    ∙ view_same (λ o. empty_in old p o) (λ a b h. ap (λ (x : View). empty_in old p (Some x)) h.rest) (view_of old k) (view_of now k) (keeps.views k))
+    (view_same (λ o. is_master_in o m p) (λ a b h. ap (λ (x : View). is_master_in (Some x) m p) h.rest) (kept_view old k) (kept_view now k) (keeps.views k))
+    (ap (λ (s : Judge). empty_in s p (kept_view now k)) keeps.rest
+    ∙ view_same (λ o. empty_in old p o) (λ a b h. ap (λ (x : View). empty_in old p (Some x)) h.rest) (kept_view old k) (kept_view now k) (keeps.views k))
 
 digest_same : (old now : Judge) (r : ℕ) → KeepsKnown old now → record_digest now.records r ≡ record_digest old.records r
 digest_same old now r keeps = ap (λ (s : Judge). record_digest s.records r) keeps.rest
@@ -67,7 +67,7 @@ none_part false false c e = e
 
 pub tries_none : (m : ℕ) (k : ClusterKey) (s : Judge) → TriesEmpty m k [] s s
 unfolding TriesEmpty
-tries_none m k s i tried h t = widened s i tried (with_empty tried s m k []) (λ l d w. inl (none_part (tried l d) (same_key k l) (is_empty_for s k m (partition_of d)) w)) t
+tries_none m k s i tried h t = widened s i tried (tried_with_empty tried s m k []) (λ l d w. inl (none_part (tried l d) (same_key k l) (is_empty_for s k m (partition_of d)) w)) t
 
 pub emptying_none : (m : ℕ) (k : ClusterKey) (s : Judge) (ns : List ℕ) → ns ≡ [] → Emptying m k ns s s
 emptying_none m k s ns e = subst (λ (xs : List ℕ). Emptying m k xs s s) (sym e) (record { tries = tries_none m k s; keeps = keeps_itself s })
@@ -82,15 +82,15 @@ more_part false false e a b h = h
 pub emptying_more : (m : ℕ) (k : ClusterKey) (ns more : List ℕ) (old now next : Judge) → Emptying m k ns old now → TriesEmpty m k more now next → KeepsKnown now next → Emptying m k (ns ++ more) old next
 unfolding TriesEmpty
 emptying_more m k ns more old now next g tries keeps = record {
-  tries = λ i tried h t. widened next i (with_empty (with_empty tried old m k ns) now m k more) (with_empty tried old m k (ns ++ more))
+  tries = λ i tried h t. widened next i (tried_with_empty (tried_with_empty tried old m k ns) now m k more) (tried_with_empty tried old m k (ns ++ more))
       (λ l d w. inl (part tried l d w))
-      (tries i (with_empty tried old m k ns) (lines_kept old now i g.keeps h) (g.tries i tried h t));
+      (tries i (tried_with_empty tried old m k ns) (lines_kept old now i g.keeps h) (g.tries i tried h t));
   keeps = keeps_then old now next g.keeps keeps;
 }
   where
-    part : (tried : ClusterKey → List ℕ → Bool) (l : ClusterKey) (d : List ℕ) → with_empty tried old m k (ns ++ more) l d ≡ true → with_empty (with_empty tried old m k ns) now m k more l d ≡ true
+    part : (tried : ClusterKey → List ℕ → Bool) (l : ClusterKey) (d : List ℕ) → tried_with_empty tried old m k (ns ++ more) l d ≡ true → tried_with_empty (tried_with_empty tried old m k ns) now m k more l d ≡ true
     part tried l d w =
-        ap₂ (λ (a b : Bool). with_empty tried old m k ns l d || (same_key k l && (a && b))) (empty_same old now k m (partition_of d) g.keeps)
+        ap₂ (λ (a b : Bool). tried_with_empty tried old m k ns l d || (same_key k l && (a && b))) (empty_same old now k m (partition_of d) g.keeps)
         (any_same (λ r. is_digest (record_digest now.records r) d) (λ r. is_digest (record_digest old.records r) d) (λ r. ap (λ (o : Option (List ℕ)). is_digest o d) (digest_same old now r g.keeps)) more)
         ∙ more_part (tried l d) (same_key k l) (is_empty_for old k m (partition_of d)) (list_any (λ r. is_digest (record_digest old.records r) d) ns) (list_any (λ r. is_digest (record_digest old.records r) d) more)
         (subst (λ (b : Bool). (tried l d || (same_key k l && (is_empty_for old k m (partition_of d) && b))) ≡ true) (list_any-append (λ r. is_digest (record_digest old.records r) d) ns more) w)
@@ -109,7 +109,7 @@ one_part false true true false h = inl h
 one_part false true false b h = inl h
 one_part false false e b h = inl h
 
-one_cases : (s : Judge) (m : ℕ) (k : ClusterKey) (r : ℕ) (tried : ClusterKey → List ℕ → Bool) (l : ClusterKey) (d : List ℕ) → with_empty tried s m k (r ∷ []) l d ≡ true
+one_cases : (s : Judge) (m : ℕ) (k : ClusterKey) (r : ℕ) (tried : ClusterKey → List ℕ → Bool) (l : ClusterKey) (d : List ℕ) → tried_with_empty tried s m k (r ∷ []) l d ≡ true
     → (tried l d ≡ true) ⊎ ((same_key k l ≡ true) × (is_empty_for s k m (partition_of d) ≡ true) × (record_digest s.records r ≡ Some d))
 one_cases s m k r tried l d w = go (one_part (tried l d) (same_key k l) (is_empty_for s k m (partition_of d)) (is_digest (record_digest s.records r) d) w)
   where
@@ -121,7 +121,7 @@ one_cases s m k r tried l d w = go (one_part (tried l d) (same_key k l) (is_empt
 -- there is none of the number
 pub tries_absent : (m : ℕ) (k : ClusterKey) (r : ℕ) (s : Judge) (o : Option ℕ) → o ≡ option_map partition_of (record_digest s.records r) → o ≡ None → TriesEmpty m k (r ∷ []) s s
 unfolding TriesEmpty
-tries_absent m k r s o read none i tried h t = widened s i tried (with_empty tried s m k (r ∷ [])) (λ l d w. inl (go l d (one_cases s m k r tried l d w))) t
+tries_absent m k r s o read none i tried h t = widened s i tried (tried_with_empty tried s m k (r ∷ [])) (λ l d w. inl (go l d (one_cases s m k r tried l d w))) t
   where
     go : (l : ClusterKey) (d : List ℕ) → (tried l d ≡ true) ⊎ ((same_key k l ≡ true) × (is_empty_for s k m (partition_of d) ≡ true) × (record_digest s.records r ≡ Some d)) → tried l d ≡ true
     go l d (inl q) = q
@@ -130,7 +130,7 @@ tries_absent m k r s o read none i tried h t = widened s i tried (with_empty tri
 -- its partition wasn't empty everywhere
 pub tries_other : (m : ℕ) (k : ClusterKey) (r p : ℕ) (s : Judge) (o : Option ℕ) (b : Bool) → o ≡ option_map partition_of (record_digest s.records r) → o ≡ Some p → b ≡ is_empty_for s k m p → b ≡ false → TriesEmpty m k (r ∷ []) s s
 unfolding TriesEmpty
-tries_other m k r p s o b read is said off i tried h t = widened s i tried (with_empty tried s m k (r ∷ [])) (λ l d w. inl (go l d (one_cases s m k r tried l d w))) t
+tries_other m k r p s o b read is said off i tried h t = widened s i tried (tried_with_empty tried s m k (r ∷ [])) (λ l d w. inl (go l d (one_cases s m k r tried l d w))) t
   where
     go : (l : ClusterKey) (d : List ℕ) → (tried l d ≡ true) ⊎ ((same_key k l ≡ true) × (is_empty_for s k m (partition_of d) ≡ true) × (record_digest s.records r ≡ Some d)) → tried l d ≡ true
     go l d (inl q) = q
@@ -150,7 +150,7 @@ pub tries_touched : (m : ℕ) (k : ClusterKey) (r p : ℕ) (old new : Judge) (o 
 unfolding TriesEmpty TriesRecord
 tries_touched m k r p old new o read is tries i tried h t =
     let d : (d : List ℕ) × (record_digest old.records r ≡ Some d) × (partition_of d ≡ p) = named_of old.records r p o read is in
-    widened new i (with_record tried k d.0) (with_empty tried old m k (r ∷ [])) (λ l e w. inl (go l e d.0 d.1 (one_cases old m k r tried l e w))) (tries i d.0 tried h (record { named = d.1; part = d.2 }) t)
+    widened new i (tried_with_record tried k d.0) (tried_with_empty tried old m k (r ∷ [])) (λ l e w. inl (go l e d.0 d.1 (one_cases old m k r tried l e w))) (tries i d.0 tried h (record { named = d.1; part = d.2 }) t)
   where
     left : (a b : Bool) → a ≡ true → (a || b) ≡ true
     left true b h = refl
@@ -161,10 +161,10 @@ tries_touched m k r p old new o read is tries i tried h t =
     right false true c x y = y
     right false false c x y = x
 
-    go : (l : ClusterKey) (e d : List ℕ) → record_digest old.records r ≡ Some d → (tried l e ≡ true) ⊎ ((same_key k l ≡ true) × (is_empty_for old k m (partition_of e) ≡ true) × (record_digest old.records r ≡ Some e)) → with_record tried k d l e ≡ true
-    go l e d named (inl q) = left (tried l e) (same_key k l && same_digest d e) q
-    go l e d named (inr q) = right (tried l e) (same_key k l) (same_digest d e) q.0
-        (subst (λ (x : List ℕ). same_digest x e ≡ true) (some_same (sym q.2 ∙ named)) (Rattle.journal_readings.proofs.CopyLaws.same_digest_itself e))
+    go : (l : ClusterKey) (e d : List ℕ) → record_digest old.records r ≡ Some d → (tried l e ≡ true) ⊎ ((same_key k l ≡ true) × (is_empty_for old k m (partition_of e) ≡ true) × (record_digest old.records r ≡ Some e)) → tried_with_record tried k d l e ≡ true
+    go l e d named (inl q) = left (tried l e) (same_key k l && bytes_eq d e) q
+    go l e d named (inr q) = right (tried l e) (same_key k l) (bytes_eq d e) q.0
+        (subst (λ (x : List ℕ). bytes_eq x e ≡ true) (some_same (sym q.2 ∙ named)) (Rattle.journal_readings.proofs.CopyLaws.same_digest_itself e))
 
 pub stops_touched : (s : Judge) (r p : ℕ) (x : Stop) (o : Option ℕ) → o ≡ option_map partition_of (record_digest s.records r) → o ≡ Some p → StopsRecord s r p x → StopsEmpty s x
 unfolding StopsRecord StopsEmpty StopsTrying
@@ -177,7 +177,7 @@ stops_touched s r p x o read is stops i tried h t =
 pub emptying_stops : (m : ℕ) (k : ClusterKey) (ns : List ℕ) (old now : Judge) (x y : Stop) → y ≡ x → Emptying m k ns old now → StopsEmpty now x → StopsEmpty old y
 unfolding TriesEmpty StopsEmpty StopsTrying
 emptying_stops m k ns old now x y same g stops i tried h t =
-    subst (λ (z : Stop). StopsParted z (so_far old i)) (sym same) (subst (StopsParted x) (front_kept old now i g.keeps) (stops i (with_empty tried old m k ns) (lines_kept old now i g.keeps h) (g.tries i tried h t)))
+    subst (λ (z : Stop). StopsParted z (so_far old i)) (sym same) (subst (StopsParted x) (front_kept old now i g.keeps) (stops i (tried_with_empty tried old m k ns) (lines_kept old now i g.keeps h) (g.tries i tried h t)))
 
 -- ---- item by item
 
@@ -195,8 +195,8 @@ pub emptying_all : (m : ℕ) (k : ClusterKey) (ns : List ℕ) (a c : ℕ) (old n
 emptying_all m k ns a c old now count done g = subst (λ (xs : List ℕ). Emptying m k xs old now) (take_whole ns a (omega (arith, count, done))) g
 
 -- the lists stay
-pub written_same : (old now : Judge) (k : ClusterKey) → KeepsKnown old now → written_list (view_of now k) ≡ written_list (view_of old k)
-written_same old now k keeps = view_same (λ o. written_list o) (λ a b h. ap (λ (x : View). x.written.items) h.rest) (view_of old k) (view_of now k) (keeps.views k)
+pub written_same : (old now : Judge) (k : ClusterKey) → KeepsKnown old now → written_list (kept_view now k) ≡ written_list (kept_view old k)
+written_same old now k keeps = view_same (λ o. written_list o) (λ a b h. ap (λ (x : View). x.written.items) h.rest) (kept_view old k) (kept_view now k) (keeps.views k)
 
 written_got : (o : Option View) (a : ℕ) → written_item o a ≡ slice_get (written_list o) a
 written_got None a = refl
@@ -206,8 +206,8 @@ changed_got : (o : Option Node) (a : ℕ) → changed_item o a ≡ slice_get (st
 changed_got None a = refl
 changed_got (Some x) a = refl
 
-pub written_read : (old now : Judge) (k : ClusterKey) (a : ℕ) (r : Option ℕ) → KeepsKnown old now → r ≡ written_item (view_of now k) a → r ≡ slice_get (written_list (view_of old k)) a
-written_read old now k a r keeps read = read ∙ (written_got (view_of now k) a ∙ ap (λ (xs : List ℕ). slice_get xs a) (written_same old now k keeps))
+pub written_read : (old now : Judge) (k : ClusterKey) (a : ℕ) (r : Option ℕ) → KeepsKnown old now → r ≡ written_item (kept_view now k) a → r ≡ slice_get (written_list (kept_view old k)) a
+written_read old now k a r keeps read = read ∙ (written_got (kept_view now k) a ∙ ap (λ (xs : List ℕ). slice_get xs a) (written_same old now k keeps))
 
 pub stay_same : (old now : Judge) (n : ℕ) → KeepsKnown old now → stay_list (node_at now n) ≡ stay_list (node_at old n)
 stay_same old now n keeps = ap (λ (s : Judge). stay_list (node_at s n)) keeps.rest
@@ -248,9 +248,9 @@ member_next m k ws ms a x old now next within read g tries keeps =
     (emptying_more m k (ws ++ flat_map (λ y. stay_in old k y.id) (take a ms)) (stay_in old k x.id) old now next g (subst (λ (xs : List ℕ). TriesEmpty m k xs now next) (stay_in_same old now k x.id g.keeps) tries) keeps)
 
 -- the members of a view that isn't known are none
-pub no_members : (m : ℕ) (k : ClusterKey) (old now : Judge) (r : Option (List Member)) → r ≡ option_map (λ (x : View). x.members) (view_of now k) → r ≡ None → Emptying m k (written_list (view_of old k)) old now
-    → Emptying m k (written_list (view_of old k) ++ flat_map (λ y. stay_in old k y.id) (members_in (view_of old k))) old now
-no_members m k old now r read none g = subst (λ (xs : List ℕ). Emptying m k xs old now) (go (view_of old k) (view_of now k) (g.keeps.views k) (sym read ∙ none)) g
+pub no_members : (m : ℕ) (k : ClusterKey) (old now : Judge) (r : Option (List Member)) → r ≡ option_map (λ (x : View). x.members) (kept_view now k) → r ≡ None → Emptying m k (written_list (kept_view old k)) old now
+    → Emptying m k (written_list (kept_view old k) ++ flat_map (λ y. stay_in old k y.id) (members_in (kept_view old k))) old now
+no_members m k old now r read none g = subst (λ (xs : List ℕ). Emptying m k xs old now) (go (kept_view old k) (kept_view now k) (g.keeps.views k) (sym read ∙ none)) g
   where
     go : (o q : Option View) → Both SameButStands o q → option_map (λ (x : View). x.members) q ≡ None → written_list o ≡ written_list o ++ flat_map (λ (y : Member). stay_in old k y.id) (members_in o)
     go None q h e = refl
@@ -258,8 +258,8 @@ no_members m k old now r read none g = subst (λ (xs : List ℕ). Emptying m k x
     go (Some a) None h e = absurd h
 
 -- the members that are read are the view's
-pub members_read : (old now : Judge) (k : ClusterKey) (ms : List Member) (r : Option (List Member)) → KeepsKnown old now → r ≡ option_map (λ (x : View). x.members) (view_of now k) → r ≡ Some ms → ms ≡ members_in (view_of old k)
-members_read old now k ms r keeps read is = go (view_of old k) (view_of now k) (keeps.views k) (sym is ∙ read)
+pub members_read : (old now : Judge) (k : ClusterKey) (ms : List Member) (r : Option (List Member)) → KeepsKnown old now → r ≡ option_map (λ (x : View). x.members) (kept_view now k) → r ≡ Some ms → ms ≡ members_in (kept_view old k)
+members_read old now k ms r keeps read is = go (kept_view old k) (kept_view now k) (keeps.views k) (sym is ∙ read)
   where
     go : (o q : Option View) → Both SameButStands o q → Some ms ≡ option_map (λ (x : View). x.members) q → ms ≡ members_in o
     go None None h e = absurd (no_some (sym e))
@@ -271,11 +271,11 @@ pub members_first : (m : ℕ) (k : ClusterKey) (ws : List ℕ) (ns : List ℕ) (
 members_first m k ws ns old now e g = subst (λ (xs : List ℕ). Emptying m k xs old now) (sym (ap (λ (ys : List ℕ). ws ++ ys) e ∙ append-nil ws)) g
 
 -- each member was tried
-pub members_done : (m : ℕ) (k : ClusterKey) (ms items : List Member) (a : ℕ) (old between now : Judge) (r : Option (List Member)) → KeepsKnown old between → r ≡ option_map (λ (x : View). x.members) (view_of between k) → r ≡ Some ms → items ≡ ms
-    → length items ≤ a → Emptying m k (written_list (view_of old k) ++ flat_map (λ y. stay_in old k y.id) (take a items)) old now
-    → Emptying m k (written_list (view_of old k) ++ flat_map (λ y. stay_in old k y.id) (members_in (view_of old k))) old now
+pub members_done : (m : ℕ) (k : ClusterKey) (ms items : List Member) (a : ℕ) (old between now : Judge) (r : Option (List Member)) → KeepsKnown old between → r ≡ option_map (λ (x : View). x.members) (kept_view between k) → r ≡ Some ms → items ≡ ms
+    → length items ≤ a → Emptying m k (written_list (kept_view old k) ++ flat_map (λ y. stay_in old k y.id) (take a items)) old now
+    → Emptying m k (written_list (kept_view old k) ++ flat_map (λ y. stay_in old k y.id) (members_in (kept_view old k))) old now
 members_done m k ms items a old between now r keeps read is items_are done g =
-    subst (λ (ys : List Member). Emptying m k (written_list (view_of old k) ++ flat_map (λ (y : Member). stay_in old k y.id) ys) old now) (whole items a done ∙ (items_are ∙ members_read old between k ms r keeps read is)) g
+    subst (λ (ys : List Member). Emptying m k (written_list (kept_view old k) ++ flat_map (λ (y : Member). stay_in old k y.id) ys) old now) (whole items a done ∙ (items_are ∙ members_read old between k ms r keeps read is)) g
   where
     whole : (xs : List Member) (b : ℕ) → length xs ≤ b → take b xs ≡ xs
     whole [] zero e = refl

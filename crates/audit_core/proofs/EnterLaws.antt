@@ -40,14 +40,14 @@ use Rattle.audit_state.specs.Views.{IsFreshView}
 use Rattle.audit_state.specs.Written.{Stand, stand_in, stand_of}
 use Rattle.audit_core.specs.declared.judge.Judge.{Judge}
 use Rattle.audit_core.specs.declared.verdict.Stop.{Stop}
-use Rattle.audit_core.specs.Audits.{Comes, Takes, so_far}
+use Rattle.audit_core.specs.Audits.{Comes, AcceptsLine, so_far}
 use Rattle.audit_core.specs.Frames.{Both}
-use Rattle.audit_core.specs.Known.{node_at, view_of}
+use Rattle.audit_core.specs.Known.{node_at, kept_view}
 use Rattle.audit_core.specs.NextFrames.{NextFrame}
 use Rattle.audit_core.specs.Sees.{SeesFrame, SeesStand, SeesWrites, SeesStays, IsBound, AllJoin, IsTried, HasNoDoubts, is_open_in}
 use Rattle.audit_core.specs.Steps.{ChangesNode, BeginsStay, OpensView, ChangesView, HasEntry, IsKnownOrFresh, EntersView}
 use Rattle.audit_core.specs.Stored.{SeesStores}
-use Rattle.audit_core.specs.Trying.{IsTriedOf, IsTrying, KeepsKnown, TriesPartitions, StopsTrying, settled_list, with_partitions}
+use Rattle.audit_core.specs.Trying.{IsTriedOf, IsTrying, KeepsKnown, TriesPartitions, StopsTrying, settled_list, tried_with_partitions}
 use Rattle.audit_core.specs.Verdicts.{StopsRightly}
 use Rattle.audit_core.proofs.EnteredLaws.{IsUnentered, unentered_view, enters_first, unfinished, settler_entered, unless}
 use Rattle.audit_core.proofs.OpenWriteLaws.{opened_same}
@@ -67,8 +67,8 @@ both_some R (Some c) (Some b) a x e = (b, refl, subst (λ (z : _). R z b) (some_
 pub enters_view : (place n : ℕ) (k : ClusterKey) (ms : List Member) (old opened noted new : Judge) → OpensView k ms old opened → ChangesView (HasEntry n place) k opened noted
     → ChangesNode (BeginsStay (some_key k)) n noted new → EntersView n place k ms old new
 enters_view place n k ms old opened noted new a b c =
-    let was : (x : View) × (view_of opened k ≡ Some x) × IsKnownOrFresh k ms (view_of old k) x = opens (view_of old k) refl (view_of opened k) refl in
-    let y : (y : View) × (view_of noted k ≡ Some y) × HasEntry n place was.0 y = both_some (HasEntry n place) (view_of opened k) (view_of noted k) was.0 b.here was.1 in
+    let was : (x : View) × (kept_view opened k ≡ Some x) × IsKnownOrFresh k ms (kept_view old k) x = opens (kept_view old k) refl (kept_view opened k) refl in
+    let y : (y : View) × (kept_view noted k ≡ Some y) × HasEntry n place was.0 y = both_some (HasEntry n place) (kept_view opened k) (kept_view noted k) was.0 b.here was.1 in
     record {
       rest = ap (λ (s : Judge). record s { nodes = old.nodes; views = old.views }) c.rest
           ∙ (ap (λ (s : Judge). record s { nodes = old.nodes; views = old.views }) b.rest ∙ ap (λ (s : Judge). record s { nodes = old.nodes }) a.rest);
@@ -77,15 +77,15 @@ enters_view place n k ms old opened noted new a b c =
       was = was.0;
       before = was.2;
       now = y.0;
-      there = ap (λ (s : Judge). view_of s k) c.rest ∙ y.1;
+      there = ap (λ (s : Judge). kept_view s k) c.rest ∙ y.1;
       entry = y.2;
-      other_views = λ l e. ap (λ (s : Judge). view_of s l) c.rest ∙ (b.others l e ∙ a.others l e);
+      other_views = λ l e. ap (λ (s : Judge). kept_view s l) c.rest ∙ (b.others l e ∙ a.others l e);
     }
   where
     same_nodes : (m : ℕ) → node_at noted m ≡ node_at old m
     same_nodes m = ap (λ (s : Judge). node_at s m) b.rest ∙ ap (λ (s : Judge). node_at s m) a.rest
 
-    opens : (o : Option View) → view_of old k ≡ o → (q : Option View) → view_of opened k ≡ q → (x : View) × (view_of opened k ≡ Some x) × IsKnownOrFresh k ms o x
+    opens : (o : Option View) → kept_view old k ≡ o → (q : Option View) → kept_view opened k ≡ q → (x : View) × (kept_view opened k ≡ Some x) × IsKnownOrFresh k ms o x
     opens (Some z) e q f = (z, a.known z e, refl)
     opens None e (Some z) f = (z, f, a.fresh z e f)
     opens None e None f = differ a.there (ap (λ (o : Option View). is_some o) f)
@@ -139,20 +139,20 @@ module _ (old noted : Judge) (i n : ℕ) (k : ClusterKey) (ms : List Member) (c 
   front : so_far noted (i + 1) ≡ behind old i n k ms
   front = ap (take (i + 1)) lines_same ∙ taken_next old.lines.now i (line.Enter n k ms) c.stands
 
-  entered_if : (z : View) → view_of old k ≡ Some z → list_any (enters_key k) (so_far old i) ≡ true
+  entered_if : (z : View) → kept_view old k ≡ Some z → list_any (enters_key k) (so_far old i) ≡ true
   entered_if z e = sym (c.audits.state.frame.known_views k) ∙ ap (λ (o : Option View). is_some o) e
 
-  unentered_if : view_of old k ≡ None → IsUnentered (so_far old i) k
+  unentered_if : kept_view old k ≡ None → IsUnentered (so_far old i) k
   unentered_if e = unentered_view (so_far old i) k c.audits.lawful.shape (sym (c.audits.state.frame.known_views k) ∙ ap (λ (o : Option View). is_some o) e)
 
-  master_kept : (z : View) → view_of old k ≡ Some z → (q : ℕ) → master k q (behind old i n k ms) ≡ master k q (so_far old i)
+  master_kept : (z : View) → kept_view old k ≡ Some z → (q : ℕ) → master k q (behind old i n k ms) ≡ master k q (so_far old i)
   master_kept z e q = ap (λ (xs : List Member). first_of (lists.list xs q)) (members-front k (so_far old i) (line.Enter n k ms ∷ []) (entered_if z e))
 
   -- another node's view is what it was
   view_kept : (m : ℕ) → (n == m) ≡ false → view m (behind old i n k ms) ≡ view m (so_far old i)
   view_kept m e = view-more m (so_far old i) (line.Enter n k ms) ∙ ap (λ (b : Bool). cond b (some_key k) (view m (so_far old i))) e
 
-  now_is : (y : View) → view_of noted k ≡ Some y → x.now ≡ y
+  now_is : (y : View) → kept_view noted k ≡ Some y → x.now ≡ y
   now_is y e = some_same (sym x.there ∙ e)
 
   -- ---- the view's partitions
@@ -176,7 +176,7 @@ module _ (old noted : Judge) (i n : ℕ) (k : ClusterKey) (ms : List Member) (c 
       plain true = refl
       plain false = refl
 
-  stand_known : (z : View) → view_of old k ≡ Some z → (q : ℕ) → EnteredStand (so_far old i) (behind old i n k ms) k q (stand_of z q)
+  stand_known : (z : View) → kept_view old k ≡ Some z → (q : ℕ) → EnteredStand (so_far old i) (behind old i n k ms) k q (stand_of z q)
   stand_known z e q = record {
     settled = (c.audits.state.tried.stands k q z e).settled ∙ ap (λ (m : ℕ). list_any (is_settled_line k m q) (so_far old i)) (sym (master_kept z e q));
     open_writes = (c.audits.state.tried.stands k q z e).open_writes ∙ ap (λ (m : ℕ). count_by (is_open_write k q m (so_far old i)) (so_far old i)) (sym (master_kept z e q));
@@ -191,7 +191,7 @@ module _ (old noted : Judge) (i n : ℕ) (k : ClusterKey) (ms : List Member) (c 
       told : is_settled k q (so_far old i) ≡ (stand_of z q).settled
       told = settled_before q ∙ sym (c.audits.state.tried.stands k q z e).settled
 
-  stand_fresh : view_of old k ≡ None → (q : ℕ) → EnteredStand (so_far old i) (behind old i n k ms) k q (stand_in None)
+  stand_fresh : kept_view old k ≡ None → (q : ℕ) → EnteredStand (so_far old i) (behind old i n k ms) k q (stand_in None)
   stand_fresh e q = record {
     settled = sym ((unentered_if e).settled (master k q (behind old i n k ms)) q);
     open_writes = sym ((unentered_if e).opens q (master k q (behind old i n k ms)) (so_far old i));
@@ -200,27 +200,27 @@ module _ (old noted : Judge) (i n : ℕ) (k : ClusterKey) (ms : List Member) (c 
   }
 
   stand_was : (q : ℕ) → EnteredStand (so_far old i) (behind old i n k ms) k q (stand_of x.was q)
-  stand_was q = go (view_of old k) refl x.before
+  stand_was q = go (kept_view old k) refl x.before
     where
-      go : (o : Option View) → view_of old k ≡ o → IsKnownOrFresh k ms o x.was → EnteredStand (so_far old i) (behind old i n k ms) k q (stand_of x.was q)
+      go : (o : Option View) → kept_view old k ≡ o → IsKnownOrFresh k ms o x.was → EnteredStand (so_far old i) (behind old i n k ms) k q (stand_of x.was q)
       go (Some z) e same = subst (λ (y : View). EnteredStand (so_far old i) (behind old i n k ms) k q (stand_of y q)) (sym same) (stand_known z e q)
       go None e fresh = subst (λ (o : Option Partition). EnteredStand (so_far old i) (behind old i n k ms) k q (stand_in o)) (sym (fresh.partitions q)) (stand_fresh e q)
 
   stand_same : (q : ℕ) → stand_of x.now q ≡ stand_of x.was q
   stand_same q = ap (λ (m : _). stand_in (hash.get nat_eq m q)) x.entry.written.partitions
 
-  stand_here : (q : ℕ) (y : View) → view_of noted k ≡ Some y → EnteredStand (so_far old i) (behind old i n k ms) k q (stand_of y q)
+  stand_here : (q : ℕ) (y : View) → kept_view noted k ≡ Some y → EnteredStand (so_far old i) (behind old i n k ms) k q (stand_of y q)
   stand_here q y e = subst (λ (z : View). EnteredStand (so_far old i) (behind old i n k ms) k q (stand_of z q)) (now_is y e)
       (subst (EnteredStand (so_far old i) (behind old i n k ms) k q) (sym (stand_same q)) (stand_was q))
 
   listed_was : (q : ℕ) → has_node x.was.settled.items q ≡ (stand_of x.was q).settled
-  listed_was q = go (view_of old k) refl x.before
+  listed_was q = go (kept_view old k) refl x.before
     where
-      go : (o : Option View) → view_of old k ≡ o → IsKnownOrFresh k ms o x.was → has_node x.was.settled.items q ≡ (stand_of x.was q).settled
+      go : (o : Option View) → kept_view old k ≡ o → IsKnownOrFresh k ms o x.was → has_node x.was.settled.items q ≡ (stand_of x.was q).settled
       go (Some z) e same = subst (λ (y : View). has_node y.settled.items q ≡ (stand_of y q).settled) (sym same) (c.audits.state.tried.listed k q z e)
       go None e fresh = ap (λ (ps : List ℕ). has_node ps q) fresh.settled ∙ sym (ap (λ (o : Option Partition). (stand_in o).settled) (fresh.partitions q))
 
-  listed_here : (q : ℕ) (y : View) → view_of noted k ≡ Some y → has_node y.settled.items q ≡ (stand_of y q).settled
+  listed_here : (q : ℕ) (y : View) → kept_view noted k ≡ Some y → has_node y.settled.items q ≡ (stand_of y q).settled
   listed_here q y e = subst (λ (z : View). has_node z.settled.items q ≡ (stand_of z q).settled) (now_is y e)
       (ap (λ (ps : List ℕ). has_node ps q) x.entry.written.settled ∙ (listed_was q ∙ sym (ap (λ (w : Stand). w.settled) (stand_same q))))
 
@@ -269,16 +269,16 @@ module _ (old noted : Judge) (i n : ℕ) (k : ClusterKey) (ms : List Member) (c 
   -- ---- what is to be tried
 
   -- what holds of each view but this one, and of this one with its entry, holds of all
-  each : (P : ClusterKey → View → Type 0) → ((l : ClusterKey) (y : View) → same_key k l ≡ false → view_of old l ≡ Some y → P l y) → ((y : View) → view_of noted k ≡ Some y → P k y)
-      → (l : ClusterKey) (y : View) → view_of noted l ≡ Some y → P l y
+  each : (P : ClusterKey → View → Type 0) → ((l : ClusterKey) (y : View) → same_key k l ≡ false → kept_view old l ≡ Some y → P l y) → ((y : View) → kept_view noted k ≡ Some y → P k y)
+      → (l : ClusterKey) (y : View) → kept_view noted l ≡ Some y → P l y
   each P others here l y e = go (same_key k l) refl
     where
       go : (b : Bool) → same_key k l ≡ b → P l y
-      go true f = subst (λ (z : ClusterKey). P z y) (same_key_is k l f) (here y (ap (λ (z : ClusterKey). view_of noted z) (same_key_is k l f) ∙ e))
+      go true f = subst (λ (z : ClusterKey). P z y) (same_key_is k l f) (here y (ap (λ (z : ClusterKey). kept_view noted z) (same_key_is k l f) ∙ e))
       go false f = others l y f (sym (x.other_views l f) ∙ e)
 
   -- all was tried but the partitions that a line settles in the view
-  pub noted_trying : IsTrying noted (i + 1) (outside k (settled_list (view_of noted k)))
+  pub noted_trying : IsTrying noted (i + 1) (outside k (settled_list (kept_view noted k)))
   noted_trying = record {
     stands = λ l q y e. subst (λ (ls : List Line). SeesStand ls l q (stand_of y q)) (sym front)
         (each (λ l y. SeesStand (behind old i n k ms) l q (stand_of y q))
@@ -288,40 +288,40 @@ module _ (old noted : Judge) (i n : ℕ) (k : ClusterKey) (ms : List Member) (c 
     unsettled = λ l q y e none. each (λ l y. is_settled l q (behind old i n k ms) ≡ false → HasNoDoubts (stand_of y q))
         (λ l y apart there off. c.audits.state.tried.unsettled l q y there (sym (others_settled l q apart) ∙ off))
         (λ y there off. (stand_here q y there).unsettled (sym (settled_here q (stand_of y q) (stand_here q y there)) ∙ off)) l y e (sym (ap (is_settled l q) front) ∙ none);
-    tried = λ l q y e bound. subst (λ (ls : List Line). IsTriedOf (outside k (settled_list (view_of noted k)) l) noted ls l q (stand_of y q)) (sym front)
-        (each (λ l y. IsBound l q (behind old i n k ms) → IsTriedOf (outside k (settled_list (view_of noted k)) l) noted (behind old i n k ms) l q (stand_of y q))
+    tried = λ l q y e bound. subst (λ (ls : List Line). IsTriedOf (outside k (settled_list (kept_view noted k)) l) noted ls l q (stand_of y q)) (sym front)
+        (each (λ l y. IsBound l q (behind old i n k ms) → IsTriedOf (outside k (settled_list (kept_view noted k)) l) noted (behind old i n k ms) l q (stand_of y q))
         (λ l y apart there bound. others l q y apart (c.audits.state.tried.tried l q y there (others_bound l q apart bound)))
         (λ y there bound. here q y there bound) l y e (subst (IsBound l q) front bound));
     covers = covers_moved old noted (i + 1) x.rest (covers_later old i c.audits.state.covers);
   }
     where
-      others : (l : ClusterKey) (q : ℕ) (y : View) → same_key k l ≡ false → IsTried old (so_far old i) l q (stand_of y q) → IsTriedOf (outside k (settled_list (view_of noted k)) l) noted (behind old i n k ms) l q (stand_of y q)
+      others : (l : ClusterKey) (q : ℕ) (y : View) → same_key k l ≡ false → IsTried old (so_far old i) l q (stand_of y q) → IsTriedOf (outside k (settled_list (kept_view noted k)) l) noted (behind old i n k ms) l q (stand_of y q)
       others l q y apart h = record {
         closed = h.closed;
         joined = λ untried d part tried clear. others_join l d apart (h.joined untried d part (λ w. clear (suspect_moved old noted (stand_of y q) d x.rest w)));
       }
 
-      here : (q : ℕ) (y : View) → view_of noted k ≡ Some y → IsBound k q (behind old i n k ms) → IsTriedOf (outside k (settled_list (view_of noted k)) k) noted (behind old i n k ms) k q (stand_of y q)
+      here : (q : ℕ) (y : View) → kept_view noted k ≡ Some y → IsBound k q (behind old i n k ms) → IsTriedOf (outside k (settled_list (kept_view noted k)) k) noted (behind old i n k ms) k q (stand_of y q)
       here q y there bound =
           let on : (stand_of y q).settled ≡ true = sym (settled_here q (stand_of y q) (stand_here q y there)) ∙ bound.settled in
-          let listed : has_node (settled_list (view_of noted k)) q ≡ true = ap (λ (o : Option View). has_node (settled_list o) q) there ∙ (listed_here q y there ∙ on) in
+          let listed : has_node (settled_list (kept_view noted k)) q ≡ true = ap (λ (o : Option View). has_node (settled_list o) q) there ∙ (listed_here q y there ∙ on) in
           record {
             closed = λ none. (stand_here q y there).closed on bound none;
             joined = λ untried d part tried clear.
-                differ (ap (λ (p : ℕ). has_node (settled_list (view_of noted k)) p) part ∙ listed)
-                (subst (λ (b : Bool). (b && has_node (settled_list (view_of noted k)) (partition_of d)) ≡ false) (same_key_itself k) (unless _ tried));
+                differ (ap (λ (p : ℕ). has_node (settled_list (kept_view noted k)) p) part ∙ listed)
+                (subst (λ (b : Bool). (b && has_node (settled_list (kept_view noted k)) (partition_of d)) ≡ false) (same_key_itself k) (unless _ tried));
           }
 
   -- ---- writes
 
-  writes_known : (z : View) → view_of old k ≡ Some z → EnteredWrites (so_far old i) (behind old i n k ms) k z
+  writes_known : (z : View) → kept_view old k ≡ Some z → EnteredWrites (so_far old i) (behind old i n k ms) k z
   writes_known z e = record {
     done = λ a t. c.audits.state.writes.done k z a t e;
     open_writes = λ a t p first. c.audits.state.writes.open_writes k z a t p e (sym (master_kept z e p) ∙ first);
     by_master = λ a t p has. master_kept z e p ∙ c.audits.state.writes.by_master k z a t p e has;
   }
 
-  writes_fresh : (z : View) → view_of old k ≡ None → IsFreshView k ms z → EnteredWrites (so_far old i) (behind old i n k ms) k z
+  writes_fresh : (z : View) → kept_view old k ≡ None → IsFreshView k ms z → EnteredWrites (so_far old i) (behind old i n k ms) k z
   writes_fresh z e fresh = record {
     done = λ a t. ap (λ (o : Option Write). done_in o) (fresh.writes a t) ∙ sym ((unentered_if e).done a t);
     open_writes = λ a t p first. ap (λ (o : Option Write). count_by (λ (q : ℕ). q == p) (open_in o)) (fresh.writes a t) ∙ sym ((unentered_if e).opened p a t (so_far old i));
@@ -329,27 +329,27 @@ module _ (old noted : Judge) (i n : ℕ) (k : ClusterKey) (ms : List Member) (c 
   }
 
   writes_was : EnteredWrites (so_far old i) (behind old i n k ms) k x.was
-  writes_was = go (view_of old k) refl x.before
+  writes_was = go (kept_view old k) refl x.before
     where
-      go : (o : Option View) → view_of old k ≡ o → IsKnownOrFresh k ms o x.was → EnteredWrites (so_far old i) (behind old i n k ms) k x.was
+      go : (o : Option View) → kept_view old k ≡ o → IsKnownOrFresh k ms o x.was → EnteredWrites (so_far old i) (behind old i n k ms) k x.was
       go (Some z) e same = subst (EnteredWrites (so_far old i) (behind old i n k ms) k) (sym same) (writes_known z e)
       go None e fresh = writes_fresh x.was e fresh
 
-  writes_here : (y : View) → view_of noted k ≡ Some y → EnteredWrites (so_far old i) (behind old i n k ms) k y
+  writes_here : (y : View) → kept_view noted k ≡ Some y → EnteredWrites (so_far old i) (behind old i n k ms) k y
   writes_here y e = subst (EnteredWrites (so_far old i) (behind old i n k ms) k) (now_is y e) (record {
     done = λ a t. ap (λ (w : _). done_in (hash.get pair_eq w (a, t))) x.entry.written.writes ∙ writes_was.done a t;
     open_writes = λ a t p first. ap (λ (w : _). count_by (λ (q : ℕ). q == p) (open_in (hash.get pair_eq w (a, t)))) x.entry.written.writes ∙ writes_was.open_writes a t p first;
     by_master = λ a t p has. writes_was.by_master a t p (ap (λ (w : _). has_node (open_in (hash.get pair_eq w (a, t))) p) (sym x.entry.written.writes) ∙ has);
   })
 
-  writes_others : (l : ClusterKey) (y : View) → same_key k l ≡ false → view_of old l ≡ Some y → EnteredWrites (so_far old i) (behind old i n k ms) l y
+  writes_others : (l : ClusterKey) (y : View) → same_key k l ≡ false → kept_view old l ≡ Some y → EnteredWrites (so_far old i) (behind old i n k ms) l y
   writes_others l y apart e = record {
     done = λ a t. c.audits.state.writes.done l y a t e;
     open_writes = λ a t p first. c.audits.state.writes.open_writes l y a t p e (sym (master-other l p (so_far old i) (line.Enter n k ms) apart) ∙ first);
     by_master = λ a t p has. master-other l p (so_far old i) (line.Enter n k ms) apart ∙ c.audits.state.writes.by_master l y a t p e has;
   }
 
-  writes_all : (l : ClusterKey) (y : View) → view_of noted l ≡ Some y → EnteredWrites (so_far old i) (behind old i n k ms) l y
+  writes_all : (l : ClusterKey) (y : View) → kept_view noted l ≡ Some y → EnteredWrites (so_far old i) (behind old i n k ms) l y
   writes_all = each (EnteredWrites (so_far old i) (behind old i n k ms)) writes_others writes_here
 
   writes_noted : SeesWrites noted (behind old i n k ms)
@@ -408,16 +408,16 @@ module _ (old noted : Judge) (i n : ℕ) (k : ClusterKey) (ms : List Member) (c 
   -- ---- all of it
 
   written_was : SeesWrittenIn old.records old.lines.now (take (i + 1) old.lines.now) k x.was
-  written_was = go (view_of old k) refl x.before
+  written_was = go (kept_view old k) refl x.before
     where
-      none : view_of old k ≡ None → (d : List ℕ) → applied_in (policy_of (take (i + 1) old.lines.now)) k d (take (i + 1) old.lines.now) ≡ None
+      none : kept_view old k ≡ None → (d : List ℕ) → applied_in (policy_of (take (i + 1) old.lines.now)) k d (take (i + 1) old.lines.now) ≡ None
       none e d = subst (λ (ls : List Line). applied_in (policy_of ls) k d ls ≡ None) (sym (taken_next old.lines.now i (line.Enter n k ms) c.stands))
           (applied_in-more (policy_of (behind old i n k ms)) k d (so_far old i) (line.Enter n k ms) ∙ (unentered_if e).applied (policy_of (behind old i n k ms)) d)
 
       stores_behind : SeesStores old (i + 1) old.lines.now (take (i + 1) old.lines.now)
       stores_behind = stores_left old i old.lines.now (line.Enter n k ms) c.stands (enter_leaves n k ms) refl c.audits.state.stores
 
-      go : (o : Option View) → view_of old k ≡ o → IsKnownOrFresh k ms o x.was → SeesWrittenIn old.records old.lines.now (take (i + 1) old.lines.now) k x.was
+      go : (o : Option View) → kept_view old k ≡ o → IsKnownOrFresh k ms o x.was → SeesWrittenIn old.records old.lines.now (take (i + 1) old.lines.now) k x.was
       go (Some z) e same = subst (SeesWrittenIn old.records old.lines.now (take (i + 1) old.lines.now) k) (sym same)
           (written_seen old old.lines.now (take (i + 1) old.lines.now) k z stores_behind.written e)
       go None e fresh = written_fresh old.records old.lines.now (take (i + 1) old.lines.now) k ms x.was fresh (none e)
@@ -443,13 +443,13 @@ module _ (old noted : Judge) (i n : ℕ) (k : ClusterKey) (ms : List Member) (c 
     stays = subst (SeesStays noted) (sym front) stays_noted;
   }
 
-  pub enter_takes : (after : Judge) → TriesPartitions (i + 1) k (settled_list (view_of noted k)) noted after → KeepsKnown noted after → Takes old after i (line.Enter n k ms)
+  pub enter_takes : (after : Judge) → TriesPartitions (i + 1) k (settled_list (kept_view noted k)) noted after → KeepsKnown noted after → AcceptsLine old after i (line.Enter n k ms)
   unfolding TriesPartitions
   enter_takes after tries keeps =
       noted_takes old noted i (line.Enter n k ms) c entry_noted (record { map = tt; losses = tt; joins = tt }) after
-      (with_partitions (outside k (settled_list (view_of noted k))) k (settled_list (view_of noted k))) keeps
-      (tries (outside k (settled_list (view_of noted k))) entry_noted.seen noted_trying)
-      (λ l e. either (same_key k l && has_node (settled_list (view_of noted k)) (partition_of e)))
+      (tried_with_partitions (outside k (settled_list (kept_view noted k))) k (settled_list (kept_view noted k))) keeps
+      (tries (outside k (settled_list (kept_view noted k))) entry_noted.seen noted_trying)
+      (λ l e. either (same_key k l && has_node (settled_list (kept_view noted k)) (partition_of e)))
     where
       either : (b : Bool) → (not b || b) ≡ true
       either true = refl
@@ -459,9 +459,9 @@ module _ (old noted : Judge) (i n : ℕ) (k : ClusterKey) (ms : List Member) (c 
   unfolding StopsTrying
   enter_stops stop h =
       noted_stops old noted i (line.Enter n k ms) c entry_noted (record { map = tt; losses = tt; joins = tt }) stop
-      (h (outside k (settled_list (view_of noted k))) entry_noted.seen noted_trying)
+      (h (outside k (settled_list (kept_view noted k))) entry_noted.seen noted_trying)
 
 pub entered_ok : {E : Type 0} (old noted after : Judge) (i n : ℕ) (k : ClusterKey) (ms : List Member) → Comes old i (line.Enter n k ms) → EntersView n i k ms old noted → NextFrame i (line.Enter n k ms) old noted
-    → (r : Result (Unit {0}) E) → OnOk r (TriesPartitions (i + 1) k (settled_list (view_of noted k)) noted after) → OnOk r (KeepsKnown noted after) → OnOk r (Takes old after i (line.Enter n k ms))
+    → (r : Result (Unit {0}) E) → OnOk r (TriesPartitions (i + 1) k (settled_list (kept_view noted k)) noted after) → OnOk r (KeepsKnown noted after) → OnOk r (AcceptsLine old after i (line.Enter n k ms))
 entered_ok {E} old noted after i n k ms c x next (Ok u) tries keeps = enter_takes old noted i n k ms c x next after tries keeps
 entered_ok {E} old noted after i n k ms c x next (Err e) tries keeps = tt

@@ -1,6 +1,6 @@
 -- What stands before a view's entries, and who its members are.
 use Rattle.std.proofs.Common.{◌≡◌, ℕ, ◌==◌, Bool, true, false, not, ◌&&◌, ◌||◌, List, [], ◌∷◌, Option, Some, None, refl, sym, ap, subst, ◌∙◌}
-use Rattle.std.specs.Prelude.{take, drop, slice_get, fold}
+use Rattle.std.specs.Prelude.{take, drop, slice_get, fold, bytes_eq}
 use Rattle.std.specs.List.{list_any, list_all, count_by}
 use Rattle.std.proofs.lemmas.Bool.{or_parts}
 use Rattle.std.proofs.lemmas.List.{take-append-drop}
@@ -13,7 +13,7 @@ use Rattle.journal_lines.specs.declared.line.Line.{Line}
 use Rattle.journal_lines.specs.declared.line.Line.TheVariants as line
 use Rattle.journal_readings.specs.Contents.{joined_if}
 use Rattle.journal_readings.specs.Entries.{applied_in, applied_in_step}
-use Rattle.journal_readings.specs.Lines.{same_key, same_digest, has_node, is_enter, is_exchanged, is_settled_line, is_done_line}
+use Rattle.journal_readings.specs.Lines.{same_key, has_node, is_enter, is_exchanged, is_settled_line, is_done_line}
 use Rattle.journal_readings.specs.Settled.{is_open_write}
 use Rattle.journal_readings.specs.Shape.{Shape, has_entered, have_all_entered, names_entered}
 use Rattle.journal_readings.specs.Views.{members}
@@ -77,7 +77,7 @@ written_of_view k (line.Apply n l t d v) e = (n, λ b. ap (λ (z : ClusterKey). 
 written_of_view k x e = differ e refl
 
 unwritten_step : (by : Policy) (k : ClusterKey) (d : List ℕ) (v : Option Version) (x : Line) → writes_in k x ≡ false → applied_in_step by k d v x ≡ v
-unwritten_step by k d v (line.Apply n l t e w) h = ap (λ (b : Bool). joined_if (b && same_digest e d) by v w) h
+unwritten_step by k d v (line.Apply n l t e w) h = ap (λ (b : Bool). joined_if (b && bytes_eq e d) by v w) h
 unwritten_step by k d v x h = refl
 
 unwritten : (by : Policy) (k : ClusterKey) (d : List ℕ) (v : Option Version) (j : List Line) → list_any (writes_in k) j ≡ false → fold (applied_in_step by k d) v j ≡ v

@@ -3,7 +3,7 @@ use Rattle.std.proofs.Common.{◌≡◌, ℕ, ◌==◌, Bool, true, false, ◌&&
 use Rattle.std.specs.Prelude.{is_some, find}
 use Rattle.std.specs.List.{list_any}
 use Rattle.std.specs.Option.{option_or}
-use Rattle.std.proofs.lemmas.List.Folds.{find-append, list_any-append}
+use Rattle.std.proofs.lemmas.List.Folds.{find-append}
 use Rattle.cluster_types.specs.declared.cluster_key.ClusterKey.{ClusterKey}
 use Rattle.cluster_types.specs.declared.member.Member.{Member}
 use Rattle.journal_lines.specs.declared.line.Line.{Line}
@@ -20,11 +20,11 @@ use Rattle.audit_state.specs.declared.views.Entry.{Entry}
 use Rattle.audit_state.specs.declared.views.View.{View}
 use Rattle.audit_core.specs.Frames.{Both}
 use Rattle.audit_state.specs.Views.{SameEntries, entry_line, has_exchanged, IsFreshView}
-use Rattle.audit_core.specs.Known.{node_at, view_of, stamps_at}
-use Rattle.audit_core.specs.NextFrames.{NextNode, NextView, FirstView, ViewAfter, NextStamps, NextFrame, marked, finished_in}
+use Rattle.audit_core.specs.Known.{node_at, kept_view, stamps_at}
+use Rattle.audit_core.specs.NextFrames.{NextNode, NextView, FirstView, ViewAfter, NextStamps, NextFrame, mark_changes}
 use Rattle.audit_core.specs.Stamped.{mark_of}
 use Rattle.audit_state.specs.Stamps.{stamp_marks}
-use Rattle.audit_core.specs.Steps.{ChangesNode, BeginsStay, HasFinished, OpensView, ChangesView, HasEntry, HasExchanged, ChangesStamps, HasMark}
+use Rattle.audit_core.specs.Steps.{ChangesNode, BeginsStay, OpensView, ChangesView, HasEntry, ChangesStamps, HasMark}
 use Rattle.audit_core.proofs.ShapeLaws.{and_pair}
 use Rattle.audit_core.proofs.WordLaws.{view_stays, same_entries, stamps_stay, both_same, changed_nodes, node_kept, no_more, unless_same, when_same}
 
@@ -92,25 +92,25 @@ first_view place n k ms x y new h =
     }
 
 entered_views : (place n : ℕ) (k : ClusterKey) (ms : List Member) (old opened noted : Judge) → OpensView k ms old opened → ChangesView (HasEntry n place) k opened noted
-    → (l : ClusterKey) → ViewAfter l place (line.Enter n k ms) (view_of old l) (view_of noted l)
+    → (l : ClusterKey) → ViewAfter l place (line.Enter n k ms) (kept_view old l) (kept_view noted l)
 entered_views place n k ms old opened noted a b l = go (same_key k l) refl
   where
-    here : (o : Option View) → view_of old k ≡ o → ViewAfter k place (line.Enter n k ms) o (view_of noted k)
+    here : (o : Option View) → kept_view old k ≡ o → ViewAfter k place (line.Enter n k ms) o (kept_view noted k)
     here (Some x) e =
-        let y : (y : View) × (view_of noted k ≡ Some y) × HasEntry n place x y = both_some (HasEntry n place) (view_of opened k) (view_of noted k) x b.here (a.known x e) in
+        let y : (y : View) × (kept_view noted k ≡ Some y) × HasEntry n place x y = both_some (HasEntry n place) (kept_view opened k) (kept_view noted k) x b.here (a.known x e) in
         subst (ViewAfter k place (line.Enter n k ms) (Some x)) (sym y.1) (entered_view place n k ms x y.0 y.2)
-    here None e = made (view_of opened k) refl
+    here None e = made (kept_view opened k) refl
       where
-        made : (o : Option View) → view_of opened k ≡ o → ViewAfter k place (line.Enter n k ms) None (view_of noted k)
+        made : (o : Option View) → kept_view opened k ≡ o → ViewAfter k place (line.Enter n k ms) None (kept_view noted k)
         made None i = differ a.there (ap is_some i)
         made (Some x) i =
-            let y : (y : View) × (view_of noted k ≡ Some y) × HasEntry n place x y = both_some (HasEntry n place) (view_of opened k) (view_of noted k) x b.here i in
+            let y : (y : View) × (kept_view noted k ≡ Some y) × HasEntry n place x y = both_some (HasEntry n place) (kept_view opened k) (kept_view noted k) x b.here i in
             subst (ViewAfter k place (line.Enter n k ms) None) (sym y.1) (first_view place n k ms x y.0 (a.fresh x e i) y.2)
 
-    go : (c : Bool) → same_key k l ≡ c → ViewAfter l place (line.Enter n k ms) (view_of old l) (view_of noted l)
-    go true e = subst (λ (z : ClusterKey). ViewAfter z place (line.Enter n k ms) (view_of old z) (view_of noted z)) (same_key_is k l e) (here (view_of old k) refl)
-    go false e = view_stays l place (line.Enter n k ms) e (λ m. and_apart (n == m) (same_key k l) e) (λ m. refl) (view_of old l) (view_of noted l)
-        (both_same SameEntries (λ x. same_entries (Some x)) (view_of old l) (view_of noted l) (b.others l e ∙ a.others l e))
+    go : (c : Bool) → same_key k l ≡ c → ViewAfter l place (line.Enter n k ms) (kept_view old l) (kept_view noted l)
+    go true e = subst (λ (z : ClusterKey). ViewAfter z place (line.Enter n k ms) (kept_view old z) (kept_view noted z)) (same_key_is k l e) (here (kept_view old k) refl)
+    go false e = view_stays l place (line.Enter n k ms) e (λ m. and_apart (n == m) (same_key k l) e) (λ m. refl) (kept_view old l) (kept_view noted l)
+        (both_same SameEntries (λ x. same_entries (Some x)) (kept_view old l) (kept_view noted l) (b.others l e ∙ a.others l e))
 
 pub enter_next : (place n : ℕ) (k : ClusterKey) (ms : List Member) (old opened noted new : Judge) → OpensView k ms old opened → ChangesView (HasEntry n place) k opened noted
     → ChangesNode (BeginsStay (some_key k)) n noted new → NextFrame place (line.Enter n k ms) old new
@@ -122,99 +122,12 @@ enter_next place n k ms old opened noted new a b c = record {
       (changed_nodes (BeginsStay (some_key k)) n noted new c (λ m. NextNode m place (line.Enter n k ms))
       (λ x y r. record { clock = r.moved.clock; view = r.moved.view ∙ sym (when_same n (some_key k) x.view); exchanged = no_more x y r.moved.exchanged })
       (λ m x e. node_kept m place (line.Enter n k ms) (λ t. refl) (λ v. unless_same (n == m) (some_key k) v e) refl x) m);
-  views = λ l. subst (ViewAfter l place (line.Enter n k ms) (view_of old l)) (sym (ap (λ (s : Judge). view_of s l) c.rest)) (entered_views place n k ms old opened noted a b l);
+  views = λ l. subst (ViewAfter l place (line.Enter n k ms) (kept_view old l)) (sym (ap (λ (s : Judge). kept_view s l) c.rest)) (entered_views place n k ms old opened noted a b l);
   stamps = λ m p. stamps_stay m p place (line.Enter n k ms) refl (stamps_at old m p) (stamps_at new m p)
       (ap (λ (s : Judge). stamps_at s m p) c.rest ∙ (ap (λ (s : Judge). stamps_at s m p) b.rest ∙ ap (λ (s : Judge). stamps_at s m p) a.rest));
 }
 
 -- ---- exchange is finished
-
-finished_view : (place n : ℕ) (k : ClusterKey) (x y : View) → HasExchanged n x y → NextView k place (line.Exchanged n k) x y
-finished_view place n k x y h = record {
-  key = h.key;
-  members = h.members;
-  ranks = h.ranks;
-  entered = λ m. ap (λ (v : _). option_map (λ (e : Entry). e.line) (find (λ (e : Entry). e.node == m) v.items)) h.entered ∙ sure (entry_line x m);
-  exchanged = λ m. ap (list_any (λ (q : ℕ). q == m)) h.exchanged
-      ∙ (list_any-append (λ (q : ℕ). q == m) x.exchanged.items (n ∷ []) ∙ ap (λ (b : Bool). has_exchanged x m || b) (one (n == m) ∙ sym (and_key n m k)));
-}
-  where
-    sure : (o : Option ℕ) → o ≡ cond (is_some o) o None
-    sure None = refl
-    sure (Some a) = refl
-
-    one : (b : Bool) → (b || false) ≡ b
-    one true = refl
-    one false = refl
-
-finished_again : (place n : ℕ) (k : ClusterKey) (x y : View) → has_exchanged x n ≡ true → SameEntries x y → NextView k place (line.Exchanged n k) x y
-finished_again place n k x y has s = record {
-  key = s.key;
-  members = s.members;
-  ranks = s.ranks;
-  entered = λ m. ap (λ (es : List Entry). option_map (λ (e : Entry). e.line) (find (λ (e : Entry). e.node == m) es)) s.entered ∙ sure (entry_line x m);
-  exchanged = λ m. ap (list_any (λ (q : ℕ). q == m)) s.exchanged ∙ (go m (n == m) refl ∙ ap (λ (b : Bool). has_exchanged x m || b) (sym (and_key n m k)));
-}
-  where
-    sure : (o : Option ℕ) → o ≡ cond (is_some o) o None
-    sure None = refl
-    sure (Some a) = refl
-
-    true_or : (b c : Bool) → b ≡ true → b ≡ (b || c)
-    true_or true c e = refl
-    true_or false c e = differ e refl
-
-    or_no : (b : Bool) → b ≡ (b || false)
-    or_no true = refl
-    or_no false = refl
-
-    go : (m : ℕ) (b : Bool) → (n == m) ≡ b → has_exchanged x m ≡ (has_exchanged x m || b)
-    go m true e = true_or (has_exchanged x m) true (ap (has_exchanged x) (sym (number_same n m e)) ∙ has)
-    go m false e = or_no (has_exchanged x m)
-
-finished_views : (place n : ℕ) (k : ClusterKey) (R : View → View → Type 0) (old new : Judge) → ((x y : View) → R x y → NextView k place (line.Exchanged n k) x y) → ChangesView R k old new
-    → (l : ClusterKey) → ViewAfter l place (line.Exchanged n k) (view_of old l) (view_of new l)
-finished_views place n k R old new h c l = go (same_key k l) refl
-  where
-    here : (o q : Option View) → Both R o q → ViewAfter k place (line.Exchanged n k) o q
-    here None None x = refl
-    here None (Some b) x = absurd x
-    here (Some a) None x = absurd x
-    here (Some a) (Some b) x = h a b x
-
-    go : (c : Bool) → same_key k l ≡ c → ViewAfter l place (line.Exchanged n k) (view_of old l) (view_of new l)
-    go true e = subst (λ (z : ClusterKey). ViewAfter z place (line.Exchanged n k) (view_of old z) (view_of new z)) (same_key_is k l e) (here (view_of old k) (view_of new k) c.here)
-    go false e = view_stays l place (line.Exchanged n k) refl (λ m. refl) (λ m. and_apart (n == m) (same_key k l) e) (view_of old l) (view_of new l)
-        (both_same SameEntries (λ x. same_entries (Some x)) (view_of old l) (view_of new l) (c.others l e))
-
-exchanged_by : (place n : ℕ) (k : ClusterKey) (R : View → View → Type 0) (old noted new : Judge) → ((x y : View) → R x y → NextView k place (line.Exchanged n k) x y) → ChangesNode (HasFinished place) n old noted → ChangesView R k noted new
-    → NextFrame place (line.Exchanged n k) old new
-exchanged_by place n k R old noted new h a b = record {
-  policy = ap (λ (s : Judge). s.by) b.rest ∙ ap (λ (s : Judge). s.by) a.rest;
-  factor = ap (λ (s : Judge). s.factor) b.rest ∙ ap (λ (s : Judge). s.factor) a.rest;
-  nodes = λ m. subst (Both (NextNode m place (line.Exchanged n k)) (node_at old m)) (sym (ap (λ (s : Judge). node_at s m) b.rest))
-      (changed_nodes (HasFinished place) n old noted a (λ m. NextNode m place (line.Exchanged n k))
-      (λ x y r. record { clock = r.clock; view = r.view; exchanged = r.exchanged ∙ ap (λ (ps : List ℕ). x.exchanged.items ++ ps) (sym (when_same n (place ∷ []) [])) })
-      (λ m x e. node_kept m place (line.Exchanged n k) (λ t. refl) (λ v. refl) (unless_same (n == m) (place ∷ []) [] e) x) m);
-  views = λ l. subst (λ (o : Option View). ViewAfter l place (line.Exchanged n k) o (view_of new l)) (ap (λ (s : Judge). view_of s l) a.rest) (finished_views place n k R noted new h b l);
-  stamps = λ m p. stamps_stay m p place (line.Exchanged n k) refl (stamps_at old m p) (stamps_at new m p) (ap (λ (s : Judge). stamps_at s m p) b.rest ∙ ap (λ (s : Judge). stamps_at s m p) a.rest);
-}
-
-pub exchanged_next : (place n : ℕ) (k : ClusterKey) (old noted new : Judge) → ChangesNode (HasFinished place) n old noted → ChangesView (HasExchanged n) k noted new → NextFrame place (line.Exchanged n k) old new
-exchanged_next place n k old noted new a b = exchanged_by place n k (HasExchanged n) old noted new (finished_view place n k) a b
-
--- the node finished exchange before
-pub exchanged_again : (place n : ℕ) (k : ClusterKey) (old noted : Judge) → ChangesNode (HasFinished place) n old noted → finished_in (view_of noted k) n ≡ true → NextFrame place (line.Exchanged n k) old noted
-exchanged_again place n k old noted a has = go (view_of noted k) refl
-  where
-    go : (o : Option View) → view_of noted k ≡ o → NextFrame place (line.Exchanged n k) old noted
-    go None e = differ has (ap (λ (o : Option View). finished_in o n) e)
-    go (Some x) e = exchanged_by place n k (λ x y. (has_exchanged x n ≡ true) × SameEntries x y) old noted noted (λ x y r. finished_again place n k x y r.0 r.1) a
-        (record {
-          rest = refl;
-          here = subst (λ (o : Option View). Both (λ x y. (has_exchanged x n ≡ true) × SameEntries x y) o o) (sym e) (sym (ap (λ (o : Option View). finished_in o n) e) ∙ has, same_entries (Some x));
-          others = λ l q. refl;
-        })
 
 -- ---- a copy is marked
 
@@ -227,7 +140,7 @@ marked_stamps place n p l v old new h c m q = go ((n == m) && (p == q)) refl
         subst (λ (x : ℕ). NextStamps x q place l (stamps_at old x q) (stamps_at new x q)) (number_same n m (and_left (n == m) (p == q) e))
         (subst (λ (x : ℕ). NextStamps n x place l (stamps_at old n x) (stamps_at new n x)) (number_same p q (and_right (n == m) (p == q) e))
         (record {
-          marks = c.here.marks ∙ ap (λ (o : Option (Option ℕ)). stamp_marks (stamps_at old n p) ++ marked place o) (sym (h n p ∙ both));
+          marks = c.here.marks ∙ ap (λ (o : Option (Option ℕ)). stamp_marks (stamps_at old n p) ++ mark_changes place o) (sym (h n p ∙ both));
           judged = c.here.judged;
           wholes = c.here.wholes;
         }))

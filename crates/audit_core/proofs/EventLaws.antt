@@ -9,7 +9,7 @@ use Rattle.audit_laws.specs.Fits.{FitsShape}
 use Rattle.audit_laws.proofs.Tests.{differ}
 use Rattle.audit_core.specs.declared.judge.Judge.{Judge}
 use Rattle.audit_core.specs.declared.verdict.Law.TheVariants as law
-use Rattle.audit_core.specs.Sees.{SeesFrame, SeesTried, SeesState, Sees}
+use Rattle.audit_core.specs.Sees.{SeesFrame, SeesTried, SeesState, SeesJournal}
 use Rattle.audit_core.specs.Shapes.{fits_shape}
 use Rattle.audit_core.specs.Stored.{SeesStores}
 use Rattle.audit_core.specs.Verdicts.{BreaksFirst}
@@ -50,7 +50,7 @@ not_bare j l e = list_all-append is_header j (l ∷ []) ∙ (ap (λ (b : Bool). 
     go true = refl
     go false = refl
 
-pub begun_sees : (s : Judge) (i : ℕ) (all : List Line) (l : Line) → slice_get all i ≡ Some l → is_header l ≡ false → SeesState s (i + 1) all → Sees (record s { begun = true }) (i + 1) all
+pub begun_sees : (s : Judge) (i : ℕ) (all : List Line) (l : Line) → slice_get all i ≡ Some l → is_header l ≡ false → SeesState s (i + 1) all → SeesJournal (record s { begun = true }) (i + 1) all
 begun_sees s i all l e other h =
     let begun : list_all is_header (take (i + 1) all) ≡ false = ap (list_all is_header) (taken_next all i l e) ∙ not_bare (take i all) l other in
     record {
@@ -69,10 +69,10 @@ begun_sees s i all l e other h =
 
 -- ---- the shape
 
-pub fits_so : (s : Judge) (i : ℕ) (all : List Line) (l : Line) → Sees s i all → (fits_shape s l ≡ true → EntersFalling l) → fits_shape s l ≡ true → FitsShape (take i all) l
+pub fits_so : (s : Judge) (i : ℕ) (all : List Line) (l : Line) → SeesJournal s i all → (fits_shape s l ≡ true → EntersFalling l) → fits_shape s l ≡ true → FitsShape (take i all) l
 fits_so s i all l h falls e = shape_so s (take i all) l h.state.frame h.begun (falls e) e
 
-pub breaks_shape : (s : Judge) (i : ℕ) (all : List Line) (l : Line) → Sees s i all → fits_shape s l ≡ false → BreaksFirst law.Shape (take i all) l
+pub breaks_shape : (s : Judge) (i : ℕ) (all : List Line) (l : Line) → SeesJournal s i all → fits_shape s l ≡ false → BreaksFirst law.Shape (take i all) l
 breaks_shape s i all l h e = record {
   before = tt;
   broken = λ f. differ (shape_then s (take i all) l h.state.frame h.begun f) e;

@@ -28,13 +28,15 @@ use Rattle.audit_state.specs.Records.{record_digest}
 use Rattle.audit_state.specs.Written.{Stand, stand_in, stand_of}
 use Rattle.audit_core.specs.declared.judge.Judge.{Judge}
 use Rattle.audit_core.specs.declared.verdict.Stop.{Stop}
-use Rattle.audit_core.specs.Audits.{Comes, Takes, so_far}
-use Rattle.audit_core.specs.Emptied.{moved_in, is_empty_for, with_empty, TriesEmpty, StopsEmpty}
+use Rattle.audit_core.specs.Audits.{Comes, AcceptsLine, so_far}
+use Rattle.audit_core.specs.Emptied.{moved_in, is_empty_for, tried_with_empty, TriesEmpty}
+use Rattle.audit_core.specs.Emptied.{StopsEmpty}
 use Rattle.audit_core.specs.Frames.{Both, SameStay, SameWritten, KeepsStores}
-use Rattle.audit_core.specs.Known.{node_at, view_at, view_of}
+use Rattle.audit_core.specs.Known.{node_at, view_at, kept_view}
 use Rattle.audit_core.specs.NextFrames.{NextFrame, finished_in}
 use Rattle.audit_core.specs.Sees.{SeesFrame, SeesStand, SeesWrites, SeesStays, IsBound, AllJoin, IsTried, HasNoDoubts}
-use Rattle.audit_core.specs.Settling.{is_first, is_master_in, master_from}
+use Rattle.partition_lists.specs.Classes.{is_that}
+use Rattle.audit_core.specs.Settling.{is_master_in, master_from}
 use Rattle.audit_core.specs.Stored.{SeesStores}
 use Rattle.audit_core.specs.Trying.{IsTriedOf, IsTrying, KeepsKnown, StopsTrying, is_digest}
 use Rattle.audit_core.specs.Verdicts.{StopsRightly}
@@ -140,8 +142,8 @@ module _ (old noted : Judge) (i n : ℕ) (k : ClusterKey) (c : Comes old i (line
   front : so_far noted (i + 1) ≡ behind old i n k
   front = ap (take (i + 1)) lines_same ∙ taken_next old.lines.now i (line.Exchanged n k) c.stands
 
-  was_view : (l : ClusterKey) (y : View) → view_of noted l ≡ Some y → (z : View) × (view_of old l ≡ Some z) × SameWritten z y
-  was_view l y e = both_before SameWritten (view_of old l) (view_of noted l) y (x.views l) e
+  was_view : (l : ClusterKey) (y : View) → kept_view noted l ≡ Some y → (z : View) × (kept_view old l ≡ Some z) × SameWritten z y
+  was_view l y e = both_before SameWritten (kept_view old l) (kept_view noted l) y (x.views l) e
 
   same_stands : (z y : View) → SameWritten z y → (q : ℕ) → stand_of z q ≡ stand_of y q
   same_stands z y same q = ap (λ (m : _). stand_in (hash.get nat_eq m q)) (sym same.partitions)
@@ -153,9 +155,9 @@ module _ (old noted : Judge) (i n : ℕ) (k : ClusterKey) (c : Comes old i (line
   }
 
   -- what holds of the stands before holds of those that are known now
-  each : (P : ClusterKey → ℕ → Stand → Type 0) → ((l : ClusterKey) (q : ℕ) (z : View) → view_of old l ≡ Some z → P l q (stand_of z q)) → (l : ClusterKey) (q : ℕ) (y : View) → view_of noted l ≡ Some y → P l q (stand_of y q)
+  each : (P : ClusterKey → ℕ → Stand → Type 0) → ((l : ClusterKey) (q : ℕ) (z : View) → kept_view old l ≡ Some z → P l q (stand_of z q)) → (l : ClusterKey) (q : ℕ) (y : View) → kept_view noted l ≡ Some y → P l q (stand_of y q)
   each P before l q y e =
-      let z : (z : View) × (view_of old l ≡ Some z) × SameWritten z y = was_view l y e in
+      let z : (z : View) × (kept_view old l ≡ Some z) × SameWritten z y = was_view l y e in
       subst (P l q) (same_stands z.0 y z.2 q) (before l q z.0 z.1)
 
   pub exchange_trying : (those : ClusterKey → List ℕ → Bool)
@@ -166,7 +168,7 @@ module _ (old noted : Judge) (i n : ℕ) (k : ClusterKey) (c : Comes old i (line
         (each (λ l q w. SeesStand (behind old i n k) l q w)
         (λ l q z there. stand_kept (so_far old i) (line.Exchanged n k) l q (stand_of z q) refl (λ m. refl) (λ m t. refl) (λ m ls. refl) (c.audits.state.tried.stands l q z there)) l q y e);
     listed = λ l q y e.
-        let z : (z : View) × (view_of old l ≡ Some z) × SameWritten z y = was_view l y e in
+        let z : (z : View) × (kept_view old l ≡ Some z) × SameWritten z y = was_view l y e in
         ap (λ (ps : List ℕ). has_node ps q) z.2.settled ∙ (c.audits.state.tried.listed l q z.0 z.1 ∙ ap (λ (w : Stand). w.settled) (same_stands z.0 y z.2 q));
     unsettled = λ l q y e none. each (λ l q w. is_settled l q (behind old i n k) ≡ false → HasNoDoubts w)
         (λ l q z there off. c.audits.state.tried.unsettled l q z there (unsettled_before n q k l (so_far old i) off)) l q y e (sym (ap (is_settled l q) front) ∙ none);
@@ -176,7 +178,7 @@ module _ (old noted : Judge) (i n : ℕ) (k : ClusterKey) (c : Comes old i (line
     covers = covers_moved old noted (i + 1) x.rest (covers_later old i c.audits.state.covers);
   }
     where
-      go : (l : ClusterKey) (q : ℕ) (z : View) → view_of old l ≡ Some z → IsBound l q (behind old i n k) → (b : Bool) → is_settled l q (so_far old i) ≡ b → IsTriedOf (those l) noted (behind old i n k) l q (stand_of z q)
+      go : (l : ClusterKey) (q : ℕ) (z : View) → kept_view old l ≡ Some z → IsBound l q (behind old i n k) → (b : Bool) → is_settled l q (so_far old i) ≡ b → IsTriedOf (those l) noted (behind old i n k) l q (stand_of z q)
       go l q z there bound true e =
           let h : IsTried old (so_far old i) l q (stand_of z q) = c.audits.state.tried.tried l q z there (bound_before l q e bound) in
           record {
@@ -202,7 +204,8 @@ module _ (old noted : Judge) (i n : ℕ) (k : ClusterKey) (c : Comes old i (line
   stores_noted =
       let h : SeesStores old (i + 1) old.lines.now (take (i + 1) old.lines.now) = stores_silent old i old.lines.now (line.Exchanged n k) c.stands (exchange_silent n k) refl c.audits.state.stores in
       stores_moved old noted (i + 1) old.lines.now (take (i + 1) old.lines.now) x.rest
-      (λ l y e. let z : (z : View) × (view_of old l ≡ Some z) × SameWritten z y = was_view l y e in
+      (λ l y e. let z : (z : View) × (kept_view old l ≡ Some z) × SameWritten z y =
+      was_view l y e in
       written_same old.records old.lines.now (take (i + 1) old.lines.now) l z.0 y z.2 (written_seen old old.lines.now (take (i + 1) old.lines.now) l z.0 h.written z.1))
       h
 
@@ -215,30 +218,32 @@ module _ (old noted : Judge) (i n : ℕ) (k : ClusterKey) (c : Comes old i (line
       stores = subst (λ (ls : List Line). SeesStores noted (i + 1) ls (take (i + 1) ls)) (sym lines_same) stores_noted;
     };
     writes = subst (SeesWrites noted) (sym front) (writes_same old noted (behind old i n k)
-        (record { views = λ l y e. let z : (z : View) × (view_of old l ≡ Some z) × SameWritten z y = was_view l y e in (z.0, z.1, z.2.writes) })
+        (record { views = λ l y e. let z : (z : View) × (kept_view old l ≡ Some z) × SameWritten z y = was_view l y e in (z.0, z.1, z.2.writes) })
         (writes_left old (so_far old i) (line.Exchanged n k) (exchange_leaves n k) c.audits.state.writes));
     stays = subst (SeesStays noted) (sym front) (stays_same old noted (behind old i n k) stays_kept
         (stays_left old (so_far old i) (line.Exchanged n k) refl (λ l. refl) (λ by m d v. refl) c.audits.state.stays));
   }
 
   -- no partition becomes settled with its list master in the view
-  pub nothing_settled : ((l : ClusterKey) (q : ℕ) → IsSettledNow n q k l (so_far old i) → IsBound l q (behind old i n k) → ⊥) → Takes old noted i (line.Exchanged n k)
+  pub nothing_settled : ((l : ClusterKey) (q : ℕ) → IsSettledNow n q k l (so_far old i) → IsBound l q (behind old i n k) → ⊥) → AcceptsLine old noted i (line.Exchanged n k)
   nothing_settled none =
       noted_takes old noted i (line.Exchanged n k) c exchange_noted (record { map = tt; losses = tt; joins = tt }) noted (λ l d. true) (keeps_itself noted)
       (exchange_trying (λ l d. true) (λ l q d newly bound part tried. absurd (none l q newly bound))) (λ l d. refl)
 
   -- the node finished exchange before
-  pub exchange_again : finished_in (view_of old k) n ≡ true → Takes old noted i (line.Exchanged n k)
+  pub exchange_again : finished_in (kept_view old k) n ≡ true
+      → AcceptsLine old noted i (line.Exchanged n k)
   exchange_again before = nothing_settled (λ l q newly bound.
-      differ (sym (was (view_of old k) refl) ∙ before)
+      differ (sym (was (kept_view old k) refl) ∙ before)
       (subst (λ (z : ClusterKey). list_any (is_exchanged z n) (so_far old i) ≡ false) (sym newly.key) (subst (λ (m : ℕ). list_any (is_exchanged l m) (so_far old i) ≡ false) newly.master newly.first)))
     where
-      was : (o : Option View) → view_of old k ≡ o → finished_in (view_of old k) n ≡ list_any (is_exchanged k n) (so_far old i)
+      was : (o : Option View) → kept_view old k ≡ o → finished_in (kept_view old k) n ≡ list_any (is_exchanged k n) (so_far old i)
       was (Some z) e = ap (λ (o : Option View). finished_in o n) e ∙ (c.audits.state.frame.views k z e).exchanged n
       was None e = differ before (ap (λ (o : Option View). finished_in o n) e)
 
   -- it isn't in the view any longer
-  pub exchange_absent : (view_at noted n ≡ Some k → ⊥) → Takes old noted i (line.Exchanged n k)
+  pub exchange_absent : (view_at noted n ≡ Some k → ⊥)
+      → AcceptsLine old noted i (line.Exchanged n k)
   exchange_absent absent = nothing_settled (λ l q newly bound. absent (
       present_so noted (i + 1) n exchange_noted.seen
       ∙ (ap (view n) front
@@ -247,12 +252,12 @@ module _ (old noted : Judge) (i n : ℕ) (k : ClusterKey) (c : Comes old i (line
 
   -- ---- partitions become settled
 
-  view_there : (z : View) × (view_of noted k ≡ Some z)
-  view_there = go (view_of noted k) refl
+  view_there : (z : View) × (kept_view noted k ≡ Some z)
+  view_there = go (kept_view noted k) refl
     where
-      go : (o : Option View) → view_of noted k ≡ o → (z : View) × (view_of noted k ≡ Some z)
+      go : (o : Option View) → kept_view noted k ≡ o → (z : View) × (kept_view noted k ≡ Some z)
       go (Some z) e = (z, e)
-      go None e = differ (entered_key k n (so_far old i) c.shape.in_view) (sym (c.audits.state.frame.known_views k) ∙ gone (view_of old k) (view_of noted k) (x.views k) e)
+      go None e = differ (entered_key k n (so_far old i) c.shape.in_view) (sym (c.audits.state.frame.known_views k) ∙ gone (kept_view old k) (kept_view noted k) (x.views k) e)
         where
           gone : (o q : Option View) → Both SameWritten o q → q ≡ None → is_some o ≡ false
           gone None q h f = refl
@@ -264,7 +269,7 @@ module _ (old noted : Judge) (i n : ℕ) (k : ClusterKey) (c : Comes old i (line
 
   -- a partition that the line settles was empty, and the node is its list master
   newly_empty : (q : ℕ) → IsSettledNow n q k k (so_far old i) → is_empty_for noted k n q ≡ true
-  newly_empty q newly = both_are (is_master_in (view_of noted k) n q) (empty_in noted q (view_of noted k)) (first (master_from (view_of noted k) q) refl)
+  newly_empty q newly = both_are (is_master_in (kept_view noted k) n q) (empty_in noted q (kept_view noted k)) (first (master_from (kept_view noted k) q) refl)
       (ap (empty_in noted q) view_there.1 ∙ (everywhere_then noted (i + 1) k q view_there.0 exchange_noted.seen view_there.1 ∙ empty_behind q newly))
     where
       both_are : (a b : Bool) → a ≡ true → b ≡ true → (a && b) ≡ true
@@ -274,9 +279,9 @@ module _ (old noted : Judge) (i n : ℕ) (k : ClusterKey) (c : Comes old i (line
       empty_behind : (q : ℕ) → IsSettledNow n q k k (so_far old i) → is_empty_everywhere k q (so_far noted (i + 1)) ≡ true
       empty_behind q newly = ap (is_empty_everywhere k q) front ∙ (empty-other k q (so_far old i) (line.Exchanged n k) refl ∙ newly.empty)
 
-      first : (o : Option ℕ) → master_from (view_of noted k) q ≡ o → is_first (master_from (view_of noted k) q) n ≡ true
+      first : (o : Option ℕ) → master_from (kept_view noted k) q ≡ o → is_that (master_from (kept_view noted k) q) n ≡ true
       first None e = absurd (unlisted noted (i + 1) k q exchange_noted.seen e entered_behind)
-      first (Some m) e = ap (λ (o : Option ℕ). is_first o n) e
+      first (Some m) e = ap (λ (o : Option ℕ). is_that o n) e
           ∙ subst (λ (z : ℕ). (z == n) ≡ true)
           (sym newly.master ∙ (sym (master-other k q (so_far old i) (line.Exchanged n k) refl) ∙ (ap (master k q) (sym front) ∙ master_so noted (i + 1) k q m exchange_noted.seen e)))
           (number_here n)
@@ -304,11 +309,11 @@ module _ (old noted : Judge) (i n : ℕ) (k : ClusterKey) (c : Comes old i (line
   moved_trying = exchange_trying (all_but_moved noted n k)
       (λ l q d newly bound part tried. newly_joins l q d newly part tried)
 
-  pub exchange_takes : (after : Judge) → TriesEmpty n k (moved_in noted k) noted after → KeepsKnown noted after → Takes old after i (line.Exchanged n k)
+  pub exchange_takes : (after : Judge) → TriesEmpty n k (moved_in noted k) noted after → KeepsKnown noted after → AcceptsLine old after i (line.Exchanged n k)
   unfolding TriesEmpty
   exchange_takes after tries keeps =
       noted_takes old noted i (line.Exchanged n k) c exchange_noted (record { map = tt; losses = tt; joins = tt }) after
-      (with_empty (all_but_moved noted n k) noted n k (moved_in noted k)) keeps
+      (tried_with_empty (all_but_moved noted n k) noted n k (moved_in noted k)) keeps
       (tries (i + 1) (all_but_moved noted n k) exchange_noted.seen moved_trying)
       (λ l e. either (same_key k l && (is_empty_for noted k n (partition_of e) && list_any (λ r. is_digest (record_digest noted.records r) e) (moved_in noted k))))
     where
@@ -323,6 +328,6 @@ module _ (old noted : Judge) (i n : ℕ) (k : ClusterKey) (c : Comes old i (line
       (h (i + 1) (all_but_moved noted n k) exchange_noted.seen moved_trying)
 
 pub exchange_ok : {E : Type 0} (old noted after : Judge) (i n : ℕ) (k : ClusterKey) → Comes old i (line.Exchanged n k) → KeepsStores old noted → NextFrame i (line.Exchanged n k) old noted
-    → (r : Result (Unit {0}) E) → OnOk r (TriesEmpty n k (moved_in noted k) noted after) → OnOk r (KeepsKnown noted after) → OnOk r (Takes old after i (line.Exchanged n k))
+    → (r : Result (Unit {0}) E) → OnOk r (TriesEmpty n k (moved_in noted k) noted after) → OnOk r (KeepsKnown noted after) → OnOk r (AcceptsLine old after i (line.Exchanged n k))
 exchange_ok {E} old noted after i n k c x next (Ok u) tries keeps = exchange_takes old noted i n k c x next after tries keeps
 exchange_ok {E} old noted after i n k c x next (Err e) tries keeps = tt

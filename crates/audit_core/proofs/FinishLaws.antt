@@ -26,14 +26,13 @@ use Rattle.audit_core.specs.Audits.{so_far}
 use Rattle.audit_core.specs.Covering.{SeesCovers}
 use Rattle.audit_core.specs.Ending.{IsEnding, SeesEndedStand, ended_in, EndsOne, StopsEnding, TriesDoubts, StopsDoubts, IsInDoubt, JoinsRecords, PartsOf, PartsOneOf}
 use Rattle.audit_core.specs.Frames.{Both}
-use Rattle.audit_core.specs.Known.{view_of}
+use Rattle.audit_core.specs.Known.{kept_view}
 use Rattle.audit_core.specs.Sees.{IsBound, AllJoin, IsTried, HasNoDoubts, IsSuspect}
 use Rattle.audit_core.specs.Settling.{stand_from, stand_at}
 use Rattle.audit_core.specs.Steps.{ChangesView}
-use Rattle.audit_core.specs.Stored.{IsOf}
+use Rattle.audit_core.specs.Stored.{IsRecordOf}
 use Rattle.audit_core.specs.Trying.{SeesLines, SeesSettled, KeepsKnown, KeepsStands, SameButStands, StopsParted, IsParted, JoinsPartition, StopsAll, JoinsRecord, PartsRecord}
 use Rattle.audit_core.proofs.BeginLaws.{take_whole}
-use Rattle.audit_core.proofs.DropLaws.{among_got}
 use Rattle.audit_core.proofs.TouchLaws.{TellsBound, covers_keep}
 use Rattle.audit_core.proofs.TouchedLaws.{named_of}
 use Rattle.audit_core.proofs.TryLaws.{keeps_then, front_kept, changes_keep, sets_keep, lines_kept, covers_kept, none_counted, open_not_none}
@@ -134,10 +133,10 @@ module _ (old noted : Judge) (i p : ℕ) (k : ClusterKey) (ended : List ℕ)
   covers_noted = covers_kept old noted i c.rest e.covers
 
   -- the view is known
-  there_is : (x : View) × (view_of old k ≡ Some x)
-  there_is = go (view_of old k) refl
+  there_is : (x : View) × (kept_view old k ≡ Some x)
+  there_is = go (kept_view old k) refl
     where
-      go : (o : Option View) → view_of old k ≡ o → (x : View) × (view_of old k ≡ Some x)
+      go : (o : Option View) → kept_view old k ≡ o → (x : View) × (kept_view old k ≡ Some x)
       go (Some x) q = (x, q)
       go None q =
           differ (e.known p (or_left (p == p) (has_node ended p) (number_here p)))
@@ -152,15 +151,15 @@ module _ (old noted : Judge) (i p : ℕ) (k : ClusterKey) (ended : List ℕ)
 
   -- of each view and each partition, what holds of the stand that it had holds of that which it has
   each : (P : ClusterKey → ℕ → View → Stand → Type 0)
-      → ((l : ClusterKey) (q : ℕ) (x : View) → view_of old l ≡ Some x → ((k ≡ l) × (p ≡ q) → ⊥)
+      → ((l : ClusterKey) (q : ℕ) (x : View) → kept_view old l ≡ Some x → ((k ≡ l) × (p ≡ q) → ⊥)
       → P l q x (stand_of x q))
-      → ((x : View) → view_of old k ≡ Some x → P k p x (ended_stand (stand_of x p)))
+      → ((x : View) → kept_view old k ≡ Some x → P k p x (ended_stand (stand_of x p)))
       → ((l : ClusterKey) (q : ℕ) (x y : View) (z : Stand) → SameButStands x y → P l q x z
-      → P l q y z) → (l : ClusterKey) (q : ℕ) (y : View) → view_of noted l ≡ Some y
+      → P l q y z) → (l : ClusterKey) (q : ℕ) (y : View) → kept_view noted l ≡ Some y
       → P l q y (stand_of y q)
   each P before here moves l q y r = go (same_key k l) refl
     where
-      at : (x : View) → view_of old k ≡ Some x → EndsWrite p x y → P k q y (stand_of y q)
+      at : (x : View) → kept_view old k ≡ Some x → EndsWrite p x y → P k q y (stand_of y q)
       at x there s =
           subst (P k q y) (sym (s.stands q))
           (moves k q x y (cond (nat_eq p q) (ended_stand (stand_of x p)) (stand_of x q))
@@ -176,9 +175,9 @@ module _ (old noted : Judge) (i p : ℕ) (k : ClusterKey) (ended : List ℕ)
 
       go : (b : Bool) → same_key k l ≡ b → P l q y (stand_of y q)
       go true f =
-          let z : (x : View) × (view_of old k ≡ Some x) × EndsWrite p x y =
-          was (view_of old k) (view_of noted k) y c.here
-          (ap (λ (m : ClusterKey). view_of noted m) (same_key_is k l f) ∙ r) in
+          let z : (x : View) × (kept_view old k ≡ Some x) × EndsWrite p x y =
+          was (kept_view old k) (kept_view noted k) y c.here
+          (ap (λ (m : ClusterKey). kept_view noted m) (same_key_is k l f) ∙ r) in
           subst (λ (m : ClusterKey). P m q y (stand_of y q)) (same_key_is k l f) (at z.0 z.1 z.2)
       go false f =
           before l q y (sym (c.others l f) ∙ r)
@@ -203,7 +202,7 @@ module _ (old noted : Judge) (i p : ℕ) (k : ClusterKey) (ended : List ℕ)
   suspected : (w : Stand) (d : List ℕ) → IsSuspect old w d → IsSuspect noted w d
   suspected w d q = (q.0, ap (λ (s : Judge). record_number s.records d) c.rest ∙ q.1, q.2)
 
-  pub counted_out : ((x : View) → view_of old k ≡ Some x → IsBound k p (so_far old i)
+  pub counted_out : ((x : View) → kept_view old k ≡ Some x → IsBound k p (so_far old i)
       → IsTried noted (so_far old i) k p (ended_stand (stand_of x p))) → IsEnding noted i k ended
   counted_out here = record {
     stands = each (λ l q x z. SeesEndedStand (so_far noted i) l q (ended_in k ended l q) z)
@@ -240,7 +239,7 @@ module _ (old noted : Judge) (i p : ℕ) (k : ClusterKey) (ended : List ℕ)
         (here x there (subst (IsBound k p) front bound)))
         (λ l q x y z r w. w);
     covers = covers_noted;
-    known = λ q h. both_there (view_of old k) (view_of noted k) c.here
+    known = λ q h. both_there (kept_view old k) (kept_view noted k) c.here
         ∙ e.known q (or_right (p == q) (has_node ended q) h);
   }
     where
@@ -263,7 +262,7 @@ module _ (old noted : Judge) (i p : ℕ) (k : ClusterKey) (ended : List ℕ)
       both_there (Some a) None h = absurd h
 
   -- where other writes are open still, what was in doubt is so still
-  tried_open : IsToTry (stand_at old k p) None → (x : View) → view_of old k ≡ Some x
+  tried_open : IsToTry (stand_at old k p) None → (x : View) → kept_view old k ≡ Some x
       → IsBound k p (so_far old i) → IsTried noted (so_far old i) k p (ended_stand (stand_of x p))
   unfolding suspected
   tried_open some x there bound =
@@ -281,7 +280,7 @@ module _ (old noted : Judge) (i p : ℕ) (k : ClusterKey) (ended : List ℕ)
   tried_closed : (doubts : Doubts) → IsToTry (stand_at old k p) (Some doubts)
       → (IsBound k p (so_far noted i) → (d : List ℕ) → partition_of d ≡ p → IsInDoubt noted doubts d
       → AllJoin k d (so_far noted i))
-      → (x : View) → view_of old k ≡ Some x → IsBound k p (so_far old i)
+      → (x : View) → kept_view old k ≡ Some x → IsBound k p (so_far old i)
       → IsTried noted (so_far old i) k p (ended_stand (stand_of x p))
   unfolding suspected
   tried_closed doubts none joins x there bound =
@@ -420,12 +419,12 @@ ends_no_memory s i p k x is ended lines e =
 -- an ended write that is still counted is one of those that are counted
 pub still_counted : (s : Judge) (i p : ℕ) (k : ClusterKey) (ended : List ℕ)
     → IsEnding s i k (p ∷ ended) → 0 < (stand_at s k p).open_writes
-still_counted s i p k ended e = go (view_of s k) refl
+still_counted s i p k ended e = go (kept_view s k) refl
   where
     some : (a n m mm : ℕ) → a ≡ n + mm → mm ≡ m + 1 → 0 < a
     some a n m mm counted more = omega (arith, counted, more)
 
-    go : (o : Option View) → view_of s k ≡ o → 0 < (stand_from o p).open_writes
+    go : (o : Option View) → kept_view s k ≡ o → 0 < (stand_from o p).open_writes
     go (Some x) q =
         some (stand_of x p).open_writes
         (count_by (is_open_write k p (master k p (so_far s i)) (so_far s i)) (so_far s i))
@@ -493,7 +492,7 @@ doubts_suspected s i k p ns b x tells on is parts =
 
 -- ---- the suspects, one by one
 
-pub suspect_elsewhere : (s : Judge) (k : ClusterKey) (r p : ℕ) → (IsOf s.records r p → ⊥)
+pub suspect_elsewhere : (s : Judge) (k : ClusterKey) (r p : ℕ) → (IsRecordOf s.records r p → ⊥)
     → JoinsRecord s k r p
 unfolding JoinsRecord
 suspect_elsewhere s k r p apart i d h is =
@@ -527,10 +526,6 @@ pub suspects_all : (s : Judge) (k : ClusterKey) (p : ℕ) (ns : List ℕ) (a : �
     → JoinsRecords s k (take a ns) p → JoinsRecords s k ns p
 suspects_all s k p ns a done h =
     subst (λ (xs : List ℕ). JoinsRecords s k xs p) (take_whole ns a done) h
-
-pub suspects_stop : (s : Judge) (k : ClusterKey) (p : ℕ) (ns : List ℕ) (a r : ℕ) → a < length ns
-    → r ≡ get_or ns a r → PartsOf s k r p → PartsOneOf s k ns p
-suspects_stop s k p ns a r within read parts = (r, among_got ns a r within read, parts)
 
 -- ---- a write's end
 

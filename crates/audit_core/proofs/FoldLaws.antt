@@ -24,7 +24,7 @@ use Rattle.audit_state.specs.declared.stores.Stores.{Stores}
 use Rattle.audit_state.specs.declared.versions.Versions.{Versions}
 use Rattle.audit_state.specs.declared.views.View.{View}
 use Rattle.audit_core.specs.Folds.{entry_place, folded, KnowsView}
-use Rattle.audit_core.specs.Known.{view_of}
+use Rattle.audit_core.specs.Known.{kept_view}
 use Rattle.audit_state.specs.Histories.{value_after}
 use Rattle.audit_state.specs.Places.{placed}
 use Rattle.audit_state.specs.Records.{record_digest, record_number}
@@ -117,7 +117,7 @@ so_far s i = take i s.lines.now
 abbrev by_of : Judge → ℕ → Policy
 by_of s i = policy_of (so_far s i)
 
-pub fold_known : (s : Judge) (i : ℕ) (k : ClusterKey) (x : View) (r : ℕ) (d : List ℕ) → KnowsView s i k x → record_digest s.records r ≡ Some d → folded s (view_of s k) r ≡ fold_of (by_of s i) k d (so_far s i)
+pub fold_known : (s : Judge) (i : ℕ) (k : ClusterKey) (x : View) (r : ℕ) (d : List ℕ) → KnowsView s i k x → record_digest s.records r ≡ Some d → folded s (kept_view s k) r ≡ fold_of (by_of s i) k d (so_far s i)
 fold_known s i k x r d known named =
     ap (λ (o : Option View). folded s o r) known.there
     ∙ (ap (λ (by : Policy). fold (λ v m. join by v (placed s.lines.now (entry_place s x r m.id))) (placed s.lines.now (hash.get nat_eq x.applied r)) x.members) known.knows.policy
@@ -132,6 +132,6 @@ fold_unknown s i k x d known e = sym (fold_of-none (by_of s i) k d (so_far s i) 
 
 -- and some did
 pub fold_found : (s : Judge) (i : ℕ) (k : ClusterKey) (x : View) (d : List ℕ) (r : ℕ) (vs : Versions) (place : Option ℕ) (v : Option Version) → KnowsView s i k x → record_number s.records d ≡ Some r → vs.lines.now ≡ s.lines.now
-    → placed s.lines.now place ≡ folded s (view_of s k) r → v ≡ placed vs.lines.now place → v ≡ fold_of (by_of s i) k d (so_far s i)
+    → placed s.lines.now place ≡ folded s (kept_view s k) r → v ≡ placed vs.lines.now place → v ≡ fold_of (by_of s i) k d (so_far s i)
 fold_found s i k x d r vs place v known e lines said found =
     found ∙ (ap (λ (ls : List Line). placed ls place) lines ∙ (said ∙ fold_known s i k x r d known (known.knows.stores.records.numbered.digests d r e)))

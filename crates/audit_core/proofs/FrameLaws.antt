@@ -19,10 +19,10 @@ use Rattle.audit_state.specs.declared.nodes.Node.{Node}
 use Rattle.audit_state.specs.declared.views.View.{View}
 use Rattle.audit_core.specs.Frames.{Both}
 use Rattle.audit_state.specs.Views.{entry_line}
-use Rattle.audit_core.specs.Known.{node_at, view_of, stamps_at}
+use Rattle.audit_core.specs.Known.{node_at, kept_view, stamps_at}
 use Rattle.audit_core.specs.NextFrames.{NextNode, NextView, FirstView, ViewAfter, NextFrame}
 use Rattle.audit_core.specs.Sees.{SeesNode, SeesView, SeesFrame}
-use Rattle.audit_core.specs.Stamped.{SeesStamps, finished_from}
+use Rattle.audit_core.specs.Stamped.{SeesStamps, exchanged_places_from}
 use Rattle.audit_core.proofs.LineLaws.{members_more, finished_more}
 use Rattle.audit_core.proofs.ShapeLaws.{before_any}
 use Rattle.audit_core.proofs.StampLaws.{stamps_more}
@@ -33,7 +33,7 @@ node_more : (j : List Line) (l : Line) (n : ℕ) (old new : Node) → SeesNode j
 node_more j l n old new h x = record {
   clock = x.clock ∙ (ap (λ (t : ℕ). clock_step n t l) h.clock ∙ sym (clock_of-more n j l));
   view = x.view ∙ (ap (λ (v : Option ClusterKey). view_step n v l) h.view ∙ sym (view-more n j l));
-  exchanged = x.exchanged ∙ (ap (λ (ps : List ℕ). ps ++ finished_from n (length j) (l ∷ [])) h.exchanged ∙ sym (finished_more n j l));
+  exchanged = x.exchanged ∙ (ap (λ (ps : List ℕ). ps ++ exchanged_places_from n (length j) (l ∷ [])) h.exchanged ∙ sym (finished_more n j l));
 }
 
 nodes_more : (j : List Line) (l : Line) (n : ℕ) (o q : Option Node) → ((node : Node) → o ≡ Some node → SeesNode j n node) → Both (NextNode n (length j) l) o q → (node : Node) → q ≡ Some node → SeesNode (j ++ l ∷ []) n node
@@ -143,7 +143,8 @@ frame_more old new j l i only f x = record {
     declared = λ n. both_there (NextNode n (length j) l) (node_at old n) (node_at new n) (x.nodes n) ∙ (f.header.declared n ∙ ap (λ (ns : List ℕ). has_node ns n) (sym (nodes_stay j l i)));
   };
   nodes = λ n. nodes_more j l n (node_at old n) (node_at new n) (f.nodes n) (x.nodes n);
-  known_views = λ k. known_more j l k (view_of old k) (view_of new k) (f.known_views k) (x.views k);
-  views = λ k. views_more j l k (view_of old k) (view_of new k) (f.known_views k) (only.entered k) (only.exchanged k) (f.views k) (x.views k);
+  known_views = λ k. known_more j l k (kept_view old k) (kept_view new k) (f.known_views k)
+      (x.views k);
+  views = λ k. views_more j l k (kept_view old k) (kept_view new k) (f.known_views k) (only.entered k) (only.exchanged k) (f.views k) (x.views k);
   stamps = λ n p. subst (λ (factor : ℕ). SeesStamps factor (j ++ l ∷ []) n p (stamps_at new n p)) (sym (factor_stays j l i)) (stamps_more (factor_of j) j l n p (stamps_at old n p) (stamps_at new n p) (f.stamps n p) (x.stamps n p));
 }

@@ -16,11 +16,11 @@ use Rattle.audit_laws.proofs.Headers.{IsBare, bare-more, nodes-more}
 use Rattle.audit_core.specs.declared.judge.Judge.{Judge}
 use Rattle.audit_state.specs.declared.nodes.Node.{Node}
 use Rattle.audit_state.specs.declared.stores.Stores.{Stores}
-use Rattle.audit_core.specs.Known.{node_at, is_declared, view_of, stamps_at}
+use Rattle.audit_core.specs.Known.{node_at, is_declared, kept_view, stamps_at}
 use Rattle.audit_state.specs.Nodes.{IsFreshNode}
 use Rattle.audit_state.specs.Records.{AreNone}
 use Rattle.audit_state.specs.Stores.{history_of, held_of, touched_of, holding_of, changes_of}
-use Rattle.audit_core.specs.Sees.{SeesHeader, Sees}
+use Rattle.audit_core.specs.Sees.{SeesHeader, SeesJournal}
 use Rattle.audit_core.specs.Steps.{KnowsNoEvents, DeclaresNode, ReadsHeader}
 use Rattle.audit_core.proofs.BareLaws.{bare_state}
 use Rattle.audit_core.proofs.VerdictLaws.{taken_next}
@@ -102,7 +102,7 @@ no_events old new e h = record {
   touched = λ n p. ap (λ (s : Stores). touched_of s n p) e.stores ∙ h.touched n p;
   holding = λ n p. ap (λ (s : Stores). holding_of s n p) e.stores ∙ h.holding n p;
   changes = λ n p. ap (λ (s : Stores). changes_of s n p) e.stores ∙ h.changes n p;
-  views = λ k. ap (λ (s : Judge). view_of s k) (views_as e.views) ∙ h.views k;
+  views = λ k. ap (λ (s : Judge). kept_view s k) (views_as e.views) ∙ h.views k;
   stamps = λ n p. ap (λ (s : Judge). stamps_at s n p) (stamps_as e.stamps) ∙ h.stamps n p;
   covers = λ c. ap (λ (s : Judge). hash.get nat_eq s.covers c) (covers_as e.covers) ∙ h.covers c;
 }
@@ -180,7 +180,7 @@ bare_so j l i e = go (is_header l) i e
     go false i e = differ i refl
 
 header_next : (old new : Judge) (i : ℕ) (all j : List Line) (l : Line) → take (i + 1) all ≡ j ++ l ∷ [] → IsBare j → is_header l ≡ true → ReadsHeader l old new
-    → old.lines.now ≡ all → old.begun ≡ not (list_all is_header j) → SeesHeader old j → KnowsNoEvents old → Sees new (i + 1) all
+    → old.lines.now ≡ all → old.begun ≡ not (list_all is_header j) → SeesHeader old j → KnowsNoEvents old → SeesJournal new (i + 1) all
 header_next old new i all j l next bare is reads lines begun header events =
     let same : SameEvents old new = same_events l old new is reads events in
     let bare_now : IsBare (take (i + 1) all) = subst IsBare (sym next) (bare-more j l bare is) in
@@ -191,7 +191,7 @@ header_next old new i all j l next bare is reads lines begun header events =
       bare = λ e. known;
     }
 
-pub header_more : (old new : Judge) (i : ℕ) (all : List Line) (l : Line) → slice_get all i ≡ Some l → is_header l ≡ true → follows_header (take i all) l ≡ true → ReadsHeader l old new → Sees old i all → Sees new (i + 1) all
+pub header_more : (old new : Judge) (i : ℕ) (all : List Line) (l : Line) → slice_get all i ≡ Some l → is_header l ≡ true → follows_header (take i all) l ≡ true → ReadsHeader l old new → SeesJournal old i all → SeesJournal new (i + 1) all
 header_more old new i all l e is follows reads h =
     let bare : IsBare (take i all) = bare_so (take i all) l is follows in
     header_next old new i all (take i all) l (taken_next all i l e) bare is reads h.state.lines h.begun h.state.frame.header (h.bare bare)

@@ -29,7 +29,7 @@ use Rattle.audit_state.proofs.PlaceLaws.{equal_is}
 use Rattle.audit_core.specs.Audits.{so_far}
 use Rattle.audit_core.specs.Folds.{entry_place, folded}
 use Rattle.audit_core.specs.Holders.{content_now}
-use Rattle.audit_core.specs.Known.{view_at, view_of}
+use Rattle.audit_core.specs.Known.{view_at, kept_view}
 use Rattle.audit_core.specs.Stored.{read_of}
 use Rattle.audit_core.specs.Trying.{SeesLines, joins_at, JoinsRecord, PartsRecord}
 use Rattle.audit_core.proofs.BoundLaws.{view_entered, present_so}
@@ -40,8 +40,8 @@ by_of s i = policy_of (so_far s i)
 
 -- ---- what is known of a record
 
-pub fold_then : (s : Judge) (i : ℕ) (k : ClusterKey) (x : View) (r : ℕ) (d : List ℕ) → SeesLines s i → view_of s k ≡ Some x → record_digest s.records r ≡ Some d
-    → folded s (view_of s k) r ≡ fold_of (by_of s i) k d (so_far s i)
+pub fold_then : (s : Judge) (i : ℕ) (k : ClusterKey) (x : View) (r : ℕ) (d : List ℕ) → SeesLines s i → kept_view s k ≡ Some x → record_digest s.records r ≡ Some d
+    → folded s (kept_view s k) r ≡ fold_of (by_of s i) k d (so_far s i)
 fold_then s i k x r d h there named =
     ap (λ (o : Option View). folded s o r) there
     ∙ (ap (λ (by : Policy). fold (λ v m. join by v (placed s.lines.now (entry_place s x r m.id))) (placed s.lines.now (hash.get Rattle.std.specs.Prelude.nat_eq x.applied r)) x.members) h.frame.header.policy
@@ -112,20 +112,20 @@ all_pass f (m ∷ ns) h = and_from (f m) _ (h m (ap (λ (b : Bool). b || list_an
     later true c q = refl
     later false c q = q
 
-pub replicas_are : (s : Judge) (i : ℕ) (k : ClusterKey) (p : ℕ) (d : List ℕ) (x : View) (n : ℕ) → SeesLines s i → partition_of d ≡ p → view_of s k ≡ Some x
+pub replicas_are : (s : Judge) (i : ℕ) (k : ClusterKey) (p : ℕ) (d : List ℕ) (x : View) (n : ℕ) → SeesLines s i → partition_of d ≡ p → kept_view s k ≡ Some x
     → list_any (λ m. m == n) (take s.factor (lists.list x.ranks p)) ≡ is_replica (factor_of (so_far s i)) k (partition_of d) n (so_far s i)
 replicas_are s i k p d x n h part there =
     ap₂ (λ (factor : ℕ) (ms : List Member). lists.is_replica_of n ms p factor) h.frame.header.factor (h.frame.views k x there).ranks
     ∙ ap (λ (q : ℕ). lists.is_replica_of n (members k (so_far s i)) q (factor_of (so_far s i))) (sym part)
 
-pub joined_so : (s : Judge) (k : ClusterKey) (r p : ℕ) (x : View) (place : Option ℕ) (b : Bool) → view_of s k ≡ Some x → placed s.lines.now place ≡ folded s (view_of s k) r
+pub joined_so : (s : Judge) (k : ClusterKey) (r p : ℕ) (x : View) (place : Option ℕ) (b : Bool) → kept_view s k ≡ Some x → placed s.lines.now place ≡ folded s (kept_view s k) r
     → b ≡ list_all (joins_at s k r place) (take s.factor (lists.list x.ranks p)) → b ≡ true → JoinsRecord s k r p
 unfolding JoinsRecord
 joined_so s k r p x place b there said told e i d h is n replica in_view =
     joins_then s i k r d place n h is.named (said ∙ fold_then s i k x r d h there is.named)
     (passed (joins_at s k r place) (take s.factor (lists.list x.ranks p)) n (sym told ∙ e) (replicas_are s i k p d x n h is.part there ∙ replica)) in_view
 
-pub parted_so : (s : Judge) (k : ClusterKey) (r p : ℕ) (x : View) (place : Option ℕ) (b : Bool) → view_of s k ≡ Some x → placed s.lines.now place ≡ folded s (view_of s k) r
+pub parted_so : (s : Judge) (k : ClusterKey) (r p : ℕ) (x : View) (place : Option ℕ) (b : Bool) → kept_view s k ≡ Some x → placed s.lines.now place ≡ folded s (kept_view s k) r
     → b ≡ list_all (joins_at s k r place) (take s.factor (lists.list x.ranks p)) → b ≡ false → PartsRecord s k r p
 unfolding PartsRecord
 parted_so s k r p x place b there said told e i d h is join =
@@ -133,6 +133,7 @@ parted_so s k r p x place b there said told e i d h is join =
     (λ n among. joins_when s i k r d place n h is.named (said ∙ fold_then s i k x r d h there is.named) (join n (sym (replicas_are s i k p d x n h is.part there) ∙ among)))) e
 
 -- nobody is in a view that isn't known
-pub joined_none : (s : Judge) (k : ClusterKey) (r p : ℕ) → view_of s k ≡ None → JoinsRecord s k r p
+pub joined_none : (s : Judge) (k : ClusterKey) (r p : ℕ) → kept_view s k ≡ None
+    → JoinsRecord s k r p
 unfolding JoinsRecord
 joined_none s k r p none i d h is n replica in_view = differ (h.frame.known_views k ∙ view_entered n k (so_far s i) in_view) (ap is_some none)

@@ -12,10 +12,11 @@ use Rattle.audit_core.specs.declared.judge.Judge.{Judge}
 use Rattle.audit_state.specs.declared.stamps.Stamps.{Stamps}
 use Rattle.audit_state.specs.Histories.{AreUpTo}
 use Rattle.audit_core.specs.Known.{node_at, stamps_at}
-use Rattle.audit_core.specs.Stamped.{IsRising, change_at, whole_of}
+use Rattle.audit_core.specs.Stamped.{StandInOrder, change_at, whole_of}
 use Rattle.audit_state.specs.Stamps.{judged_of, wholes_of, whole_changes}
 use Rattle.audit_core.specs.Steps.{ChangesStamps, SameStamps, HasJudged}
-use Rattle.audit_core.specs.Wholes.{AreRising, JudgesRight, JudgesSome, exchanged_by, makes_whole}
+use Rattle.audit_core.specs.Wholes.{AreAscending, JudgesRight, JudgesSome, exchanged_by}
+use Rattle.audit_core.specs.Wholes.{makes_whole}
 use Rattle.audit_core.proofs.LineLaws.{not_same}
 use Rattle.audit_core.proofs.ShapeLaws.{declared_last}
 use Rattle.audit_core.proofs.StampLaws.{or_else, change_more, or_none, rising_push}
@@ -37,7 +38,7 @@ all_at P [] i a h e = absurd (no_some e)
 all_at P (n ∷ ns) zero a h e = subst P (some_same e) (All-head P n ns h)
 all_at P (n ∷ ns) (suc i) a h e = all_at P ns i a (All-tail P n ns h) e
 
-pub rising_under : (ns : List ℕ) (i a b : ℕ) → AreRising ns → slice_get ns i ≡ Some a → has_node (take i ns) b ≡ true → b < a
+pub rising_under : (ns : List ℕ) (i a b : ℕ) → AreAscending ns → slice_get ns i ≡ Some a → has_node (take i ns) b ≡ true → b < a
 rising_under [] i a b r e h = absurd (no_some e)
 rising_under (n ∷ ns) zero a b r e h = differ h refl
 rising_under (n ∷ ns) (suc i) a b r e h = go (n == b) refl h (rising_under ns i a b r.1 e)
@@ -46,7 +47,7 @@ rising_under (n ∷ ns) (suc i) a b r e h = go (n == b) refl h (rising_under ns 
     go true q f rest = subst (λ (m : ℕ). m < a) (number_same n b q) (all_at (λ (m : ℕ). n < m) ns i a r.0 e)
     go false q f rest = rest f
 
-not_yet : (ns : List ℕ) (i a : ℕ) → AreRising ns → slice_get ns i ≡ Some a → has_node (take i ns) a ≡ false
+not_yet : (ns : List ℕ) (i a : ℕ) → AreAscending ns → slice_get ns i ≡ Some a → has_node (take i ns) a ≡ false
 not_yet ns i a r e = go (has_node (take i ns) a) refl
   where
     go : (b : Bool) → has_node (take i ns) a ≡ b → b ≡ false
@@ -74,7 +75,7 @@ still_among ns a b apart =
     other : (a b : ℕ) → (b ≡ a → ⊥) → (a == b) ≡ false
     other a b apart = not_same b a apart
 
-wholes_judged : (ns : List ℕ) (cs : List Change) (i a : ℕ) (test : ℕ → Bool) → AreRising ns → slice_get ns i ≡ Some a
+wholes_judged : (ns : List ℕ) (cs : List Change) (i a : ℕ) (test : ℕ → Bool) → AreAscending ns → slice_get ns i ≡ Some a
     → ((b : ℕ) → change_at cs b ≡ whole_of (has_node (take i ns) b && test b) b)
     → (b : ℕ) → change_at (cs ++ whole_changes (test a) a) b ≡ whole_of (has_node (take i ns ++ a ∷ []) b && test b) b
 wholes_judged ns cs i a test r e h b = change_more cs (whole_changes (test a) a) b ∙ go (cases_eq b a)
@@ -90,10 +91,10 @@ wholes_judged ns cs i a test r e h b = change_more cs (whole_changes (test a) a)
         ap (or_else (change_at cs b)) (whole_apart (test a) a b apart)
         ∙ (or_none (change_at cs b) ∙ (h b ∙ ap (λ (c : Bool). whole_of (c && test b) b) (sym (still_among (take i ns) a b apart))))
 
-order_judged : (ns : List ℕ) (cs : List Change) (i a : ℕ) (w : Bool) → AreRising ns → slice_get ns i ≡ Some a → IsRising cs → All (λ (c : Change). has_node (take i ns) c.line ≡ true) cs → IsRising (cs ++ whole_changes w a)
+order_judged : (ns : List ℕ) (cs : List Change) (i a : ℕ) (w : Bool) → AreAscending ns → slice_get ns i ≡ Some a → StandInOrder cs → All (λ (c : Change). has_node (take i ns) c.line ≡ true) cs → StandInOrder (cs ++ whole_changes w a)
 order_judged ns cs i a true r e o h =
     rising_push cs (record { line = a; value = Some a }) o (All-weaker (λ (c : Change). has_node (take i ns) c.line ≡ true) (λ (c : Change). c.line < a) (λ c q. rising_under ns i a c.line r e q) cs h)
-order_judged ns cs i a false r e o h = subst IsRising (sym (append-nil cs)) o
+order_judged ns cs i a false r e o h = subst StandInOrder (sym (append-nil cs)) o
 
 lines_judged : (ns : List ℕ) (cs : List Change) (i a : ℕ) (w : Bool) → All (λ (c : Change). has_node (take i ns) c.line ≡ true) cs → All (λ (c : Change). has_node (take i ns ++ a ∷ []) c.line ≡ true) (cs ++ whole_changes w a)
 lines_judged ns cs i a w h = go w
@@ -108,7 +109,7 @@ lines_judged ns cs i a w h = go w
 
 -- ---- the step
 
-pub judged_more : (s : Judge) (n p a : ℕ) (x y : Option Stamps) → AreRising (exchanged_by (node_at s n)) → slice_get (exchanged_by (node_at s n)) (judged_of x) ≡ Some a → JudgesRight s n p x
+pub judged_more : (s : Judge) (n p a : ℕ) (x y : Option Stamps) → AreAscending (exchanged_by (node_at s n)) → slice_get (exchanged_by (node_at s n)) (judged_of x) ≡ Some a → JudgesRight s n p x
     → HasJudged a (makes_whole s n p (slice_get s.lines.now a)) x y → JudgesRight s n p y
 judged_more s n p a x y r e h q =
     let more : take (judged_of y) (exchanged_by (node_at s n)) ≡ take (judged_of x) (exchanged_by (node_at s n)) ++ a ∷ [] =
@@ -118,14 +119,14 @@ judged_more s n p a x y r e h q =
       wholes = λ b. ap (λ (cs : List Change). change_at cs b) q.wholes
           ∙ (wholes_judged (exchanged_by (node_at s n)) (wholes_of x) (judged_of x) a (λ (c : ℕ). makes_whole s n p (slice_get s.lines.now c)) r e h.wholes b
           ∙ ap (λ (ms : List ℕ). whole_of (has_node ms b && makes_whole s n p (slice_get s.lines.now b)) b) (sym more));
-      order = subst IsRising (sym q.wholes) (order_judged (exchanged_by (node_at s n)) (wholes_of x) (judged_of x) a (makes_whole s n p (slice_get s.lines.now a)) r e h.order h.lines);
+      order = subst StandInOrder (sym q.wholes) (order_judged (exchanged_by (node_at s n)) (wholes_of x) (judged_of x) a (makes_whole s n p (slice_get s.lines.now a)) r e h.order h.lines);
       lines = subst (λ (ms : List ℕ). All (λ (c : Change). has_node ms c.line ≡ true) (wholes_of y)) (sym more)
           (subst (All (λ (c : Change). has_node (take (judged_of x) (exchanged_by (node_at s n)) ++ a ∷ []) c.line ≡ true)) (sym q.wholes)
           (lines_judged (exchanged_by (node_at s n)) (wholes_of x) (judged_of x) a (makes_whole s n p (slice_get s.lines.now a)) h.lines));
     }
 
 -- a further `exchanged` line stands behind those that were judged
-pub judged_behind : (s : Judge) (n p a : ℕ) (x : Option Stamps) → AreRising (exchanged_by (node_at s n)) → slice_get (exchanged_by (node_at s n)) (judged_of x) ≡ Some a → JudgesRight s n p x → AreUpTo a (wholes_of x)
+pub judged_behind : (s : Judge) (n p a : ℕ) (x : Option Stamps) → AreAscending (exchanged_by (node_at s n)) → slice_get (exchanged_by (node_at s n)) (judged_of x) ≡ Some a → JudgesRight s n p x → AreUpTo a (wholes_of x)
 judged_behind s n p a x r e h =
     All-weaker (λ (c : Change). has_node (take (judged_of x) (exchanged_by (node_at s n))) c.line ≡ true) (λ (c : Change). c.line ≤ a)
     (λ c q. let below : c.line < a = rising_under (exchanged_by (node_at s n)) (judged_of x) a c.line r e q in omega arith) (wholes_of x) h.lines
@@ -137,15 +138,12 @@ judged_same old new n p x y rest j w h =
     record {
       judged = subst (λ (i : ℕ). i ≤ length (exchanged_by (node_at new n))) (sym j) moved.judged;
       wholes = λ a. ap (λ (cs : List Change). change_at cs a) w ∙ (moved.wholes a ∙ ap (λ (i : ℕ). whole_of (has_node (take i (exchanged_by (node_at new n))) a && makes_whole new n p (slice_get new.lines.now a)) a) (sym j));
-      order = subst IsRising (sym w) moved.order;
+      order = subst StandInOrder (sym w) moved.order;
       lines = subst (λ (i : ℕ). All (λ (c : Change). has_node (take i (exchanged_by (node_at new n))) c.line ≡ true) (wholes_of y)) (sym j)
           (subst (All (λ (c : Change). has_node (take (judged_of x) (exchanged_by (node_at new n))) c.line ≡ true)) (sym w) moved.lines);
     }
 
 -- ---- several of them
-
-rest_nodes : (old new : Judge) (n : ℕ) → record new { stamps = old.stamps } ≡ old → exchanged_by (node_at new n) ≡ exchanged_by (node_at old n)
-rest_nodes old new n e = ap (λ (s : Judge). exchanged_by (node_at s n)) e
 
 pub opened_some : (n p : ℕ) (old new : Judge) → ChangesStamps SameStamps n p old new → JudgesRight old n p (stamps_at old n p) → JudgesSome n p (judged_of (stamps_at old n p)) old new
 opened_some n p old new c h = record {
@@ -157,7 +155,7 @@ opened_some n p old new c h = record {
   others = c.others;
 }
 
-pub line_some : (n p i a : ℕ) (old new : Judge) → AreRising (exchanged_by (node_at old n)) → slice_get (exchanged_by (node_at old n)) i ≡ Some a → judged_of (stamps_at old n p) ≡ i → JudgesRight old n p (stamps_at old n p)
+pub line_some : (n p i a : ℕ) (old new : Judge) → AreAscending (exchanged_by (node_at old n)) → slice_get (exchanged_by (node_at old n)) i ≡ Some a → judged_of (stamps_at old n p) ≡ i → JudgesRight old n p (stamps_at old n p)
     → ChangesStamps (HasJudged a (makes_whole old n p (slice_get old.lines.now a))) n p old new → JudgesSome n p (i + 1) old new
 line_some n p i a old new r e j h c = record {
   rest = c.rest;
@@ -168,25 +166,3 @@ line_some n p i a old new r e j h c = record {
   there = c.here.there;
   others = c.others;
 }
-
-pub some_then : (n p i k : ℕ) (a b c : Judge) → JudgesSome n p i a b → JudgesSome n p k b c → JudgesSome n p k a c
-some_then n p i k a b c g h = record {
-  rest = ap (λ (s : Judge). record s { stamps = a.stamps }) h.rest ∙ g.rest;
-  marks = h.marks ∙ g.marks;
-  right = h.right;
-  judged = h.judged;
-  there = h.there;
-  others = λ m q e. h.others m q e ∙ g.others m q e;
-}
-
-pub some_rises : (n p i : ℕ) (old new : Judge) → JudgesSome n p i old new → AreRising (exchanged_by (node_at old n)) → AreRising (exchanged_by (node_at new n))
-some_rises n p i old new h r = subst AreRising (sym (rest_nodes old new n h.rest)) r
-
-pub some_count : (n p i : ℕ) (old new : Judge) → JudgesSome n p i old new → length (exchanged_by (node_at new n)) ≡ length (exchanged_by (node_at old n))
-some_count n p i old new h = ap length (rest_nodes old new n h.rest)
-
--- the number of a line that is there
-pub not_behind : (ns : List ℕ) (i : ℕ) → i < length ns → slice_get ns i ≡ None → ⊥
-not_behind [] i h e = absurd (omega (arith, h))
-not_behind (n ∷ ns) zero h e = no_some (sym e)
-not_behind (n ∷ ns) (suc i) h e = not_behind ns i (omega (arith, h)) e

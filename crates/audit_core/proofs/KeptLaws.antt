@@ -10,7 +10,7 @@ use Rattle.audit_state.specs.Records.{record_number, record_digest, KeepsNumbers
 use Rattle.audit_state.specs.Written.{WritesRecord}
 use Rattle.audit_core.specs.Bringing.{AppliesWrite, KeepsLines}
 use Rattle.audit_core.specs.Frames.{Both}
-use Rattle.audit_core.specs.Known.{view_of}
+use Rattle.audit_core.specs.Known.{kept_view}
 use Rattle.audit_core.specs.Steps.{ChangesView}
 
 -- the newest version is raised, the version comes to the node, and the view has the write
@@ -23,9 +23,9 @@ write_kept old rs held new line r p q k part numbers keeps changes = record {
     numbers = λ d. ap (λ (s : Judge). record_number s.records d) changes.rest ∙ (keeps.numbers.numbers d ∙ numbers.numbers d);
     digests = λ n. ap (λ (s : Judge). record_digest s.records n) changes.rest ∙ (keeps.numbers.digests n ∙ numbers.digests n);
   };
-  here = subst (λ (m : ℕ). Both (WritesRecord old.by old.lines.now line r m) (view_of old k) (view_of new k)) part
-      (subst (λ (o : Option View). Both (WritesRecord old.by old.lines.now line r p) o (view_of new k)) (ap (λ (s : Judge). view_of s k) keeps.rest)
-      (subst (λ (by : Policy). Both (WritesRecord by old.lines.now line r p) (view_of held k) (view_of new k)) (ap (λ (s : Judge). s.by) keeps.rest)
-      (subst (λ (ls : List Line). Both (WritesRecord held.by ls line r p) (view_of held k) (view_of new k)) (ap (λ (s : Judge). s.lines.now) keeps.rest) changes.here)));
-  others = λ l e. changes.others l e ∙ ap (λ (s : Judge). view_of s l) keeps.rest;
+  here = subst (λ (m : ℕ). Both (WritesRecord old.by old.lines.now line r m) (kept_view old k) (kept_view new k)) part
+      (subst (λ (o : Option View). Both (WritesRecord old.by old.lines.now line r p) o (kept_view new k)) (ap (λ (s : Judge). kept_view s k) keeps.rest)
+      (subst (λ (by : Policy). Both (WritesRecord by old.lines.now line r p) (kept_view held k) (kept_view new k)) (ap (λ (s : Judge). s.by) keeps.rest)
+      (subst (λ (ls : List Line). Both (WritesRecord held.by ls line r p) (kept_view held k) (kept_view new k)) (ap (λ (s : Judge). s.lines.now) keeps.rest) changes.here)));
+  others = λ l e. changes.others l e ∙ ap (λ (s : Judge). kept_view s l) keeps.rest;
 }

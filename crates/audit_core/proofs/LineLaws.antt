@@ -11,7 +11,7 @@ use Rattle.journal_readings.specs.Lines.{same_key, has_node}
 use Rattle.journal_readings.specs.Views.{members}
 use Rattle.audit_laws.specs.Fits.{enters_key}
 use Rattle.audit_laws.proofs.Tests.{differ, number_same}
-use Rattle.audit_core.specs.Stamped.{finishes, finished_from, finished}
+use Rattle.audit_core.specs.Stamped.{finishes_exchange, exchanged_places_from, exchanged_places}
 
 -- ---- lines by their places
 
@@ -51,34 +51,34 @@ members_more k (x ∷ j) l = members_more k j l
 
 -- that of this line, if it is one
 abbrev pub finished_now : ℕ → ℕ → Line → List ℕ
-finished_now n place l = finished_from n place (l ∷ [])
+finished_now n place l = exchanged_places_from n place (l ∷ [])
 
-finished_on : (n place : ℕ) (j : List Line) (l : Line) → finished_from n place (j ++ l ∷ []) ≡ finished_from n place j ++ finished_now n (place + length j) l
+finished_on : (n place : ℕ) (j : List Line) (l : Line) → exchanged_places_from n place (j ++ l ∷ []) ≡ exchanged_places_from n place j ++ finished_now n (place + length j) l
 finished_on n place [] l = ap (λ (q : ℕ). finished_now n q l) (let e : place ≡ place + 0 = omega arith in e)
-finished_on n place (x ∷ j) l = go (finishes n x)
-    (finished_on n (place + 1) j l ∙ ap (λ (q : ℕ). finished_from n (place + 1) j ++ finished_now n q l) (let e : (place + 1) + length j ≡ place + length (x ∷ j) = omega arith in e))
+finished_on n place (x ∷ j) l = go (finishes_exchange n x)
+    (finished_on n (place + 1) j l ∙ ap (λ (q : ℕ). exchanged_places_from n (place + 1) j ++ finished_now n q l) (let e : (place + 1) + length j ≡ place + length (x ∷ j) = omega arith in e))
   where
-    go : (b : Bool) → finished_from n (place + 1) (j ++ l ∷ []) ≡ finished_from n (place + 1) j ++ finished_now n (place + length (x ∷ j)) l
-        → cond b (place ∷ finished_from n (place + 1) (j ++ l ∷ [])) (finished_from n (place + 1) (j ++ l ∷ [])) ≡ cond b (place ∷ finished_from n (place + 1) j) (finished_from n (place + 1) j) ++ finished_now n (place + length (x ∷ j)) l
+    go : (b : Bool) → exchanged_places_from n (place + 1) (j ++ l ∷ []) ≡ exchanged_places_from n (place + 1) j ++ finished_now n (place + length (x ∷ j)) l
+        → cond b (place ∷ exchanged_places_from n (place + 1) (j ++ l ∷ [])) (exchanged_places_from n (place + 1) (j ++ l ∷ [])) ≡ cond b (place ∷ exchanged_places_from n (place + 1) j) (exchanged_places_from n (place + 1) j) ++ finished_now n (place + length (x ∷ j)) l
     go true e = ap (λ (ps : List ℕ). place ∷ ps) e
     go false e = e
 
-pub finished_more : (n : ℕ) (j : List Line) (l : Line) → finished n (j ++ l ∷ []) ≡ finished n j ++ finished_now n (length j) l
-finished_more n j l = finished_on n 0 j l ∙ ap (λ (q : ℕ). finished n j ++ finished_now n q l) (zero-add (length j))
+pub finished_more : (n : ℕ) (j : List Line) (l : Line) → exchanged_places n (j ++ l ∷ []) ≡ exchanged_places n j ++ finished_now n (length j) l
+finished_more n j l = finished_on n 0 j l ∙ ap (λ (q : ℕ). exchanged_places n j ++ finished_now n q l) (zero-add (length j))
 
-pub finished_under : (n place : ℕ) (j : List Line) (a : ℕ) → has_node (finished_from n place j) a ≡ true → a < place + length j
+pub finished_under : (n place : ℕ) (j : List Line) (a : ℕ) → has_node (exchanged_places_from n place j) a ≡ true → a < place + length j
 finished_under n place [] a e = differ e refl
-finished_under n place (x ∷ j) a e = go (finishes n x) (finished_under n (place + 1) j a) e
+finished_under n place (x ∷ j) a e = go (finishes_exchange n x) (finished_under n (place + 1) j a) e
   where
-    here : (c : Bool) → (place == a) ≡ c → (has_node (finished_from n (place + 1) j) a ≡ true → a < (place + 1) + length j) → (c || has_node (finished_from n (place + 1) j) a) ≡ true → a < place + length (x ∷ j)
+    here : (c : Bool) → (place == a) ≡ c → (has_node (exchanged_places_from n (place + 1) j) a ≡ true → a < (place + 1) + length j) → (c || has_node (exchanged_places_from n (place + 1) j) a) ≡ true → a < place + length (x ∷ j)
     here true i rest q = let same : place ≡ a = number_same place a i in omega arith
     here false i rest q = let below : a < (place + 1) + length j = rest q in omega arith
 
-    go : (b : Bool) → (has_node (finished_from n (place + 1) j) a ≡ true → a < (place + 1) + length j) → has_node (cond b (place ∷ finished_from n (place + 1) j) (finished_from n (place + 1) j)) a ≡ true → a < place + length (x ∷ j)
+    go : (b : Bool) → (has_node (exchanged_places_from n (place + 1) j) a ≡ true → a < (place + 1) + length j) → has_node (cond b (place ∷ exchanged_places_from n (place + 1) j) (exchanged_places_from n (place + 1) j)) a ≡ true → a < place + length (x ∷ j)
     go true rest q = here (place == a) refl rest q
     go false rest q = let below : a < (place + 1) + length j = rest q in omega arith
 
-pub finished_below : (n : ℕ) (j : List Line) (a : ℕ) → has_node (finished n j) a ≡ true → a < length j
+pub finished_below : (n : ℕ) (j : List Line) (a : ℕ) → has_node (exchanged_places n j) a ≡ true → a < length j
 finished_below n j a e = let below : a < 0 + length j = finished_under n 0 j a e in omega arith
 
 pub among_first : (i : ℕ) (ns : List ℕ) (a : ℕ) → has_node (take i ns) a ≡ true → has_node ns a ≡ true

@@ -1,6 +1,7 @@
 -- What is tried of a line that may lose a version is what the law asks of it.
 use Rattle.std.proofs.Common.{◌≡◌, ℕ, ◌==◌, Bool, true, false, not, ◌&&◌, ◌||◌, List, [], ◌∷◌, Option, Some, None, option_map, ◌⊎◌, ◌↔◌, inl, inr, refl, sym, ap, ap₂, subst, ◌∙◌, arith, is_some}
-use Rattle.std.specs.Prelude.{map, filter, take, nat_lt, IsTrue}
+use Rattle.std.specs.Prelude.{map, filter, take, nat_eq, nat_lt, IsTrue}
+use Rattle.std.specs.Option.{option_eq}
 use Rattle.std.specs.List.{list_all, count_by}
 use Rattle.std.proofs.lemmas.Bool.{or_left, or_right, and_from, cases_Bool}
 use Rattle.conflict_order.specs.declared.policy.Policy.{Policy}
@@ -29,7 +30,10 @@ use Rattle.audit_state.specs.Stores.{history_of, held_of}
 use Rattle.audit_core.specs.Stored.{SeesRecords, SeesContents, SeesCopies, Knows, read_of}
 use Rattle.audit_state.proofs.HistoryLaws.{now_at}
 use Rattle.audit_core.proofs.HolderLaws.{held_elsewhere, count_same}
-use Rattle.audit_state.proofs.PlaceLaws.{at_most_is, at_most_so}
+use Rattle.audit_state.proofs.PlaceLaws.{at_most_is, at_most_so, none_at_most}
+use Rattle.conflict_order.proofs.OrderLaws.{AtMost_eq}
+use Rattle.audit_state.specs.Histories.{value_after}
+use Rattle.audit_core.specs.Trying.{covers_record}
 
 all_at : (f : ℕ → Bool) (xs : List ℕ) (r : ℕ) → list_all f xs ≡ true → has_node xs r ≡ true → f r ≡ true
 all_at f [] r h e = differ e refl
@@ -150,19 +154,74 @@ below_said s vs r place o b lines policy newest said =
     ∙ (ap (λ (ls : List Line). is_at_most s.by (placed_version ls place) (placed ls o)) lines
     ∙ ap (λ (x : Option ℕ). is_at_most s.by (placed_version s.lines.now place) (placed s.lines.now x)) newest))
 
-holds_by : (s : Judge) (vs : Versions) (n r : ℕ) (newest held : Option ℕ) → vs.lines.now ≡ s.lines.now → vs.by ≡ s.by → newest ≡ newest_of s.records r → held ≡ content_now s n r
-    → holds_top vs.by (placed vs.lines.now newest) (placed vs.lines.now held) ≡ holds_newest s n r
-holds_by s vs n r newest held lines policy e f =
+newest_by : (s : Judge) (vs : Versions) (r : ℕ) (newest held : Option ℕ)
+    → vs.lines.now ≡ s.lines.now → vs.by ≡ s.by → newest ≡ newest_of s.records r
+    → holds_top vs.by (placed vs.lines.now newest) (placed vs.lines.now held)
+    ≡ holds_top s.by (placed s.lines.now (newest_of s.records r)) (placed s.lines.now held)
+newest_by s vs r newest held lines policy e =
     ap (λ (by : Policy). holds_top by (placed vs.lines.now newest) (placed vs.lines.now held)) policy
     ∙ (ap (λ (ls : List Line). holds_top s.by (placed ls newest) (placed ls held)) lines
-    ∙ ap₂ (λ (x y : Option ℕ). holds_top s.by (placed s.lines.now x) (placed s.lines.now y)) e f)
+    ∙ ap (λ (x : Option ℕ). holds_top s.by (placed s.lines.now x) (placed s.lines.now held)) e)
 
-pub holds_then : (s : Judge) (vs : Versions) (n r : ℕ) (newest held : Option ℕ) (has b : Bool) → vs.lines.now ≡ s.lines.now → vs.by ≡ s.by → newest ≡ newest_of s.records r → held ≡ content_now s n r
-    → has ≡ is_some (placed vs.lines.now newest) → has ≡ true → b ≡ is_at_most vs.by (placed vs.lines.now newest) (placed vs.lines.now held) → b ≡ holds_newest s n r
-holds_then s vs n r newest held has b lines policy e f said t at_most =
-    at_most ∙ (sym (ap (λ (x : Bool). x && is_at_most vs.by (placed vs.lines.now newest) (placed vs.lines.now held)) (sym said ∙ t)) ∙ holds_by s vs n r newest held lines policy e f)
+pub newest_then : (s : Judge) (vs : Versions) (r : ℕ) (newest held : Option ℕ) (has b : Bool)
+    → vs.lines.now ≡ s.lines.now → vs.by ≡ s.by → newest ≡ newest_of s.records r
+    → has ≡ is_some (placed vs.lines.now newest) → has ≡ true
+    → b ≡ is_at_most vs.by (placed vs.lines.now newest) (placed vs.lines.now held)
+    → b ≡ holds_top s.by (placed s.lines.now (newest_of s.records r)) (placed s.lines.now held)
+newest_then s vs r newest held has b lines policy e said t at_most =
+    at_most
+    ∙ (sym (ap (λ (x : Bool). x
+    && is_at_most vs.by (placed vs.lines.now newest) (placed vs.lines.now held)) (sym said ∙ t))
+    ∙ newest_by s vs r newest held lines policy e)
 
-pub holds_else : (s : Judge) (vs : Versions) (n r : ℕ) (newest : Option ℕ) (has : Bool) → vs.lines.now ≡ s.lines.now → vs.by ≡ s.by → newest ≡ newest_of s.records r
-    → has ≡ is_some (placed vs.lines.now newest) → has ≡ false → has ≡ holds_newest s n r
-holds_else s vs n r newest has lines policy e said t =
-    t ∙ (sym (ap (λ (x : Bool). x && is_at_most vs.by (placed vs.lines.now newest) (placed vs.lines.now (content_now s n r))) (sym said ∙ t)) ∙ holds_by s vs n r newest (content_now s n r) lines policy e refl)
+pub newest_else : (s : Judge) (vs : Versions) (r : ℕ) (newest held : Option ℕ) (has : Bool)
+    → vs.lines.now ≡ s.lines.now → vs.by ≡ s.by → newest ≡ newest_of s.records r
+    → has ≡ is_some (placed vs.lines.now newest) → has ≡ false
+    → has ≡ holds_top s.by (placed s.lines.now (newest_of s.records r)) (placed s.lines.now held)
+newest_else s vs r newest held has lines policy e said t =
+    t
+    ∙ (sym (ap (λ (x : Bool). x
+    && is_at_most vs.by (placed vs.lines.now newest) (placed vs.lines.now held)) (sym said ∙ t))
+    ∙ newest_by s vs r newest held lines policy e)
+
+-- ---- one version beside another
+
+-- two places that are tested equal are one
+pub same_place : (a b : Option ℕ) → option_eq nat_eq a b ≡ true → a ≡ b
+same_place None None e = refl
+same_place None (Some y) e = differ e refl
+same_place (Some x) None e = differ e refl
+same_place (Some x) (Some y) e = ap (λ (n : ℕ). Some n) (number_same x y e)
+
+pub at_most_itself : (by : Policy) (lines : List Line) (a b : Option ℕ) → a ≡ b
+    → true ≡ is_at_most by (placed lines a) (placed lines b)
+at_most_itself by lines a b e =
+    sym (at_most_so by (placed lines a) (placed lines b) (AtMost_eq (ap (placed lines) e)))
+
+pub at_most_there : (s : Judge) (vs : Versions) (a b : Option ℕ) (said : Bool)
+    → vs.lines.now ≡ s.lines.now → vs.by ≡ s.by
+    → said ≡ is_at_most vs.by (placed vs.lines.now a) (placed vs.lines.now b)
+    → said ≡ is_at_most s.by (placed s.lines.now a) (placed s.lines.now b)
+at_most_there s vs a b said lines policy told =
+    told
+    ∙ (ap (λ (by : Policy). is_at_most by (placed vs.lines.now a) (placed vs.lines.now b)) policy
+    ∙ ap (λ (ls : List Line). is_at_most s.by (placed ls a) (placed ls b)) lines)
+
+-- the member held nothing
+pub covers_nothing : (s : Judge) (n m of r : ℕ) (held : Option ℕ)
+    → held ≡ value_after (history_of s.stores m r) of → held ≡ None
+    → true ≡ covers_record s n m of r
+covers_nothing s n m of r held said none =
+    none_at_most s.by (placed s.lines.now (content_now s n r))
+    ∙ ap (λ (o : Option ℕ). is_at_most s.by (placed s.lines.now o)
+    (placed s.lines.now (content_now s n r))) (sym none ∙ said)
+
+pub covers_something : (s : Judge) (n m of r : ℕ) (held now : Option ℕ) (place : ℕ) (b : Bool)
+    → held ≡ value_after (history_of s.stores m r) of → held ≡ Some place
+    → now ≡ content_now s n r
+    → b ≡ is_at_most s.by (placed s.lines.now (Some place)) (placed s.lines.now now)
+    → b ≡ covers_record s n m of r
+covers_something s n m of r held now place b said some is told =
+    told
+    ∙ ap₂ (λ (x y : Option ℕ). is_at_most s.by (placed s.lines.now x) (placed s.lines.now y))
+    (sym some ∙ said) is

@@ -16,12 +16,12 @@ newest_by : (factor : ℕ) (k : ClusterKey) (p : ℕ) (j : List Line) (ids : Lis
 newest_by factor k p j ids None = refl
 newest_by factor k p j ids (Some l) = ap not (any_map (λ (w : Whole). has_key_above l w.key) (λ (n : ℕ). record { node = n; key = row_whole_key (row factor k n p j) }) ids)
 
-found_by : (f : ℕ → Option ClusterKey) (test : Option ClusterKey → Bool) (ids : List ℕ) → known.node_of (find (λ (w : Whole). test w.key) (known.with_keys f ids)) ≡ find (λ n. test (f n)) ids
+found_by : (f : ℕ → Option ClusterKey) (test : Option ClusterKey → Bool) (ids : List ℕ) → known.whole_node (find (λ (w : Whole). test w.key) (known.with_keys f ids)) ≡ find (λ n. test (f n)) ids
 found_by f test [] = refl
 found_by f test (n ∷ ids) = go (test (f n)) (found_by f test ids)
   where
-    go : (b : Bool) → known.node_of (find (λ (w : Whole). test w.key) (known.with_keys f ids)) ≡ find (λ n. test (f n)) ids
-        → known.node_of (cond b (Some (record { node = n; key = f n })) (find (λ (w : Whole). test w.key) (known.with_keys f ids))) ≡ cond b (Some n) (find (λ n. test (f n)) ids)
+    go : (b : Bool) → known.whole_node (find (λ (w : Whole). test w.key) (known.with_keys f ids)) ≡ find (λ n. test (f n)) ids
+        → known.whole_node (cond b (Some (record { node = n; key = f n })) (find (λ (w : Whole). test w.key) (known.with_keys f ids))) ≡ cond b (Some n) (find (λ n. test (f n)) ids)
     go true e = refl
     go false e = e
 
@@ -29,7 +29,7 @@ find_same : (f g : ℕ → Bool) (ids : List ℕ) → ((n : ℕ) → f n ≡ g n
 find_same f g [] h = refl
 find_same f g (n ∷ ids) h = ap₂ (λ (b : Bool) (o : Option ℕ). cond b (Some n) o) (h n) (find_same f g ids h)
 
-first_by : (f : ℕ → Option ClusterKey) (ids : List ℕ) (o : Option ℕ) → 0 < length ids → option_or o (known.node_of (slice_get (known.with_keys f ids) 0)) ≡ Some (unwrap_or o (slice_index ids 0))
+first_by : (f : ℕ → Option ClusterKey) (ids : List ℕ) (o : Option ℕ) → 0 < length ids → option_or o (known.whole_node (slice_get (known.with_keys f ids) 0)) ≡ Some (unwrap_or o (slice_index ids 0))
 first_by f [] o h = absurd (omega (arith, h))
 first_by f (n ∷ ids) None h = refl
 first_by f (n ∷ ids) (Some x) h = refl
@@ -40,7 +40,7 @@ pub acting_so : (factor : ℕ) (k : ClusterKey) (p : ℕ) (j : List Line)
     → known.first_newest (known.with_keys (λ n. row_whole_key (row factor k n p j)) (succession_list k p j)) ≡ Some (acting factor k p j)
 unfolding acting
 acting_so factor k p j h =
-    ap (λ (o : Option ℕ). option_or o (known.node_of (slice_get (known.with_keys (λ n. row_whole_key (row factor k n p j)) (succession_list k p j)) 0)))
+    ap (λ (o : Option ℕ). option_or o (known.whole_node (slice_get (known.with_keys (λ n. row_whole_key (row factor k n p j)) (succession_list k p j)) 0)))
     (found_by (λ n. row_whole_key (row factor k n p j)) (known.is_newest (known.with_keys (λ n. row_whole_key (row factor k n p j)) (succession_list k p j))) (succession_list k p j)
     ∙ find_same (λ n. known.is_newest (known.with_keys (λ n. row_whole_key (row factor k n p j)) (succession_list k p j)) (row_whole_key (row factor k n p j))) (λ n. is_newest_whole factor k p j (succession_list k p j) (row_whole_key (row factor k n p j))) (succession_list k p j)
     (λ n. newest_by factor k p j (succession_list k p j) (row_whole_key (row factor k n p j))))

@@ -1,6 +1,6 @@
 -- A line by which a version comes from another node.
 use Rattle.std.proofs.Common.{◌≡◌, ℕ, ◌+◌, ◌≤◌, Bool, true, false, not, ◌&&◌, ◌||◌, List, [], ◌∷◌, ◌++◌, Option, Some, None, option_map, ◌↔◌, ◌⊎◌, inl, inr, refl, sym, ap, ap₂, subst, ◌∙◌, arith}
-use Rattle.std.specs.Prelude.{take, slice_get, IsTrue, option_and_then}
+use Rattle.std.specs.Prelude.{take, slice_get, IsTrue, option_and_then, bytes_eq}
 use Rattle.conflict_order.specs.declared.policy.Policy.{Policy}
 use Rattle.conflict_order.specs.declared.version.Version.{Version}
 use Rattle.cluster_types.specs.ClusterKeys.{is_view_key}
@@ -8,7 +8,7 @@ use Rattle.cluster_types.specs.declared.cluster_key.ClusterKey.{ClusterKey}
 use Rattle.cluster_types.specs.Partitions.{partition_of}
 use Rattle.journal_lines.specs.declared.line.Line.{Line}
 use Rattle.journal_lines.specs.declared.line.Line.TheVariants as line
-use Rattle.journal_readings.specs.Lines.{same_key, same_digest, has_node}
+use Rattle.journal_readings.specs.Lines.{same_key, has_node}
 use Rattle.journal_readings.specs.Settings.{policy_of, nodes}
 use Rattle.journal_readings.specs.Settled.{is_open_write}
 use Rattle.journal_readings.specs.Shape.{Shape, named_nodes}
@@ -29,15 +29,15 @@ use Rattle.audit_state.specs.Places.{placed, placed_version, brought_version, is
 use Rattle.audit_state.specs.Records.{record_number, record_digest, Opens}
 use Rattle.audit_state.specs.Stores.{history_of}
 use Rattle.audit_state.specs.Written.{stand_of}
-use Rattle.audit_core.specs.Audits.{Comes, Takes, so_far}
+use Rattle.audit_core.specs.Audits.{Comes, AcceptsLine, so_far}
 use Rattle.audit_core.specs.Bringing.{KeepsLines}
 use Rattle.audit_core.specs.Covering.{SeesCovers, IsCover, Covers, cover_of}
 use Rattle.audit_core.specs.Frames.{Both, SameStand, KeepsFrame}
-use Rattle.audit_core.specs.Known.{node_at, view_at, view_of}
+use Rattle.audit_core.specs.Known.{node_at, view_at, kept_view}
 use Rattle.audit_core.specs.Sees.{SeesFrame, SeesStand, SeesWrites, SeesStays, SeesTried}
 use Rattle.audit_core.specs.Steps.{ChangesNode, HasChanged}
 use Rattle.audit_core.specs.Stored.{Knows, SeesContents, SeesStores, read_of}
-use Rattle.audit_core.specs.Trying.{SeesLines, SeesStands, IsRecord, IsTrying, KeepsKnown, TriesPresent, StopsRecord, with_present}
+use Rattle.audit_core.specs.Trying.{SeesLines, SeesStands, IsKnownRecord, IsTrying, KeepsKnown, TriesPresent, StopsRecord, tried_with_present}
 use Rattle.audit_core.specs.Verdicts.{StopsRightly}
 use Rattle.audit_core.proofs.BoundLaws.{present_so}
 use Rattle.audit_core.proofs.OpenLaws.{number_kept, digest_kept}
@@ -129,8 +129,8 @@ module _ (old opened held noted : Judge) (i n r : ℕ) (k : ClusterKey) (d : Lis
   opened_lines : opened.lines.now ≡ old.lines.now
   opened_lines = ap (λ (s : Judge). s.lines.now) x.rest
 
-  views_same : (l : ClusterKey) → view_of noted l ≡ view_of old l
-  views_same l = ap (λ (s : Judge). view_of s l) x.notes.rest ∙ (ap (λ (s : Judge). view_of s l) x.keeps.rest ∙ ap (λ (s : Judge). view_of s l) x.rest)
+  views_same : (l : ClusterKey) → kept_view noted l ≡ kept_view old l
+  views_same l = ap (λ (s : Judge). kept_view s l) x.notes.rest ∙ (ap (λ (s : Judge). kept_view s l) x.keeps.rest ∙ ap (λ (s : Judge). kept_view s l) x.rest)
 
   pub front_next : so_far noted (i + 1) ≡ so_far old i ++ line.Merge n k d v ∷ []
   front_next = ap (take (i + 1)) lines_now ∙ taken_next old.lines.now i (line.Merge n k d v) c.stands
@@ -152,7 +152,7 @@ module _ (old opened held noted : Judge) (i n r : ℕ) (k : ClusterKey) (d : Lis
     begun = ap (λ (s : Judge). s.begun) x.notes.rest ∙ (ap (λ (s : Judge). s.begun) x.keeps.rest ∙ ap (λ (s : Judge). s.begun) x.rest);
     nodes = λ m. subst (λ (o : Option Node). Both SameStand o (node_at noted m)) (ap (λ (s : Judge). node_at s m) x.keeps.rest ∙ ap (λ (s : Judge). node_at s m) x.rest)
         (changed_nodes (HasChanged r) n held noted x.notes (λ y. SameStand) (λ a b h. h.same) (λ y a e. record { view = refl; clock = refl; exchanged = refl }) m);
-    views = λ l. both_same SameEntries (λ y. same_entries (Some y)) (view_of old l) (view_of noted l) (views_same l);
+    views = λ l. both_same SameEntries (λ y. same_entries (Some y)) (kept_view old l) (kept_view noted l) (views_same l);
     stamps = ap (λ (s : Judge). s.stamps) x.notes.rest ∙ (ap (λ (s : Judge). s.stamps) x.keeps.rest ∙ ap (λ (s : Judge). s.stamps) x.rest);
   }
 
@@ -218,24 +218,24 @@ module _ (old opened held noted : Judge) (i n r : ℕ) (k : ClusterKey) (d : Lis
   present = present_so noted (i + 1) n lines_noted ∙ (ap (view n) front_next ∙ view-more n (so_far old i) (line.Merge n k d v))
 
   -- the record is tried in the node's view, and no other may part
-  all_here : (o : Option ClusterKey) → o ≡ view n (so_far old i) → (l : ClusterKey) (e : List ℕ) → with_present (unparted (so_far old i) (line.Merge n k d v)) o d l e ≡ true
-  all_here None h l e = none (same_digest d e) (is_view_key (view n (so_far old i)) l) (ap (λ (o : Option ClusterKey). is_view_key o l) (sym h))
+  all_here : (o : Option ClusterKey) → o ≡ view n (so_far old i) → (l : ClusterKey) (e : List ℕ) → tried_with_present (unparted (so_far old i) (line.Merge n k d v)) o d l e ≡ true
+  all_here None h l e = none (bytes_eq d e) (is_view_key (view n (so_far old i)) l) (ap (λ (o : Option ClusterKey). is_view_key o l) (sym h))
     where
       none : (a b : Bool) → b ≡ false → not (a && b) ≡ true
       none true b q = ap not q
       none false b q = refl
-  all_here (Some o) h l e = both (same_digest d e) (is_view_key (view n (so_far old i)) l) (same_key o l) (ap (λ (o : Option ClusterKey). is_view_key o l) (sym h))
+  all_here (Some o) h l e = both (bytes_eq d e) (is_view_key (view n (so_far old i)) l) (same_key o l) (ap (λ (o : Option ClusterKey). is_view_key o l) (sym h))
     where
       both : (a b z : Bool) → b ≡ z → (not (a && b) || (z && a)) ≡ true
       both true true z q = subst (λ (w : Bool). (false || (w && true)) ≡ true) q refl
       both true false z q = refl
       both false b z q = refl
 
-  pub merge_takes : (after : Judge) (p : ℕ) → p ≡ partition_of d → LosesNothing (so_far old i) (line.Merge n k d v) → TriesPresent (view_at noted n) None r p noted after → KeepsKnown noted after → Takes old after i (line.Merge n k d v)
+  pub merge_takes : (after : Judge) (p : ℕ) → p ≡ partition_of d → LosesNothing (so_far old i) (line.Merge n k d v) → TriesPresent (view_at noted n) None r p noted after → KeepsKnown noted after → AcceptsLine old after i (line.Merge n k d v)
   unfolding TriesPresent
   merge_takes after p part losses tries keeps =
-      let record_here : IsRecord noted r p d = record { named = named; part = sym part } in
-      let t : IsTrying after (i + 1) (with_present (unparted (so_far old i) (line.Merge n k d v)) (view_at noted n) d) = tries (i + 1) d (unparted (so_far old i) (line.Merge n k d v)) lines_noted record_here (λ l e. absurd (no_some e)) trying in
+      let record_here : IsKnownRecord noted r p d = record { named = named; part = sym part } in
+      let t : IsTrying after (i + 1) (tried_with_present (unparted (so_far old i) (line.Merge n k d v)) (view_at noted n) d) = tries (i + 1) d (unparted (so_far old i) (line.Merge n k d v)) lines_noted record_here (λ l e. absurd (no_some e)) trying in
       let tried : SeesTried after (so_far after (i + 1)) = all_tried after (i + 1) _ t (all_here (view_at noted n) present) in
       let seen : SeesLines after (i + 1) = lines_kept noted after (i + 1) keeps lines_noted in
       let lines : after.lines.now ≡ old.lines.now = ap (λ (s : Judge). s.lines.now) keeps.rest ∙ lines_now in

@@ -15,10 +15,11 @@ use Rattle.audit_state.specs.Histories.{AreBelow}
 use Rattle.audit_core.specs.Known.{node_at, stamps_at}
 use Rattle.audit_core.specs.Covering.{SeesCovers}
 use Rattle.audit_core.specs.Sees.{SeesTried, SeesWrites, SeesStays, SeesState}
-use Rattle.audit_core.specs.Stamped.{SeesStamps, IsRising, change_at, whole_of, finishes, finished_from, finished}
+use Rattle.audit_core.specs.Stamped.{SeesStamps, StandInOrder, change_at, whole_of, finishes_exchange, exchanged_places_from, exchanged_places}
 use Rattle.audit_state.specs.Stamps.{stamp_marks, judged_of, wholes_of}
 use Rattle.audit_core.specs.Stored.{SeesStores}
-use Rattle.audit_core.specs.Wholes.{AreRising, JudgesRight, JudgesSome, exchanged_by, makes_whole}
+use Rattle.audit_core.specs.Wholes.{AreAscending, JudgesRight, JudgesSome, exchanged_by}
+use Rattle.audit_core.specs.Wholes.{makes_whole}
 use Rattle.audit_core.proofs.JudgeLaws.{judged_same}
 use Rattle.audit_core.proofs.RowLaws.{exchanged_so, judged_so}
 
@@ -28,14 +29,14 @@ stamps_so : (s : Judge) (i : ℕ) (all : List Line) (n p : ℕ) (y : Option Stam
     → stamp_marks y ≡ stamp_marks (stamps_at s n p) → JudgesRight s n p y → SeesStamps (factor_of (take i all)) (take i all) n p y
 stamps_so s i all n p y h shape there m r =
     let x : SeesStamps (factor_of (take i all)) (take i all) n p (stamps_at s n p) = h.frame.stamps n p in
-    let same : exchanged_by (node_at s n) ≡ finished n (take i all) = exchanged_so s i all n h there in
+    let same : exchanged_by (node_at s n) ≡ exchanged_places n (take i all) = exchanged_so s i all n h there in
     record {
       marks = λ a. ap (λ (cs : List Change). change_at cs a) m ∙ x.marks a;
       mark_lines = subst (AreBelow (length (take i all))) (sym m) x.mark_lines;
-      mark_order = subst IsRising (sym m) x.mark_order;
+      mark_order = subst StandInOrder (sym m) x.mark_order;
       judged = subst (λ (ns : List ℕ). judged_of y ≤ length ns) same r.judged;
       wholes = λ a. r.wholes a ∙ (ap (λ (ns : List ℕ). whole_of (has_node (take (judged_of y) ns) a && makes_whole s n p (slice_get s.lines.now a)) a) same
-          ∙ ap (λ (b : Bool). whole_of b a) (judged_so s i all n p a (judged_of y) (has_node (take (judged_of y) (finished n (take i all))) a) h shape refl));
+          ∙ ap (λ (b : Bool). whole_of b a) (judged_so s i all n p a (judged_of y) (has_node (take (judged_of y) (exchanged_places n (take i all))) a) h shape refl));
       whole_order = r.order;
       whole_lines = subst (λ (ns : List ℕ). All (λ (c : Change). has_node (take (judged_of y) ns) c.line ≡ true) (wholes_of y)) same r.lines;
     }
@@ -104,21 +105,22 @@ notes_kept old new i all n p count h shape there c =
 
 -- ---- a node's `exchanged` lines stand in rising order
 
-all_above : (n place least : ℕ) (j : List Line) → least ≤ place → All (λ (m : ℕ). least ≤ m) (finished_from n place j)
+all_above : (n place least : ℕ) (j : List Line) → least ≤ place → All (λ (m : ℕ). least ≤ m) (exchanged_places_from n place j)
 all_above n place least [] h = λ k d within. absurd (omega (arith, within))
-all_above n place least (x ∷ j) h = go (finishes n x) (all_above n (place + 1) least j (omega (arith, h)))
+all_above n place least (x ∷ j) h = go (finishes_exchange n x) (all_above n (place + 1) least j (omega (arith, h)))
   where
-    go : (b : Bool) → All (λ (m : ℕ). least ≤ m) (finished_from n (place + 1) j) → All (λ (m : ℕ). least ≤ m) (cond b (place ∷ finished_from n (place + 1) j) (finished_from n (place + 1) j))
-    go true rest = All-cons (λ (m : ℕ). least ≤ m) place (finished_from n (place + 1) j) h rest
+    go : (b : Bool) → All (λ (m : ℕ). least ≤ m) (exchanged_places_from n (place + 1) j) → All (λ (m : ℕ). least ≤ m) (cond b (place ∷ exchanged_places_from n (place + 1) j) (exchanged_places_from n (place + 1) j))
+    go true rest = All-cons (λ (m : ℕ). least ≤ m) place (exchanged_places_from n (place + 1) j) h
+        rest
     go false rest = rest
 
-finished_rising : (n place : ℕ) (j : List Line) → AreRising (finished_from n place j)
+finished_rising : (n place : ℕ) (j : List Line) → AreAscending (exchanged_places_from n place j)
 finished_rising n place [] = tt
-finished_rising n place (x ∷ j) = go (finishes n x) (finished_rising n (place + 1) j)
+finished_rising n place (x ∷ j) = go (finishes_exchange n x) (finished_rising n (place + 1) j)
   where
-    go : (b : Bool) → AreRising (finished_from n (place + 1) j) → AreRising (cond b (place ∷ finished_from n (place + 1) j) (finished_from n (place + 1) j))
-    go true rest = (All-weaker (λ (m : ℕ). place + 1 ≤ m) (λ (m : ℕ). place < m) (λ m above. omega (arith, above)) (finished_from n (place + 1) j) (all_above n (place + 1) (place + 1) j (omega arith)), rest)
+    go : (b : Bool) → AreAscending (exchanged_places_from n (place + 1) j) → AreAscending (cond b (place ∷ exchanged_places_from n (place + 1) j) (exchanged_places_from n (place + 1) j))
+    go true rest = (All-weaker (λ (m : ℕ). place + 1 ≤ m) (λ (m : ℕ). place < m) (λ m above. omega (arith, above)) (exchanged_places_from n (place + 1) j) (all_above n (place + 1) (place + 1) j (omega arith)), rest)
     go false rest = rest
 
-pub exchanged_rise : (s : Judge) (i : ℕ) (all : List Line) (n : ℕ) → SeesState s i all → is_some (node_at s n) ≡ true → AreRising (exchanged_by (node_at s n))
-exchanged_rise s i all n h there = subst AreRising (sym (exchanged_so s i all n h there)) (finished_rising n 0 (take i all))
+pub exchanged_rise : (s : Judge) (i : ℕ) (all : List Line) (n : ℕ) → SeesState s i all → is_some (node_at s n) ≡ true → AreAscending (exchanged_by (node_at s n))
+exchanged_rise s i all n h there = subst AreAscending (sym (exchanged_so s i all n h there)) (finished_rising n 0 (take i all))

@@ -18,7 +18,7 @@ use Rattle.audit_state.specs.Histories.{value_after, value_now}
 use Rattle.audit_core.specs.Holders.{content_now, holds_top, holds_newest}
 use Rattle.audit_state.specs.Places.{placed}
 use Rattle.audit_state.specs.Records.{record_number, record_digest, AreNumberedRecords, Opens}
-use Rattle.audit_core.specs.Stored.{SeesRecords, SeesContents, SeesCopies, SeesWritten, Knows, IsOf, IsUnchanged, read_of}
+use Rattle.audit_core.specs.Stored.{SeesRecords, SeesContents, SeesCopies, SeesWritten, Knows, IsRecordOf, IsUnchanged, read_of}
 use Rattle.audit_state.specs.Stores.{history_of, held_of, touched_of, changes_of}
 use Rattle.audit_state.specs.Written.{written_of}
 use Rattle.audit_core.proofs.FoldLaws.{take_take}
@@ -99,26 +99,28 @@ module _ (s : Judge) (rs : Records) (i r : ℕ) (d : List ℕ) (opens : Opens s.
       go true e = subst (λ (x : ℕ). read_of f (record_digest s.records x) ≡ read_of f (record_digest rs x)) (number_same r q e) (here digest_before ∙ sym (ap (read_of f) digest_here))
       go false e = ap (read_of f) (sym (digest_apart q e))
 
-  was_of : (q p : ℕ) → IsOf rs q p → IsOf s.records q p ⊎ (record_digest s.records q ≡ None)
+  was_of : (q p : ℕ) → IsRecordOf rs q p → IsRecordOf s.records q p
+      ⊎ (record_digest s.records q ≡ None)
   was_of q p h = go (nat_eq r q) refl
     where
-      here : (record_digest s.records r ≡ None) ⊎ (record_digest s.records r ≡ Some d) → IsOf rs r p → IsOf s.records r p ⊎ (record_digest s.records r ≡ None)
+      here : (record_digest s.records r ≡ None) ⊎ (record_digest s.records r ≡ Some d) → IsRecordOf rs r p → IsRecordOf s.records r p ⊎ (record_digest s.records r ≡ None)
       here (inl e) f = inr e
       here (inr e) f = inl (ap (option_map partition_of) (e ∙ sym digest_here) ∙ f)
 
-      go : (b : Bool) → nat_eq r q ≡ b → IsOf s.records q p ⊎ (record_digest s.records q ≡ None)
-      go true e = subst (λ (x : ℕ). IsOf s.records x p ⊎ (record_digest s.records x ≡ None)) (number_same r q e) (here digest_before (subst (λ (x : ℕ). IsOf rs x p) (sym (number_same r q e)) h))
+      go : (b : Bool) → nat_eq r q ≡ b → IsRecordOf s.records q p
+          ⊎ (record_digest s.records q ≡ None)
+      go true e = subst (λ (x : ℕ). IsRecordOf s.records x p ⊎ (record_digest s.records x ≡ None)) (number_same r q e) (here digest_before (subst (λ (x : ℕ). IsRecordOf rs x p) (sym (number_same r q e)) h))
       go false e = inl (ap (option_map partition_of) (sym (digest_apart q e)) ∙ h)
 
-  is_of : (q p : ℕ) → IsOf s.records q p → IsOf rs q p
+  is_of : (q p : ℕ) → IsRecordOf s.records q p → IsRecordOf rs q p
   is_of q p h = go (nat_eq r q) refl
     where
-      here : (record_digest s.records r ≡ None) ⊎ (record_digest s.records r ≡ Some d) → IsOf s.records r p → IsOf rs r p
+      here : (record_digest s.records r ≡ None) ⊎ (record_digest s.records r ≡ Some d) → IsRecordOf s.records r p → IsRecordOf rs r p
       here (inl e) f = absurd (no_some (sym (ap (option_map partition_of) e) ∙ f))
       here (inr e) f = ap (option_map partition_of) (digest_here ∙ sym e) ∙ f
 
-      go : (b : Bool) → nat_eq r q ≡ b → IsOf rs q p
-      go true e = subst (λ (x : ℕ). IsOf rs x p) (number_same r q e) (here digest_before (subst (λ (x : ℕ). IsOf s.records x p) (sym (number_same r q e)) h))
+      go : (b : Bool) → nat_eq r q ≡ b → IsRecordOf rs q p
+      go true e = subst (λ (x : ℕ). IsRecordOf rs x p) (number_same r q e) (here digest_before (subst (λ (x : ℕ). IsRecordOf s.records x p) (sym (number_same r q e)) h))
       go false e = ap (option_map partition_of) (digest_apart q e) ∙ h
 
   none_still : (q : ℕ) → record_digest rs q ≡ None → record_digest s.records q ≡ None
@@ -170,15 +172,15 @@ module _ (s : Judge) (rs : Records) (i r : ℕ) (d : List ℕ) (opens : Opens s.
       fresh : (n q : ℕ) → record_digest s.records q ≡ None → history_of s.stores n q ≡ []
       fresh n q e = knows.stores.contents.fresh n q e
 
-      held : (n p q : ℕ) → is_some (value_now (history_of s.stores n q)) ≡ true → IsOf s.records q p ⊎ (record_digest s.records q ≡ None) → has_node (held_of s.stores n p) q ≡ true
+      held : (n p q : ℕ) → is_some (value_now (history_of s.stores n q)) ≡ true → IsRecordOf s.records q p ⊎ (record_digest s.records q ≡ None) → has_node (held_of s.stores n p) q ≡ true
       held n p q h (inl f) = knows.stores.copies.held n p q f h
       held n p q h (inr e) = differ h (ap (λ (c : List Change). is_some (value_now c)) (fresh n q e))
 
-      touched : (n p q : ℕ) → has_node (touched_of s.stores n p) q ≡ false → IsOf s.records q p ⊎ (record_digest s.records q ≡ None) → history_of s.stores n q ≡ []
+      touched : (n p q : ℕ) → has_node (touched_of s.stores n p) q ≡ false → IsRecordOf s.records q p ⊎ (record_digest s.records q ≡ None) → history_of s.stores n q ≡ []
       touched n p q h (inl f) = knows.stores.copies.touched n p q f h
       touched n p q h (inr e) = fresh n q e
 
-      changes : (n p q a b : ℕ) → a ≤ b → IsUnchanged (changes_of s.stores n p) q a b → IsOf s.records q p ⊎ (record_digest s.records q ≡ None) → value_after (history_of s.stores n q) a ≡ value_after (history_of s.stores n q) b
+      changes : (n p q a b : ℕ) → a ≤ b → IsUnchanged (changes_of s.stores n p) q a b → IsRecordOf s.records q p ⊎ (record_digest s.records q ≡ None) → value_after (history_of s.stores n q) a ≡ value_after (history_of s.stores n q) b
       changes n p q a b le h (inl f) = knows.stores.copies.changes n p q a b f le h
       changes n p q a b le h (inr e) = ap (λ (c : List Change). value_after c a) (fresh n q e) ∙ sym (ap (λ (c : List Change). value_after c b) (fresh n q e))
 
@@ -187,7 +189,7 @@ module _ (s : Judge) (rs : Records) (i r : ℕ) (d : List ℕ) (opens : Opens s.
     applied = λ l x q there. knows.stores.written.applied l x q there ∙ reads (λ e. applied_in (policy_of (take i s.lines.now)) l e (take i s.lines.now)) (λ e. applied_in-none (policy_of (take i s.lines.now)) l d (take i s.lines.now) (knows.stores.records.unbrought d e)) q;
     written = λ l x q there. knows.stores.written.written l x q there;
     listed = λ l x q there some.
-        let h : (u : ℕ) × IsOf s.records q u × (has_node (written_of x u) q ≡ true) = knows.stores.written.listed l x q there some in
+        let h : (u : ℕ) × IsRecordOf s.records q u × (has_node (written_of x u) q ≡ true) = knows.stores.written.listed l x q there some in
         (h.0, is_of q h.0 h.1, h.2);
     listed_only = λ l x u q there h. is_of q u (knows.stores.written.listed_only l x u q there h);
   }

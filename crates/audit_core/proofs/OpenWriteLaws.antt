@@ -13,7 +13,7 @@ use Rattle.audit_core.specs.declared.judge.Judge.{Judge}
 use Rattle.audit_state.specs.declared.views.View.{View}
 use Rattle.audit_state.specs.Keys.{pair_eq}
 use Rattle.audit_state.specs.OpenWrites.{done_in, open_in, is_done_write, open_of}
-use Rattle.audit_core.specs.Known.{view_of}
+use Rattle.audit_core.specs.Known.{kept_view}
 use Rattle.audit_core.specs.Sees.{SeesWrites, is_open_in}
 use Rattle.audit_core.specs.Trying.{KeepsKnown, SameButStands}
 use Rattle.audit_core.proofs.StillLaws.{IsStill, any-more, count-more, count_same, opens_same}
@@ -21,7 +21,7 @@ use Rattle.audit_core.proofs.TryLaws.{was_there}
 
 -- each view was there, with the same writes
 pub record SameWrites (old new : Judge) : Type 0 where
-  pub views : (k : ClusterKey) (y : View) → view_of new k ≡ Some y → (x : View) × (view_of old k ≡ Some x) × (y.writes ≡ x.writes)
+  pub views : (k : ClusterKey) (y : View) → kept_view new k ≡ Some y → (x : View) × (kept_view old k ≡ Some x) × (y.writes ≡ x.writes)
 
 same_done : (x y : View) (n t : ℕ) → y.writes ≡ x.writes → is_done_write y n t ≡ is_done_write x n t
 same_done x y n t e = ap (λ (w : _). done_in (hash.get pair_eq w (n, t))) e
@@ -31,18 +31,18 @@ same_open x y n t e = ap (λ (w : _). open_in (hash.get pair_eq w (n, t))) e
 
 pub writes_same : (old new : Judge) (j : List Line) → SameWrites old new → SeesWrites old j → SeesWrites new j
 writes_same old new j same h = record {
-  done = λ k y n t e. let x : (x : View) × (view_of old k ≡ Some x) × (y.writes ≡ x.writes) = same.views k y e in
+  done = λ k y n t e. let x : (x : View) × (kept_view old k ≡ Some x) × (y.writes ≡ x.writes) = same.views k y e in
       same_done x.0 y n t x.2 ∙ h.done k x.0 n t x.1;
-  open_writes = λ k y n t p e m. let x : (x : View) × (view_of old k ≡ Some x) × (y.writes ≡ x.writes) = same.views k y e in
+  open_writes = λ k y n t p e m. let x : (x : View) × (kept_view old k ≡ Some x) × (y.writes ≡ x.writes) = same.views k y e in
       ap (count_by (λ (q : ℕ). q == p)) (same_open x.0 y n t x.2) ∙ h.open_writes k x.0 n t p x.1 m;
-  by_master = λ k y n t p e has. let x : (x : View) × (view_of old k ≡ Some x) × (y.writes ≡ x.writes) = same.views k y e in
+  by_master = λ k y n t p e has. let x : (x : View) × (kept_view old k ≡ Some x) × (y.writes ≡ x.writes) = same.views k y e in
       h.by_master k x.0 n t p x.1 (ap (λ (ps : List ℕ). has_node ps p) (sym (same_open x.0 y n t x.2)) ∙ has);
 }
 
 -- only what is to be tried changed
 pub writes_tried : (old new : Judge) → KeepsKnown old new → SameWrites old new
 writes_tried old new keeps = record {
-  views = λ k y e. let x : (x : View) × (view_of old k ≡ Some x) × SameButStands x y = was_there (view_of old k) (view_of new k) y (keeps.views k) e in
+  views = λ k y e. let x : (x : View) × (kept_view old k ≡ Some x) × SameButStands x y = was_there (kept_view old k) (kept_view new k) y (keeps.views k) e in
       (x.0, x.1, ap (λ (v : View). v.writes) x.2.rest);
 }
 

@@ -26,7 +26,7 @@ use Rattle.audit_state.specs.OpenWrites.{OpensWrite, TakesWrite, opened_stand, i
 use Rattle.audit_state.specs.OpenWrites.{open_of}
 use Rattle.audit_state.specs.Written.{Stand, stand_of, written_of}
 use Rattle.audit_core.specs.Frames.{Both}
-use Rattle.audit_core.specs.Known.{view_of}
+use Rattle.audit_core.specs.Known.{kept_view}
 use Rattle.audit_core.specs.Sees.{SeesStand, SeesWrites, is_open_in}
 use Rattle.audit_core.specs.Settling.{TakesMasterWrite, is_master_in}
 use Rattle.audit_core.proofs.OpenWriteLaws.{opened_same}
@@ -181,13 +181,13 @@ module _ (j : List Line) (n t p : ℕ) (k : ClusterKey) (d : List ℕ) (v : Vers
 
   -- a view that is known was known, and the line's write is one more
   abbrev pub TakenFrom : Judge → ClusterKey → View → Type 0
-  TakenFrom old l y = (x : View) × (view_of old l ≡ Some x) × TakesOpen (opens_in l) n t p x y
+  TakenFrom old l y = (x : View) × (kept_view old l ≡ Some x) × TakesOpen (opens_in l) n t p x y
 
   abbrev pub TakeViews : Judge → Judge → Type 0
-  TakeViews old new = (l : ClusterKey) (y : View) → view_of new l ≡ Some y → TakenFrom old l y
+  TakeViews old new = (l : ClusterKey) (y : View) → kept_view new l ≡ Some y → TakenFrom old l y
 
   module _ (old new : Judge) (views : TakeViews old new) (h : SeesWrites old j) where
-    counted_after : (l : ClusterKey) (y : View) (m u q : ℕ) → view_of new l ≡ Some y
+    counted_after : (l : ClusterKey) (y : View) (m u q : ℕ) → kept_view new l ≡ Some y
         → master l q after ≡ m → count_by (λ (z : ℕ). z == q) (open_of y m u) ≡ count_by
         (is_open_in l q m u after) after
     counted_after l y m u q e first =
@@ -202,7 +202,7 @@ module _ (j : List Line) (n t p : ℕ) (k : ClusterKey) (d : List ℕ) (v : Vers
         (count_same _ _ (opened_same l q m u j (line.Apply n k t d v) (λ z. refl)) j 0)
         (listed_here l m u q before))))
 
-    master_of : (l : ClusterKey) (y : View) (m u q : ℕ) → view_of new l ≡ Some y
+    master_of : (l : ClusterKey) (y : View) (m u q : ℕ) → kept_view new l ≡ Some y
         → has_node (open_of y m u) q ≡ true → master l q after ≡ m
     master_of l y m u q e has =
         let x : TakenFrom old l y = views l y e in
@@ -223,7 +223,7 @@ module _ (j : List Line) (n t p : ℕ) (k : ClusterKey) (d : List ℕ) (v : Vers
             (not (list_any (is_done_line k n t) j)) first)
             ∙ number_same n m (and_left (nat_eq n m) (nat_eq t u) pair))
 
-        go : (x : View) → view_of old l ≡ Some x → (b : Bool)
+        go : (x : View) → kept_view old l ≡ Some x → (b : Bool)
             → (opens_in l && pair_eq (n, t) (m, u)) ≡ b
             → has_node (cond b (open_of x m u ++ p ∷ []) (open_of x m u)) q ≡ true
             → master l q j ≡ m
@@ -301,37 +301,37 @@ both_before {A} R (Some a) None y h e = absurd h
 module _ (k : ClusterKey) (n t p : ℕ) (old new : Judge) (c : TakesMasterWrite k n t p old new) where
   -- whether the write is open, by what was known
   abbrev pub opens_now : Bool
-  opens_now = is_master_in (view_of old k) n p && not (is_done_from (view_of old k) n t)
+  opens_now = is_master_in (kept_view old k) n p && not (is_done_from (kept_view old k) n t)
 
   -- the view as it was
   abbrev pub OpensFrom : ClusterKey → View → Type 0
-  OpensFrom l y = (x : View) × (view_of old l ≡ Some x)
+  OpensFrom l y = (x : View) × (kept_view old l ≡ Some x)
       × OpensHere (same_key k l && opens_now) n t p x y
 
   pub opens_rest : record new { views = old.views } ≡ old
-  opens_rest = go (is_master_in (view_of old k) n p) refl
+  opens_rest = go (is_master_in (kept_view old k) n p) refl
     where
-      go : (b : Bool) → is_master_in (view_of old k) n p ≡ b
+      go : (b : Bool) → is_master_in (kept_view old k) n p ≡ b
           → record new { views = old.views } ≡ old
       go true e = (c.opened e).rest
       go false e = ap (λ (s : Judge). record s { views = old.views }) (c.passed e)
 
-  pub opens_view : (l : ClusterKey) (y : View) → view_of new l ≡ Some y → OpensFrom l y
-  opens_view l y there = go (is_master_in (view_of old k) n p) refl
+  pub opens_view : (l : ClusterKey) (y : View) → kept_view new l ≡ Some y → OpensFrom l y
+  opens_view l y there = go (is_master_in (kept_view old k) n p) refl
     where
-      same : view_of old l ≡ Some y → (same_key k l && opens_now) ≡ false → OpensFrom l y
+      same : kept_view old l ≡ Some y → (same_key k l && opens_now) ≡ false → OpensFrom l y
       same e f = (y, e, subst (λ (b : Bool). OpensHere b n t p y y) (sym f) (opens_none n t p y))
 
-      go : (b : Bool) → is_master_in (view_of old k) n p ≡ b → OpensFrom l y
-      go false e = same (sym (ap (λ (s : Judge). view_of s l) (c.passed e)) ∙ there)
-          (ap (λ (b : Bool). same_key k l && (b && not (is_done_from (view_of old k) n t))) e
+      go : (b : Bool) → is_master_in (kept_view old k) n p ≡ b → OpensFrom l y
+      go false e = same (sym (ap (λ (s : Judge). kept_view s l) (c.passed e)) ∙ there)
+          (ap (λ (b : Bool). same_key k l && (b && not (is_done_from (kept_view old k) n t))) e
           ∙ and_none (same_key k l))
       go true e = at (same_key k l) refl
         where
-          done : (x : View) → view_of old k ≡ Some x → opens_now ≡ not (is_done_write x n t)
+          done : (x : View) → kept_view old k ≡ Some x → opens_now ≡ not (is_done_write x n t)
           done x f = ap₂ (λ (b : Bool) (o : Option View). b && not (is_done_from o n t)) e f
 
-          here : (x : View) → view_of old k ≡ Some x → OpensWrite n t p x y → (b : Bool)
+          here : (x : View) → kept_view old k ≡ Some x → OpensWrite n t p x y → (b : Bool)
               → is_done_write x n t ≡ b → OpensHere opens_now n t p x y
           here x f r true g = subst (λ (b : Bool). OpensHere b n t p x y)
               (sym (done x f ∙ ap not g)) (subst (OpensHere false n t p x) (sym (r.passed g))
@@ -343,11 +343,11 @@ module _ (k : ClusterKey) (n t p : ℕ) (old new : Judge) (c : TakesMasterWrite 
           at false f = same (sym ((c.opened e).others l f) ∙ there)
               (ap (λ (b : Bool). b && opens_now) f)
           at true f =
-              let x : (x : View) × (view_of old k ≡ Some x) × OpensWrite n t p x y =
-              both_before (OpensWrite n t p) (view_of old k) (view_of new k) y (c.opened e).here
-              (ap (view_of new) (same_key_is k l f) ∙ there) in (
+              let x : (x : View) × (kept_view old k ≡ Some x) × OpensWrite n t p x y =
+              both_before (OpensWrite n t p) (kept_view old k) (kept_view new k) y (c.opened e).here
+              (ap (kept_view new) (same_key_is k l f) ∙ there) in (
                 x.0,
-                ap (view_of old) (sym (same_key_is k l f)) ∙ x.1,
+                ap (kept_view old) (sym (same_key_is k l f)) ∙ x.1,
                 subst (λ (b : Bool). OpensHere (b && opens_now) n t p x.0 y) (sym f)
                     (here x.0 x.1 x.2 (is_done_write x.0 n t) refl),
               )

@@ -25,7 +25,7 @@ use Rattle.audit_core.specs.declared.verdict.Stop.TheVariants as stop
 use Rattle.audit_state.specs.declared.views.View.{View}
 use Rattle.audit_state.specs.Written.{stand_of}
 use Rattle.audit_core.specs.Audits.{so_far}
-use Rattle.audit_core.specs.Known.{view_of}
+use Rattle.audit_core.specs.Known.{kept_view}
 use Rattle.audit_core.specs.Sees.{IsBound, IsTried, IsSuspect, HasNoDoubts, SeesTried}
 use Rattle.audit_core.specs.Trying.{SeesLines, IsTriedOf, IsTrying, IsParted, StopsParted}
 use Rattle.audit_core.specs.Verdicts.{BreaksFirst, StopsRightly}
@@ -58,10 +58,10 @@ pub none_counted : (k : ClusterKey) (p : ℕ) (j : List Line) → has_open_write
 unfolding has_open_write
 none_counted k p j e = none_open (is_open_write k p (master k p j) j) j 0 e
 
-known_view : (s : Judge) (i : ℕ) (k : ClusterKey) (p : ℕ) → SeesLines s i → IsBound k p (so_far s i) → (x : View) × (view_of s k ≡ Some x)
-known_view s i k p h bound = go (view_of s k) refl
+known_view : (s : Judge) (i : ℕ) (k : ClusterKey) (p : ℕ) → SeesLines s i → IsBound k p (so_far s i) → (x : View) × (kept_view s k ≡ Some x)
+known_view s i k p h bound = go (kept_view s k) refl
   where
-    go : (o : Option View) → view_of s k ≡ o → (x : View) × (view_of s k ≡ Some x)
+    go : (o : Option View) → kept_view s k ≡ o → (x : View) × (kept_view s k ≡ Some x)
     go (Some x) e = (x, e)
     go None e = differ (view_entered (master k p (so_far s i)) k (so_far s i) bound.remains) (sym (h.frame.known_views k) ∙ ap (λ (o : Option View). is_some o) e)
 
@@ -70,7 +70,7 @@ joins_all s i j l front h t = record {
   whole = subst (λ (ls : List Line). (k : ClusterKey) (r : ℕ) (d : List ℕ) → IsTrue (may_part j l k d) → HoldsFold (policy_of ls) (factor_of ls) ls k r d) front
       (λ k r d parts settled closed remains replica in_view.
       let bound : IsBound k (partition_of d) (so_far s i) = record { settled = settled; remains = remains } in
-      let x : (x : View) × (view_of s k ≡ Some x) = known_view s i k (partition_of d) h bound in
+      let x : (x : View) × (kept_view s k ≡ Some x) = known_view s i k (partition_of d) h bound in
       let tried : IsTried s (so_far s i) k (partition_of d) (stand_of x.0 (partition_of d)) = t.tried k (partition_of d) x.0 x.1 bound in
       let clear : HasNoDoubts (stand_of x.0 (partition_of d)) = tried.closed ((t.stands k (partition_of d) x.0 x.1).open_writes ∙ none_counted k (partition_of d) (so_far s i) closed) in
       tried.joined clear.tried d refl (λ (q : IsSuspect s (stand_of x.0 (partition_of d)) d). differ q.2 (ap (λ (rs : List ℕ). has_node rs q.0) clear.suspects)) r replica in_view);

@@ -1,7 +1,6 @@
 -- Lines that are taken as they come, and what the laws ask of them.
-use Rattle.std.proofs.Common.{◌≡◌, ℕ, zero, suc, ◌<◌, ◌≤◌, ◌+◌, Bool, true, false, List, [], ◌∷◌, length, Option, Some, None, ◌↔◌, refl, sym, ap, subst, ◌∙◌, arith}
+use Rattle.std.proofs.Common.{◌≡◌, ℕ, zero, suc, ◌<◌, ◌+◌, Bool, true, false, List, [], ◌∷◌, length, Option, Some, None, ◌↔◌, refl, sym, ap, subst, ◌∙◌, arith}
 use Rattle.std.specs.Prelude.{is_some, take, slice_get, IsTrue, IfErr, Result, Ok, Err}
-use Rattle.std.proofs.lemmas.List.Elements.{All-weaker}
 use Rattle.conflict_order.specs.declared.version.Version.{Version}
 use Rattle.cluster_types.specs.declared.cluster_key.ClusterKey.{ClusterKey}
 use Rattle.cluster_types.specs.declared.member.Member.{Member}
@@ -16,20 +15,18 @@ use Rattle.journal_readings.specs.Shape.{is_header}
 use Rattle.audit_laws.specs.Fits.{Fits, FitsShape, LosesNothing, JoinsReplicas}
 use Rattle.audit_laws.proofs.Tests.{differ}
 use Rattle.audit_core.specs.declared.judge.Judge.{Judge}
-use Rattle.audit_core.specs.Audits.{Audits, so_far, KeepsAll, Comes, Takes, is_idle}
+use Rattle.audit_core.specs.Audits.{Audits, so_far, KeepsAll, Comes, AcceptsLine, is_idle}
 use Rattle.audit_core.specs.Frames.{Both, SameStand, KeepsFrame}
 use Rattle.audit_state.specs.Views.{SameEntries}
-use Rattle.audit_core.specs.Known.{node_at, view_of, stamps_at}
+use Rattle.audit_core.specs.Known.{node_at, kept_view}
 use Rattle.audit_core.specs.NextFrames.{NextFrame}
 use Rattle.audit_core.specs.Covering.{SeesCovers}
-use Rattle.audit_core.specs.Sees.{SeesFrame, SeesTried, SeesWrites, SeesStays, SeesState, Sees}
+use Rattle.audit_core.specs.Sees.{SeesFrame, SeesTried, SeesWrites, SeesStays, SeesState}
+use Rattle.audit_core.specs.Sees.{SeesJournal}
 use Rattle.audit_core.specs.Steps.{ChangesNode, HasClock, HasView, ChangesStamps, HasMark}
-use Rattle.audit_state.specs.Stamps.{stamp_marks}
 use Rattle.audit_core.specs.Stored.{SeesStores, Knows}
 use Rattle.audit_core.specs.Folds.{KnowsView}
-use Rattle.audit_state.specs.Histories.{AreUpTo}
 use Rattle.audit_core.specs.Verdicts.{BreaksFirst, StopsRightly}
-use Rattle.audit_state.specs.declared.history.Change.{Change}
 use Rattle.audit_core.specs.declared.verdict.Law.TheVariants as law
 use Rattle.audit_core.specs.declared.verdict.Stop.{Stop}
 use Rattle.audit_core.specs.declared.verdict.Stop.TheVariants as stop
@@ -65,7 +62,7 @@ keeps_itself s = record {
   factor = refl;
   begun = refl;
   nodes = λ n. same_stand (node_at s n);
-  views = λ k. same_entries (view_of s k);
+  views = λ k. same_entries (kept_view s k);
   stamps = refl;
 }
 
@@ -123,7 +120,8 @@ asks_nothing j (line.Value n k t d v) e = differ e refl
 asks_nothing j (line.Map n k p ms a) e = differ e refl
 asks_nothing j l e = (tt, tt, tt)
 
-pub idle_takes : (s : Judge) (i : ℕ) (l : Line) → Comes s i l → is_idle l ≡ true → Takes s s i l
+pub idle_takes : (s : Judge) (i : ℕ) (l : Line) → Comes s i l → is_idle l ≡ true
+    → AcceptsLine s s i l
 idle_takes s i l c e =
     let still : (is_still l ≡ true) × (changes_frame l ≡ false) = idle_still l e in
     let asks : ShowsMap (so_far s i) l × LosesNothing (so_far s i) l × JoinsView (so_far s i) (so_far s i) l = asks_nothing (so_far s i) l e in
@@ -169,14 +167,14 @@ moved_sees old new i l c still rest x stays =
 still_fits : (j : List Line) (l : Line) → is_still l ≡ true → FitsShape j l → ShowsMap j l → LosesNothing j l → JoinsView j j l → Fits j l
 still_fits j l still shape map losses joins = record { shape = shape; map = map; losses = losses; replicas = joins_unparted j l (still_line l still); joins = joins }
 
-pub clock_takes : (old new : Judge) (n time : ℕ) → ChangesNode (HasClock time) n old new → (i : ℕ) → Comes old i (line.Clock n time) → Takes old new i (line.Clock n time)
+pub clock_takes : (old new : Judge) (n time : ℕ) → ChangesNode (HasClock time) n old new → (i : ℕ) → Comes old i (line.Clock n time) → AcceptsLine old new i (line.Clock n time)
 clock_takes old new n time x i c = record {
   lines = ap (λ (s : Judge). s.lines.now) x.rest;
   fits = still_fits (so_far old i) (line.Clock n time) refl c.shape tt tt tt;
   sees = moved_sees old new i (line.Clock n time) c refl x.rest (clock_next i n time old new x) (clock_stays n time old new x);
 }
 
-pub stop_takes : (old new : Judge) (n : ℕ) → ChangesNode (HasView None) n old new → (i : ℕ) → Comes old i (line.Stop n) → Takes old new i (line.Stop n)
+pub stop_takes : (old new : Judge) (n : ℕ) → ChangesNode (HasView None) n old new → (i : ℕ) → Comes old i (line.Stop n) → AcceptsLine old new i (line.Stop n)
 stop_takes old new n x i c = record {
   lines = ap (λ (s : Judge). s.lines.now) x.rest;
   fits = still_fits (so_far old i) (line.Stop n) refl c.shape tt tt tt;
@@ -194,23 +192,18 @@ noted_sees old new i l c still rest x =
     (λ h. kept_writes old new (take (i + 1) old.lines.now) (subst (λ (s : Judge). SeesWrites s (take (i + 1) old.lines.now)) (sym rest) h))
     (λ h. kept_stays old new (take (i + 1) old.lines.now) (subst (λ (s : Judge). SeesStays s (take (i + 1) old.lines.now)) (sym rest) h))
 
--- the copy's marks stand before the line
-pub marks_behind : (s : Judge) (i n p : ℕ) → Audits s i → i < length s.lines.now → AreUpTo i (stamp_marks (stamps_at s n p))
-marks_behind s i n p h within =
-    All-weaker (λ (c : Change). c.line < length (so_far s i)) (λ (c : Change). c.line ≤ i) (λ c below. omega (arith, below, length_front i s.lines.now within)) (stamp_marks (stamps_at s n p)) (h.state.frame.stamps n p).mark_lines
-
 learn_next : (place n p : ℕ) (k : ClusterKey) (old new : Judge) → ChangesStamps (HasMark place (Some place)) n p old new → NextFrame place (line.Learn n k p) old new
 learn_next place n p k old new c = record {
   policy = ap (λ (s : Judge). s.by) c.rest;
   factor = ap (λ (s : Judge). s.factor) c.rest;
   nodes = λ m. node_stays m place (line.Learn n k p) (λ t. refl) (λ v. refl) refl (node_at old m) (node_at new m)
       (subst (Both SameStand (node_at old m)) (sym (ap (λ (s : Judge). node_at s m) c.rest)) (same_stand (node_at old m)));
-  views = λ l. view_stays l place (line.Learn n k p) refl (λ m. refl) (λ m. refl) (view_of old l) (view_of new l)
-      (both_same SameEntries (λ x. same_entries (Some x)) (view_of old l) (view_of new l) (ap (λ (s : Judge). view_of s l) c.rest));
+  views = λ l. view_stays l place (line.Learn n k p) refl (λ m. refl) (λ m. refl) (kept_view old l) (kept_view new l)
+      (both_same SameEntries (λ x. same_entries (Some x)) (kept_view old l) (kept_view new l) (ap (λ (s : Judge). kept_view s l) c.rest));
   stamps = marked_stamps place n p (line.Learn n k p) (Some place) old new (λ m q. refl) c;
 }
 
-pub learn_takes : (old new : Judge) (i n p : ℕ) → ChangesStamps (HasMark i (Some i)) n p old new → (k : ClusterKey) → Comes old i (line.Learn n k p) → Takes old new i (line.Learn n k p)
+pub learn_takes : (old new : Judge) (i n p : ℕ) → ChangesStamps (HasMark i (Some i)) n p old new → (k : ClusterKey) → Comes old i (line.Learn n k p) → AcceptsLine old new i (line.Learn n k p)
 learn_takes old new i n p x k c = record {
   lines = ap (λ (s : Judge). s.lines.now) x.rest;
   fits = still_fits (so_far old i) (line.Learn n k p) refl c.shape tt tt tt;
@@ -219,22 +212,22 @@ learn_takes old new i n p x k c = record {
 
 -- ---- what a view shows
 
-pub known_view : (s : Judge) (i : ℕ) (k : ClusterKey) (n : ℕ) → Audits s i → Rattle.journal_readings.specs.Shape.has_entered (so_far s i) k n ≡ true → is_some (view_of s k) ≡ true
+pub known_view : (s : Judge) (i : ℕ) (k : ClusterKey) (n : ℕ) → Audits s i → Rattle.journal_readings.specs.Shape.has_entered (so_far s i) k n ≡ true → is_some (kept_view s k) ≡ true
 known_view s i k n h e = h.state.frame.known_views k ∙ entered_key k n (so_far s i) e
 
 pub known_stores : (s : Judge) (i : ℕ) → Audits s i → Knows s i
 known_stores s i h = record { lawful = h.lawful; policy = h.state.frame.header.policy; stores = h.state.stores }
 
-knows_view : (s : Judge) (i : ℕ) (k : ClusterKey) → Audits s i → is_some (view_of s k) ≡ true → (x : View) × KnowsView s i k x
-knows_view s i k h e = go (view_of s k) refl e
+knows_view : (s : Judge) (i : ℕ) (k : ClusterKey) → Audits s i → is_some (kept_view s k) ≡ true → (x : View) × KnowsView s i k x
+knows_view s i k h e = go (kept_view s k) refl e
   where
-    go : (o : Option View) → view_of s k ≡ o → is_some o ≡ true → (x : View) × KnowsView s i k x
+    go : (o : Option View) → kept_view s k ≡ o → is_some o ≡ true → (x : View) × KnowsView s i k x
     go None q r = differ r refl
     go (Some x) q r = (x, record { knows = known_stores s i h; there = q; sees = h.state.frame.views k x q })
 
 -- a read finds the fold
 pub read_takes : (s : Judge) (k : ClusterKey) (d : List ℕ) (v : Option Version) (b : Bool) → b ≡ true → ((i : ℕ) (x : View) → KnowsView s i k x → IsTrue b ↔ (v ≡ fold_of (policy_of (so_far s i)) k d (so_far s i)))
-    → (i n t : ℕ) → Comes s i (line.Value n k t d v) → Takes s s i (line.Value n k t d v)
+    → (i n t : ℕ) → Comes s i (line.Value n k t d v) → AcceptsLine s s i (line.Value n k t d v)
 read_takes s k d v b e told i n t c =
     let x : (x : View) × KnowsView s i k x = knows_view s i k c.audits (known_view s i k n c.audits c.shape.in_view) in
     record {
@@ -268,8 +261,8 @@ comes_kept old new i l keeps audits c =
 
 -- a map is shown as it is to be
 pub show_takes : (old new : Judge) (k : ClusterKey) (p a : ℕ) (ms : List Member) (b : Bool) → b ≡ true → KeepsAll old new → ((i : ℕ) → Audits old i → Audits new i)
-    → ((i n : ℕ) → Audits old i → is_some (view_of old k) ≡ true → IsTrue b ↔ ShowsMap (so_far old i) (line.Map n k p ms a))
-    → (i n : ℕ) → Comes old i (line.Map n k p ms a) → Takes old new i (line.Map n k p ms a)
+    → ((i n : ℕ) → Audits old i → is_some (kept_view old k) ≡ true → IsTrue b ↔ ShowsMap (so_far old i) (line.Map n k p ms a))
+    → (i n : ℕ) → Comes old i (line.Map n k p ms a) → AcceptsLine old new i (line.Map n k p ms a)
 show_takes old new k p a ms b e keeps audits told i n c =
     let lines : new.lines.now ≡ old.lines.now = ap (λ (s : Judge). s.lines.now) keeps in
     record {
@@ -280,7 +273,7 @@ show_takes old new k p a ms b e keeps audits told i n c =
 
 -- it isn't
 pub show_breaks : (s : Judge) (k : ClusterKey) (p a : ℕ) (ms : List Member) (b : Bool) (x : Stop) → x ≡ stop.Breaks law.OneMap → b ≡ false
-    → ((i n : ℕ) → Audits s i → is_some (view_of s k) ≡ true → IsTrue b ↔ ShowsMap (so_far s i) (line.Map n k p ms a))
+    → ((i n : ℕ) → Audits s i → is_some (kept_view s k) ≡ true → IsTrue b ↔ ShowsMap (so_far s i) (line.Map n k p ms a))
     → (i n : ℕ) → Comes s i (line.Map n k p ms a) → StopsRightly x (so_far s i) (line.Map n k p ms a)
 show_breaks s k p a ms b x is e told i n c =
     let breaks : BreaksFirst law.OneMap (so_far s i) (line.Map n k p ms a) = record {
@@ -295,5 +288,5 @@ if_err_then {T} {E} (Ok x) P Q f h = tt
 if_err_then {T} {E} (Err e) P Q f h = f e h
 
 -- a line comes that fits the shape
-pub comes_here : (s : Judge) (i : ℕ) (l : Line) → Sees s i s.lines.now → Lawful (so_far s i) → slice_get s.lines.now i ≡ Some l → FitsShape (so_far s i) l → is_header l ≡ false → Comes s i l
+pub comes_here : (s : Judge) (i : ℕ) (l : Line) → SeesJournal s i s.lines.now → Lawful (so_far s i) → slice_get s.lines.now i ≡ Some l → FitsShape (so_far s i) l → is_header l ≡ false → Comes s i l
 comes_here s i l sees lawful stands shape event = record { audits = record { lawful = lawful; state = sees.state }; stands = stands; shape = shape; event = event }

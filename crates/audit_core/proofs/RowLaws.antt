@@ -28,7 +28,7 @@ use Rattle.audit_state.specs.declared.stamps.Stamps.{Stamps}
 use Rattle.audit_state.specs.Histories.{last_before}
 use Rattle.audit_core.specs.Known.{node_at, stamps_at}
 use Rattle.audit_core.specs.Sees.{SeesState}
-use Rattle.audit_core.specs.Stamped.{SeesStamps, finished, makes_whole_at, whole_of}
+use Rattle.audit_core.specs.Stamped.{SeesStamps, exchanged_places, makes_whole_at, whole_of}
 use Rattle.audit_state.specs.Stamps.{stamp_marks, judged_of, wholes_of, stamped_key, later}
 use Rattle.audit_core.specs.Wholes as known
 use Rattle.audit_core.proofs.LineLaws.{finished_below, among_first}
@@ -72,17 +72,17 @@ whole_so s i all n p a None h shape e = refl
 whole_so s i all n p a (Some (line.Exchanged m k)) h shape e = begins_so s i all k n p h ∙ fixed (factor_of (take i all)) (take i all) a m n p k shape e
 whole_so s i all n p a (Some l) h shape e = refl
 
-pub judged_so : (s : Judge) (i : ℕ) (all : List Line) (n p a count : ℕ) (b : Bool) → SeesState s i all → Shape (take i all) → has_node (take count (finished n (take i all))) a ≡ b
+pub judged_so : (s : Judge) (i : ℕ) (all : List Line) (n p a count : ℕ) (b : Bool) → SeesState s i all → Shape (take i all) → has_node (take count (exchanged_places n (take i all))) a ≡ b
     → (b && known.makes_whole s n p (slice_get s.lines.now a)) ≡ (b && makes_whole_at (factor_of (take i all)) n p (take i all) a (slice_get (take i all) a))
 judged_so s i all n p a count false h shape e = refl
 judged_so s i all n p a count true h shape e =
-    let below : a < length (take i all) = finished_below n (take i all) a (among_first count (finished n (take i all)) a e) in
+    let below : a < length (take i all) = finished_below n (take i all) a (among_first count (exchanged_places n (take i all)) a e) in
     ap (known.makes_whole s n p) (ap (λ (ls : List Line). slice_get ls a) h.lines ∙ taken_slice i all a below) ∙ whole_so s i all n p a (slice_get (take i all) a) h shape refl
 
-pub exchanged_so : (s : Judge) (i : ℕ) (all : List Line) (n : ℕ) → SeesState s i all → is_some (node_at s n) ≡ true → known.exchanged_by (node_at s n) ≡ finished n (take i all)
+pub exchanged_so : (s : Judge) (i : ℕ) (all : List Line) (n : ℕ) → SeesState s i all → is_some (node_at s n) ≡ true → known.exchanged_by (node_at s n) ≡ exchanged_places n (take i all)
 exchanged_so s i all n h e = go (node_at s n) refl e
   where
-    go : (o : Option Node) → node_at s n ≡ o → is_some o ≡ true → known.exchanged_by o ≡ finished n (take i all)
+    go : (o : Option Node) → node_at s n ≡ o → is_some o ≡ true → known.exchanged_by o ≡ exchanged_places n (take i all)
     go None q r = differ r refl
     go (Some node) q r = (h.frame.nodes n node q).exchanged
 
@@ -90,10 +90,10 @@ exchanged_so s i all n h e = go (node_at s n) refl e
 pub right_so : (s : Judge) (i : ℕ) (all : List Line) (n p : ℕ) → SeesState s i all → Shape (take i all) → is_some (node_at s n) ≡ true → known.JudgesRight s n p (stamps_at s n p)
 right_so s i all n p h shape e =
     let x : SeesStamps (factor_of (take i all)) (take i all) n p (stamps_at s n p) = h.frame.stamps n p in
-    let same : known.exchanged_by (node_at s n) ≡ finished n (take i all) = exchanged_so s i all n h e in
+    let same : known.exchanged_by (node_at s n) ≡ exchanged_places n (take i all) = exchanged_so s i all n h e in
     record {
       judged = subst (λ (ns : List ℕ). judged_of (stamps_at s n p) ≤ length ns) (sym same) x.judged;
-      wholes = λ a. x.wholes a ∙ (ap (λ (b : Bool). whole_of b a) (sym (judged_so s i all n p a (judged_of (stamps_at s n p)) (has_node (take (judged_of (stamps_at s n p)) (finished n (take i all))) a) h shape refl))
+      wholes = λ a. x.wholes a ∙ (ap (λ (b : Bool). whole_of b a) (sym (judged_so s i all n p a (judged_of (stamps_at s n p)) (has_node (take (judged_of (stamps_at s n p)) (exchanged_places n (take i all))) a) h shape refl))
           ∙ ap (λ (ns : List ℕ). whole_of (has_node (take (judged_of (stamps_at s n p)) ns) a && known.makes_whole s n p (slice_get s.lines.now a)) a) (sym same));
       order = x.whole_order;
       lines = subst (λ (ns : List ℕ). All (λ (c : Change). has_node (take (judged_of (stamps_at s n p)) ns) c.line ≡ true) (wholes_of (stamps_at s n p))) (sym same) x.whole_lines;
@@ -111,7 +111,7 @@ row_key factor k n p j (Some b) = go (holds_any n p b) (stamp factor n p b)
     go true (Some l) = refl
     go false o = refl
 
-key_place : (s : Judge) (i : ℕ) (all : List Line) (n p : ℕ) (b : List Line) → SeesState s i all → judged_of (stamps_at s n p) ≡ length (finished n (take i all)) → IsFront b (take i all)
+key_place : (s : Judge) (i : ℕ) (all : List Line) (n p : ℕ) (b : List Line) → SeesState s i all → judged_of (stamps_at s n p) ≡ length (exchanged_places n (take i all)) → IsFront b (take i all)
     → stamped_key s.lines.now (stamps_at s n p) (length b) ≡ stamp (factor_of (take i all)) n p b
 key_place s i all n p b h judged f =
     told (stamps_at s n p)
@@ -122,15 +122,15 @@ key_place s i all n p b h judged f =
     told None = refl
     told (Some x) = refl
 
-key_by : (s : Judge) (i : ℕ) (all : List Line) (n p : ℕ) (o : Option (List Line)) → SeesState s i all → ((b : List Line) → o ≡ Some b → IsFront b (take i all)) → judged_of (stamps_at s n p) ≡ length (finished n (take i all))
-    → known.whole_key s n p (option_map length o) ≡ option_and_then (λ b. cond (holds_any n p b) (stamp (factor_of (take i all)) n p b) None) o
+key_by : (s : Judge) (i : ℕ) (all : List Line) (n p : ℕ) (o : Option (List Line)) → SeesState s i all → ((b : List Line) → o ≡ Some b → IsFront b (take i all)) → judged_of (stamps_at s n p) ≡ length (exchanged_places n (take i all))
+    → known.whole_key_at s n p (option_map length o) ≡ option_and_then (λ b. cond (holds_any n p b) (stamp (factor_of (take i all)) n p b) None) o
 key_by s i all n p None h f judged = refl
 key_by s i all n p (Some b) h f judged =
     ap₂ (λ (c : Bool) (x : Option ClusterKey). cond c x None) (held_so s i all n p b h (f b refl)) (key_place s i all n p b h judged (f b refl))
 
 -- the key by which a copy was whole is told, where all of the node's `exchanged` lines are judged
-pub key_so : (s : Judge) (i : ℕ) (all : List Line) (k : ClusterKey) (n p : ℕ) → SeesState s i all → judged_of (stamps_at s n p) ≡ length (finished n (take i all))
-    → known.whole_key s n p (option_map length (lines_before (is_enter k n) (take i all))) ≡ row_whole_key (row (factor_of (take i all)) k n p (take i all))
+pub key_so : (s : Judge) (i : ℕ) (all : List Line) (k : ClusterKey) (n p : ℕ) → SeesState s i all → judged_of (stamps_at s n p) ≡ length (exchanged_places n (take i all))
+    → known.whole_key_at s n p (option_map length (lines_before (is_enter k n) (take i all))) ≡ row_whole_key (row (factor_of (take i all)) k n p (take i all))
 unfolding row
 key_so s i all k n p h judged =
     key_by s i all n p (lines_before (is_enter k n) (take i all)) h (before_front (is_enter k n) (take i all)) judged

@@ -29,14 +29,15 @@ use Rattle.audit_state.specs.Places.{placed}
 use Rattle.audit_state.specs.Records.{record_digest}
 use Rattle.audit_state.specs.Views.{SameEntries}
 use Rattle.audit_state.specs.Written.{Stand, stand_of, written_of}
-use Rattle.audit_core.specs.Audits.{Comes, Takes, so_far}
+use Rattle.audit_core.specs.Audits.{Comes, AcceptsLine, so_far}
 use Rattle.audit_core.specs.Frames.{Both, KeepsFrame}
-use Rattle.audit_core.specs.Known.{node_at, view_of}
+use Rattle.audit_core.specs.Known.{node_at, kept_view}
 use Rattle.audit_core.specs.Sees.{SeesFrame, SeesStand, SeesWrites, SeesStays, SeesState, SeesTried, IsBound, IsTried, HasNoDoubts, IsSuspect}
-use Rattle.audit_core.specs.Settling.{stand_from, stand_at, master_from, is_first, is_master_in}
+use Rattle.partition_lists.specs.Classes.{is_that}
+use Rattle.audit_core.specs.Settling.{stand_from, stand_at, master_from, is_master_in}
 use Rattle.audit_core.specs.Steps.{ChangesView}
-use Rattle.audit_core.specs.Stored.{SeesStores, IsOf}
-use Rattle.audit_core.specs.Trying.{SeesLines, SeesStands, IsTriedOf, IsTrying, KeepsKnown, TriesPartition, StopsTrying, with_partition}
+use Rattle.audit_core.specs.Stored.{SeesStores, IsRecordOf}
+use Rattle.audit_core.specs.Trying.{SeesLines, SeesStands, IsTriedOf, IsTrying, KeepsKnown, TriesPartition, StopsTrying, tried_with_partition}
 use Rattle.audit_core.specs.Verdicts.{StopsRightly}
 use Rattle.audit_laws.proofs.MapSteps.{entered_key}
 use Rattle.audit_core.proofs.BoundLaws.{master_so, unlisted}
@@ -76,10 +77,6 @@ any_line n p m q k l j = list_any-append (is_settled_line l m q) j (line.Settled
     alone : (b : Bool) → (b || false) ≡ b
     alone true = refl
     alone false = refl
-
-any_unless : (a b : Bool) → b ≡ false → (a || b) ≡ a
-any_unless true b e = refl
-any_unless false b e = e
 
 any_either : (a b : Bool) → (b ≡ true → a ≡ true) → (a || b) ≡ a
 any_either true b h = refl
@@ -155,7 +152,7 @@ module _ (s : Judge) (i n p : ℕ) (k : ClusterKey) (c : Comes s i (line.Settled
     stays = subst (SeesStays s) (sym front) (stays_left s (so_far s i) (line.Settled n k p) refl (λ l. refl) (λ by m d x. refl) c.audits.state.stays);
   }
 
-  pub again_takes : Takes s s i (line.Settled n k p)
+  pub again_takes : AcceptsLine s s i (line.Settled n k p)
   again_takes = record {
     lines = refl;
     fits = record {
@@ -179,38 +176,38 @@ both_are : (a b : Bool) → a ≡ true → b ≡ true → (a && b) ≡ true
 both_are true b e f = f
 both_are false b e f = e
 
-is_first_of : (o : Option ℕ) (n : ℕ) → is_first o n ≡ false → o ≡ Some n → ⊥
+is_first_of : (o : Option ℕ) (n : ℕ) → is_that o n ≡ false → o ≡ Some n → ⊥
 is_first_of None n e q = no_some q
 is_first_of (Some m) n e q = differ (subst (λ (z : ℕ). (z == n) ≡ true) (sym (some_same q)) (number_here n)) e
 
-first_is : (o : Option ℕ) (n : ℕ) → is_first o n ≡ true → o ≡ Some n
+first_is : (o : Option ℕ) (n : ℕ) → is_that o n ≡ true → o ≡ Some n
 first_is None n e = differ e refl
 first_is (Some m) n e = ap Some (number_same m n e)
 
 -- the node isn't the list master
-pub settle_other : (s : Judge) (i n p : ℕ) (k : ClusterKey) (b : Bool) → Comes s i (line.Settled n k p) → b ≡ is_master_in (view_of s k) n p → b ≡ false → Takes s s i (line.Settled n k p)
+pub settle_other : (s : Judge) (i n p : ℕ) (k : ClusterKey) (b : Bool) → Comes s i (line.Settled n k p) → b ≡ is_master_in (kept_view s k) n p → b ≡ false → AcceptsLine s s i (line.Settled n k p)
 settle_other s i n p k b c told e = again_takes s i n p k c (λ l q h.
     let node : n ≡ master l q (so_far s i) = number_same n (master l q (so_far s i)) (and_left (n == master l q (so_far s i)) _ h) in
     let rest : (same_key k l && (p == q)) ≡ true = and_right (n == master l q (so_far s i)) _ h in
     let key : k ≡ l = same_key_is k l (and_left (same_key k l) (p == q) rest) in
     let part : p ≡ q = number_same p q (and_right (same_key k l) (p == q) rest) in
     let here : n ≡ master k p (so_far s i) = node ∙ ap₂ (λ (z : ClusterKey) (y : ℕ). master z y (so_far s i)) (sym key) (sym part) in
-    absurd (apart (master_from (view_of s k) p) refl here))
+    absurd (apart (master_from (kept_view s k) p) refl here))
   where
-    apart : (o : Option ℕ) → master_from (view_of s k) p ≡ o → n ≡ master k p (so_far s i) → ⊥
-    apart (Some m) q here = is_first_of (master_from (view_of s k) p) n (sym told ∙ e) (q ∙ ap Some (sym (master_so s i k p m (lines_before_it s i (line.Settled n k p) c) q) ∙ sym here))
+    apart : (o : Option ℕ) → master_from (kept_view s k) p ≡ o → n ≡ master k p (so_far s i) → ⊥
+    apart (Some m) q here = is_first_of (master_from (kept_view s k) p) n (sym told ∙ e) (q ∙ ap Some (sym (master_so s i k p m (lines_before_it s i (line.Settled n k p) c) q) ∙ sym here))
     apart None q here = unlisted s i k p (lines_before_it s i (line.Settled n k p) c) q (entered_key k n (so_far s i) c.shape.in_view)
 
 -- the partition was settled before
-pub settle_again : (s : Judge) (i n p : ℕ) (k : ClusterKey) (b : Bool) → Comes s i (line.Settled n k p) → b ≡ (stand_at s k p).settled → b ≡ true → Takes s s i (line.Settled n k p)
+pub settle_again : (s : Judge) (i n p : ℕ) (k : ClusterKey) (b : Bool) → Comes s i (line.Settled n k p) → b ≡ (stand_at s k p).settled → b ≡ true → AcceptsLine s s i (line.Settled n k p)
 settle_again s i n p k b c told e = again_takes s i n p k c (λ l q h.
     let rest : (same_key k l && (p == q)) ≡ true = and_right (n == master l q (so_far s i)) _ h in
     let key : k ≡ l = same_key_is k l (and_left (same_key k l) (p == q) rest) in
     let part : p ≡ q = number_same p q (and_right (same_key k l) (p == q) rest) in
     subst (λ (z : ClusterKey). list_any (is_settled_line z (master z q (so_far s i)) q) (so_far s i) ≡ true) key
-    (subst (λ (y : ℕ). list_any (is_settled_line k (master k y (so_far s i)) y) (so_far s i) ≡ true) part (there (view_of s k) refl)))
+    (subst (λ (y : ℕ). list_any (is_settled_line k (master k y (so_far s i)) y) (so_far s i) ≡ true) part (there (kept_view s k) refl)))
   where
-    there : (o : Option View) → view_of s k ≡ o → list_any (is_settled_line k (master k p (so_far s i)) p) (so_far s i) ≡ true
+    there : (o : Option View) → kept_view s k ≡ o → list_any (is_settled_line k (master k p (so_far s i)) p) (so_far s i) ≡ true
     there (Some x) q = sym (c.audits.state.tried.stands k p x q).settled ∙ (ap (λ (o : Option View). (stand_from o p).settled) (sym q) ∙ (sym told ∙ e))
     there None q = differ (sym told ∙ e) (ap (λ (o : Option View). (stand_from o p).settled) q)
 
@@ -219,13 +216,13 @@ settle_again s i n p k b c told e = again_takes s i n p k c (λ l q h.
 -- a view that is known was known, and the same was written in it
 record WasWritten (old : Judge) (l : ClusterKey) (y : View) : Type 0 where
   pub was : View
-  pub there : view_of old l ≡ Some was
+  pub there : kept_view old l ≡ Some was
   pub applied : y.applied ≡ was.applied
   pub written : y.written ≡ was.written
   pub writes : y.writes ≡ was.writes
   pub parts : (q : ℕ) → written_of y q ≡ written_of was q
 
-module _ (old noted : Judge) (i n p : ℕ) (k : ClusterKey) (b : Bool) (c : Comes old i (line.Settled n k p)) (first : b ≡ is_master_in (view_of old k) n p) (is : b ≡ true) (x : ChangesView (SettlesPartition p) k old noted) where
+module _ (old noted : Judge) (i n p : ℕ) (k : ClusterKey) (b : Bool) (c : Comes old i (line.Settled n k p)) (first : b ≡ is_master_in (kept_view old k) n p) (is : b ≡ true) (x : ChangesView (SettlesPartition p) k old noted) where
   lines_same : noted.lines.now ≡ old.lines.now
   lines_same = ap (λ (s : Judge). s.lines.now) x.rest
 
@@ -237,7 +234,7 @@ module _ (old noted : Judge) (i n p : ℕ) (k : ClusterKey) (b : Bool) (c : Come
 
   -- the node is the list master
   master_is : master k p (so_far old i) ≡ n
-  master_is = master_so old i k p n (lines_before_it old i (line.Settled n k p) c) (first_is (master_from (view_of old k) p) n (sym first ∙ is))
+  master_is = master_so old i k p n (lines_before_it old i (line.Settled n k p) c) (first_is (master_from (kept_view old k) p) n (sym first ∙ is))
 
   settled_now : list_any (is_settled_line k (master k p (so_far old i)) p) (so_far old i ++ line.Settled n k p ∷ []) ≡ true
   settled_now = any_line n p (master k p (so_far old i)) p k k (so_far old i)
@@ -265,12 +262,12 @@ module _ (old noted : Judge) (i n p : ℕ) (k : ClusterKey) (b : Bool) (c : Come
   was_view (Some a) None y r e = absurd r
 
   -- what holds of each partition but this one, and of this one as it becomes settled, holds of all
-  each : (P : ClusterKey → ℕ → View → Stand → Type 0) → ((l : ClusterKey) (q : ℕ) (z : View) → view_of old l ≡ Some z → ((k ≡ l) × (p ≡ q) → ⊥) → P l q z (stand_of z q))
-      → ((z y : View) → view_of old k ≡ Some z → SettlesPartition p z y → P k p y (settled_stand (stand_of z p)))
-      → ((l : ClusterKey) (q : ℕ) (z y : View) (w : Stand) → SettlesPartition p z y → ((p ≡ q) → ⊥) → P l q z w → P l q y w) → (l : ClusterKey) (q : ℕ) (y : View) → view_of noted l ≡ Some y → P l q y (stand_of y q)
+  each : (P : ClusterKey → ℕ → View → Stand → Type 0) → ((l : ClusterKey) (q : ℕ) (z : View) → kept_view old l ≡ Some z → ((k ≡ l) × (p ≡ q) → ⊥) → P l q z (stand_of z q))
+      → ((z y : View) → kept_view old k ≡ Some z → SettlesPartition p z y → P k p y (settled_stand (stand_of z p)))
+      → ((l : ClusterKey) (q : ℕ) (z y : View) (w : Stand) → SettlesPartition p z y → ((p ≡ q) → ⊥) → P l q z w → P l q y w) → (l : ClusterKey) (q : ℕ) (y : View) → kept_view noted l ≡ Some y → P l q y (stand_of y q)
   each P before here moves l q y e = go (same_key k l) refl
     where
-      at : (z : View) → view_of old k ≡ Some z → SettlesPartition p z y → P k q y (stand_of y q)
+      at : (z : View) → kept_view old k ≡ Some z → SettlesPartition p z y → P k q y (stand_of y q)
       at z there r = subst (P k q y) (sym (r.stands q)) (choose (nat_eq p q) refl)
         where
           choose : (t : Bool) → nat_eq p q ≡ t → P k q y (cond t (settled_stand (stand_of z p)) (stand_of z q))
@@ -279,7 +276,7 @@ module _ (old noted : Judge) (i n p : ℕ) (k : ClusterKey) (b : Bool) (c : Come
 
       go : (t : Bool) → same_key k l ≡ t → P l q y (stand_of y q)
       go true f =
-          let z : (z : View) × (view_of old k ≡ Some z) × SettlesPartition p z y = was_view (view_of old k) (view_of noted k) y x.here (ap (λ (m : ClusterKey). view_of noted m) (same_key_is k l f) ∙ e) in
+          let z : (z : View) × (kept_view old k ≡ Some z) × SettlesPartition p z y = was_view (kept_view old k) (kept_view noted k) y x.here (ap (λ (m : ClusterKey). kept_view noted m) (same_key_is k l f) ∙ e) in
           subst (λ (m : ClusterKey). P m q y (stand_of y q)) (same_key_is k l f) (at z.0 z.1 z.2)
       go false f = before l q y (sym (x.others l f) ∙ e) (λ w. differ (ap (same_key k) (sym w.0) ∙ same_key_itself k) f)
 
@@ -312,7 +309,7 @@ module _ (old noted : Judge) (i n p : ℕ) (k : ClusterKey) (b : Bool) (c : Come
       (λ l q z y w r apart h. h) l q y e)
 
   -- nothing was to be tried of the partition, unless it was settled before
-  doubts_before : (z : View) → view_of old k ≡ Some z → IsBound k p (so_far old i ++ line.Settled n k p ∷ []) → (stand_of z p).open_writes ≡ 0 → HasNoDoubts (stand_of z p)
+  doubts_before : (z : View) → kept_view old k ≡ Some z → IsBound k p (so_far old i ++ line.Settled n k p ∷ []) → (stand_of z p).open_writes ≡ 0 → HasNoDoubts (stand_of z p)
   doubts_before z there bound none = go (is_settled k p (so_far old i)) refl
     where
       go : (t : Bool) → is_settled k p (so_far old i) ≡ t → HasNoDoubts (stand_of z p)
@@ -352,7 +349,7 @@ module _ (old noted : Judge) (i n p : ℕ) (k : ClusterKey) (b : Bool) (c : Come
           let moved : IsSuspect (record noted { views = old.views }) w e = subst (λ (s : Judge). IsSuspect s w e) (sym x.rest) q in
           (moved.0, moved.1, moved.2)
 
-      others : (l : ClusterKey) (q : ℕ) (z : View) → view_of old l ≡ Some z → ((k ≡ l) × (p ≡ q) → ⊥) → IsTried old (so_far old i) l q (stand_of z q) → IsTriedOf (λ e. not (same_key k l && (p == partition_of e))) noted (so_far old i ++ line.Settled n k p ∷ []) l q (stand_of z q)
+      others : (l : ClusterKey) (q : ℕ) (z : View) → kept_view old l ≡ Some z → ((k ≡ l) × (p ≡ q) → ⊥) → IsTried old (so_far old i) l q (stand_of z q) → IsTriedOf (λ e. not (same_key k l && (p == partition_of e))) noted (so_far old i ++ line.Settled n k p ∷ []) l q (stand_of z q)
       others l q z there apart h = record {
         closed = h.closed;
         joined = λ untried e part tried clear. joins_silent (so_far old i) (line.Settled n k p) l e (settled_silent n p k) refl (h.joined untried e part (λ w. clear (suspected (stand_of z q) e w)));
@@ -383,19 +380,19 @@ module _ (old noted : Judge) (i n p : ℕ) (k : ClusterKey) (b : Bool) (c : Come
       entries None (Some z) h = absurd h
       entries (Some a) None h = absurd h
 
-      view_kept : (l : ClusterKey) (t : Bool) → same_key k l ≡ t → Both SameEntries (view_of old l) (view_of noted l)
-      view_kept l true e = subst (λ (z : ClusterKey). Both SameEntries (view_of old z) (view_of noted z)) (same_key_is k l e) (entries (view_of old k) (view_of noted k) x.here)
-      view_kept l false e = both_same SameEntries (λ y. same_entries (Some y)) (view_of old l) (view_of noted l) (x.others l e)
+      view_kept : (l : ClusterKey) (t : Bool) → same_key k l ≡ t → Both SameEntries (kept_view old l) (kept_view noted l)
+      view_kept l true e = subst (λ (z : ClusterKey). Both SameEntries (kept_view old z) (kept_view noted z)) (same_key_is k l e) (entries (kept_view old k) (kept_view noted k) x.here)
+      view_kept l false e = both_same SameEntries (λ y. same_entries (Some y)) (kept_view old l) (kept_view noted l) (x.others l e)
 
-  was_written : (l : ClusterKey) (y : View) → view_of noted l ≡ Some y → WasWritten old l y
+  was_written : (l : ClusterKey) (y : View) → kept_view noted l ≡ Some y → WasWritten old l y
   was_written l y e = go (same_key k l) refl
     where
       go : (t : Bool) → same_key k l ≡ t → WasWritten old l y
       go true f =
-          let z : (z : View) × (view_of old k ≡ Some z) × SettlesPartition p z y = was_view (view_of old k) (view_of noted k) y x.here (ap (λ (m : ClusterKey). view_of noted m) (same_key_is k l f) ∙ e) in
+          let z : (z : View) × (kept_view old k ≡ Some z) × SettlesPartition p z y = was_view (kept_view old k) (kept_view noted k) y x.here (ap (λ (m : ClusterKey). kept_view noted m) (same_key_is k l f) ∙ e) in
           record {
             was = z.0;
-            there = ap (λ (m : ClusterKey). view_of old m) (sym (same_key_is k l f)) ∙ z.1;
+            there = ap (λ (m : ClusterKey). kept_view old m) (sym (same_key_is k l f)) ∙ z.1;
             applied = ap (λ (v : View). v.applied) z.2.rest;
             written = ap (λ (v : View). v.written) z.2.rest;
             writes = ap (λ (v : View). v.writes) z.2.rest;
@@ -416,7 +413,7 @@ module _ (old noted : Judge) (i n p : ℕ) (k : ClusterKey) (b : Bool) (c : Come
           written = λ l y r e. let w : WasWritten old l y = was_written l y e in
               ap (λ (m : _). has_node m.items r) w.written ∙ (moved.written.written l w.was r w.there ∙ sym (ap (λ (m : _). is_some (hash.get nat_eq m r)) w.applied));
           listed = λ l y r e some. let w : WasWritten old l y = was_written l y e in
-              let u : (u : ℕ) × IsOf noted.records r u × (has_node (written_of w.was u) r ≡ true) = moved.written.listed l w.was r w.there (sym (ap (λ (m : _). is_some (hash.get nat_eq m r)) w.applied) ∙ some) in
+              let u : (u : ℕ) × IsRecordOf noted.records r u × (has_node (written_of w.was u) r ≡ true) = moved.written.listed l w.was r w.there (sym (ap (λ (m : _). is_some (hash.get nat_eq m r)) w.applied) ∙ some) in
               (u.0, u.1, ap (λ (ns : List ℕ). has_node ns r) (w.parts u.0) ∙ u.2);
           listed_only = λ l y q r e has. let w : WasWritten old l y = was_written l y e in
               moved.written.listed_only l w.was q r w.there (sym (ap (λ (ns : List ℕ). has_node ns r) (w.parts q)) ∙ has);
@@ -440,17 +437,17 @@ module _ (old noted : Judge) (i n p : ℕ) (k : ClusterKey) (b : Bool) (c : Come
       (nodes_same old noted (λ m. ap (λ (s : Judge). node_at s m) x.rest) (λ r. ap (λ (s : Judge). record_digest s.records r) x.rest))
       (stays_left old (so_far old i) (line.Settled n k p) refl (λ l. refl) (λ by m e y. refl) c.audits.state.stays))
 
-  all_here : (l : ClusterKey) (e : List ℕ) → with_partition (λ l e. not (same_key k l && (p == partition_of e))) k p l e ≡ true
+  all_here : (l : ClusterKey) (e : List ℕ) → tried_with_partition (λ l e. not (same_key k l && (p == partition_of e))) k p l e ≡ true
   all_here l e = go (same_key k l && (p == partition_of e))
     where
       go : (t : Bool) → (not t || t) ≡ true
       go true = refl
       go false = refl
 
-  pub settle_takes : (after : Judge) → TriesPartition (i + 1) k p noted after → KeepsKnown noted after → Takes old after i (line.Settled n k p)
+  pub settle_takes : (after : Judge) → TriesPartition (i + 1) k p noted after → KeepsKnown noted after → AcceptsLine old after i (line.Settled n k p)
   unfolding TriesPartition
   settle_takes after tries keeps =
-      let t : IsTrying after (i + 1) (with_partition (λ l e. not (same_key k l && (p == partition_of e))) k p) = tries (λ l e. not (same_key k l && (p == partition_of e))) lines_noted trying_noted in
+      let t : IsTrying after (i + 1) (tried_with_partition (λ l e. not (same_key k l && (p == partition_of e))) k p) = tries (λ l e. not (same_key k l && (p == partition_of e))) lines_noted trying_noted in
       let tried : SeesTried after (so_far after (i + 1)) = all_tried after (i + 1) _ t all_here in
       let seen : SeesLines after (i + 1) = lines_kept noted after (i + 1) keeps lines_noted in
       let same : so_far after (i + 1) ≡ so_far noted (i + 1) = ap (λ (s : Judge). so_far s (i + 1)) keeps.rest in
@@ -475,8 +472,8 @@ module _ (old noted : Judge) (i n p : ℕ) (k : ClusterKey) (b : Bool) (c : Come
       parted_stops (so_far old i) (so_far noted (i + 1)) (line.Settled n k p) stop noted_front c.audits.lawful.shape c.audits.lawful.settled_join c.shape tt tt
       (h (λ l e. not (same_key k l && (p == partition_of e))) lines_noted trying_noted)
 
-pub settled_ok : {E : Type 0} (old noted after : Judge) (i n p : ℕ) (k : ClusterKey) (b : Bool) (c : Comes old i (line.Settled n k p)) → b ≡ is_master_in (view_of old k) n p → b ≡ true → ChangesView (SettlesPartition p) k old noted
-    → (r : Result (Unit {0}) E) → OnOk r (TriesPartition (i + 1) k p noted after) → OnOk r (KeepsKnown noted after) → OnOk r (Takes old after i (line.Settled n k p))
+pub settled_ok : {E : Type 0} (old noted after : Judge) (i n p : ℕ) (k : ClusterKey) (b : Bool) (c : Comes old i (line.Settled n k p)) → b ≡ is_master_in (kept_view old k) n p → b ≡ true → ChangesView (SettlesPartition p) k old noted
+    → (r : Result (Unit {0}) E) → OnOk r (TriesPartition (i + 1) k p noted after) → OnOk r (KeepsKnown noted after) → OnOk r (AcceptsLine old after i (line.Settled n k p))
 settled_ok {E} old noted after i n p k b c first is x (Ok u) tries keeps = settle_takes old noted i n p k b c first is x after tries keeps
 settled_ok {E} old noted after i n p k b c first is x (Err e) tries keeps = tt
 

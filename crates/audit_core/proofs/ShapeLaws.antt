@@ -20,7 +20,7 @@ use Rattle.audit_laws.proofs.Headers.{nodes-more}
 use Rattle.audit_laws.proofs.MapSteps.{entered_key}
 use Rattle.audit_core.specs.declared.judge.Judge.{Judge}
 use Rattle.audit_state.specs.declared.views.View.{View}
-use Rattle.audit_core.specs.Known.{is_declared, view_of}
+use Rattle.audit_core.specs.Known.{is_declared, kept_view}
 use Rattle.audit_state.specs.Views.{entry_line}
 use Rattle.audit_core.specs.Sees.{SeesFrame}
 use Rattle.audit_core.specs.Shapes as known
@@ -64,7 +64,7 @@ members_none k (x ∷ j) e = members_none k j e
 
 -- ---- each test
 
-follows_step : (s : Judge) (j : List Line) (l : Line) → s.begun ≡ not (list_all shape.is_header j) → known.follows_header s l ≡ shape.follows_header j l
+follows_step : (s : Judge) (j : List Line) (l : Line) → s.begun ≡ not (list_all shape.is_header j) → known.header_goes_on s l ≡ shape.follows_header j l
 follows_step s j l e = ap (λ (b : Bool). not b || not (shape.is_header l)) e ∙ go (list_all shape.is_header j) (shape.is_header l)
   where
     go : (a h : Bool) → (not (not a) || not h) ≡ (not h || a)
@@ -73,7 +73,7 @@ follows_step s j l e = ap (λ (b : Bool). not b || not (shape.is_header l)) e �
     go false true = refl
     go false false = refl
 
-new_step : (s : Judge) (j : List Line) (l : Line) → ((n : ℕ) → is_declared s n ≡ has_node (nodes j) n) → known.declares_new s l ≡ fits.declares_new j l
+new_step : (s : Judge) (j : List Line) (l : Line) → ((n : ℕ) → is_declared s n ≡ has_node (nodes j) n) → known.declares_unknown_node s l ≡ fits.declares_new j l
 new_step s j (line.Node n rack) h = ap not (h n)
 new_step s j l h = refl
 
@@ -96,12 +96,12 @@ named_all : (s : Judge) (j : List Line) (l : Line) (ns : List ℕ) → ((n : ℕ
     → list_all (is_declared s) ns ≡ list_all (has_node (nodes (j ++ l ∷ []))) ns
 named_all s j l ns h e = all_same (is_declared s) (has_node (nodes (j ++ l ∷ []))) (λ n. h n ∙ ap (λ (ms : List ℕ). has_node ms n) (sym (none_more j l e))) ns
 
-named_step : (s : Judge) (j : List Line) (l : Line) → ((n : ℕ) → is_declared s n ≡ has_node (nodes j) n) → known.names_declared s l ≡ shape.names_declared (j ++ l ∷ []) l
+named_step : (s : Judge) (j : List Line) (l : Line) → ((n : ℕ) → is_declared s n ≡ has_node (nodes j) n) → known.names_known_nodes s l ≡ shape.names_declared (j ++ l ∷ []) l
 unfolding nodes shape.named_nodes
 named_step s j (line.Node n rack) h = sym (and_pair (has_node (nodes (j ++ line.Node n rack ∷ [])) n) true (ap (λ (ns : List ℕ). has_node ns n) (node_more j n rack) ∙ declared_last (nodes j) n) refl)
 named_step s j l h = named_all s j l (shape.named_nodes l) h refl
 
-pub entered_by : (s : Judge) (j : List Line) (k : ClusterKey) (n : ℕ) → SeesFrame s j → (o : Option View) → view_of s k ≡ o → is_some (known.entry_in o n) ≡ list_any (is_enter k n) j
+pub entered_by : (s : Judge) (j : List Line) (k : ClusterKey) (n : ℕ) → SeesFrame s j → (o : Option View) → kept_view s k ≡ o → is_some (known.entry_in o n) ≡ list_any (is_enter k n) j
 entered_by s j k n f None e = none (list_any (is_enter k n) j) refl
   where
     none : (b : Bool) → list_any (is_enter k n) j ≡ b → false ≡ list_any (is_enter k n) j
@@ -110,10 +110,10 @@ entered_by s j k n f None e = none (list_any (is_enter k n) j) refl
 entered_by s j k n f (Some x) e =
     ap is_some ((f.views k x e).entered n) ∙ (some_mapped length (lines_before (is_enter k n) j) ∙ before_any (is_enter k n) j)
 
-pub entered_step : (s : Judge) (j : List Line) (k : ClusterKey) (n : ℕ) → SeesFrame s j → known.has_entered s k n ≡ shape.has_entered j k n
-entered_step s j k n f = entered_by s j k n f (view_of s k) refl
+pub entered_step : (s : Judge) (j : List Line) (k : ClusterKey) (n : ℕ) → SeesFrame s j → known.has_entry s k n ≡ shape.has_entered j k n
+entered_step s j k n f = entered_by s j k n f (kept_view s k) refl
 
-all_entered : (s : Judge) (j : List Line) (k : ClusterKey) → SeesFrame s j → (o : Option View) → view_of s k ≡ o → known.all_entered_in o ≡ shape.have_all_entered j k
+all_entered : (s : Judge) (j : List Line) (k : ClusterKey) → SeesFrame s j → (o : Option View) → kept_view s k ≡ o → known.all_entered_in o ≡ shape.have_all_entered j k
 all_entered s j k f None e = sym (ap (λ (ms : List Member). list_all (shape.has_entered j k) (ids_of ms)) (members_none k j (sym (f.known_views k) ∙ ap is_some e)))
 all_entered s j k f (Some x) e =
     ap (λ (ms : List Member). list_all (λ m. is_some (entry_line x m.id)) ms)
@@ -121,7 +121,7 @@ all_entered s j k f (Some x) e =
     ∙ (all_same (λ (m : Member). is_some (entry_line x m.id)) (λ (m : Member). shape.has_entered j k m.id) (λ m. entered_by s j k m.id f (Some x) e) (members k j)
     ∙ sym (list_all-map (shape.has_entered j k) (λ (m : Member). m.id) (members k j)))
 
-in_view_step : (s : Judge) (j : List Line) (l : Line) → SeesFrame s j → known.names_entered s l ≡ shape.names_entered j l
+in_view_step : (s : Judge) (j : List Line) (l : Line) → SeesFrame s j → known.names_known_entry s l ≡ shape.names_entered j l
 in_view_step s j (line.Exchanged n k) f = entered_step s j k n f
 in_view_step s j (line.Opened n k t d a) f = entered_step s j k n f
 in_view_step s j (line.Value n k t d v) f = entered_step s j k n f
@@ -134,14 +134,14 @@ in_view_step s j (line.Drop n k p) f = entered_step s j k n f
 in_view_step s j (line.Map n k p ms a) f = entered_step s j k n f
 in_view_step s j l f = refl
 
-entries_step : (s : Judge) (j : List Line) (l : Line) → SeesFrame s j → known.follows_entries s l ≡ shape.follows_entries j l
-entries_step s j (line.Exchanged n k) f = all_entered s j k f (view_of s k) refl
-entries_step s j (line.Map n k p ms a) f = all_entered s j k f (view_of s k) refl
+entries_step : (s : Judge) (j : List Line) (l : Line) → SeesFrame s j → known.follows_every_entry s l ≡ shape.follows_entries j l
+entries_step s j (line.Exchanged n k) f = all_entered s j k f (kept_view s k) refl
+entries_step s j (line.Map n k p ms a) f = all_entered s j k f (kept_view s k) refl
 entries_step s j l f = refl
 
 -- ---- entries
 
-agrees_is : (s : Judge) (j : List Line) (k : ClusterKey) (ms : List Member) → SeesFrame s j → (o : Option View) → view_of s k ≡ o
+agrees_is : (s : Judge) (j : List Line) (k : ClusterKey) (ms : List Member) → SeesFrame s j → (o : Option View) → kept_view s k ≡ o
     → (known.agrees_with o ms ≡ true) ↔ (list_any (fits.enters_key k) j ≡ true → ms ≡ members k j)
 agrees_is s j k ms f None e = (λ q i. differ i (sym (f.known_views k) ∙ ap is_some e), λ q. refl)
 agrees_is s j k ms f (Some x) e =
@@ -150,56 +150,53 @@ agrees_is s j k ms f (Some x) e =
     (λ q i. sym ((same_members_decides x.members ms).0 q) ∙ same, λ q. (same_members_decides x.members ms).1 (same ∙ sym (q entered)))
 
 once_step : (s : Judge) (j : List Line) (n : ℕ) (k : ClusterKey) (ms : List Member) → SeesFrame s j
-    → (list_any (λ (m : Member). m.id == n) ms && not (known.has_entered s k n)) ≡ shape.enters_once j (line.Enter n k ms)
+    → (list_any (λ (m : Member). m.id == n) ms && not (known.has_entry s k n)) ≡ shape.enters_once j (line.Enter n k ms)
 once_step s j n k ms f = ap₂ (λ (a b : Bool). a && not b) (sym (any_map (λ (m : ℕ). m == n) (λ (m : Member). m.id) ms)) (entered_step s j k n f)
 
 rightly_so : (s : Judge) (j : List Line) (l : Line) → SeesFrame s j → known.enters_rightly s l ≡ true → (shape.enters_once j l ≡ true) × fits.NamesMembers j l
 rightly_so s j (line.Enter n k ms) f e = (
-  sym (once_step s j n k ms f) ∙ and_left (list_any (λ (m : Member). m.id == n) ms && not (known.has_entered s k n)) _ e,
-  (agrees_is s j k ms f (view_of s k) refl).0 (and_right (list_any (λ (m : Member). m.id == n) ms && not (known.has_entered s k n)) _ e),
+  sym (once_step s j n k ms f) ∙ and_left (list_any (λ (m : Member). m.id == n) ms && not (known.has_entry s k n)) _ e,
+  (agrees_is s j k ms f (kept_view s k) refl).0 (and_right (list_any (λ (m : Member). m.id == n) ms && not (known.has_entry s k n)) _ e),
 )
 rightly_so s j l f e = (refl, tt)
 
 rightly_then : (s : Judge) (j : List Line) (l : Line) → SeesFrame s j → shape.enters_once j l ≡ true → fits.NamesMembers j l → known.enters_rightly s l ≡ true
-rightly_then s j (line.Enter n k ms) f e h = and_pair (list_any (λ (m : Member). m.id == n) ms && not (known.has_entered s k n)) _ (once_step s j n k ms f ∙ e) ((agrees_is s j k ms f (view_of s k) refl).1 h)
+rightly_then s j (line.Enter n k ms) f e h = and_pair (list_any (λ (m : Member). m.id == n) ms && not (known.has_entry s k n)) _ (once_step s j n k ms f ∙ e) ((agrees_is s j k ms f (kept_view s k) refl).1 h)
 rightly_then s j l f e h = refl
 
 -- ---- all of them
 
 pub shape_so : (s : Judge) (j : List Line) (l : Line) → SeesFrame s j → s.begun ≡ not (list_all shape.is_header j) → shape.EntersFalling l → known.fits_shape s l ≡ true → fits.FitsShape j l
 shape_so s j l f b falls e =
-    let five : (known.follows_header s l && known.declares_new s l && known.names_declared s l && known.enters_rightly s l && known.names_entered s l) ≡ true = and_left _ (known.follows_entries s l) e in
-    let four : (known.follows_header s l && known.declares_new s l && known.names_declared s l && known.enters_rightly s l) ≡ true = and_left _ (known.names_entered s l) five in
-    let three : (known.follows_header s l && known.declares_new s l && known.names_declared s l) ≡ true = and_left _ (known.enters_rightly s l) four in
-    let two : (known.follows_header s l && known.declares_new s l) ≡ true = and_left _ (known.names_declared s l) three in
-    let rightly : (shape.enters_once j l ≡ true) × fits.NamesMembers j l = rightly_so s j l f (and_right (known.follows_header s l && known.declares_new s l && known.names_declared s l) _ four) in
+    let five : (known.header_goes_on s l && known.declares_unknown_node s l && known.names_known_nodes s l && known.enters_rightly s l && known.names_known_entry s l) ≡ true = and_left _ (known.follows_every_entry s l) e in
+    let four : (known.header_goes_on s l && known.declares_unknown_node s l && known.names_known_nodes s l && known.enters_rightly s l) ≡ true = and_left _ (known.names_known_entry s l) five in
+    let three : (known.header_goes_on s l && known.declares_unknown_node s l && known.names_known_nodes s l) ≡ true = and_left _ (known.enters_rightly s l) four in
+    let two : (known.header_goes_on s l && known.declares_unknown_node s l) ≡ true = and_left _ (known.names_known_nodes s l) three in
+    let rightly : (shape.enters_once j l ≡ true) × fits.NamesMembers j l = rightly_so s j l f (and_right (known.header_goes_on s l && known.declares_unknown_node s l && known.names_known_nodes s l) _ four) in
     record {
-      header = sym (follows_step s j l b) ∙ and_left (known.follows_header s l) _ two;
-      new = sym (new_step s j l f.header.declared) ∙ and_right (known.follows_header s l) _ two;
-      named = sym (named_step s j l f.header.declared) ∙ and_right (known.follows_header s l && known.declares_new s l) _ three;
+      header = sym (follows_step s j l b) ∙ and_left (known.header_goes_on s l) _ two;
+      new = sym (new_step s j l f.header.declared) ∙ and_right (known.header_goes_on s l) _ two;
+      named = sym (named_step s j l f.header.declared) ∙ and_right (known.header_goes_on s l && known.declares_unknown_node s l) _ three;
       members = rightly.1;
       falling = falls;
       entered = rightly.0;
-      in_view = sym (in_view_step s j l f) ∙ and_right (known.follows_header s l && known.declares_new s l && known.names_declared s l && known.enters_rightly s l) _ five;
-      exchanged = sym (entries_step s j l f) ∙ and_right (known.follows_header s l && known.declares_new s l && known.names_declared s l && known.enters_rightly s l && known.names_entered s l) _ e;
+      in_view = sym (in_view_step s j l f) ∙ and_right (known.header_goes_on s l && known.declares_unknown_node s l && known.names_known_nodes s l && known.enters_rightly s l) _ five;
+      exchanged = sym (entries_step s j l f) ∙ and_right (known.header_goes_on s l && known.declares_unknown_node s l && known.names_known_nodes s l && known.enters_rightly s l && known.names_known_entry s l) _ e;
     }
 
 pub shape_then : (s : Judge) (j : List Line) (l : Line) → SeesFrame s j → s.begun ≡ not (list_all shape.is_header j) → fits.FitsShape j l → known.fits_shape s l ≡ true
 shape_then s j l f b h =
-    and_pair _ (known.follows_entries s l)
-    (and_pair _ (known.names_entered s l)
+    and_pair _ (known.follows_every_entry s l)
+    (and_pair _ (known.names_known_entry s l)
     (and_pair _ (known.enters_rightly s l)
-    (and_pair _ (known.names_declared s l)
-    (and_pair _ (known.declares_new s l) (follows_step s j l b ∙ h.header) (new_step s j l f.header.declared ∙ h.new))
+    (and_pair _ (known.names_known_nodes s l)
+    (and_pair _ (known.declares_unknown_node s l) (follows_step s j l b ∙ h.header) (new_step s j l f.header.declared ∙ h.new))
     (named_step s j l f.header.declared ∙ h.named))
     (rightly_then s j l f h.entered h.members))
     (in_view_step s j l f ∙ h.in_view))
     (entries_step s j l f ∙ h.exchanged)
 
 -- ---- nodes by the lists that name them
-
-pub all_ids : (test : ℕ → Bool) (ms : List Member) → list_all (λ (m : Member). test m.id) ms ≡ list_all test (ids_of ms)
-all_ids test ms = sym (list_all-map test (λ (m : Member). m.id) ms)
 
 pub all_listed : (test : ℕ → Bool) (groups : List (List ℕ)) → list_all (λ (ids : List ℕ). list_all test ids) groups ≡ list_all test (concat groups)
 all_listed test [] = refl

@@ -1,5 +1,5 @@
 -- What a map line is to show is told by what is known.
-use Rattle.std.proofs.Common.{◌≡◌, ℕ, zero, suc, ◌<◌, ◌≤◌, ◌+◌, Bool, true, false, List, [], ◌∷◌, ◌++◌, length, get_or, map, Option, Some, ◌↔◌, refl, sym, ap, ap₂, subst, ◌∙◌, arith}
+use Rattle.std.proofs.Common.{◌≡◌, ℕ, zero, suc, ◌<◌, ◌+◌, Bool, true, List, [], ◌∷◌, ◌++◌, length, get_or, map, Option, Some, ◌↔◌, refl, sym, ap, ap₂, subst, ◌∙◌, arith}
 use Rattle.std.specs.Prelude.{is_some, take, slice_get, IsTrue}
 use Rattle.std.proofs.lemmas.List.{take_more, length-map}
 use Rattle.cluster_types.specs.declared.cluster_key.ClusterKey.{ClusterKey}
@@ -9,13 +9,11 @@ use Rattle.partition_lists.specs.Lists as lists
 use Rattle.partition_lists.proofs.ListLaws.{list_length}
 use Rattle.journal_lines.specs.declared.line.Line.{Line}
 use Rattle.journal_lines.specs.declared.line.Line.TheVariants as line
-use Rattle.journal_readings.specs.Claims.{ShowsMap}
 use Rattle.journal_readings.specs.Lines.{has_node}
 use Rattle.journal_readings.specs.Maps.{acting, listed_members, with_roles}
 use Rattle.journal_readings.specs.Settings.{factor_of}
 use Rattle.journal_readings.specs.Shape.{Shape}
 use Rattle.journal_readings.specs.Views.{members, succession_list}
-use Rattle.journal_readings.proofs.AlongLaws.{some_same}
 use Rattle.journal_readings.proofs.Fronts.{and_left, same_key_is}
 use Rattle.audit_laws.specs.Fits.{enters_key}
 use Rattle.audit_laws.proofs.ShapeSteps.{members_are}
@@ -24,7 +22,7 @@ use Rattle.audit_core.specs.declared.judge.Judge.{Judge}
 use Rattle.audit_core.specs.declared.maps.Whole.{Whole}
 use Rattle.audit_state.specs.declared.views.View.{View}
 use Rattle.audit_core.specs.Audits.{Audits, so_far, KeepsAll, entered_whole}
-use Rattle.audit_core.specs.Known.{view_of}
+use Rattle.audit_core.specs.Known.{kept_view}
 use Rattle.audit_core.specs.Wholes as known
 use Rattle.audit_core.proofs.KeyLaws.{any_at}
 use Rattle.audit_core.proofs.MapLaws.{acting_so}
@@ -42,7 +40,7 @@ some_members j i (line.Enter n l ms) k shape e h =
     some (m ∷ others) q = omega arith
 some_members j i x k shape e h = differ h refl
 
-pub some_listed : (s : Judge) (i : ℕ) (k : ClusterKey) (p : ℕ) → Audits s i → is_some (view_of s k) ≡ true → 0 < length (succession_list k p (so_far s i))
+pub some_listed : (s : Judge) (i : ℕ) (k : ClusterKey) (p : ℕ) → Audits s i → is_some (kept_view s k) ≡ true → 0 < length (succession_list k p (so_far s i))
 some_listed s i k p h e =
     let first : (a : ℕ) × (x : Line) × (slice_get (so_far s i) a ≡ Some x) × (enters_key k x ≡ true) = any_at (enters_key k) (so_far s i) (sym (h.state.frame.known_views k) ∙ e) in
     let some : 0 < length (members k (so_far s i)) = some_members (so_far s i) first.0 first.1 k h.lawful.shape first.2 first.3 in
@@ -50,8 +48,8 @@ some_listed s i k p h e =
 
 -- ---- the list
 
-pub listed_so : (s : Judge) (k : ClusterKey) (p : ℕ) (x : View) (shown : List Member) (b : Bool) → view_of s k ≡ Some x → IsTrue b ↔ (shown ≡ with_roles x.members (lists.list x.ranks p))
-    → (i : ℕ) → Audits s i → is_some (view_of s k) ≡ true → IsTrue b ↔ (shown ≡ listed_members k p (so_far s i))
+pub listed_so : (s : Judge) (k : ClusterKey) (p : ℕ) (x : View) (shown : List Member) (b : Bool) → kept_view s k ≡ Some x → IsTrue b ↔ (shown ≡ with_roles x.members (lists.list x.ranks p))
+    → (i : ℕ) → Audits s i → is_some (kept_view s k) ≡ true → IsTrue b ↔ (shown ≡ listed_members k p (so_far s i))
 listed_so s k p x shown b e told i h there =
     let same : with_roles x.members (lists.list x.ranks p) ≡ listed_members k p (so_far s i) =
     ap₂ (λ (ms ranks : List Member). with_roles ms (lists.list ranks p)) (h.state.frame.views k x e).members (h.state.frame.views k x e).ranks in
@@ -65,49 +63,14 @@ pub record Told (old now : Judge) (k : ClusterKey) (p : ℕ) (found : List Whole
   pub audits : (i : ℕ) → Audits old i → Audits now i
   pub wholes : (i : ℕ) → Audits old i → found ≡ known.with_keys (entered_whole old i k p) done
 
-pub told_first : (s : Judge) (k : ClusterKey) (p : ℕ) (found : List Whole) (done : List ℕ) → found ≡ [] → done ≡ [] → Told s s k p found done
-told_first s k p found done e f = record { keeps = refl; audits = λ i h. h; wholes = λ i h. e ∙ ap (known.with_keys (entered_whole s i k p)) (sym f) }
-
-keyed_more : (f : ℕ → Option ClusterKey) (ids : List ℕ) (n : ℕ) → known.with_keys f (ids ++ n ∷ []) ≡ known.with_keys f ids ++ record { node = n; key = f n } ∷ []
-keyed_more f [] n = refl
-keyed_more f (m ∷ ids) n = ap (λ (ws : List Whole). record { node = m; key = f m } ∷ ws) (keyed_more f ids n)
-
-pub told_more : (old now next : Judge) (k : ClusterKey) (p : ℕ) (found new : List Whole) (ids : List ℕ) (a n : ℕ) (key : Option ClusterKey) → a < length ids → n ≡ get_or ids a n → Told old now k p found (take a ids)
-    → KeepsAll now next → ((i : ℕ) → Audits now i → Audits next i) → ((i : ℕ) → Audits now i → key ≡ entered_whole now i k p n) → new ≡ found ++ record { node = n; key = key } ∷ []
-    → Told old next k p new (take (a + 1) ids)
-told_more old now next k p found new ids a n key within read t keeps audits told pushed = record {
-  keeps = ap (λ (s : Judge). record s { stamps = old.stamps }) keeps ∙ t.keeps;
-  audits = λ i h. audits i (t.audits i h);
-  wholes = λ i h. pushed
-      ∙ (ap₂ (λ (ws : List Whole) (o : Option ClusterKey). ws ++ record { node = n; key = o } ∷ []) (t.wholes i h) (told i (t.audits i h) ∙ ap (λ (s : Judge). entered_whole s i k p n) t.keeps)
-      ∙ (sym (keyed_more (entered_whole old i k p) (take a ids) n)
-      ∙ ap (known.with_keys (entered_whole old i k p)) (ap (λ (m : ℕ). take a ids ++ m ∷ []) read ∙ sym (take_more ids a n within))));
-}
-
 -- ---- the member that acts
 
-pub acting_told : (s : Judge) (k : ClusterKey) (p : ℕ) (x : View) (ids : List ℕ) (found : List Whole) (o : Option ℕ) → view_of s k ≡ Some x → ids ≡ lists.list x.ranks p
+pub acting_told : (s : Judge) (k : ClusterKey) (p : ℕ) (x : View) (ids : List ℕ) (found : List Whole) (o : Option ℕ) → kept_view s k ≡ Some x → ids ≡ lists.list x.ranks p
     → ((i : ℕ) → Audits s i → found ≡ known.with_keys (entered_whole s i k p) ids) → o ≡ known.first_newest found
-    → (i : ℕ) → Audits s i → is_some (view_of s k) ≡ true → o ≡ Some (acting (factor_of (so_far s i)) k p (so_far s i))
+    → (i : ℕ) → Audits s i → is_some (kept_view s k) ≡ true → o ≡ Some (acting (factor_of (so_far s i)) k p (so_far s i))
 acting_told s k p x ids found o e listed told first i h there =
     first ∙ (ap known.first_newest (told i h ∙ ap (known.with_keys (entered_whole s i k p)) (listed ∙ ap (λ (ms : List Member). lists.list ms p) (h.state.frame.views k x e).ranks))
     ∙ acting_so (factor_of (so_far s i)) k p (so_far s i) (some_listed s i k p h there))
-
--- ---- both
-
--- the list isn't shown
-pub not_shown : (s : Judge) (k : ClusterKey) (p a : ℕ) (shown ms : List Member) (b : Bool) → shown ≡ ms → b ≡ false → ((i : ℕ) → Audits s i → is_some (view_of s k) ≡ true → IsTrue b ↔ (shown ≡ listed_members k p (so_far s i)))
-    → (i n : ℕ) → Audits s i → is_some (view_of s k) ≡ true → IsTrue false ↔ ShowsMap (so_far s i) (line.Map n k p ms a)
-not_shown s k p a shown ms b same e told i n h there = (λ q. differ q refl, λ q. differ ((told i h there).1 (same ∙ q.0)) e)
-
--- it is, and the acting member decides
-pub shown_by : (s : Judge) (k : ClusterKey) (p a : ℕ) (shown ms : List Member) (b c : Bool) (o : Option ℕ) → shown ≡ ms → b ≡ true → ((i : ℕ) → Audits s i → is_some (view_of s k) ≡ true → IsTrue b ↔ (shown ≡ listed_members k p (so_far s i)))
-    → ((i : ℕ) → Audits s i → is_some (view_of s k) ≡ true → o ≡ Some (acting (factor_of (so_far s i)) k p (so_far s i))) → IsTrue c ↔ (o ≡ Some a)
-    → (i n : ℕ) → Audits s i → is_some (view_of s k) ≡ true → IsTrue c ↔ ShowsMap (so_far s i) (line.Map n k p ms a)
-shown_by s k p a shown ms b c o listed e told acts same i n h there = (
-  λ q. (sym listed ∙ (told i h there).0 e, some_same (sym (same.0 q) ∙ acts i h there)),
-  λ q. same.1 (acts i h there ∙ ap Some (sym q.1)),
-)
 
 -- ---- lists one by one
 
@@ -122,24 +85,3 @@ listed_next f ids xs i n x a b read at same so =
     take_more xs i x a
     ∙ (ap₂ (λ (zs : List Member) (z : Member). zs ++ z ∷ []) so (sym read ∙ (same ∙ sym (got_mapped f ids i n x b at)))
     ∙ sym (take_more (map f ids) i x (omega (arith, length-map ids f, b))))
-
-pub listed_all : (f : ℕ → Member) (ids : List ℕ) (xs : List Member) (i : ℕ) → length ids ≡ length xs → length xs ≤ i → take i xs ≡ take i (map f ids) → xs ≡ map f ids
-listed_all f [] [] i e h so = refl
-listed_all f (m ∷ ids) [] i e h so = absurd (omega (arith, e))
-listed_all f [] (y ∷ xs) i e h so = absurd (omega (arith, e))
-listed_all f (m ∷ ids) (y ∷ xs) zero e h so = absurd (omega (arith, h))
-listed_all f (m ∷ ids) (y ∷ xs) (suc i) e h so = ap₂ (λ (z : Member) (zs : List Member). z ∷ zs) (ap first so) (listed_all f ids xs i (omega (arith, e)) (omega (arith, h)) (ap others so))
-  where
-    first : List Member → Member
-    first [] = y
-    first (z ∷ zs) = z
-
-    others : List Member → List Member
-    others [] = []
-    others (z ∷ zs) = zs
-
-pub listed_read : (f : ℕ → Member) (ids : List ℕ) (xs : List Member) (i n : ℕ) (x : Member) → x ≡ get_or xs i x → n ≡ get_or ids i n → i < length ids → xs ≡ map f ids → x ≡ f n
-listed_read f ids xs i n x read at b e = read ∙ (ap (λ (ys : List Member). get_or ys i x) e ∙ got_mapped f ids i n x b at)
-
-pub listed_length : (f : ℕ → Member) (ids : List ℕ) (xs : List Member) → xs ≡ map f ids → length ids ≡ length xs
-listed_length f ids xs e = sym (length-map ids f) ∙ ap length (sym e)

@@ -14,7 +14,7 @@ use Rattle.audit_laws.proofs.Tests.{differ, number_same}
 use Rattle.audit_state.specs.declared.history.Change.{Change}
 use Rattle.audit_state.specs.declared.stamps.Stamps.{Stamps}
 use Rattle.audit_state.specs.Histories.{last_from, last_before}
-use Rattle.audit_core.specs.Stamped.{SeesStamps, IsRising, mark_of, finishes, finished_from, finished, makes_whole, makes_whole_at, change_at, whole_of}
+use Rattle.audit_core.specs.Stamped.{SeesStamps, StandInOrder, mark_of, finishes_exchange, exchanged_places_from, exchanged_places, makes_whole, makes_whole_at, change_at, whole_of}
 use Rattle.audit_state.specs.Stamps.{stamp_marks, judged_of, wholes_of, later, stamping_key, stamping_key_at}
 use Rattle.audit_core.proofs.VerdictLaws.{taken_more}
 
@@ -45,7 +45,7 @@ abbrev told : Option (Option ℕ) → ℕ → Option Change → Option Change
 told None a o = o
 told (Some value) a o = Some (record { line = a; value = value })
 
-last_step : (o : Option Change) (cs : List Change) (a : ℕ) → IsRising cs → last_from o cs (suc a) ≡ told (change_at cs a) a (last_from o cs a)
+last_step : (o : Option Change) (cs : List Change) (a : ℕ) → StandInOrder cs → last_from o cs (suc a) ≡ told (change_at cs a) a (last_from o cs a)
 last_step o [] a h = refl
 last_step o (c ∷ cs) a h = go (nat_lt c.line a) (c.line == a) refl refl (last_step (Some c) cs a h.1)
   where
@@ -102,41 +102,45 @@ last_none cs = stops None cs 0 (λ k d within. omega arith)
 
 -- ---- a node's `exchanged` lines
 
-finished_above : (n place : ℕ) (j : List Line) (a : ℕ) → has_node (finished_from n place j) a ≡ true → place ≤ a
+finished_above : (n place : ℕ) (j : List Line) (a : ℕ) → has_node (exchanged_places_from n place j) a ≡ true → place ≤ a
 finished_above n place [] a e = differ e refl
-finished_above n place (x ∷ j) a e = step (finishes n x) (finished_above n (place + 1) j a) e
+finished_above n place (x ∷ j) a e = step (finishes_exchange n x) (finished_above n (place + 1) j a)
+    e
   where
-    here : (c : Bool) → (place == a) ≡ c → (has_node (finished_from n (place + 1) j) a ≡ true → (place + 1) ≤ a) → (c || has_node (finished_from n (place + 1) j) a) ≡ true → place ≤ a
+    here : (c : Bool) → (place == a) ≡ c → (has_node (exchanged_places_from n (place + 1) j) a ≡ true → (place + 1) ≤ a) → (c || has_node (exchanged_places_from n (place + 1) j) a) ≡ true → place ≤ a
     here true i rest q = let same : place ≡ a = number_same place a i in omega arith
     here false i rest q = let above : (place + 1) ≤ a = rest q in omega arith
 
-    step : (b : Bool) → (has_node (finished_from n (place + 1) j) a ≡ true → (place + 1) ≤ a) → has_node (cond b (place ∷ finished_from n (place + 1) j) (finished_from n (place + 1) j)) a ≡ true → place ≤ a
+    step : (b : Bool) → (has_node (exchanged_places_from n (place + 1) j) a ≡ true → (place + 1) ≤ a) → has_node (cond b (place ∷ exchanged_places_from n (place + 1) j) (exchanged_places_from n (place + 1) j)) a ≡ true → place ≤ a
     step true rest q = here (place == a) refl rest q
     step false rest q = let above : (place + 1) ≤ a = rest q in omega arith
 
-finished_there : (n place : ℕ) (j : List Line) (a : ℕ) (l : Line) → slice_get j a ≡ Some l → has_node (finished_from n place j) (place + a) ≡ finishes n l
+finished_there : (n place : ℕ) (j : List Line) (a : ℕ) (l : Line) → slice_get j a ≡ Some l → has_node (exchanged_places_from n place j) (place + a) ≡ finishes_exchange n l
 finished_there n place [] a l e = absurd (no_some e)
-finished_there n place (x ∷ j) zero l e = go (finishes n x) refl ∙ ap (finishes n) (some_same e)
+finished_there n place (x ∷ j) zero l e = go (finishes_exchange n x) refl
+    ∙ ap (finishes_exchange n) (some_same e)
   where
     here : (place == (place + 0)) ≡ true
     here = grind (arith, nat_tests)
 
-    later_on : (b : Bool) → has_node (finished_from n (place + 1) j) (place + 0) ≡ b → b ≡ false
+    later_on : (b : Bool) → has_node (exchanged_places_from n (place + 1) j) (place + 0) ≡ b
+        → b ≡ false
     later_on false i = refl
     later_on true i = let under : (place + 1) ≤ place + 0 = finished_above n (place + 1) j (place + 0) i in absurd (omega arith)
 
-    go : (b : Bool) → finishes n x ≡ b → has_node (cond b (place ∷ finished_from n (place + 1) j) (finished_from n (place + 1) j)) (place + 0) ≡ b
-    go true i = ap (λ (c : Bool). c || has_node (finished_from n (place + 1) j) (place + 0)) here
-    go false i = later_on (has_node (finished_from n (place + 1) j) (place + 0)) refl
+    go : (b : Bool) → finishes_exchange n x ≡ b → has_node (cond b (place ∷ exchanged_places_from n (place + 1) j) (exchanged_places_from n (place + 1) j)) (place + 0) ≡ b
+    go true i = ap (λ (c : Bool). c || has_node (exchanged_places_from n (place + 1) j) (place + 0))
+        here
+    go false i = later_on (has_node (exchanged_places_from n (place + 1) j) (place + 0)) refl
 finished_there n place (x ∷ j) (suc a) l e =
     let moved : (place + 1) + a ≡ place + suc a = omega arith in
-    go (finishes n x) (subst (λ (q : ℕ). has_node (finished_from n (place + 1) j) q ≡ finishes n l) moved (finished_there n (place + 1) j a l e))
+    go (finishes_exchange n x) (subst (λ (q : ℕ). has_node (exchanged_places_from n (place + 1) j) q ≡ finishes_exchange n l) moved (finished_there n (place + 1) j a l e))
   where
     apart : (place == (place + suc a)) ≡ false
     apart = grind (arith, nat_tests)
 
-    go : (b : Bool) → has_node (finished_from n (place + 1) j) (place + suc a) ≡ finishes n l → has_node (cond b (place ∷ finished_from n (place + 1) j) (finished_from n (place + 1) j)) (place + suc a) ≡ finishes n l
-    go true i = ap (λ (c : Bool). c || has_node (finished_from n (place + 1) j) (place + suc a)) apart ∙ i
+    go : (b : Bool) → has_node (exchanged_places_from n (place + 1) j) (place + suc a) ≡ finishes_exchange n l → has_node (cond b (place ∷ exchanged_places_from n (place + 1) j) (exchanged_places_from n (place + 1) j)) (place + suc a) ≡ finishes_exchange n l
+    go true i = ap (λ (c : Bool). c || has_node (exchanged_places_from n (place + 1) j) (place + suc a)) apart ∙ i
     go false i = i
 
 -- ---- the stamp
@@ -158,7 +162,7 @@ keyed_here j a l e = ap (option_and_then stamping_key) e
 
 stepped : (factor n p a : ℕ) (j all : List Line) (m w : Option Change) → StandsBefore a m → StandsBefore a w → (l : Line) → slice_get all a ≡ Some l
     → stamp_step factor n p (take a j) (keyed all (later m w)) l
-    ≡ keyed all (later (told (mark_of n p a l) a m) (told (whole_of (finishes n l && makes_whole factor n p (take a j) l) a) a w))
+    ≡ keyed all (later (told (mark_of n p a l) a m) (told (whole_of (finishes_exchange n l && makes_whole factor n p (take a j) l) a) a w))
 stepped factor n p a j all m w ms ws (line.Learn o k q) e = go ((o == n) && (q == p))
   where
     go : (b : Bool) → cond b (Some k) (keyed all (later m w)) ≡ keyed all (later (told (cond b (Some (Some a)) None) a m) w)
@@ -183,15 +187,17 @@ all_first (n ∷ ns) zero e = absurd (omega (arith, e))
 all_first (n ∷ ns) (suc c) e = ap (λ (xs : List ℕ). n ∷ xs) (all_first ns c (omega (arith, e)))
 
 -- a whole line is told of at each `exchanged` line of the node
-whole_at : (factor n p : ℕ) (j : List Line) (x : Option Stamps) → SeesStamps factor j n p x → judged_of x ≡ length (finished n j) → (a : ℕ) (l : Line) → slice_get j a ≡ Some l
-    → change_at (wholes_of x) a ≡ whole_of (finishes n l && makes_whole factor n p (take a j) l) a
+whole_at : (factor n p : ℕ) (j : List Line) (x : Option Stamps) → SeesStamps factor j n p x → judged_of x ≡ length (exchanged_places n j) → (a : ℕ) (l : Line) → slice_get j a ≡ Some l
+    → change_at (wholes_of x) a ≡ whole_of (finishes_exchange n l
+    && makes_whole factor n p (take a j) l) a
 whole_at factor n p j x h all a l e =
     h.wholes a
     ∙ ap₂ (λ (b : Bool) (o : Option Line). whole_of (b && makes_whole_at factor n p j a o) a)
-    (ap (λ (ns : List ℕ). has_node ns a) (all_first (finished n j) (judged_of x) all) ∙ there) e
+    (ap (λ (ns : List ℕ). has_node ns a) (all_first (exchanged_places n j) (judged_of x) all)
+    ∙ there) e
   where
-    there : has_node (finished n j) a ≡ finishes n l
-    there = ap (has_node (finished n j)) (let e : a ≡ 0 + a = omega arith in e) ∙ finished_there n 0 j a l e
+    there : has_node (exchanged_places n j) a ≡ finishes_exchange n l
+    there = ap (has_node (exchanged_places n j)) (let e : a ≡ 0 + a = omega arith in e) ∙ finished_there n 0 j a l e
 
 behind_end : (j : List Line) (a : ℕ) → a < length j → slice_get j a ≡ None → ⊥
 behind_end [] a h e = absurd (omega (arith, h))
@@ -199,14 +205,14 @@ behind_end (x ∷ j) zero h e = no_some (sym e)
 behind_end (x ∷ j) (suc a) h e = behind_end j a (omega (arith, h)) e
 
 -- after each number of lines the stamp is that of the later of the last mark and the last line that makes whole
-pub stamp_there : (factor n p : ℕ) (j whole : List Line) → ((a : ℕ) → a < length j → slice_get whole a ≡ slice_get j a) → (x : Option Stamps) → SeesStamps factor j n p x → judged_of x ≡ length (finished n j) → (a : ℕ) → a ≤ length j
+pub stamp_there : (factor n p : ℕ) (j whole : List Line) → ((a : ℕ) → a < length j → slice_get whole a ≡ slice_get j a) → (x : Option Stamps) → SeesStamps factor j n p x → judged_of x ≡ length (exchanged_places n j) → (a : ℕ) → a ≤ length j
     → stamp factor n p (take a j) ≡ keyed whole (later (last_before (stamp_marks x) a) (last_before (wholes_of x) a))
 unfolding stamp
 stamp_there factor n p j whole same x h all zero lower = sym (ap₂ (λ (m w : Option Change). keyed whole (later m w)) (last_none (stamp_marks x)) (last_none (wholes_of x)))
 stamp_there factor n p j whole same x h all (suc a) lower = go (slice_get j a) refl (stamp_there factor n p j whole same x h all a (omega (arith, lower)))
   where
     told_so : (l : Line) → slice_get j a ≡ Some l
-        → keyed whole (later (told (mark_of n p a l) a (last_before (stamp_marks x) a)) (told (whole_of (finishes n l && makes_whole factor n p (take a j) l) a) a (last_before (wholes_of x) a)))
+        → keyed whole (later (told (mark_of n p a l) a (last_before (stamp_marks x) a)) (told (whole_of (finishes_exchange n l && makes_whole factor n p (take a j) l) a) a (last_before (wholes_of x) a)))
         ≡ keyed whole
         (later (last_before (stamp_marks x) (suc a)) (last_before (wholes_of x) (suc a)))
     told_so l e = sym (ap₂ (λ (m w : Option Change). keyed whole (later m w))

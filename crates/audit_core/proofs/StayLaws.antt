@@ -1,6 +1,6 @@
 -- What is known of the records that changed during a node's stay in its view, as one line more comes.
 use Rattle.std.proofs.Common.{◌≡◌, ℕ, ◌==◌, Bool, true, false, ◌&&◌, List, [], ◌∷◌, ◌++◌, Option, Some, None, refl, sym, ap, subst, ◌∙◌}
-use Rattle.std.specs.Prelude.{take, nat_eq, option_and_then}
+use Rattle.std.specs.Prelude.{take, nat_eq, option_and_then, bytes_eq}
 use Rattle.std.proofs.lemmas.Bool.{or_parts}
 use Rattle.std.proofs.lemmas.List.Folds.{list_any-append}
 use Rattle.conflict_order.specs.declared.policy.Policy.{Policy}
@@ -9,7 +9,7 @@ use Rattle.cluster_types.specs.declared.cluster_key.ClusterKey.{ClusterKey}
 use Rattle.journal_lines.specs.declared.line.Line.{Line}
 use Rattle.journal_readings.specs.Contents.{content, content_step, joined_if}
 use Rattle.journal_readings.specs.Entries.{entry}
-use Rattle.journal_readings.specs.Lines.{has_node, same_digest, is_enter}
+use Rattle.journal_readings.specs.Lines.{has_node, is_enter}
 use Rattle.journal_readings.specs.Settings.{policy_of}
 use Rattle.journal_readings.specs.Shape.{is_header}
 use Rattle.journal_readings.proofs.AlongLaws.{no_some, some_same}
@@ -131,17 +131,17 @@ apart_left true b e = differ refl e
 apart_left false b e = refl
 
 pub stays_brought : (old new : Judge) (j : List Line) (l : Line) (n r : ℕ) (d : List ℕ) (v : Version) → is_header l ≡ false → ((k : ClusterKey) → enters_key k l ≡ false)
-    → ((by : Policy) (m : ℕ) (e : List ℕ) (x : Option Version) → content_step by m e x l ≡ joined_if ((n == m) && same_digest d e) by x v)
+    → ((by : Policy) (m : ℕ) (e : List ℕ) (x : Option Version) → content_step by m e x l ≡ joined_if ((n == m) && bytes_eq d e) by x v)
     → AreNumberedRecords old.records → record_digest old.records r ≡ Some d → ChangesNode (HasChanged r) n old new → SeesStays old j → SeesStays new (j ++ l ∷ [])
 stays_brought old new j l n r d v event enters step numbered named c h = record {
   unchanged = λ m q y k e there in_view is apart. at m q y k e there in_view (sym (ap (λ (s : Judge). record_digest s.records q) c.rest) ∙ is) apart (n == m) refl;
 }
   where
     -- the record is another
-    other : (q : ℕ) (e : List ℕ) → record_digest old.records q ≡ Some e → nat_eq r q ≡ false → same_digest d e ≡ false
-    other q e is f = go (same_digest d e) refl
+    other : (q : ℕ) (e : List ℕ) → record_digest old.records q ≡ Some e → nat_eq r q ≡ false → bytes_eq d e ≡ false
+    other q e is f = go (bytes_eq d e) refl
       where
-        go : (b : Bool) → same_digest d e ≡ b → b ≡ false
+        go : (b : Bool) → bytes_eq d e ≡ b → b ≡ false
         go false g = refl
         go true g =
             let same : record_number old.records e ≡ Some r = ap (record_number old.records) (sym (same_digest_is d e g)) ∙ numbered.numbers d r named in
@@ -150,7 +150,7 @@ stays_brought old new j l n r d v event enters step numbered named c h = record 
     at : (m q : ℕ) (y : Node) (k : ClusterKey) (e : List ℕ) → node_at new m ≡ Some y → y.view ≡ Some k → record_digest old.records q ≡ Some e → has_node y.stay.items q ≡ false → (b : Bool) → (n == m) ≡ b
         → content (policy_of (j ++ l ∷ [])) m e (j ++ l ∷ []) ≡ entry (policy_of (j ++ l ∷ [])) k m e (j ++ l ∷ [])
     at m q y k e there in_view is apart false f =
-        unchanged_next k m e j l event (enters k) (step (policy_of j) m e (content (policy_of j) m e j) ∙ none_of_both (n == m) (same_digest d e) (apart_left (n == m) (same_digest d e) f) (policy_of j) (content (policy_of j) m e j) v)
+        unchanged_next k m e j l event (enters k) (step (policy_of j) m e (content (policy_of j) m e j) ∙ none_of_both (n == m) (bytes_eq d e) (apart_left (n == m) (bytes_eq d e) f) (policy_of j) (content (policy_of j) m e j) v)
         (h.unchanged m q y k e (sym (c.others m f) ∙ there) in_view is apart)
     at m q y k e there in_view is apart true f =
         let here : node_at new n ≡ Some y = ap (node_at new) (number_same n m f) ∙ there in
@@ -158,7 +158,7 @@ stays_brought old new j l n r d v event enters step numbered named c h = record 
         let parts : (has_node x.0.stay.items q ≡ false) × (has_node (r ∷ []) q ≡ false) = or_parts (has_node x.0.stay.items q) (has_node (r ∷ []) q)
         (sym (list_any-append (λ (z : ℕ). z == q) x.0.stay.items (r ∷ [])) ∙ (ap (λ (rs : List ℕ). has_node rs q) (sym x.2.stay) ∙ apart)) in
         unchanged_next k m e j l event (enters k)
-        (step (policy_of j) m e (content (policy_of j) m e j) ∙ none_of_both (n == m) (same_digest d e) (apart_right (n == m) (same_digest d e) (other q e is (or_parts (r == q) false parts.1).0)) (policy_of j) (content (policy_of j) m e j) v)
+        (step (policy_of j) m e (content (policy_of j) m e j) ∙ none_of_both (n == m) (bytes_eq d e) (apart_right (n == m) (bytes_eq d e) (other q e is (or_parts (r == q) false parts.1).0)) (policy_of j) (content (policy_of j) m e j) v)
         (h.unchanged m q x.0 k e (ap (node_at old) (sym (number_same n m f)) ∙ x.1) (sym x.2.same.view ∙ in_view) is parts.0)
 
 -- ---- a record is opened

@@ -29,7 +29,7 @@ use Rattle.audit_laws.proofs.MapSteps.{entered_key}
 use Rattle.audit_laws.proofs.Quiet.{members-other, master-other, settled-other, fold-other}
 use Rattle.audit_laws.proofs.Tests.{differ}
 use Rattle.audit_core.specs.declared.judge.Judge.{Judge}
-use Rattle.audit_core.specs.Holders.{AreCounted}
+use Rattle.audit_core.specs.Holders.{AreHoldersCounted}
 use Rattle.audit_state.specs.Records.{record_digest}
 use Rattle.audit_core.specs.Sees.{SeesStand, IsBound, AllJoin, IsTried, SeesTried}
 use Rattle.audit_core.specs.Stored.{SeesRecords, SeesContents, SeesStores, brings, read_of}
@@ -186,7 +186,7 @@ module _ (s : Judge) (i : ℕ) (all : List Line) (l : Line) (here : slice_get al
     unbrought = λ d e. list_any-append (brings d) (take i all) (l ∷ []) ∙ none_more (list_any (brings d) (take i all)) (brings d l) (h.records.unbrought d e) (still.brings d);
     newest = λ r. h.records.newest r ∙ same_read (λ d. applied (policy_of (take i all)) d (take i all)) (λ d. applied (policy_of (take i all ++ l ∷ [])) d (take i all ++ l ∷ []))
         (λ d. sym (ap (λ (by : Policy). applied by d (take i all ++ l ∷ [])) by_same ∙ (applied-more (policy_of (take i all)) d (take i all) l ∙ still.applied (policy_of (take i all)) d (applied (policy_of (take i all)) d (take i all))))) (record_digest s.records r);
-    holders = subst (AreCounted s) (sym (nodes_stay (take i all) l event)) h.records.holders;
+    holders = subst (AreHoldersCounted s) (sym (nodes_stay (take i all) l event)) h.records.holders;
   }
 
   stores_now : SeesStores s (suc i) all (take i all ++ l ∷ [])

@@ -21,12 +21,12 @@ use Rattle.audit_state.specs.Views.{IsFreshView}
 use Rattle.audit_state.specs.Written.{Stand, written_in, written_of}
 use Rattle.audit_core.specs.declared.judge.Judge.{Judge}
 use Rattle.audit_core.specs.declared.verdict.Stop.{Stop}
-use Rattle.audit_core.specs.Audits.{Comes, Takes, so_far}
+use Rattle.audit_core.specs.Audits.{Comes, AcceptsLine, so_far}
 use Rattle.audit_core.specs.Covering.{SeesCovers}
 use Rattle.audit_core.specs.Frames.{SameWritten}
-use Rattle.audit_core.specs.Known.{view_of}
+use Rattle.audit_core.specs.Known.{kept_view}
 use Rattle.audit_core.specs.Sees.{SeesFrame, SeesTried, SeesWrites, SeesStays, IsSuspect}
-use Rattle.audit_core.specs.Stored.{SeesStores, SeesWritten, IsOf, read_of}
+use Rattle.audit_core.specs.Stored.{SeesStores, SeesWritten, IsRecordOf, read_of}
 use Rattle.audit_core.specs.Trying.{SeesLines, IsTrying, KeepsKnown, StopsParted}
 use Rattle.audit_core.specs.Verdicts.{StopsRightly}
 use Rattle.audit_core.proofs.OpenWriteLaws.{writes_same, writes_tried}
@@ -52,7 +52,7 @@ module _ (old noted : Judge) (i : ℕ) (l : Line) (c : Comes old i l) (noting : 
   pub noted_front : so_far noted (i + 1) ≡ so_far old i ++ l ∷ []
   noted_front = ap (take (i + 1)) noting.lines ∙ taken_next old.lines.now i l c.stands
 
-  pub noted_takes : (after : Judge) (tried : ClusterKey → List ℕ → Bool) → KeepsKnown noted after → IsTrying after (i + 1) tried → ((k : ClusterKey) (d : List ℕ) → tried k d ≡ true) → Takes old after i l
+  pub noted_takes : (after : Judge) (tried : ClusterKey → List ℕ → Bool) → KeepsKnown noted after → IsTrying after (i + 1) tried → ((k : ClusterKey) (d : List ℕ) → tried k d ≡ true) → AcceptsLine old after i l
   noted_takes after tried keeps t all =
       let seen : SeesLines after (i + 1) = lines_kept noted after (i + 1) keeps noting.seen in
       let joined : SeesTried after (so_far after (i + 1)) = all_tried after (i + 1) tried t all in
@@ -92,15 +92,15 @@ suspect_moved old new w d rest h =
 pub record SeesWrittenIn (rs : Records) (all j : List Line) (k : ClusterKey) (x : View) : Type 0 where
   pub applied : (r : ℕ) → placed all (hash.get nat_eq x.applied r) ≡ read_of (λ d. applied_in (policy_of j) k d j) (record_digest rs r)
   pub written : (r : ℕ) → has_node x.written.items r ≡ is_some (hash.get nat_eq x.applied r)
-  pub listed : (r : ℕ) → is_some (hash.get nat_eq x.applied r) ≡ true → (p : ℕ) × IsOf rs r p × (has_node (written_of x p) r ≡ true)
-  pub listed_only : (p r : ℕ) → has_node (written_of x p) r ≡ true → IsOf rs r p
+  pub listed : (r : ℕ) → is_some (hash.get nat_eq x.applied r) ≡ true → (p : ℕ) × IsRecordOf rs r p × (has_node (written_of x p) r ≡ true)
+  pub listed_only : (p r : ℕ) → has_node (written_of x p) r ≡ true → IsRecordOf rs r p
 
 pub written_same : (rs : Records) (all j : List Line) (k : ClusterKey) (x y : View) → SameWritten x y → SeesWrittenIn rs all j k x → SeesWrittenIn rs all j k y
 written_same rs all j k x y same h = record {
   applied = λ r. ap (λ (m : _). placed all (hash.get nat_eq m r)) same.applied ∙ h.applied r;
   written = λ r. ap (λ (rs : List ℕ). has_node rs r) same.written ∙ (h.written r ∙ sym (ap (λ (m : _). is_some (hash.get nat_eq m r)) same.applied));
   listed = λ r some.
-      let u : (u : ℕ) × IsOf rs r u × (has_node (written_of x u) r ≡ true) = h.listed r (sym (ap (λ (m : _). is_some (hash.get nat_eq m r)) same.applied) ∙ some) in
+      let u : (u : ℕ) × IsRecordOf rs r u × (has_node (written_of x u) r ≡ true) = h.listed r (sym (ap (λ (m : _). is_some (hash.get nat_eq m r)) same.applied) ∙ some) in
       (u.0, u.1, ap (λ (m : _). has_node (written_in (hash.get nat_eq m u.0)) r) same.partitions ∙ u.2);
   listed_only = λ p r has. h.listed_only p r (sym (ap (λ (m : _). has_node (written_in (hash.get nat_eq m p)) r) same.partitions) ∙ has);
 }
@@ -118,7 +118,7 @@ written_fresh rs all j k ms x fresh none = record {
   listed_only = λ p r has. differ has (ap (λ (o : Option Partition). has_node (written_in o) r) (fresh.partitions p));
 }
 
-pub written_seen : (s : Judge) (all j : List Line) (k : ClusterKey) (x : View) → SeesWritten s all j → view_of s k ≡ Some x → SeesWrittenIn s.records all j k x
+pub written_seen : (s : Judge) (all j : List Line) (k : ClusterKey) (x : View) → SeesWritten s all j → kept_view s k ≡ Some x → SeesWrittenIn s.records all j k x
 written_seen s all j k x h e = record {
   applied = λ r. h.applied k x r e;
   written = λ r. h.written k x r e;
@@ -126,12 +126,12 @@ written_seen s all j k x h e = record {
   listed_only = λ p r has. h.listed_only k x p r e has;
 }
 
-pub stores_moved : (old new : Judge) (i : ℕ) (all j : List Line) → record new { nodes = old.nodes; views = old.views } ≡ old → ((k : ClusterKey) (x : View) → view_of new k ≡ Some x → SeesWrittenIn old.records all j k x)
+pub stores_moved : (old new : Judge) (i : ℕ) (all j : List Line) → record new { nodes = old.nodes; views = old.views } ≡ old → ((k : ClusterKey) (x : View) → kept_view new k ≡ Some x → SeesWrittenIn old.records all j k x)
     → SeesStores old i all j → SeesStores new i all j
 stores_moved old new i all j rest written h =
     let moved : SeesStores (record new { nodes = old.nodes; views = old.views }) i all j = subst (λ (s : Judge). SeesStores s i all j) (sym rest) h in
     let same : new.records ≡ old.records = ap (λ (s : Judge). s.records) rest in
-    let seen : (k : ClusterKey) (x : View) → view_of new k ≡ Some x → SeesWrittenIn new.records all j k x = λ k x e. subst (λ (rs : Records). SeesWrittenIn rs all j k x) (sym same) (written k x e) in
+    let seen : (k : ClusterKey) (x : View) → kept_view new k ≡ Some x → SeesWrittenIn new.records all j k x = λ k x e. subst (λ (rs : Records). SeesWrittenIn rs all j k x) (sym same) (written k x e) in
     record {
       records = record { numbered = moved.records.numbered; unbrought = moved.records.unbrought; newest = moved.records.newest; holders = moved.records.holders };
       contents = moved.contents;

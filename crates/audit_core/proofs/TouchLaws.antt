@@ -14,14 +14,14 @@ use Rattle.audit_state.specs.OpenWrites.{Suspects, Distrusts}
 use Rattle.audit_state.specs.Records.{record_number}
 use Rattle.audit_state.specs.Written.{stand_of}
 use Rattle.audit_core.specs.Audits.{so_far}
-use Rattle.audit_core.specs.Known.{view_of}
+use Rattle.audit_core.specs.Known.{kept_view}
 use Rattle.audit_core.specs.Sees.{IsBound, AllJoin}
 use Rattle.audit_core.specs.Settling.{stand_at, stand_from}
 use Rattle.audit_core.specs.Steps.{ChangesView}
 use Rattle.audit_core.specs.Covering.{SeesCovers}
-use Rattle.audit_core.specs.Trying.{SeesLines, SeesStands, SeesSettled, IsTrying, IsParted, with_record, with_present, JoinsRecord, PartsRecord, TriesRecord, TriesPresent, TriesPartition, JoinsPartition, StopsParted, StopsRecord, StopsTrying, StopsAll, KeepsKnown, KeepsStands, SameButStands}
+use Rattle.audit_core.specs.Trying.{SeesLines, SeesStands, SeesSettled, IsTrying, IsParted, tried_with_record, tried_with_present, JoinsRecord, PartsRecord, TriesRecord, TriesPresent, TriesPartition, JoinsPartition, StopsParted, StopsRecord, StopsTrying, StopsAll, KeepsKnown, KeepsStands, SameButStands}
 use Rattle.audit_core.proofs.WordLaws.{both_same}
-use Rattle.audit_core.proofs.TryLaws.{changes_keep, sets_keep, record_widened, partition_widened, later_record, later_partition, closed_so, widened, record_cases}
+use Rattle.audit_core.proofs.TryLaws.{record_widened, partition_widened, later_record, later_partition, closed_so, widened, record_cases}
 
 -- what tells whether the partition is bound
 abbrev pub TellsBound : Judge → ClusterKey → ℕ → Bool → Type 0
@@ -31,10 +31,10 @@ settled_of : (s : Judge) (i : ℕ) (those : ClusterKey → List ℕ → Bool) �
 settled_of s i those t = λ k p x e. (t.stands k p x e).settled
 
 -- a write is open only in a view that is known
-open_there : (s : Judge) (k : ClusterKey) (p : ℕ) → nat_lt 0 (stand_at s k p).open_writes ≡ true → (x : View) × (view_of s k ≡ Some x) × (nat_lt 0 (stand_of x p).open_writes ≡ true)
-open_there s k p e = go (view_of s k) refl e
+open_there : (s : Judge) (k : ClusterKey) (p : ℕ) → nat_lt 0 (stand_at s k p).open_writes ≡ true → (x : View) × (kept_view s k ≡ Some x) × (nat_lt 0 (stand_of x p).open_writes ≡ true)
+open_there s k p e = go (kept_view s k) refl e
   where
-    go : (o : Option View) → view_of s k ≡ o → nat_lt 0 (stand_from o p).open_writes ≡ true → (x : View) × (view_of s k ≡ Some x) × (nat_lt 0 (stand_of x p).open_writes ≡ true)
+    go : (o : Option View) → kept_view s k ≡ o → nat_lt 0 (stand_from o p).open_writes ≡ true → (x : View) × (kept_view s k ≡ Some x) × (nat_lt 0 (stand_of x p).open_writes ≡ true)
     go None q r = differ r refl
     go (Some x) q r = (x, q, r)
 
@@ -48,7 +48,7 @@ touch_unbound s k r p b tells off i d those h is t =
 pub touch_open : (old new : Judge) (k : ClusterKey) (r p : ℕ) (b : Bool) → TellsBound old k p b → b ≡ true → nat_lt 0 (stand_at old k p).open_writes ≡ true → ChangesView (Suspects r p) k old new → TriesRecord k r p old new
 unfolding TriesRecord
 touch_open old new k r p b tells on counted c i d those h is t =
-    let there : (x : View) × (view_of old k ≡ Some x) × (nat_lt 0 (stand_of x p).open_writes ≡ true) = open_there old k p counted in
+    let there : (x : View) × (kept_view old k ≡ Some x) × (nat_lt 0 (stand_of x p).open_writes ≡ true) = open_there old k p counted in
     later_record old new i k r p d those there.0 c there.1 there.2 ((tells i h (settled_of _ i those t)).0 on).settled
     (ap (λ (s : Judge). record_number s.records d) c.rest ∙ h.stores.records.numbered.numbers d r is.named) is.part t
 
@@ -56,13 +56,10 @@ pub touch_closed : (s : Judge) (k : ClusterKey) (r p : ℕ) → JoinsRecord s k 
 unfolding TriesRecord JoinsRecord
 touch_closed s k r p joins i d those h is t = record_widened s i k d those (λ bound. joins i d h is) t
 
-pub suspects_keep : (old new : Judge) (k : ClusterKey) (r p : ℕ) → ChangesView (Suspects r p) k old new → KeepsKnown old new
-suspects_keep old new k r p c = changes_keep (Suspects r p) (λ a b h. sets_keep p _ a b h) k old new c
-
 no_open : (s : Judge) (i : ℕ) (k : ClusterKey) (p : ℕ) → SeesLines s i → SeesStands s i → IsBound k p (so_far s i) → nat_lt 0 (stand_at s k p).open_writes ≡ false → Rattle.journal_readings.specs.Settled.has_open_write k p (so_far s i) ≡ false
-no_open s i k p h stands bound e = go (view_of s k) refl e
+no_open s i k p h stands bound e = go (kept_view s k) refl e
   where
-    go : (o : Option View) → view_of s k ≡ o → nat_lt 0 (stand_from o p).open_writes ≡ false → Rattle.journal_readings.specs.Settled.has_open_write k p (so_far s i) ≡ false
+    go : (o : Option View) → kept_view s k ≡ o → nat_lt 0 (stand_from o p).open_writes ≡ false → Rattle.journal_readings.specs.Settled.has_open_write k p (so_far s i) ≡ false
     go (Some x) q r = closed_so s i k p x stands q r
     go None q r = differ (h.frame.known_views k ∙ Rattle.audit_core.proofs.BoundLaws.view_entered (Rattle.journal_readings.specs.Views.master k p (so_far s i)) k (so_far s i) bound.remains) (ap Rattle.std.specs.Prelude.is_some q)
 
@@ -89,13 +86,14 @@ touch_no_memory s r p x is i d those h named t = subst (λ (z : Stop). StopsPart
 
 pub present_none : (s : Judge) (present other : Option ClusterKey) (r p : ℕ) → present ≡ None → TriesPresent present other r p s s
 unfolding TriesPresent
-present_none s present other r p e i d those h is before t = subst (λ (o : Option ClusterKey). IsTrying s i (with_present those o d)) (sym e) t
+present_none s present other r p e i d those h is before t = subst (λ (o : Option ClusterKey). IsTrying s i (tried_with_present those o d)) (sym e) t
 
 pub present_other : (s : Judge) (present other : Option ClusterKey) (r p : ℕ) (k : ClusterKey) → present ≡ Some k → other ≡ Some k → TriesPresent present other r p s s
 unfolding TriesPresent
 present_other s present other r p k e same i d those h is before t =
-    subst (λ (o : Option ClusterKey). IsTrying s i (with_present those o d)) (sym e)
-    (widened s i those (with_record those k d) (λ l f m. go l f (record_cases those k d l f m)) t)
+    subst (λ (o : Option ClusterKey). IsTrying s i (tried_with_present those o d)) (sym e)
+    (widened s i those (tried_with_record those k d)
+    (λ l f m. go l f (record_cases those k d l f m)) t)
   where
     go : (l : ClusterKey) (f : List ℕ) → (those l f ≡ true) ⊎ ((k ≡ l) × (d ≡ f)) → (those l f ≡ true) ⊎ (IsBound l (partition_of f) (so_far s i) → AllJoin l f (so_far s i))
     go l f (inl q) = inl q
@@ -103,7 +101,7 @@ present_other s present other r p k e same i d those h is before t =
 
 pub present_touched : (old new : Judge) (present other : Option ClusterKey) (r p : ℕ) (k : ClusterKey) → present ≡ Some k → TriesRecord k r p old new → TriesPresent present other r p old new
 unfolding TriesPresent TriesRecord
-present_touched old new present other r p k e tries i d those h is before t = subst (λ (o : Option ClusterKey). IsTrying new i (with_present those o d)) (sym e) (tries i d those h is t)
+present_touched old new present other r p k e tries i d those h is before t = subst (λ (o : Option ClusterKey). IsTrying new i (tried_with_present those o d)) (sym e) (tries i d those h is t)
 
 -- ---- a partition
 
@@ -114,11 +112,8 @@ begin_unbound s i k p b tells off those h t = partition_widened s i k p those (�
 pub begin_open : (old new : Judge) (i : ℕ) (k : ClusterKey) (p : ℕ) (b : Bool) → TellsBound old k p b → b ≡ true → nat_lt 0 (stand_at old k p).open_writes ≡ true → ChangesView (Distrusts p) k old new → TriesPartition i k p old new
 unfolding TriesPartition
 begin_open old new i k p b tells on counted c those h t =
-    let there : (x : View) × (view_of old k ≡ Some x) × (nat_lt 0 (stand_of x p).open_writes ≡ true) = open_there old k p counted in
+    let there : (x : View) × (kept_view old k ≡ Some x) × (nat_lt 0 (stand_of x p).open_writes ≡ true) = open_there old k p counted in
     later_partition old new i k p those there.0 c there.1 there.2 ((tells i h (settled_of _ i those t)).0 on).settled t
-
-pub distrusts_keep : (old new : Judge) (k : ClusterKey) (p : ℕ) → ChangesView (Distrusts p) k old new → KeepsKnown old new
-distrusts_keep old new k p c = changes_keep (Distrusts p) (λ a b h. sets_keep p _ a b h) k old new c
 
 -- ---- refused memory
 
@@ -134,7 +129,7 @@ begin_no_memory s i x is those h t = subst (λ (z : Stop). StopsParted z (so_far
 pub covers_keep : (old new : Judge) → KeepsStands old new → KeepsKnown old new
 covers_keep old new keeps = record {
   rest = ap (λ (s : Judge). record s { views = old.views }) keeps;
-  views = λ k. both_same SameButStands (λ x. record { rest = refl; written = λ p. refl }) (view_of old k) (view_of new k) (ap (λ (s : Judge). view_of s k) keeps);
+  views = λ k. both_same SameButStands (λ x. record { rest = refl; written = λ p. refl }) (kept_view old k) (kept_view new k) (ap (λ (s : Judge). kept_view s k) keeps);
 }
 
 moved_trying : (old new : Judge) (i : ℕ) (those : ClusterKey → List ℕ → Bool) → KeepsStands old new → SeesCovers new i → IsTrying old i those → IsTrying new i those

@@ -1,6 +1,6 @@
 -- Records are tried in a view, one by one.
 use Rattle.std.proofs.Common.{◌≡◌, ℕ, zero, suc, ◌+◌, ◌<◌, ◌==◌, Bool, true, false, ◌&&◌, ◌||◌, List, [], ◌∷◌, ◌++◌, length, get_or, Option, Some, None, option_map, inl, refl, sym, ap, subst, ◌∙◌}
-use Rattle.std.specs.Prelude.{take}
+use Rattle.std.specs.Prelude.{take, bytes_eq}
 use Rattle.std.specs.List.{list_any}
 use Rattle.std.proofs.lemmas.Bool.{or_left, or_right}
 use Rattle.std.proofs.lemmas.List.{take_more}
@@ -8,7 +8,7 @@ use Rattle.std.proofs.lemmas.List.Folds.{list_any-append}
 use Rattle.cluster_types.specs.ClusterKeys.{is_view_key}
 use Rattle.cluster_types.specs.declared.cluster_key.ClusterKey.{ClusterKey}
 use Rattle.cluster_types.specs.Partitions.{partition_of}
-use Rattle.journal_readings.specs.Lines.{has_node, same_digest}
+use Rattle.journal_readings.specs.Lines.{has_node}
 use Rattle.journal_readings.proofs.AlongLaws.{no_some, some_same}
 use Rattle.audit_laws.proofs.Tests.{differ, number_here}
 use Rattle.audit_core.specs.declared.judge.Judge.{Judge}
@@ -17,8 +17,8 @@ use Rattle.audit_state.specs.declared.records.Records.{Records}
 use Rattle.audit_state.specs.Records.{record_digest}
 use Rattle.audit_core.specs.Audits.{so_far}
 use Rattle.audit_core.specs.Known.{view_at}
-use Rattle.audit_core.specs.Stored.{IsOf}
-use Rattle.audit_core.specs.Trying.{IsTrying, KeepsKnown, StopsParted, TriesPresent, TriesRecords, StopsRecord, StopsRecords, is_digest, with_present, with_records}
+use Rattle.audit_core.specs.Stored.{IsRecordOf}
+use Rattle.audit_core.specs.Trying.{IsTrying, KeepsKnown, StopsParted, TriesPresent, TriesRecords, StopsRecord, StopsRecords, is_digest, tried_with_present, tried_with_records}
 use Rattle.audit_core.proofs.DropLaws.{among_got}
 use Rattle.audit_core.proofs.TryLaws.{keeps_itself, keeps_then, lines_kept, record_kept, front_kept, widened}
 
@@ -35,13 +35,13 @@ either_part false false e = e
 pub touching_none : (present : Option ClusterKey) (p : ℕ) (s : Judge) (ns : List ℕ) → ns ≡ [] → Touching present ns p s s
 unfolding TriesRecords
 touching_none present p s ns e = record {
-  tries = λ i tried h of t. widened s i tried (with_records tried s.records present ns) (λ l d m. inl (either_part (tried l d) (is_view_key present l)
+  tries = λ i tried h of t. widened s i tried (tried_with_records tried s.records present ns) (λ l d m. inl (either_part (tried l d) (is_view_key present l)
       (subst (λ (xs : List ℕ). (tried l d || (is_view_key present l && list_any (λ r. is_digest (record_digest s.records r) d) xs)) ≡ true) e m))) t;
   keeps = keeps_itself s;
 }
 
 -- the record that a number has
-pub named_of : (rs : Records) (r p : ℕ) → IsOf rs r p → (d : List ℕ) × (record_digest rs r ≡ Some d) × (partition_of d ≡ p)
+pub named_of : (rs : Records) (r p : ℕ) → IsRecordOf rs r p → (d : List ℕ) × (record_digest rs r ≡ Some d) × (partition_of d ≡ p)
 named_of rs r p h = go (record_digest rs r) refl h
   where
     go : (o : Option (List ℕ)) → record_digest rs r ≡ o → option_map partition_of o ≡ Some p → (d : List ℕ) × (record_digest rs r ≡ Some d) × (partition_of d ≡ p)
@@ -63,8 +63,8 @@ one_more false true false false e = e
 one_more false false a b e = e
 
 with_more : (tried : ClusterKey → List ℕ → Bool) (rs : Records) (present : Option ClusterKey) (ns : List ℕ) (r : ℕ) (d : List ℕ) → record_digest rs r ≡ Some d → (l : ClusterKey) (e : List ℕ)
-    → with_records tried rs present (ns ++ r ∷ []) l e ≡ true → with_present (with_records tried rs present ns) present d l e ≡ true
-with_more tried rs present ns r d named l e m = go present (one_more (tried l e) (is_view_key present l) (list_any f ns) (same_digest d e)
+    → tried_with_records tried rs present (ns ++ r ∷ []) l e ≡ true → tried_with_present (tried_with_records tried rs present ns) present d l e ≡ true
+with_more tried rs present ns r d named l e m = go present (one_more (tried l e) (is_view_key present l) (list_any f ns) (bytes_eq d e)
     (subst (λ (b : Bool). (tried l e || (is_view_key present l && (list_any f ns || (b || false)))) ≡ true) (ap (λ (o : Option (List ℕ)). is_digest o e) named)
     (subst (λ (b : Bool). (tried l e || (is_view_key present l && b)) ≡ true) (list_any-append f ns (r ∷ [])) m)))
   where
@@ -75,7 +75,7 @@ with_more tried rs present ns r d named l e m = go present (one_more (tried l e)
     last true h = refl
     last false h = h
 
-    go : (o : Option ClusterKey) → ((tried l e || (is_view_key o l && list_any (λ q. is_digest (record_digest rs q) e) ns)) || (is_view_key o l && same_digest d e)) ≡ true → with_present (with_records tried rs o ns) o d l e ≡ true
+    go : (o : Option ClusterKey) → ((tried l e || (is_view_key o l && list_any (λ q. is_digest (record_digest rs q) e) ns)) || (is_view_key o l && bytes_eq d e)) ≡ true → tried_with_present (tried_with_records tried rs o ns) o d l e ≡ true
     go None h = last (tried l e || (false && list_any (λ q. is_digest (record_digest rs q) e) ns)) h
     go (Some k) h = h
 
@@ -87,12 +87,12 @@ unfolding TriesRecords TriesPresent
 touching_more old now next n r p ns g tries keeps = record {
   tries = λ i tried h of t.
       let d : (d : List ℕ) × (record_digest old.records r ≡ Some d) × (partition_of d ≡ p) = named_of old.records r p (of r (at_end ns r)) in
-      let before : IsTrying now i (with_records tried old.records (view_at old n) ns) = g.tries i tried h (λ q e. of q (in_front ns r q e)) t in
-      let after : IsTrying next i (with_present (with_records tried old.records (view_at old n) ns) (view_at now n) d.0) =
-      tries i d.0 (with_records tried old.records (view_at old n) ns) (lines_kept old now i g.keeps h) (record_kept old now r p d.0 g.keeps (record { named = d.1; part = d.2 })) (λ k e. absurd (no_some e)) before in
-      widened next i (with_present (with_records tried old.records (view_at old n) ns) (view_at old n) d.0) (with_records tried old.records (view_at old n) (ns ++ r ∷ []))
+      let before : IsTrying now i (tried_with_records tried old.records (view_at old n) ns) = g.tries i tried h (λ q e. of q (in_front ns r q e)) t in
+      let after : IsTrying next i (tried_with_present (tried_with_records tried old.records (view_at old n) ns) (view_at now n) d.0) =
+      tries i d.0 (tried_with_records tried old.records (view_at old n) ns) (lines_kept old now i g.keeps h) (record_kept old now r p d.0 g.keeps (record { named = d.1; part = d.2 })) (λ k e. absurd (no_some e)) before in
+      widened next i (tried_with_present (tried_with_records tried old.records (view_at old n) ns) (view_at old n) d.0) (tried_with_records tried old.records (view_at old n) (ns ++ r ∷ []))
       (λ l e m. inl (with_more tried old.records (view_at old n) ns r d.0 d.1 l e m))
-      (subst (λ (o : Option ClusterKey). IsTrying next i (with_present (with_records tried old.records (view_at old n) ns) o d.0)) (present_kept old now n g.keeps) after);
+      (subst (λ (o : Option ClusterKey). IsTrying next i (tried_with_present (tried_with_records tried old.records (view_at old n) ns) o d.0)) (present_kept old now n g.keeps) after);
   keeps = keeps_then old now next g.keeps keeps;
 }
 
@@ -115,5 +115,5 @@ pub touching_stops : (old now : Judge) (n p : ℕ) (ids : List ℕ) (a r : ℕ) 
 unfolding TriesRecords StopsRecord StopsRecords
 touching_stops old now n p ids a r x y same within read g stops i tried h of t =
     let d : (d : List ℕ) × (record_digest old.records r ≡ Some d) × (partition_of d ≡ p) = named_of old.records r p (of r (among_got ids a r within read)) in
-    let before : IsTrying now i (with_records tried old.records (view_at old n) (take a ids)) = g.tries i tried h (λ q e. of q (front_has a ids q e)) t in
-    subst (λ (z : Stop). StopsParted z (so_far old i)) (sym same) (subst (StopsParted x) (front_kept old now i g.keeps) (stops i d.0 (with_records tried old.records (view_at old n) (take a ids)) (lines_kept old now i g.keeps h) (record_kept old now r p d.0 g.keeps (record { named = d.1; part = d.2 })) before))
+    let before : IsTrying now i (tried_with_records tried old.records (view_at old n) (take a ids)) = g.tries i tried h (λ q e. of q (front_has a ids q e)) t in
+    subst (λ (z : Stop). StopsParted z (so_far old i)) (sym same) (subst (StopsParted x) (front_kept old now i g.keeps) (stops i d.0 (tried_with_records tried old.records (view_at old n) (take a ids)) (lines_kept old now i g.keeps h) (record_kept old now r p d.0 g.keeps (record { named = d.1; part = d.2 })) before))

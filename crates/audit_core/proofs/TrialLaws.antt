@@ -35,10 +35,10 @@ use Rattle.audit_core.specs.Audits.{so_far}
 use Rattle.audit_core.specs.Covering.{SeesCovers}
 use Rattle.audit_core.specs.Folds.{entry_place, folded, folded_in}
 use Rattle.audit_core.specs.Holders.{content_now}
-use Rattle.audit_core.specs.Known.{view_at, view_of}
-use Rattle.audit_core.specs.Replicas.{TellsCover, Uncovered, HoldsFolds, PartsFolds, holds_at_most, holds_fold, written_from, TellsNoMoreSince, LearnsCover, CoversEntry, PartsEntry, JoinsEntry, StopsEntry, JoinsEntries, StopsEntries, JoinsReplica, StopsReplica, JoinsReplicas, StopsReplicas}
+use Rattle.audit_core.specs.Known.{view_at, kept_view}
+use Rattle.audit_core.specs.Replicas.{TellsCover, Uncovered, HoldsFolds, PartsFolds, holds_at_most, holds_fold, written_from, TellsNoMoreSince, LearnsCover, CoversEntry, PartsEntry, JoinsEntry, StopsEntry, JoinsEntries, StopsEntries, JoinsReplica, StopsReplica, JoinsEachReplica, StopsReplicas}
 use Rattle.audit_core.specs.Shapes.{entry_in}
-use Rattle.audit_core.specs.Stored.{IsOf}
+use Rattle.audit_core.specs.Stored.{IsRecordOf}
 use Rattle.audit_core.specs.Trying.{SeesLines, KeepsStands, JoinsPartition, StopsAll, covers_record}
 use Rattle.audit_core.proofs.BoundLaws.{view_entered, present_so}
 use Rattle.audit_core.proofs.JoinedLaws.{fold_then, content_then, replicas_are}
@@ -63,13 +63,13 @@ folded_same : (old new : Judge) (o : Option View) (r : ℕ) → KeepsStands old 
 folded_same old new None r keeps = refl
 folded_same old new (Some x) r keeps = ap (λ (s : Judge). folded_in s x r) keeps
 
-folded_back : (old new : Judge) (k : ClusterKey) (r : ℕ) → KeepsStands old new → folded new (view_of new k) r ≡ folded old (view_of old k) r
-folded_back old new k r keeps = folded_same old new (view_of new k) r keeps ∙ ap (λ (s : Judge). folded old (view_of s k) r) keeps
+folded_back : (old new : Judge) (k : ClusterKey) (r : ℕ) → KeepsStands old new → folded new (kept_view new k) r ≡ folded old (kept_view old k) r
+folded_back old new k r keeps = folded_same old new (kept_view new k) r keeps ∙ ap (λ (s : Judge). folded old (kept_view s k) r) keeps
 
-of_back : (old new : Judge) (r p : ℕ) → KeepsStands old new → IsOf new.records r p → IsOf old.records r p
+of_back : (old new : Judge) (r p : ℕ) → KeepsStands old new → IsRecordOf new.records r p → IsRecordOf old.records r p
 of_back old new r p keeps h = sym (ap (λ (s : Judge). option_map partition_of (record_digest s.records r)) keeps) ∙ h
 
-of_ahead : (old new : Judge) (r p : ℕ) → KeepsStands old new → IsOf old.records r p → IsOf new.records r p
+of_ahead : (old new : Judge) (r p : ℕ) → KeepsStands old new → IsRecordOf old.records r p → IsRecordOf new.records r p
 of_ahead old new r p keeps h = ap (λ (s : Judge). option_map partition_of (record_digest s.records r)) keeps ∙ h
 
 parts_back : (old new : Judge) (k : ClusterKey) (n p : ℕ) → KeepsStands old new → PartsFolds new k n p → PartsFolds old k n p
@@ -85,12 +85,12 @@ folds_back old new k n p keeps h = λ r part. sym (held_back old new n r keeps) 
 -- the tests of one record
 most_back : (old new : Judge) (k : ClusterKey) (n r : ℕ) → KeepsStands old new → holds_at_most new k n r ≡ holds_at_most old k n r
 most_back old new k n r keeps =
-    ap (λ (s : Judge). is_at_most s.by (placed s.lines.now (content_now s n r)) (folded new (view_of new k) r)) keeps
+    ap (λ (s : Judge). is_at_most s.by (placed s.lines.now (content_now s n r)) (folded new (kept_view new k) r)) keeps
     ∙ ap (is_at_most old.by (placed old.lines.now (content_now old n r))) (folded_back old new k r keeps)
 
 fold_back : (old new : Judge) (k : ClusterKey) (n r : ℕ) → KeepsStands old new → holds_fold new k n r ≡ holds_fold old k n r
 fold_back old new k n r keeps = ap₂ (λ (a b : Bool). a && b) (most_back old new k n r keeps)
-    (ap (λ (s : Judge). is_at_most s.by (folded new (view_of new k) r) (placed s.lines.now (content_now s n r))) keeps
+    (ap (λ (s : Judge). is_at_most s.by (folded new (kept_view new k) r) (placed s.lines.now (content_now s n r))) keeps
     ∙ ap (λ (v : Option Version). is_at_most old.by v (placed old.lines.now (content_now old n r))) (folded_back old new k r keeps))
 
 all_back : (old new : Judge) (k : ClusterKey) (n : ℕ) (rs : List ℕ) → KeepsStands old new → list_all (holds_fold new k n) rs ≡ list_all (holds_fold old k n) rs
@@ -103,7 +103,7 @@ since_back old new k n (Some a) changes keeps h = λ y there low. sym (most_back
 
 -- ---- a member's entry
 
-pub no_entry : (i : ℕ) (k : ClusterKey) (n m p : ℕ) (s : Judge) → entry_in (view_of s k) m ≡ None → JoinsEntry i k n m p s s
+pub no_entry : (i : ℕ) (k : ClusterKey) (n m p : ℕ) (s : Judge) → entry_in (kept_view s k) m ≡ None → JoinsEntry i k n m p s s
 unfolding JoinsEntry
 no_entry i k n m p s none h covers = (
   covers,
@@ -114,10 +114,10 @@ no_entry i k n m p s none h covers = (
 )
 
 -- the view is known, and the entry stands in the lines so far
-entered_view : (s : Judge) (i : ℕ) (k : ClusterKey) (m e : ℕ) → SeesLines s i → entry_in (view_of s k) m ≡ Some e → (x : View) × (view_of s k ≡ Some x) × (entry_line x m ≡ Some e) × (e ≤ i)
-entered_view s i k m e h entered = go (view_of s k) refl entered
+entered_view : (s : Judge) (i : ℕ) (k : ClusterKey) (m e : ℕ) → SeesLines s i → entry_in (kept_view s k) m ≡ Some e → (x : View) × (kept_view s k ≡ Some x) × (entry_line x m ≡ Some e) × (e ≤ i)
+entered_view s i k m e h entered = go (kept_view s k) refl entered
   where
-    go : (o : Option View) → view_of s k ≡ o → entry_in o m ≡ Some e → (x : View) × (view_of s k ≡ Some x) × (entry_line x m ≡ Some e) × (e ≤ i)
+    go : (o : Option View) → kept_view s k ≡ o → entry_in o m ≡ Some e → (x : View) × (kept_view s k ≡ Some x) × (entry_line x m ≡ Some e) × (e ≤ i)
     go None q r = absurd (no_some r)
     go (Some x) q r = (x, q, r, entered_within s i k m e x h q r)
 
@@ -126,19 +126,19 @@ entry_is : (s : Judge) (n m e r : ℕ) (x : View) → entry_line x m ≡ Some e
     → is_at_most s.by (placed s.lines.now (entry_place s x r m)) (placed s.lines.now (content_now s n r)) ≡ covers_record s n m e r
 entry_is s n m e r x entered = ap (λ (o : Option ℕ). is_at_most s.by (placed s.lines.now (option_and_then (λ b. value_after (history_of s.stores m r) b) o)) (placed s.lines.now (content_now s n r))) entered
 
-pub entry_covered : (i : ℕ) (k : ClusterKey) (n m e p : ℕ) (b : Bool) (old new : Judge) → entry_in (view_of old k) m ≡ Some e → LearnsCover i n m e p old new b → b ≡ true → JoinsEntry i k n m p old new
+pub entry_covered : (i : ℕ) (k : ClusterKey) (n m e p : ℕ) (b : Bool) (old new : Judge) → entry_in (kept_view old k) m ≡ Some e → LearnsCover i n m e p old new b → b ≡ true → JoinsEntry i k n m p old new
 unfolding LearnsCover JoinsEntry
 entry_covered i k n m e p false old new entered learns passes = differ passes refl
 entry_covered i k n m e p true old new entered learns passes = λ h covers.
-    let v : (x : View) × (view_of old k ≡ Some x) × (entry_line x m ≡ Some e) × (e ≤ i) = entered_view old i k m e h entered in
+    let v : (x : View) × (kept_view old k ≡ Some x) × (entry_line x m ≡ Some e) × (e ≤ i) = entered_view old i k m e h entered in
     let told : SeesCovers new i × TellsCover old n m e p true = learns h covers v.3 in
     (told.0, λ x r there part. entry_is old n m e r x (subst (λ (y : View). entry_line y m ≡ Some e) (some_same (sym v.1 ∙ there)) v.2) ∙ told.1 r part)
 
-pub entry_less : (i : ℕ) (k : ClusterKey) (n m e p : ℕ) (b : Bool) (old new : Judge) (x : Stop) → entry_in (view_of old k) m ≡ Some e → LearnsCover i n m e p old new b → b ≡ false → x ≡ stop.Breaks law.SettledJoin → StopsEntry i k n m p old x
+pub entry_less : (i : ℕ) (k : ClusterKey) (n m e p : ℕ) (b : Bool) (old new : Judge) (x : Stop) → entry_in (kept_view old k) m ≡ Some e → LearnsCover i n m e p old new b → b ≡ false → x ≡ stop.Breaks law.SettledJoin → StopsEntry i k n m p old x
 unfolding LearnsCover StopsEntry
 entry_less i k n m e p true old new x entered learns fails is = differ refl fails
 entry_less i k n m e p false old new x entered learns fails is = subst (StopsEntry i k n m p old) (sym is) (λ h covers.
-    let v : (x : View) × (view_of old k ≡ Some x) × (entry_line x m ≡ Some e) × (e ≤ i) = entered_view old i k m e h entered in
+    let v : (x : View) × (kept_view old k ≡ Some x) × (entry_line x m ≡ Some e) × (e ≤ i) = entered_view old i k m e h entered in
     let told : SeesCovers new i × Uncovered old n m e p = learns h covers v.3 in
     (refl, record { known = v.0; there = v.1; number = told.1.number; part = told.1.part; less = entry_is old n m e told.1.number v.0 v.2 ∙ told.1.less }))
 
@@ -215,33 +215,33 @@ unfolding JoinsReplica
 replica_absent i k n p s absent h covers = (covers, λ present. absurd (absent present))
 
 -- nobody is in a view that isn't known
-pub replica_none : (i : ℕ) (k : ClusterKey) (n p : ℕ) (s : Judge) → option_map (λ (x : View). x.members) (view_of s k) ≡ None → JoinsReplica i k n p s s
+pub replica_none : (i : ℕ) (k : ClusterKey) (n p : ℕ) (s : Judge) → option_map (λ (x : View). x.members) (kept_view s k) ≡ None → JoinsReplica i k n p s s
 unfolding JoinsReplica
 replica_none i k n p s none h covers = (
   covers,
   λ present.
-      let x : (x : View) × (view_of s k ≡ Some x) = known_there s i k n h present in
+      let x : (x : View) × (kept_view s k ≡ Some x) = known_there s i k n h present in
       absurd (no_some (sym none ∙ ap (option_map (λ (x : View). x.members)) x.1)),
 )
 
-pub replica_joins : (i : ℕ) (k : ClusterKey) (n p : ℕ) (ms : List Member) (old new : Judge) (b c : Bool) → view_at old n ≡ Some k → option_map (λ (x : View). x.members) (view_of old k) ≡ Some ms → KeepsStands old new → JoinsEntries i k n ms p old new
-    → b ≡ list_all (holds_fold new k n) (written_from (view_of new k) p) → b ≡ true → TellsNoMoreSince new k n (entry_in (view_of new k) n) (changes_of new.stores n p) c → c ≡ true → JoinsReplica i k n p old new
+pub replica_joins : (i : ℕ) (k : ClusterKey) (n p : ℕ) (ms : List Member) (old new : Judge) (b c : Bool) → view_at old n ≡ Some k → option_map (λ (x : View). x.members) (kept_view old k) ≡ Some ms → KeepsStands old new → JoinsEntries i k n ms p old new
+    → b ≡ list_all (holds_fold new k n) (written_from (kept_view new k) p) → b ≡ true → TellsNoMoreSince new k n (entry_in (kept_view new k) n) (changes_of new.stores n p) c → c ≡ true → JoinsReplica i k n p old new
 unfolding JoinsReplica JoinsEntries
 replica_joins i k n p ms old new b c present listed keeps entries written passes no_more ends h covers =
-    let x : (x : View) × (view_of old k ≡ Some x) = known_there old i k n h present in
+    let x : (x : View) × (kept_view old k ≡ Some x) = known_there old i k n h present in
     let all : SeesCovers new i × ((m : ℕ) → has_node (ids_of ms) m ≡ true → CoversEntry old k n m p) = entries h covers in
     let same : ms ≡ x.0.members = some_same (sym listed ∙ ap (option_map (λ (y : View). y.members)) x.1) in
-    let tells : TellsNoMoreSince new k n (entry_in (view_of new k) n) (changes_of new.stores n p) true = subst (TellsNoMoreSince new k n (entry_in (view_of new k) n) (changes_of new.stores n p)) ends no_more in (
+    let tells : TellsNoMoreSince new k n (entry_in (kept_view new k) n) (changes_of new.stores n p) true = subst (TellsNoMoreSince new k n (entry_in (kept_view new k) n) (changes_of new.stores n p)) ends no_more in (
       all.0,
       λ again. holds_folds old i k n p x.0 h present x.1 (λ m member. all.1 m (ap (λ (zs : List Member). has_node (ids_of zs) m) same ∙ member))
-          (sym (all_back old new k n (written_from (view_of new k) p) keeps ∙ ap (λ (s : Judge). list_all (holds_fold old k n) (written_from (view_of s k) p)) keeps) ∙ (sym written ∙ passes))
-          (subst (λ (o : Option ℕ). TellsNoMoreSince old k n o (changes_of old.stores n p) true) (ap (λ (s : Judge). entry_in (view_of s k) n) keeps)
-          (subst (λ (cs : List RecordChange). TellsNoMoreSince old k n (entry_in (view_of new k) n) cs true) (ap (λ (s : Judge). changes_of s.stores n p) keeps)
-          (since_back old new k n (entry_in (view_of new k) n) (changes_of new.stores n p) keeps tells))),
+          (sym (all_back old new k n (written_from (kept_view new k) p) keeps ∙ ap (λ (s : Judge). list_all (holds_fold old k n) (written_from (kept_view s k) p)) keeps) ∙ (sym written ∙ passes))
+          (subst (λ (o : Option ℕ). TellsNoMoreSince old k n o (changes_of old.stores n p) true) (ap (λ (s : Judge). entry_in (kept_view s k) n) keeps)
+          (subst (λ (cs : List RecordChange). TellsNoMoreSince old k n (entry_in (kept_view new k) n) cs true) (ap (λ (s : Judge). changes_of s.stores n p) keeps)
+          (since_back old new k n (entry_in (kept_view new k) n) (changes_of new.stores n p) keeps tells))),
     )
 
 -- what a member held as it entered is at most the fold
-pub replica_less : (i : ℕ) (k : ClusterKey) (n p : ℕ) (ms : List Member) (s : Judge) (x : Stop) → view_at s n ≡ Some k → option_map (λ (x : View). x.members) (view_of s k) ≡ Some ms → StopsEntries i k n ms p s x → StopsReplica i k n p s x
+pub replica_less : (i : ℕ) (k : ClusterKey) (n p : ℕ) (ms : List Member) (s : Judge) (x : Stop) → view_at s n ≡ Some k → option_map (λ (x : View). x.members) (kept_view s k) ≡ Some ms → StopsEntries i k n ms p s x → StopsReplica i k n p s x
 unfolding StopsEntries StopsReplica
 replica_less i k n p ms s stop.NoMemory present listed stops = tt
 replica_less i k n p ms s (stop.Breaks l) present listed stops = λ h covers.
@@ -249,24 +249,24 @@ replica_less i k n p ms s (stop.Breaks l) present listed stops = λ h covers.
     let same : ms ≡ w.3.known.members = some_same (sym listed ∙ ap (option_map (λ (y : View). y.members)) w.3.there) in
     (w.0, present, entry_parts s k n w.1 p w.3 (ap (λ (zs : List Member). has_node (ids_of zs) w.1) (sym same) ∙ w.2))
 
-pub replica_written : (i : ℕ) (k : ClusterKey) (n p : ℕ) (old new : Judge) (b : Bool) (x : Stop) → view_at old n ≡ Some k → KeepsStands old new → b ≡ list_all (holds_fold new k n) (written_from (view_of new k) p) → b ≡ false → x ≡ stop.Breaks law.SettledJoin → StopsReplica i k n p old x
+pub replica_written : (i : ℕ) (k : ClusterKey) (n p : ℕ) (old new : Judge) (b : Bool) (x : Stop) → view_at old n ≡ Some k → KeepsStands old new → b ≡ list_all (holds_fold new k n) (written_from (kept_view new k) p) → b ≡ false → x ≡ stop.Breaks law.SettledJoin → StopsReplica i k n p old x
 unfolding StopsReplica
 replica_written i k n p old new b x present keeps written fails is = subst (StopsReplica i k n p old) (sym is)
     (λ h covers. (refl, present, parts_back old new k n p keeps (written_parts new i k n p b (lines_back old new i keeps h) written fails)))
 
-pub replica_more : (i : ℕ) (k : ClusterKey) (n p : ℕ) (old new : Judge) (c : Bool) (x : Stop) → view_at old n ≡ Some k → KeepsStands old new → TellsNoMoreSince new k n (entry_in (view_of new k) n) (changes_of new.stores n p) c → c ≡ false → x ≡ stop.Breaks law.SettledJoin → StopsReplica i k n p old x
+pub replica_more : (i : ℕ) (k : ClusterKey) (n p : ℕ) (old new : Judge) (c : Bool) (x : Stop) → view_at old n ≡ Some k → KeepsStands old new → TellsNoMoreSince new k n (entry_in (kept_view new k) n) (changes_of new.stores n p) c → c ≡ false → x ≡ stop.Breaks law.SettledJoin → StopsReplica i k n p old x
 unfolding StopsReplica
 replica_more i k n p old new c x present keeps no_more fails is = subst (StopsReplica i k n p old) (sym is)
-    (λ h covers. (refl, present, parts_back old new k n p keeps (more_parts new i k n p (entry_in (view_of new k) n) c (lines_back old new i keeps h) no_more fails)))
+    (λ h covers. (refl, present, parts_back old new k n p keeps (more_parts new i k n p (entry_in (kept_view new k) n) c (lines_back old new i keeps h) no_more fails)))
 
 -- ---- all of them
 
 pub record ReplicasJoined (i : ℕ) (k : ClusterKey) (ns : List ℕ) (p : ℕ) (old now : Judge) : Type 0 where
   pub keeps : KeepsStands old now
-  pub joins : JoinsReplicas i k ns p old now
+  pub joins : JoinsEachReplica i k ns p old now
 
 pub replicas_first : (i : ℕ) (k : ClusterKey) (p : ℕ) (s : Judge) → ReplicasJoined i k [] p s s
-unfolding JoinsReplicas
+unfolding JoinsEachReplica
 replicas_first i k p s = record { keeps = refl; joins = λ h covers. (covers, λ n e. differ e refl) }
 
 nodes_more : (ns : List ℕ) (n q : ℕ) → has_node (ns ++ n ∷ []) q ≡ true → (has_node ns q ≡ true) ⊎ (n ≡ q)
@@ -279,7 +279,7 @@ nodes_more ns n q e = go (has_node ns q) (n == q) refl (sym (list_any-append (λ
 
 pub replicas_more : (i : ℕ) (k : ClusterKey) (ns : List ℕ) (n a p : ℕ) (old now next : Judge) → a < length ns → n ≡ get_or ns a n → ReplicasJoined i k (take a ns) p old now
     → JoinsReplica i k n p now next → KeepsStands now next → ReplicasJoined i k (take (a + 1) ns) p old next
-unfolding JoinsReplicas JoinsReplica
+unfolding JoinsEachReplica JoinsReplica
 replicas_more i k ns n a p old now next within read g joins keeps =
     subst (λ (xs : List ℕ). ReplicasJoined i k xs p old next) (ap (λ (y : ℕ). take a ns ++ y ∷ []) read ∙ sym (take_more ns a n within)) (record {
       keeps = keeps_both old now next g.keeps keeps;
@@ -300,7 +300,7 @@ among_nodes (x ∷ ns) zero n within read = ap (λ (y : ℕ). (x == y) || has_no
 among_nodes (x ∷ ns) (suc a) n within read = or_right (x == n) (has_node ns n) (among_nodes ns a n (omega (arith, within)) read)
 
 pub replicas_part : (i : ℕ) (k : ClusterKey) (ns : List ℕ) (n a p : ℕ) (old now : Judge) (x : Stop) → a < length ns → n ≡ get_or ns a n → ReplicasJoined i k (take a ns) p old now → StopsReplica i k n p now x → StopsReplicas i k ns p old x
-unfolding StopsReplica StopsReplicas JoinsReplicas
+unfolding StopsReplica StopsReplicas JoinsEachReplica
 replicas_part i k ns n a p old now stop.NoMemory within read g stops = tt
 replicas_part i k ns n a p old now (stop.Breaks l) within read g stops = λ h covers.
     let w : (l ≡ law.SettledJoin) × (view_at now n ≡ Some k) × PartsFolds now k n p = stops (lines_back old now i g.keeps h) ((g.joins h covers).0) in
@@ -323,15 +323,15 @@ replicas_done i k ns a p old now h = subst (λ (xs : List ℕ). ReplicasJoined i
 -- ---- the partition
 
 -- nobody is in a view that isn't known
-pub partition_none : (i : ℕ) (k : ClusterKey) (p : ℕ) (s : Judge) → view_of s k ≡ None → JoinsPartition i k p s s
+pub partition_none : (i : ℕ) (k : ClusterKey) (p : ℕ) (s : Judge) → kept_view s k ≡ None → JoinsPartition i k p s s
 unfolding JoinsPartition
 partition_none i k p s none h covers = (covers, λ d part n replica in_view. differ (h.frame.known_views k ∙ view_entered n k (so_far s i) in_view) (ap is_some none))
 
 abbrev replicas_in : Judge → View → ℕ → List ℕ
 replicas_in s x p = take s.factor (lists.list x.ranks p)
 
-pub partition_joins : (i : ℕ) (k : ClusterKey) (p : ℕ) (x : View) (old new : Judge) → view_of old k ≡ Some x → JoinsReplicas i k (replicas_in old x p) p old new → JoinsPartition i k p old new
-unfolding JoinsReplicas JoinsPartition
+pub partition_joins : (i : ℕ) (k : ClusterKey) (p : ℕ) (x : View) (old new : Judge) → kept_view old k ≡ Some x → JoinsEachReplica i k (replicas_in old x p) p old new → JoinsPartition i k p old new
+unfolding JoinsEachReplica JoinsPartition
 partition_joins i k p x old new there joins h covers =
     let all : SeesCovers new i × ((n : ℕ) → has_node (replicas_in old x p) n ≡ true → view_at old n ≡ Some k → HoldsFolds old k n p) = joins h covers in
     (all.0, λ d part n replica in_view. go d part n in_view (all.1 n (replicas_are old i k p d x n h part there ∙ replica) (present_so old i n h ∙ in_view)) (record_number old.records d) refl)
@@ -343,7 +343,7 @@ partition_joins i k p x old new there joins h covers =
         let named : record_digest old.records r ≡ Some d = h.stores.records.numbered.digests d r e in
         sym (content_then old i n r d h named) ∙ (holds r (ap (option_map partition_of) named ∙ ap Some part) ∙ fold_then old i k x r d h there named)
 
-pub partition_stops : (i : ℕ) (k : ClusterKey) (p : ℕ) (x : View) (s : Judge) (y : Stop) → view_of s k ≡ Some x → StopsReplicas i k (replicas_in s x p) p s y → StopsAll i k p s y
+pub partition_stops : (i : ℕ) (k : ClusterKey) (p : ℕ) (x : View) (s : Judge) (y : Stop) → kept_view s k ≡ Some x → StopsReplicas i k (replicas_in s x p) p s y → StopsAll i k p s y
 unfolding StopsReplicas StopsAll
 partition_stops i k p x s stop.NoMemory there stops = tt
 partition_stops i k p x s (stop.Breaks l) there stops = λ h covers.

@@ -1,6 +1,6 @@
 -- What is known stays as the last line is tried.
 use Rattle.std.proofs.Common.{◌≡◌, ℕ, ◌+◌, ◌<◌, ◌≤◌, ◌==◌, Bool, true, false, ◌&&◌, ◌||◌, cond, List, [], ◌∷◌, ◌++◌, Option, Some, None, ◌⊎◌, inl, inr, refl, sym, ap, subst, ◌∙◌, arith}
-use Rattle.std.specs.Prelude.{is_some, nat_lt, nat_eq, fold}
+use Rattle.std.specs.Prelude.{is_some, nat_lt, nat_eq, fold, bytes_eq}
 use Rattle.std.proofs.lemmas.Bool.{or_left}
 use Rattle.std.proofs.lemmas.List.Folds.{list_any-append}
 use Rattle.std.specs.HashMap as hash
@@ -9,7 +9,7 @@ use Rattle.std.proofs.lemmas.Bool.Decides.{nat_tests}
 use Rattle.cluster_types.specs.declared.cluster_key.ClusterKey.{ClusterKey}
 use Rattle.cluster_types.specs.Partitions.{partition_of}
 use Rattle.journal_lines.specs.declared.line.Line.{Line}
-use Rattle.journal_readings.specs.Lines.{same_key, same_digest, has_node}
+use Rattle.journal_readings.specs.Lines.{same_key, has_node}
 use Rattle.journal_readings.specs.Settled.{is_settled, is_open_write, has_open_write}
 use Rattle.journal_readings.specs.Views.{master}
 use Rattle.journal_readings.proofs.AlongLaws.{no_some, some_same}
@@ -25,17 +25,17 @@ use Rattle.audit_state.specs.Written.{Stand, stand_of, written_of}
 use Rattle.audit_core.specs.Audits.{so_far}
 use Rattle.audit_core.specs.Covering.{SeesCovers}
 use Rattle.audit_core.specs.Frames.{Both}
-use Rattle.audit_core.specs.Known.{view_of}
+use Rattle.audit_core.specs.Known.{kept_view}
 use Rattle.audit_core.specs.Sees.{SeesView, SeesStand, IsBound, AllJoin, HasNoDoubts, IsSuspect}
 use Rattle.audit_core.specs.Steps.{ChangesView}
-use Rattle.audit_core.specs.Stored.{IsOf, read_of}
-use Rattle.audit_core.specs.Trying.{SeesLines, SeesStands, IsRecord, IsTriedOf, IsTrying, with_record, with_partition, KeepsKnown, SameButStands}
+use Rattle.audit_core.specs.Stored.{IsRecordOf, read_of}
+use Rattle.audit_core.specs.Trying.{SeesLines, SeesStands, IsKnownRecord, IsTriedOf, IsTrying, tried_with_record, tried_with_partition, KeepsKnown, SameButStands}
 use Rattle.audit_core.proofs.WordLaws.{both_same}
 
 -- ---- only stands change
 
 pub keeps_itself : (s : Judge) → KeepsKnown s s
-keeps_itself s = record { rest = refl; views = λ k. both_same SameButStands (λ x. record { rest = refl; written = λ p. refl }) (view_of s k) (view_of s k) refl }
+keeps_itself s = record { rest = refl; views = λ k. both_same SameButStands (λ x. record { rest = refl; written = λ p. refl }) (kept_view s k) (kept_view s k) refl }
 
 then_same : (a b c : View) → SameButStands a b → SameButStands b c → SameButStands a c
 then_same a b c h q = record { rest = ap (λ (x : View). record x { partitions = a.partitions }) q.rest ∙ h.rest; written = λ p. q.written p ∙ h.written p }
@@ -51,11 +51,11 @@ both_then (Some a) (Some b) None h x = absurd x
 pub keeps_then : (a b c : Judge) → KeepsKnown a b → KeepsKnown b c → KeepsKnown a c
 keeps_then a b c h q = record {
   rest = ap (λ (s : Judge). record s { views = a.views; covers = a.covers }) q.rest ∙ h.rest;
-  views = λ k. both_then (view_of a k) (view_of b k) (view_of c k) (h.views k) (q.views k);
+  views = λ k. both_then (kept_view a k) (kept_view b k) (kept_view c k) (h.views k) (q.views k);
 }
 
-same_where : (k l : ClusterKey) (old new : Judge) → same_key k l ≡ true → Both SameButStands (view_of old k) (view_of new k) → Both SameButStands (view_of old l) (view_of new l)
-same_where k l old new e h = subst (λ (z : ClusterKey). Both SameButStands (view_of old z) (view_of new z)) (same_key_is k l e) h
+same_where : (k l : ClusterKey) (old new : Judge) → same_key k l ≡ true → Both SameButStands (kept_view old k) (kept_view new k) → Both SameButStands (kept_view old l) (kept_view new l)
+same_where k l old new e h = subst (λ (z : ClusterKey). Both SameButStands (kept_view old z) (kept_view new z)) (same_key_is k l e) h
 
 both_weaker : (R : View → View → Type 0) → ((a b : View) → R a b → SameButStands a b) → (o q : Option View) → Both R o q → Both SameButStands o q
 both_weaker R f None None h = tt
@@ -69,9 +69,10 @@ changes_keep R f k old new c = record {
   views = λ l. go l (same_key k l) refl;
 }
   where
-    go : (l : ClusterKey) (b : Bool) → same_key k l ≡ b → Both SameButStands (view_of old l) (view_of new l)
-    go l true e = same_where k l old new e (both_weaker R f (view_of old k) (view_of new k) c.here)
-    go l false e = both_same SameButStands (λ x. record { rest = refl; written = λ p. refl }) (view_of old l) (view_of new l) (c.others l e)
+    go : (l : ClusterKey) (b : Bool) → same_key k l ≡ b → Both SameButStands (kept_view old l) (kept_view new l)
+    go l true e = same_where k l old new e (both_weaker R f (kept_view old k) (kept_view new k)
+        c.here)
+    go l false e = both_same SameButStands (λ x. record { rest = refl; written = λ p. refl }) (kept_view old l) (kept_view new l) (c.others l e)
 
 pub sets_keep : (p : ℕ) (x : Stand) (old new : View) → SetsStand p x old new → SameButStands old new
 sets_keep p x old new h = record { rest = h.rest; written = h.written }
@@ -104,8 +105,8 @@ lines_kept old new i k h =
       frame = record {
         header = record { policy = moved.frame.header.policy; factor = moved.frame.header.factor; declared = moved.frame.header.declared };
         nodes = moved.frame.nodes;
-        known_views = λ l. both_there (view_of old l) (view_of new l) (k.views l) ∙ moved.frame.known_views l;
-        views = λ l y e. let x : (x : View) × (view_of old l ≡ Some x) × SameButStands x y = was_there (view_of old l) (view_of new l) y (k.views l) e in
+        known_views = λ l. both_there (kept_view old l) (kept_view new l) (k.views l) ∙ moved.frame.known_views l;
+        views = λ l y e. let x : (x : View) × (kept_view old l ≡ Some x) × SameButStands x y = was_there (kept_view old l) (kept_view new l) y (k.views l) e in
             view_kept (so_far new i) l x.0 y x.2 (moved.frame.views l x.0 x.1);
         stamps = moved.frame.stamps;
       };
@@ -114,22 +115,22 @@ lines_kept old new i k h =
         contents = moved.stores.contents;
         copies = moved.stores.copies;
         written = record {
-          applied = λ l y r e. let x : (x : View) × (view_of old l ≡ Some x) × SameButStands x y = was_there (view_of old l) (view_of new l) y (k.views l) e in
+          applied = λ l y r e. let x : (x : View) × (kept_view old l ≡ Some x) × SameButStands x y = was_there (kept_view old l) (kept_view new l) y (k.views l) e in
               subst (λ (z : View). Rattle.audit_state.specs.Places.placed new.lines.now (hash.get nat_eq z.applied r) ≡ read_of (λ d. Rattle.journal_readings.specs.Entries.applied_in (Rattle.journal_readings.specs.Settings.policy_of (so_far new i)) l d (so_far new i)) (record_digest new.records r)) (sym x.2.rest) (moved.stores.written.applied l x.0 r x.1);
-          written = λ l y r e. let x : (x : View) × (view_of old l ≡ Some x) × SameButStands x y = was_there (view_of old l) (view_of new l) y (k.views l) e in
+          written = λ l y r e. let x : (x : View) × (kept_view old l ≡ Some x) × SameButStands x y = was_there (kept_view old l) (kept_view new l) y (k.views l) e in
               subst (λ (z : View). has_node z.written.items r ≡ is_some (hash.get nat_eq z.applied r)) (sym x.2.rest) (moved.stores.written.written l x.0 r x.1);
-          listed = λ l y r e some. let x : (x : View) × (view_of old l ≡ Some x) × SameButStands x y = was_there (view_of old l) (view_of new l) y (k.views l) e in
-              let h : (u : ℕ) × IsOf new.records r u × (has_node (written_of x.0 u) r ≡ true) = moved.stores.written.listed l x.0 r x.1 (subst (λ (z : View). is_some (hash.get nat_eq z.applied r) ≡ true) x.2.rest some) in
+          listed = λ l y r e some. let x : (x : View) × (kept_view old l ≡ Some x) × SameButStands x y = was_there (kept_view old l) (kept_view new l) y (k.views l) e in
+              let h : (u : ℕ) × IsRecordOf new.records r u × (has_node (written_of x.0 u) r ≡ true) = moved.stores.written.listed l x.0 r x.1 (subst (λ (z : View). is_some (hash.get nat_eq z.applied r) ≡ true) x.2.rest some) in
               (h.0, h.1, ap (λ (ns : List ℕ). has_node ns r) (x.2.written h.0) ∙ h.2);
-          listed_only = λ l y u r e h. let x : (x : View) × (view_of old l ≡ Some x) × SameButStands x y = was_there (view_of old l) (view_of new l) y (k.views l) e in
+          listed_only = λ l y u r e h. let x : (x : View) × (kept_view old l ≡ Some x) × SameButStands x y = was_there (kept_view old l) (kept_view new l) y (k.views l) e in
               moved.stores.written.listed_only l x.0 u r x.1 (ap (λ (ns : List ℕ). has_node ns r) (sym (x.2.written u)) ∙ h);
         };
       };
     }
 
-pub record_kept : (old new : Judge) (r p : ℕ) (d : List ℕ) → KeepsKnown old new → IsRecord old r p d → IsRecord new r p d
+pub record_kept : (old new : Judge) (r p : ℕ) (d : List ℕ) → KeepsKnown old new → IsKnownRecord old r p d → IsKnownRecord new r p d
 record_kept old new r p d k h =
-    let moved : IsRecord (record new { views = old.views; covers = old.covers }) r p d = subst (λ (s : Judge). IsRecord s r p d) (sym k.rest) h in
+    let moved : IsKnownRecord (record new { views = old.views; covers = old.covers }) r p d = subst (λ (s : Judge). IsKnownRecord s r p d) (sym k.rest) h in
     record { named = moved.named; part = moved.part }
 
 pub front_kept : (old new : Judge) (i : ℕ) → KeepsKnown old new → so_far new i ≡ so_far old i
@@ -165,30 +166,30 @@ either true b e = inl refl
 either false b e = inr e
 
 -- one record more
-pub record_cases : (those : ClusterKey → List ℕ → Bool) (k : ClusterKey) (d : List ℕ) (l : ClusterKey) (e : List ℕ) → with_record those k d l e ≡ true → (those l e ≡ true) ⊎ ((k ≡ l) × (d ≡ e))
+pub record_cases : (those : ClusterKey → List ℕ → Bool) (k : ClusterKey) (d : List ℕ) (l : ClusterKey) (e : List ℕ) → tried_with_record those k d l e ≡ true → (those l e ≡ true) ⊎ ((k ≡ l) × (d ≡ e))
 record_cases those k d l e m = go (either (those l e) _ m)
   where
-    go : (those l e ≡ true) ⊎ ((same_key k l && same_digest d e) ≡ true) → (those l e ≡ true) ⊎ ((k ≡ l) × (d ≡ e))
+    go : (those l e ≡ true) ⊎ ((same_key k l && bytes_eq d e) ≡ true) → (those l e ≡ true) ⊎ ((k ≡ l) × (d ≡ e))
     go (inl q) = inl q
     go (inr q) = inr (same_key_is k l (and_left (same_key k l) _ q), same_digest_is d e (and_right (same_key k l) _ q))
 
 -- a partition more
-pub partition_cases : (those : ClusterKey → List ℕ → Bool) (k : ClusterKey) (p : ℕ) (l : ClusterKey) (e : List ℕ) → with_partition those k p l e ≡ true → (those l e ≡ true) ⊎ ((k ≡ l) × (p ≡ partition_of e))
+pub partition_cases : (those : ClusterKey → List ℕ → Bool) (k : ClusterKey) (p : ℕ) (l : ClusterKey) (e : List ℕ) → tried_with_partition those k p l e ≡ true → (those l e ≡ true) ⊎ ((k ≡ l) × (p ≡ partition_of e))
 partition_cases those k p l e m = go (either (those l e) _ m)
   where
     go : (those l e ≡ true) ⊎ ((same_key k l && (p == partition_of e)) ≡ true) → (those l e ≡ true) ⊎ ((k ≡ l) × (p ≡ partition_of e))
     go (inl q) = inl q
     go (inr q) = inr (same_key_is k l (and_left (same_key k l) _ q), number_same p (partition_of e) (and_right (same_key k l) _ q))
 
-pub record_widened : (s : Judge) (i : ℕ) (k : ClusterKey) (d : List ℕ) (those : ClusterKey → List ℕ → Bool) → (IsBound k (partition_of d) (so_far s i) → AllJoin k d (so_far s i)) → IsTrying s i those → IsTrying s i (with_record those k d)
-record_widened s i k d those h t = widened s i those (with_record those k d) (λ l e m. go l e (record_cases those k d l e m)) t
+pub record_widened : (s : Judge) (i : ℕ) (k : ClusterKey) (d : List ℕ) (those : ClusterKey → List ℕ → Bool) → (IsBound k (partition_of d) (so_far s i) → AllJoin k d (so_far s i)) → IsTrying s i those → IsTrying s i (tried_with_record those k d)
+record_widened s i k d those h t = widened s i those (tried_with_record those k d) (λ l e m. go l e (record_cases those k d l e m)) t
   where
     go : (l : ClusterKey) (e : List ℕ) → (those l e ≡ true) ⊎ ((k ≡ l) × (d ≡ e)) → (those l e ≡ true) ⊎ (IsBound l (partition_of e) (so_far s i) → AllJoin l e (so_far s i))
     go l e (inl q) = inl q
     go l e (inr q) = inr (subst (λ (z : ClusterKey). IsBound z (partition_of e) (so_far s i) → AllJoin z e (so_far s i)) q.0 (subst (λ (z : List ℕ). IsBound k (partition_of z) (so_far s i) → AllJoin k z (so_far s i)) q.1 h))
 
-pub partition_widened : (s : Judge) (i : ℕ) (k : ClusterKey) (p : ℕ) (those : ClusterKey → List ℕ → Bool) → (IsBound k p (so_far s i) → (d : List ℕ) → partition_of d ≡ p → AllJoin k d (so_far s i)) → IsTrying s i those → IsTrying s i (with_partition those k p)
-partition_widened s i k p those h t = widened s i those (with_partition those k p) (λ l e m. go l e (partition_cases those k p l e m)) t
+pub partition_widened : (s : Judge) (i : ℕ) (k : ClusterKey) (p : ℕ) (those : ClusterKey → List ℕ → Bool) → (IsBound k p (so_far s i) → (d : List ℕ) → partition_of d ≡ p → AllJoin k d (so_far s i)) → IsTrying s i those → IsTrying s i (tried_with_partition those k p)
+partition_widened s i k p those h t = widened s i those (tried_with_partition those k p) (λ l e m. go l e (partition_cases those k p l e m)) t
   where
     go : (l : ClusterKey) (e : List ℕ) → (those l e ≡ true) ⊎ ((k ≡ l) × (p ≡ partition_of e)) → (those l e ≡ true) ⊎ (IsBound l (partition_of e) (so_far s i) → AllJoin l e (so_far s i))
     go l e (inl q) = inl q
@@ -202,7 +203,7 @@ pub record IsNoted (old new : Judge) (i : ℕ) (k : ClusterKey) (p : ℕ) (f : S
   pub settled : is_settled k p (so_far old i) ≡ true
   pub line : (x : Stand) → (f x).settled ≡ x.settled
   pub open_writes : (x : Stand) → (f x).open_writes ≡ x.open_writes
-  pub tried : (x : View) → view_of old k ≡ Some x → IsTriedOf (those k) new (so_far old i) k p (stand_of x p) → IsTriedOf (more k) new (so_far old i) k p (f (stand_of x p))
+  pub tried : (x : View) → kept_view old k ≡ Some x → IsTriedOf (those k) new (so_far old i) k p (stand_of x p) → IsTriedOf (more k) new (so_far old i) k p (f (stand_of x p))
   pub others : (l : ClusterKey) (e : List ℕ) → more l e ≡ true → (those l e ≡ true) ⊎ ((k ≡ l) × (p ≡ partition_of e))
 
 module _ (old new : Judge) (i : ℕ) (k : ClusterKey) (p : ℕ) (f : Stand → Stand) (those more : ClusterKey → List ℕ → Bool) (c : ChangesView (λ a b. SetsStand p (f (stand_of a p)) a b) k old new) (h : IsNoted old new i k p f those more) (t : IsTrying old i those) where
@@ -220,11 +221,11 @@ module _ (old new : Judge) (i : ℕ) (k : ClusterKey) (p : ℕ) (f : Stand → S
   was (Some a) None y r e = absurd r
 
   -- of each view and each partition, what holds of the stands that it had holds of those that it has
-  each : (P : ClusterKey → ℕ → View → Stand → Type 0) → ((l : ClusterKey) (q : ℕ) (x : View) → view_of old l ≡ Some x → ((k ≡ l) × (p ≡ q) → ⊥) → P l q x (stand_of x q)) → ((x : View) → view_of old k ≡ Some x → P k p x (f (stand_of x p)))
-      → ((l : ClusterKey) (q : ℕ) (x y : View) (z : Stand) → SameButStands x y → P l q x z → P l q y z) → (l : ClusterKey) (q : ℕ) (y : View) → view_of new l ≡ Some y → P l q y (stand_of y q)
+  each : (P : ClusterKey → ℕ → View → Stand → Type 0) → ((l : ClusterKey) (q : ℕ) (x : View) → kept_view old l ≡ Some x → ((k ≡ l) × (p ≡ q) → ⊥) → P l q x (stand_of x q)) → ((x : View) → kept_view old k ≡ Some x → P k p x (f (stand_of x p)))
+      → ((l : ClusterKey) (q : ℕ) (x y : View) (z : Stand) → SameButStands x y → P l q x z → P l q y z) → (l : ClusterKey) (q : ℕ) (y : View) → kept_view new l ≡ Some y → P l q y (stand_of y q)
   each P before here moves l q y e = go (same_key k l) refl
     where
-      at : (x : View) → view_of old k ≡ Some x → SetsStand p (f (stand_of x p)) x y → P k q y (stand_of y q)
+      at : (x : View) → kept_view old k ≡ Some x → SetsStand p (f (stand_of x p)) x y → P k q y (stand_of y q)
       at x there r = subst (P k q y) (sym (r.stands q)) (moves k q x y (cond (nat_eq p q) (f (stand_of x p)) (stand_of x q)) (sets_keep p (f (stand_of x p)) x y r) (choose (nat_eq p q) refl))
         where
           choose : (b : Bool) → nat_eq p q ≡ b → P k q x (cond b (f (stand_of x p)) (stand_of x q))
@@ -233,7 +234,7 @@ module _ (old new : Judge) (i : ℕ) (k : ClusterKey) (p : ℕ) (f : Stand → S
 
       go : (b : Bool) → same_key k l ≡ b → P l q y (stand_of y q)
       go true i =
-          let z : (x : View) × (view_of old k ≡ Some x) × SetsStand p (f (stand_of x p)) x y = was (view_of old k) (view_of new k) y c.here (ap (λ (m : ClusterKey). view_of new m) (same_key_is k l i) ∙ e) in
+          let z : (x : View) × (kept_view old k ≡ Some x) × SetsStand p (f (stand_of x p)) x y = was (kept_view old k) (kept_view new k) y c.here (ap (λ (m : ClusterKey). kept_view new m) (same_key_is k l i) ∙ e) in
           subst (λ (m : ClusterKey). P m q y (stand_of y q)) (same_key_is k l i) (at z.0 z.1 z.2)
       go false i = before l q y (sym (c.others l i) ∙ e) (λ w. differ (ap (same_key k) (sym w.0) ∙ same_key_itself k) i)
 
@@ -263,7 +264,7 @@ module _ (old new : Judge) (i : ℕ) (k : ClusterKey) (p : ℕ) (f : Stand → S
       among l q e part apart (inl w) rest = rest w
       among l q e part apart (inr w) rest = absurd (apart (w.0, w.1 ∙ part))
 
-      kept : (l : ClusterKey) (q : ℕ) (x : View) → view_of old l ≡ Some x → IsBound l q (so_far new i) → IsTriedOf (those l) new (so_far new i) l q (stand_of x q)
+      kept : (l : ClusterKey) (q : ℕ) (x : View) → kept_view old l ≡ Some x → IsBound l q (so_far new i) → IsTriedOf (those l) new (so_far new i) l q (stand_of x q)
       kept l q x there bound = record { closed = (moved.tried l q x there bound).closed; joined = (moved.tried l q x there bound).joined }
 
 -- ---- a record is tried later
@@ -283,9 +284,9 @@ listed_here rs r = list_any-append (λ m. m == r) rs (r ∷ []) ∙ go (has_node
 listed_more : (rs : List ℕ) (r q : ℕ) → has_node rs q ≡ true → has_node (rs ++ r ∷ []) q ≡ true
 listed_more rs r q e = list_any-append (λ m. m == q) rs (r ∷ []) ∙ or_left (has_node rs q) _ e
 
-pub later_record : (old new : Judge) (i : ℕ) (k : ClusterKey) (r p : ℕ) (d : List ℕ) (those : ClusterKey → List ℕ → Bool) (x : View) → ChangesView (Suspects r p) k old new → view_of old k ≡ Some x → nat_lt 0 (stand_of x p).open_writes ≡ true
-    → is_settled k p (so_far old i) ≡ true → record_number new.records d ≡ Some r → partition_of d ≡ p → IsTrying old i those → IsTrying new i (with_record those k d)
-later_record old new i k r p d those x c there counted settled number part t = noted old new i k p (suspect_stand r) those (with_record those k d) c (record {
+pub later_record : (old new : Judge) (i : ℕ) (k : ClusterKey) (r p : ℕ) (d : List ℕ) (those : ClusterKey → List ℕ → Bool) (x : View) → ChangesView (Suspects r p) k old new → kept_view old k ≡ Some x → nat_lt 0 (stand_of x p).open_writes ≡ true
+    → is_settled k p (so_far old i) ≡ true → record_number new.records d ≡ Some r → partition_of d ≡ p → IsTrying old i those → IsTrying new i (tried_with_record those k d)
+later_record old new i k r p d those x c there counted settled number part t = noted old new i k p (suspect_stand r) those (tried_with_record those k d) c (record {
   settled = settled;
   line = λ z. refl;
   open_writes = λ z. refl;
@@ -305,9 +306,9 @@ later_record old new i k r p d those x c there counted settled number part t = n
     go y f w untried q apart (inl m) = w.joined untried f q m (λ z. apart (z.0, z.1, listed_more (stand_of y p).suspects r z.0 z.2))
     go y f w untried q apart (inr m) = absurd (apart (r, ap (record_number new.records) (sym m.1) ∙ number, listed_here (stand_of y p).suspects r))
 
-pub later_partition : (old new : Judge) (i : ℕ) (k : ClusterKey) (p : ℕ) (those : ClusterKey → List ℕ → Bool) (x : View) → ChangesView (Distrusts p) k old new → view_of old k ≡ Some x → nat_lt 0 (stand_of x p).open_writes ≡ true
-    → is_settled k p (so_far old i) ≡ true → IsTrying old i those → IsTrying new i (with_partition those k p)
-later_partition old new i k p those x c there counted settled t = noted old new i k p untried_stand those (with_partition those k p) c (record {
+pub later_partition : (old new : Judge) (i : ℕ) (k : ClusterKey) (p : ℕ) (those : ClusterKey → List ℕ → Bool) (x : View) → ChangesView (Distrusts p) k old new → kept_view old k ≡ Some x → nat_lt 0 (stand_of x p).open_writes ≡ true
+    → is_settled k p (so_far old i) ≡ true → IsTrying old i those → IsTrying new i (tried_with_partition those k p)
+later_partition old new i k p those x c there counted settled t = noted old new i k p untried_stand those (tried_with_partition those k p) c (record {
   settled = settled;
   line = λ z. refl;
   open_writes = λ z. refl;
@@ -344,7 +345,7 @@ none_counted test ls e = go (list_any test ls) refl
     go true q = absurd (some_lines test ls q e)
 
 -- where none is counted none is open
-pub closed_so : (s : Judge) (i : ℕ) (k : ClusterKey) (p : ℕ) (x : View) → SeesStands s i → view_of s k ≡ Some x → nat_lt 0 (stand_of x p).open_writes ≡ false → has_open_write k p (so_far s i) ≡ false
+pub closed_so : (s : Judge) (i : ℕ) (k : ClusterKey) (p : ℕ) (x : View) → SeesStands s i → kept_view s k ≡ Some x → nat_lt 0 (stand_of x p).open_writes ≡ false → has_open_write k p (so_far s i) ≡ false
 unfolding has_open_write
 closed_so s i k p x stands there e = none_counted (is_open_write k p (master k p (so_far s i)) (so_far s i)) (so_far s i) (sym (stands k p x there).open_writes ∙ zero_is (stand_of x p).open_writes e)
   where

@@ -1,6 +1,6 @@
 -- Records that neither were written in a view nor changed at its members, of a partition that none of them had.
 use Rattle.std.proofs.Common.{◌≡◌, ℕ, ◌==◌, Bool, true, false, ◌||◌, cond, List, [], ◌∷◌, Option, Some, None, refl, sym, ap, ap₂, subst, ◌∙◌}
-use Rattle.std.specs.Prelude.{is_some, map, nat_eq, IsTrue}
+use Rattle.std.specs.Prelude.{is_some, map, nat_eq}
 use Rattle.std.specs.HashMap as hash
 use Rattle.std.specs.List.{list_any, list_all, flat_map}
 use Rattle.std.proofs.lemmas.Bool.{or_parts}
@@ -33,7 +33,7 @@ use Rattle.audit_state.specs.Records.{record_number, record_digest}
 use Rattle.audit_core.specs.declared.judge.Judge.{Judge}
 use Rattle.audit_core.specs.Audits.{so_far}
 use Rattle.audit_core.specs.Emptied.{written_list, stay_list, stay_in, members_in, moved_in}
-use Rattle.audit_core.specs.Known.{node_at, view_in, view_at, view_of}
+use Rattle.audit_core.specs.Known.{node_at, view_in, view_at, kept_view}
 use Rattle.audit_core.specs.Sees.{SeesStays, AllJoin}
 use Rattle.audit_core.specs.Trying.{SeesLines, is_digest}
 use Rattle.audit_core.proofs.BoundLaws.{has_entered_view, present_so}
@@ -91,16 +91,16 @@ empty_entry by k n p d j part = go (lines_before (is_enter k n) j)
     go None e = differ e refl
     go (Some b) e = (no_record-empty by n p b).0 (unless (holds_any n p b) e) d part
 
-module _ (s : Judge) (i : ℕ) (k : ClusterKey) (x : View) (p : ℕ) (d : List ℕ) (h : SeesLines s i) (stays : SeesStays s (so_far s i)) (there : view_of s k ≡ Some x)
+module _ (s : Judge) (i : ℕ) (k : ClusterKey) (x : View) (p : ℕ) (d : List ℕ) (h : SeesLines s i) (stays : SeesStays s (so_far s i)) (there : kept_view s k ≡ Some x)
     (empty : is_empty_everywhere k p (so_far s i) ≡ true) (part : partition_of d ≡ p) (unmoved : list_any (λ r. is_digest (record_digest s.records r) d) (moved_in s k) ≡ false) where
   each_empty : list_all (λ m. is_empty_at_entry k m.id p (so_far s i)) (members k (so_far s i)) ≡ true
   unfolding is_empty_everywhere
   each_empty = empty
 
-  unmoved_parts : (list_any (λ r. is_digest (record_digest s.records r) d) (written_list (view_of s k)) ≡ false) × (list_any (λ r. is_digest (record_digest s.records r) d) (flat_map (λ m. stay_in s k m.id) (members_in (view_of s k))) ≡ false)
-  unmoved_parts = or_parts _ _ (sym (list_any-append (λ r. is_digest (record_digest s.records r) d) (written_list (view_of s k)) (flat_map (λ m. stay_in s k m.id) (members_in (view_of s k)))) ∙ unmoved)
+  unmoved_parts : (list_any (λ r. is_digest (record_digest s.records r) d) (written_list (kept_view s k)) ≡ false) × (list_any (λ r. is_digest (record_digest s.records r) d) (flat_map (λ m. stay_in s k m.id) (members_in (kept_view s k))) ≡ false)
+  unmoved_parts = or_parts _ _ (sym (list_any-append (λ r. is_digest (record_digest s.records r) d) (written_list (kept_view s k)) (flat_map (λ m. stay_in s k m.id) (members_in (kept_view s k)))) ∙ unmoved)
 
-  members_are : members_in (view_of s k) ≡ members k (so_far s i)
+  members_are : members_in (kept_view s k) ≡ members k (so_far s i)
   members_are = ap (λ (o : Option View). members_in o) there ∙ (h.frame.views k x there).members
 
   -- a record that was brought
@@ -109,7 +109,7 @@ module _ (s : Judge) (i : ℕ) (k : ClusterKey) (x : View) (p : ℕ) (d : List �
 
   unwritten : (r : ℕ) → record_digest s.records r ≡ Some d → applied_in (policy_of (so_far s i)) k d (so_far s i) ≡ None
   unwritten r e =
-      let off : has_node x.written.items r ≡ false = subst (λ (o : Option View). has_node (written_list o) r ≡ false) there (apart_from _ (written_list (view_of s k)) r (named r e) unmoved_parts.0) in
+      let off : has_node x.written.items r ≡ false = subst (λ (o : Option View). has_node (written_list o) r ≡ false) there (apart_from _ (written_list (kept_view s k)) r (named r e) unmoved_parts.0) in
       sym (ap (Rattle.audit_core.specs.Stored.read_of (λ d. applied_in (policy_of (so_far s i)) k d (so_far s i))) e)
       ∙ (sym (h.stores.written.applied k x r there)
       ∙ ap (placed s.lines.now) (none (hash.get nat_eq x.applied r) (sym (h.stores.written.written k x r there) ∙ off)))
@@ -128,7 +128,7 @@ module _ (s : Judge) (i : ℕ) (k : ClusterKey) (x : View) (p : ℕ) (d : List �
   held_none r n e in_view =
       let member : has_node (ids_of (members k (so_far s i))) n ≡ true = entered_member (so_far s i) k n h.shape (has_entered_view n k (so_far s i) in_view) in
       let off : list_any (λ r. is_digest (record_digest s.records r) d) (stay_in s k n) ≡ false =
-      none_mapped (λ r. is_digest (record_digest s.records r) d) (stay_in s k) (members_in (view_of s k)) n (subst (λ (ms : List Member). has_node (ids_of ms) n ≡ true) (sym members_are) member) unmoved_parts.1 in
+      none_mapped (λ r. is_digest (record_digest s.records r) d) (stay_in s k) (members_in (kept_view s k)) n (subst (λ (ms : List Member). has_node (ids_of ms) n ≡ true) (sym members_are) member) unmoved_parts.1 in
       go (node_at s n) refl (present_so s i n h ∙ in_view) (apart_from _ (stay_in s k n) r (named r e) off)
       ∙ empty_entry (policy_of (so_far s i)) k n p d (so_far s i) part (all_members (λ n. is_empty_at_entry k n p (so_far s i)) (members k (so_far s i)) n each_empty member)
     where

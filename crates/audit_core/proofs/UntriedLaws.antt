@@ -26,7 +26,7 @@ use Rattle.audit_state.specs.Records.{record_number}
 use Rattle.audit_state.specs.Written.{Stand, stand_of}
 use Rattle.audit_core.specs.Audits.{Comes, so_far}
 use Rattle.audit_core.specs.Covering.{SeesCovers}
-use Rattle.audit_core.specs.Known.{view_of}
+use Rattle.audit_core.specs.Known.{kept_view}
 use Rattle.audit_core.specs.Sees.{IsBound, AllJoin, IsTried, HasNoDoubts, IsSuspect}
 use Rattle.audit_core.specs.Trying.{SeesStands, IsTriedOf, IsTrying}
 use Rattle.audit_core.proofs.VerdictLaws.{taken_next}
@@ -105,7 +105,7 @@ parts_not false e = refl
 pub record TakesLine (old new : Judge) (i : ℕ) : Type 0 where
   pub lines : new.lines.now ≡ old.lines.now
   pub numbers : (d : List ℕ) (r : ℕ) → record_number old.records d ≡ Some r → record_number new.records d ≡ Some r
-  pub views : (k : ClusterKey) (y : View) → view_of new k ≡ Some y → (x : View) × (view_of old k ≡ Some x) × KeepsSettled x y
+  pub views : (k : ClusterKey) (y : View) → kept_view new k ≡ Some y → (x : View) × (kept_view old k ≡ Some x) × KeepsSettled x y
   pub stands : SeesStands new (i + 1)
   pub covers : SeesCovers new (i + 1)
 
@@ -127,11 +127,11 @@ module _ (old new : Judge) (i : ℕ) (l : Line) (c : Comes old i l) (content : I
     pub trying_those : IsTrying new (i + 1) those
     trying_those = record {
       stands = t.stands;
-      listed = λ k p y e. let x : (x : View) × (view_of old k ≡ Some x) × KeepsSettled x y = t.views k y e in
+      listed = λ k p y e. let x : (x : View) × (kept_view old k ≡ Some x) × KeepsSettled x y = t.views k y e in
           ap (λ (ps : List ℕ). has_node ps p) x.2.listed ∙ (c.audits.state.tried.listed k p x.0 x.1 ∙ sym (x.2.stands p).settled);
-      unsettled = λ k p y e none. let x : (x : View) × (view_of old k ≡ Some x) × KeepsSettled x y = t.views k y e in
+      unsettled = λ k p y e none. let x : (x : View) × (kept_view old k ≡ Some x) × KeepsSettled x y = t.views k y e in
           doubts_kept (stand_of x.0 p) (stand_of y p) (x.2.stands p) (c.audits.state.tried.unsettled k p x.0 x.1 (sym (settled_before (so_far old i) l k p content) ∙ (ap (is_settled k p) (sym front) ∙ none)));
-      tried = λ k p y e bound. let x : (x : View) × (view_of old k ≡ Some x) × KeepsSettled x y = t.views k y e in
+      tried = λ k p y e bound. let x : (x : View) × (kept_view old k ≡ Some x) × KeepsSettled x y = t.views k y e in
           subst (λ (j : List Line). IsTriedOf (those k) new j k p (stand_of y p)) (sym front)
           (tried_of k p x.0 y x.2 (c.audits.state.tried.tried k p x.0 x.1 (bound_before (so_far old i) l k p content (subst (IsBound k p) front bound))));
       covers = t.covers;

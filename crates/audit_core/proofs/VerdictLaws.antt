@@ -13,7 +13,7 @@ use Rattle.audit_core.specs.declared.verdict.Law.TheVariants as law
 use Rattle.audit_core.specs.declared.verdict.Stop.{Stop}
 use Rattle.audit_core.specs.declared.verdict.Stop.TheVariants as stop
 use Rattle.audit_core.specs.declared.verdict.Verdict.{Verdict}
-use Rattle.audit_core.specs.Verdicts.{Keeps, KeepsBefore, FailsFirst, FitsBefore, BreaksFirst, StopsRightly, IsAnswer, IsVerdict}
+use Rattle.audit_core.specs.Verdicts.{KeepsLaw, KeepsBefore, FailsFirst, FitsBefore, BreaksFirst, StopsRightly, IsAnswer, IsVerdict}
 
 -- ---- fronts
 
@@ -50,7 +50,7 @@ kept_before law.SettledJoin b l h f = let s : Shape (b ++ l ∷ []) = shaped b l
 kept_before law.ReadJoin b l h f = let s : Shape (b ++ l ∷ []) = shaped b l h f.0 in
     (s, (map_step b l s).1 (h.one_map, f.1), (loss_step b l s).1 (h.no_loss, f.2), (settled_step b l s).1 (h.settled_join, f.3))
 
-broken_by : (x : Law) (b : List Line) (l : Line) → Lawful b → BreaksFirst x b l → ¬ Keeps x (b ++ l ∷ [])
+broken_by : (x : Law) (b : List Line) (l : Line) → Lawful b → BreaksFirst x b l → ¬ KeepsLaw x (b ++ l ∷ [])
 broken_by law.Shape b l h f k = f.broken ((shape_step b l).0 k).1
 broken_by law.OneMap b l h f k = f.broken ((map_step b l (shaped b l h f.before)).0 k).1
 broken_by law.NoLoss b l h f k = f.broken ((loss_step b l (shaped b l h f.before.0)).0 k).1
@@ -63,7 +63,7 @@ fails_first j i l x h e f = record {
   within = omega (arith, stands_within j i l e);
   before = λ a lower. subst Lawful (front_of_front a i j (omega (arith, lower))) (lawful_fronts (take i j) h a);
   kept = subst (KeepsBefore x) (sym (taken_next j i l e)) (kept_before x (take i j) l h f.before);
-  broken = subst (λ (ls : List Line). ¬ Keeps x ls) (sym (taken_next j i l e)) (broken_by x (take i j) l h f);
+  broken = subst (λ (ls : List Line). ¬ KeepsLaw x ls) (sym (taken_next j i l e)) (broken_by x (take i j) l h f);
 }
 
 pub lawful_next : (j : List Line) (i : ℕ) (l : Line) → Lawful (take i j) → slice_get j i ≡ Some l → Fits (take i j) l → Lawful (take (i + 1) j)

@@ -10,7 +10,7 @@ use Rattle.audit_core.specs.declared.judge.Judge.{Judge}
 use Rattle.audit_state.specs.declared.views.View.{View}
 use Rattle.audit_core.specs.Frames.{Both}
 use Rattle.audit_state.specs.Keys.{key_pair, pair_eq}
-use Rattle.audit_core.specs.Known.{view_of}
+use Rattle.audit_core.specs.Known.{kept_view}
 use Rattle.audit_state.specs.Views.{IsFreshView}
 use Rattle.audit_core.specs.Steps.{OpensView, ChangesView}
 
@@ -18,7 +18,7 @@ pub missing : {A : Type 0} (o : Option A) (b : Bool) → b ≡ is_some o → b �
 missing None b e f = refl
 missing (Some x) b e f = differ e f
 
-pub opened : (k : ClusterKey) (ms : List Member) (old new : Judge) (x : View) → record new { views = old.views } ≡ old → view_of old k ≡ None → IsFreshView k ms x
+pub opened : (k : ClusterKey) (ms : List Member) (old new : Judge) (x : View) → record new { views = old.views } ≡ old → kept_view old k ≡ None → IsFreshView k ms x
     → hash.Updates pair_eq old.views new.views (key_pair k) (Some x) → OpensView k ms old new
 opened k ms old new x rest none fresh u = record {
   rest = rest;
@@ -28,10 +28,10 @@ opened k ms old new x rest none fresh u = record {
   others = λ l q. u.2 (key_pair l) q;
 }
 
-pub changed : (R : View → View → Type 0) (k : ClusterKey) (old new : Judge) (x y : View) → record new { views = old.views } ≡ old → view_of old k ≡ Some x
+pub changed : (R : View → View → Type 0) (k : ClusterKey) (old new : Judge) (x y : View) → record new { views = old.views } ≡ old → kept_view old k ≡ Some x
     → hash.Updates pair_eq old.views new.views (key_pair k) (Some y) → R x y → ChangesView R k old new
 changed R k old new x y rest e u r = record {
   rest = rest;
-  here = subst (λ (o : Option View). Both R o (view_of new k)) (sym e) (subst (Both R (Some x)) (sym u.1) r);
+  here = subst (λ (o : Option View). Both R o (kept_view new k)) (sym e) (subst (Both R (Some x)) (sym u.1) r);
   others = λ l q. u.2 (key_pair l) q;
 }

@@ -14,7 +14,7 @@ use Rattle.journal_readings.specs.Views.{members, is_replica}
 use Rattle.journal_readings.proofs.AlongLaws.{no_some, some_same}
 use Rattle.audit_core.specs.declared.judge.Judge.{Judge}
 use Rattle.audit_state.specs.declared.views.View.{View}
-use Rattle.audit_core.specs.Known.{view_of}
+use Rattle.audit_core.specs.Known.{kept_view}
 use Rattle.audit_state.specs.Views.{entry_line}
 use Rattle.audit_core.specs.Sees.{SeesState}
 use Rattle.audit_core.specs.Wholes as known
@@ -56,7 +56,7 @@ empty_so : (s : Judge) (i : ℕ) (all : List Line) (n p : ℕ) (o : Option (List
 empty_so s i all n p None h f = refl
 empty_so s i all n p (Some b) h f = ap not (held_so s i all n p b h (f b refl))
 
-everywhere_by : (s : Judge) (i : ℕ) (all : List Line) (k : ClusterKey) (p : ℕ) → SeesState s i all → (o : Option View) → view_of s k ≡ o → known.empty_in s p o ≡ is_empty_everywhere k p (take i all)
+everywhere_by : (s : Judge) (i : ℕ) (all : List Line) (k : ClusterKey) (p : ℕ) → SeesState s i all → (o : Option View) → kept_view s k ≡ o → known.empty_in s p o ≡ is_empty_everywhere k p (take i all)
 unfolding is_empty_everywhere is_empty_at_entry
 everywhere_by s i all k p h None e = sym (ap (list_all (λ (m : Member). is_empty_at_entry k m.id p (take i all))) (members_none k (take i all) (sym (h.frame.known_views k) ∙ ap is_some e)))
 everywhere_by s i all k p h (Some x) e =
@@ -65,8 +65,8 @@ everywhere_by s i all k p h (Some x) e =
     (λ m. ap (known.empty_at s m.id p) ((h.frame.views k x e).entered m.id) ∙ empty_so s i all m.id p (lines_before (is_enter k m.id) (take i all)) h (before_front (is_enter k m.id) (take i all)))
     (members k (take i all))
 
-pub everywhere_so : (s : Judge) (i : ℕ) (all : List Line) (k : ClusterKey) (p : ℕ) → SeesState s i all → known.empty_in s p (view_of s k) ≡ is_empty_everywhere k p (take i all)
-everywhere_so s i all k p h = everywhere_by s i all k p h (view_of s k) refl
+pub everywhere_so : (s : Judge) (i : ℕ) (all : List Line) (k : ClusterKey) (p : ℕ) → SeesState s i all → known.empty_in s p (kept_view s k) ≡ is_empty_everywhere k p (take i all)
+everywhere_so s i all k p h = everywhere_by s i all k p h (kept_view s k) refl
 
 -- ---- replicas
 
@@ -78,15 +78,15 @@ none_among : (i : ℕ) (n : ℕ) → list_any (λ (m : ℕ). m == n) (take i [])
 none_among zero n = refl
 none_among (suc i) n = refl
 
-replica_by : (s : Judge) (i : ℕ) (all : List Line) (k : ClusterKey) (n p : ℕ) → SeesState s i all → (o : Option View) → view_of s k ≡ o → known.replica_in s.factor n p o ≡ is_replica (factor_of (take i all)) k p n (take i all)
+replica_by : (s : Judge) (i : ℕ) (all : List Line) (k : ClusterKey) (n p : ℕ) → SeesState s i all → (o : Option View) → kept_view s k ≡ o → known.replica_in s.factor n p o ≡ is_replica (factor_of (take i all)) k p n (take i all)
 replica_by s i all k n p h None e =
     sym (ap (λ (ms : List Member). lists.is_replica_of n ms p (factor_of (take i all))) (members_none k (take i all) (sym (h.frame.known_views k) ∙ ap is_some e))
     ∙ (ap (λ (ids : List ℕ). list_any (λ (m : ℕ). m == n) (take (factor_of (take i all)) ids)) (no_list p) ∙ none_among (factor_of (take i all)) n))
 replica_by s i all k n p h (Some x) e =
     ap₂ (λ (factor : ℕ) (ms : List Member). lists.is_replica_of n ms p factor) h.frame.header.factor (h.frame.views k x e).ranks
 
-pub replica_so : (s : Judge) (i : ℕ) (all : List Line) (k : ClusterKey) (n p : ℕ) → SeesState s i all → known.replica_in s.factor n p (view_of s k) ≡ is_replica (factor_of (take i all)) k p n (take i all)
-replica_so s i all k n p h = replica_by s i all k n p h (view_of s k) refl
+pub replica_so : (s : Judge) (i : ℕ) (all : List Line) (k : ClusterKey) (n p : ℕ) → SeesState s i all → known.replica_in s.factor n p (kept_view s k) ≡ is_replica (factor_of (take i all)) k p n (take i all)
+replica_so s i all k n p h = replica_by s i all k n p h (kept_view s k) refl
 
-pub begins_so : (s : Judge) (i : ℕ) (all : List Line) (k : ClusterKey) (n p : ℕ) → SeesState s i all → known.begins_whole s k n p ≡ begins_whole (factor_of (take i all)) k n p (take i all)
+pub begins_so : (s : Judge) (i : ℕ) (all : List Line) (k : ClusterKey) (n p : ℕ) → SeesState s i all → known.is_whole_at_start s k n p ≡ begins_whole (factor_of (take i all)) k n p (take i all)
 begins_so s i all k n p h = ap₂ (λ (a b : Bool). a && b) (everywhere_so s i all k p h) (replica_so s i all k n p h)

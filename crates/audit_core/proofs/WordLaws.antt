@@ -17,9 +17,9 @@ use Rattle.audit_state.specs.declared.views.Entry.{Entry}
 use Rattle.audit_state.specs.declared.views.View.{View}
 use Rattle.audit_core.specs.Frames.{Both, SameStand, KeepsFrame}
 use Rattle.audit_state.specs.Views.{SameEntries, entry_line, has_exchanged}
-use Rattle.audit_core.specs.Known.{node_at, view_of, stamps_at}
-use Rattle.audit_core.specs.NextFrames.{NextNode, ViewAfter, NextStamps, NextFrame, marked}
-use Rattle.audit_core.specs.Stamped.{mark_of, finished_from}
+use Rattle.audit_core.specs.Known.{node_at, kept_view, stamps_at}
+use Rattle.audit_core.specs.NextFrames.{NextNode, ViewAfter, NextStamps, NextFrame, mark_changes}
+use Rattle.audit_core.specs.Stamped.{mark_of, exchanged_places_from}
 use Rattle.audit_state.specs.Stamps.{stamp_marks, judged_of, wholes_of}
 use Rattle.audit_core.specs.Steps.{ChangesNode, HasClock, HasView}
 
@@ -28,7 +28,7 @@ use Rattle.audit_core.specs.Steps.{ChangesNode, HasClock, HasView}
 pub record IsQuiet (l : Line) : Type 0 where
   pub clock : (n time : ℕ) → clock_step n time l ≡ time
   pub view : (n : ℕ) (v : Option ClusterKey) → view_step n v l ≡ v
-  pub finished : (n place : ℕ) → finished_from n place (l ∷ []) ≡ []
+  pub finished : (n place : ℕ) → exchanged_places_from n place (l ∷ []) ≡ []
   pub enters : (k : ClusterKey) → enters_key k l ≡ false
   pub entered : (k : ClusterKey) (n : ℕ) → is_enter k n l ≡ false
   pub exchanged : (k : ClusterKey) (n : ℕ) → is_exchanged k n l ≡ false
@@ -89,12 +89,12 @@ same_entries (Some x) = record { key = refl; members = refl; ranks = refl; enter
 
 pub stamps_stay : (n p place : ℕ) (l : Line) → mark_of n p place l ≡ None → (x y : Option Stamps) → y ≡ x → NextStamps n p place l x y
 stamps_stay n p place l e x y s = record {
-  marks = ap stamp_marks s ∙ (sym (append-nil (stamp_marks x)) ∙ ap (λ (o : Option (Option ℕ)). stamp_marks x ++ marked place o) (sym e));
+  marks = ap stamp_marks s ∙ (sym (append-nil (stamp_marks x)) ∙ ap (λ (o : Option (Option ℕ)). stamp_marks x ++ mark_changes place o) (sym e));
   judged = ap judged_of s;
   wholes = ap wholes_of s;
 }
 
-pub node_stays : (n place : ℕ) (l : Line) → ((time : ℕ) → clock_step n time l ≡ time) → ((v : Option ClusterKey) → view_step n v l ≡ v) → finished_from n place (l ∷ []) ≡ [] → (o q : Option Node) → Both SameStand o q → Both (NextNode n place l) o q
+pub node_stays : (n place : ℕ) (l : Line) → ((time : ℕ) → clock_step n time l ≡ time) → ((v : Option ClusterKey) → view_step n v l ≡ v) → exchanged_places_from n place (l ∷ []) ≡ [] → (o q : Option Node) → Both SameStand o q → Both (NextNode n place l) o q
 node_stays n place l c v f None None s = tt
 node_stays n place l c v f None (Some b) s = absurd s
 node_stays n place l c v f (Some a) None s = absurd s
@@ -116,7 +116,7 @@ keeps_next place l old new q s = record {
   policy = s.policy;
   factor = s.factor;
   nodes = λ n. node_stays n place l (q.clock n) (q.view n) (q.finished n place) (node_at old n) (node_at new n) (s.nodes n);
-  views = λ k. view_stays k place l (q.enters k) (q.entered k) (q.exchanged k) (view_of old k) (view_of new k) (s.views k);
+  views = λ k. view_stays k place l (q.enters k) (q.entered k) (q.exchanged k) (kept_view old k) (kept_view new k) (s.views k);
   stamps = λ n p. stamps_stay n p place l (q.marks n p place) (stamps_at old n p) (stamps_at new n p) (stamps_same old new n p s.stamps);
 }
 
@@ -143,7 +143,7 @@ changed_nodes R n old new c P here there m = go (n == m) refl
     go true e = subst (λ (x : ℕ). Both (P x) (node_at old x) (node_at new x)) (number_same n m e) (both_map R (P n) here (node_at old n) (node_at new n) c.here)
     go false e = both_same (P m) (λ a. there m a e) (node_at old m) (node_at new m) (c.others m e)
 
-pub node_kept : (n place : ℕ) (l : Line) → ((time : ℕ) → clock_step n time l ≡ time) → ((v : Option ClusterKey) → view_step n v l ≡ v) → finished_from n place (l ∷ []) ≡ [] → (a : Node) → NextNode n place l a a
+pub node_kept : (n place : ℕ) (l : Line) → ((time : ℕ) → clock_step n time l ≡ time) → ((v : Option ClusterKey) → view_step n v l ≡ v) → exchanged_places_from n place (l ∷ []) ≡ [] → (a : Node) → NextNode n place l a a
 node_kept n place l c v f a = node_stays n place l c v f (Some a) (Some a) (record { view = refl; clock = refl; exchanged = refl })
 
 pub no_more : (a b : Node) → b.exchanged.items ≡ a.exchanged.items → b.exchanged.items ≡ a.exchanged.items ++ []
@@ -156,8 +156,8 @@ pub when_same : {A : Type 0} (n : ℕ) (x y : A) → cond (n == n) x y ≡ x
 when_same n x y = ap (λ (z : Bool). cond z x y) (number_here n)
 
 -- views and stamps are as they were where only nodes changed
-rest_views : (old new : Judge) (k : ClusterKey) → record new { nodes = old.nodes } ≡ old → view_of new k ≡ view_of old k
-rest_views old new k e = ap (λ (s : Judge). view_of s k) e
+rest_views : (old new : Judge) (k : ClusterKey) → record new { nodes = old.nodes } ≡ old → kept_view new k ≡ kept_view old k
+rest_views old new k e = ap (λ (s : Judge). kept_view s k) e
 
 pub clock_next : (place n time : ℕ) (old new : Judge) → ChangesNode (HasClock time) n old new → NextFrame place (line.Clock n time) old new
 clock_next place n time old new c = record {
@@ -170,7 +170,7 @@ clock_next place n time old new c = record {
         exchanged = no_more a b (ap (λ (x : Node). x.exchanged.items) r.rest);
       })
       (λ m a e. node_kept m place (line.Clock n time) (λ t. unless_same (n == m) time t e) (λ v. refl) refl a);
-  views = λ k. view_stays k place (line.Clock n time) refl (λ m. refl) (λ m. refl) (view_of old k) (view_of new k) (both_same SameEntries (λ x. record { key = refl; members = refl; ranks = refl; entered = refl; exchanged = refl }) (view_of old k) (view_of new k) (rest_views old new k c.rest));
+  views = λ k. view_stays k place (line.Clock n time) refl (λ m. refl) (λ m. refl) (kept_view old k) (kept_view new k) (both_same SameEntries (λ x. record { key = refl; members = refl; ranks = refl; entered = refl; exchanged = refl }) (kept_view old k) (kept_view new k) (rest_views old new k c.rest));
   stamps = λ m p. stamps_stay m p place (line.Clock n time) refl (stamps_at old m p) (stamps_at new m p) (ap (λ (s : Judge). stamps_at s m p) c.rest);
 }
 
@@ -181,6 +181,6 @@ leave_next place n old new c = record {
   nodes = changed_nodes (HasView None) n old new c (λ m. NextNode m place (line.Stop n))
       (λ a b r. record { clock = r.clock; view = r.view ∙ sym (when_same n None a.view); exchanged = no_more a b r.exchanged })
       (λ m a e. node_kept m place (line.Stop n) (λ t. refl) (λ v. unless_same (n == m) None v e) refl a);
-  views = λ k. view_stays k place (line.Stop n) refl (λ m. refl) (λ m. refl) (view_of old k) (view_of new k) (both_same SameEntries (λ x. record { key = refl; members = refl; ranks = refl; entered = refl; exchanged = refl }) (view_of old k) (view_of new k) (rest_views old new k c.rest));
+  views = λ k. view_stays k place (line.Stop n) refl (λ m. refl) (λ m. refl) (kept_view old k) (kept_view new k) (both_same SameEntries (λ x. record { key = refl; members = refl; ranks = refl; entered = refl; exchanged = refl }) (kept_view old k) (kept_view new k) (rest_views old new k c.rest));
   stamps = λ m p. stamps_stay m p place (line.Stop n) refl (stamps_at old m p) (stamps_at new m p) (ap (λ (s : Judge). stamps_at s m p) c.rest);
 }

@@ -1,6 +1,6 @@
 -- What is known of records, of what nodes hold and of what was written in views, as a write is applied or a version merged.
 use Rattle.std.proofs.Common.{◌≡◌, ℕ, suc, ◌==◌, ◌+◌, Bool, true, false, ◌&&◌, ◌||◌, cond, List, [], ◌∷◌, Option, Some, None, option_map, ◌⊎◌, inl, inr, refl, sym, ap, subst, ◌∙◌, arith, is_some}
-use Rattle.std.specs.Prelude.{take, slice_get, nat_eq, map, IsSome, option_and_then, Result, Ok, Err, OnOk}
+use Rattle.std.specs.Prelude.{take, slice_get, nat_eq, map, option_and_then, Result, Ok, Err, OnOk, bytes_eq}
 use Rattle.std.specs.HashMap as hash
 use Rattle.std.proofs.lemmas.List.Folds.{list_any-append}
 use Rattle.std.proofs.lemmas.Bool.{or_left, or_right}
@@ -11,43 +11,35 @@ use Rattle.cluster_types.specs.declared.cluster_key.ClusterKey.{ClusterKey}
 use Rattle.cluster_types.specs.Partitions.{partition_of}
 use Rattle.journal_lines.specs.declared.line.Line.{Line}
 use Rattle.journal_lines.specs.declared.line.Line.TheVariants as line
-use Rattle.journal_readings.specs.Lines.{same_key, same_digest, has_node}
+use Rattle.journal_readings.specs.Lines.{same_key, has_node}
 use Rattle.journal_readings.specs.Settings.{policy_of, nodes}
 use Rattle.journal_readings.specs.Contents.{content, applied, joined_if, join_all}
 use Rattle.journal_readings.specs.Entries.{applied_in}
-use Rattle.journal_readings.proofs.AlongLaws.{some_same, no_some}
+use Rattle.journal_readings.proofs.AlongLaws.{some_same}
 use Rattle.journal_readings.proofs.Fronts.{same_key_is}
 use Rattle.audit_laws.proofs.Headers.{policy_stays, nodes_stay}
 use Rattle.audit_laws.proofs.ShapeSteps.{same_key_itself}
 use Rattle.audit_laws.proofs.Places.{whole}
 use Rattle.audit_laws.proofs.Tests.{number_same, number_here}
 use Rattle.audit_core.specs.declared.judge.Judge.{Judge}
-use Rattle.audit_state.specs.declared.records.Record.{Record}
 use Rattle.audit_state.specs.declared.records.Records.{Records}
 use Rattle.audit_state.specs.declared.versions.Versions.{Versions}
 use Rattle.audit_state.specs.declared.views.View.{View}
 use Rattle.audit_core.specs.Bringing.{KeepsLines, SeesHeld, IsBrought, BringsHere}
 use Rattle.audit_state.specs.Copies.{held_since}
 use Rattle.audit_core.specs.Frames.{Both}
-use Rattle.audit_core.specs.Holders.{content_now, AreCounted}
-use Rattle.audit_core.specs.Known.{view_of}
+use Rattle.audit_core.specs.Holders.{content_now, AreHoldersCounted}
+use Rattle.audit_core.specs.Known.{kept_view}
 use Rattle.audit_state.specs.Places.{placed, placed_version, brought_version}
-use Rattle.audit_state.specs.Records.{record_number, record_digest, numbered_record, newest_of, KeepsNumbers, raised, raised_holders}
+use Rattle.audit_state.specs.Records.{record_number, record_digest, newest_of, KeepsNumbers, raised, raised_holders}
 use Rattle.audit_core.specs.Steps.{ChangesView}
-use Rattle.audit_core.specs.Stored.{SeesRecords, SeesContents, SeesCopies, SeesWritten, SeesStores, Knows, IsOf, read_of}
+use Rattle.audit_core.specs.Stored.{SeesRecords, SeesContents, SeesCopies, SeesWritten, SeesStores, Knows, IsRecordOf, read_of}
 use Rattle.audit_state.specs.Written.{WritesRecord, written_of}
 use Rattle.audit_core.proofs.AppliedLaws.{unbrought_next, joined_reads, raised_some, applied_next, applied_in_next, merged_next, merged_in_next}
 use Rattle.audit_core.proofs.ContentLaws.{take_next}
 use Rattle.audit_core.proofs.CopySteps.{since_only}
 use Rattle.audit_core.proofs.HolderLaws.{under_all}
 use Rattle.audit_core.proofs.LossChecks.{held_now, newest_now}
-
-pub known_there : (rs : Records) (r : ℕ) (d : List ℕ) → record_digest rs r ≡ Some d → IsSome (numbered_record rs r)
-known_there rs r d e = go (numbered_record rs r) e
-  where
-    go : (o : Option Record) → option_map (λ x. x.digest) o ≡ Some d → IsSome o
-    go None q = absurd (no_some q)
-    go (Some x) q = refl
 
 -- nobody holds a version above the newest that was applied
 pub held_under : (s : Judge) (i r : ℕ) (d : List ℕ) → Knows s i → record_digest s.records r ≡ Some d → (m : ℕ) → has_node (nodes (take i s.lines.now)) m ≡ true
@@ -86,7 +78,7 @@ since_here false r xs h = list_any-append (λ m. m == r) xs (r ∷ []) ∙ or_ri
 module _ (s : Judge) (rs : Records) (mid new : Judge) (i n r p t : ℕ) (k : ClusterKey) (d : List ℕ) (v : Version) (knows : Knows s i) (here : slice_get s.lines.now i ≡ Some (line.Apply n k t d v))
     (named : record_digest s.records r ≡ Some d) (kept : KeepsNumbers s.records rs)
     (newest : (q : ℕ) → newest_of rs q ≡ cond (nat_eq r q) (raised s.by s.lines.now i (newest_of s.records r)) (newest_of s.records q))
-    (keeps : KeepsLines (record s { records = rs }) mid) (held : SeesHeld mid (suc i)) (counts : AreCounted mid (nodes (take i s.lines.now)))
+    (keeps : KeepsLines (record s { records = rs }) mid) (held : SeesHeld mid (suc i)) (counts : AreHoldersCounted mid (nodes (take i s.lines.now)))
     (writes : ChangesView (WritesRecord mid.by mid.lines.now i r p) k mid new) (part : p ≡ partition_of d) where
   by_next : s.by ≡ policy_of (take (suc i) s.lines.now)
   by_next = knows.policy ∙ sym (ap policy_of (take_next s.lines.now i (line.Apply n k t d v) here) ∙ policy_stays (take i s.lines.now) (line.Apply n k t d v) refl)
@@ -103,8 +95,8 @@ module _ (s : Judge) (rs : Records) (mid new : Judge) (i n r p t : ℕ) (k : Clu
   same_lines : new.lines.now ≡ s.lines.now
   same_lines = ap (λ (x : Judge). x.lines.now) writes.rest ∙ ap (λ (x : Judge). x.lines.now) keeps.rest
 
-  mid_views : (l : ClusterKey) → view_of mid l ≡ view_of s l
-  mid_views l = ap (λ (x : Judge). view_of x l) keeps.rest
+  mid_views : (l : ClusterKey) → kept_view mid l ≡ kept_view s l
+  mid_views l = ap (λ (x : Judge). kept_view x l) keeps.rest
 
   digest_eq : (q : ℕ) → record_digest new.records q ≡ record_digest s.records q
   digest_eq q = ap (λ (x : Records). record_digest x q) same_records ∙ (keeps.numbers.digests q ∙ kept.digests q)
@@ -132,7 +124,7 @@ module _ (s : Judge) (rs : Records) (mid new : Judge) (i n r p t : ℕ) (k : Clu
         newest_at q
         ∙ (ap (read_of (λ e. applied s.by e (take (suc i) s.lines.now))) (sym (digest_eq q))
         ∙ ap (λ (by : Policy). read_of (λ e. applied by e (take (suc i) s.lines.now)) (record_digest new.records q)) by_next);
-    holders = subst (AreCounted new) nodes_next (subst (λ (x : Judge). AreCounted x (nodes (take i s.lines.now))) (sym writes.rest) counts);
+    holders = subst (AreHoldersCounted new) nodes_next (subst (λ (x : Judge). AreHoldersCounted x (nodes (take i s.lines.now))) (sym writes.rest) counts);
   }
 
   held_next : SeesHeld (record new { views = mid.views }) (suc i)
@@ -150,40 +142,40 @@ module _ (s : Judge) (rs : Records) (mid new : Judge) (i n r p t : ℕ) (k : Clu
       ∙ (ap (λ (by : Policy). cond (nat_eq r q) (raised by mid.lines.now i (hash.get nat_eq y.applied r)) (hash.get nat_eq y.applied q)) (ap (λ (z : Judge). z.by) keeps.rest)
       ∙ ap (λ (ls : List Line). cond (nat_eq r q) (raised s.by ls i (hash.get nat_eq y.applied r)) (hash.get nat_eq y.applied q)) (ap (λ (z : Judge). z.lines.now) keeps.rest))
 
-  applied_in_here : (e : List ℕ) → applied_in s.by k e (take (suc i) s.lines.now) ≡ joined_if (same_digest d e) s.by (applied_in s.by k e (take i s.lines.now)) v
-  applied_in_here e = applied_in_next s.by s.lines.now i n t k d v here k e ∙ ap (λ (b : Bool). joined_if (b && same_digest d e) s.by (applied_in s.by k e (take i s.lines.now)) v) (same_key_itself k)
+  applied_in_here : (e : List ℕ) → applied_in s.by k e (take (suc i) s.lines.now) ≡ joined_if (bytes_eq d e) s.by (applied_in s.by k e (take i s.lines.now)) v
+  applied_in_here e = applied_in_next s.by s.lines.now i n t k d v here k e ∙ ap (λ (b : Bool). joined_if (b && bytes_eq d e) s.by (applied_in s.by k e (take i s.lines.now)) v) (same_key_itself k)
 
-  told_before : (l : ClusterKey) (y : View) → view_of s l ≡ Some y → (q : ℕ) → placed s.lines.now (hash.get nat_eq y.applied q) ≡ read_of (λ e. applied_in s.by l e (take i s.lines.now)) (record_digest s.records q)
+  told_before : (l : ClusterKey) (y : View) → kept_view s l ≡ Some y → (q : ℕ) → placed s.lines.now (hash.get nat_eq y.applied q) ≡ read_of (λ e. applied_in s.by l e (take i s.lines.now)) (record_digest s.records q)
   told_before l y f q = knows.stores.written.applied l y q f ∙ ap (λ (by : Policy). read_of (λ e. applied_in by l e (take i s.lines.now)) (record_digest s.records q)) (sym knows.policy)
 
   told_after : (l : ClusterKey) (q : ℕ) (o : Option Version) → o ≡ read_of (λ e. applied_in s.by l e (take (suc i) s.lines.now)) (record_digest s.records q) → o ≡ read_of (λ e. applied_in (policy_of (take (suc i) s.lines.now)) l e (take (suc i) s.lines.now)) (record_digest new.records q)
   told_after l q o h = h ∙ (ap (read_of (λ e. applied_in s.by l e (take (suc i) s.lines.now))) (sym (digest_eq q))
       ∙ ap (λ (by : Policy). read_of (λ e. applied_in by l e (take (suc i) s.lines.now)) (record_digest new.records q)) by_next)
 
-  applied_at : (l : ClusterKey) (x : View) (q : ℕ) → view_of new l ≡ Some x → placed s.lines.now (hash.get nat_eq x.applied q) ≡ read_of (λ e. applied_in s.by l e (take (suc i) s.lines.now)) (record_digest s.records q)
+  applied_at : (l : ClusterKey) (x : View) (q : ℕ) → kept_view new l ≡ Some x → placed s.lines.now (hash.get nat_eq x.applied q) ≡ read_of (λ e. applied_in s.by l e (take (suc i) s.lines.now)) (record_digest s.records q)
   applied_at l x q there = go (same_key k l) refl
     where
       other : same_key k l ≡ false → (o : Option (List ℕ)) → read_of (λ e. applied_in s.by l e (take i s.lines.now)) o ≡ read_of (λ e. applied_in s.by l e (take (suc i) s.lines.now)) o
       other f None = refl
-      other f (Some e) = sym (applied_in_next s.by s.lines.now i n t k d v here l e ∙ ap (λ (b : Bool). joined_if (b && same_digest d e) s.by (applied_in s.by l e (take i s.lines.now)) v) f)
+      other f (Some e) = sym (applied_in_next s.by s.lines.now i n t k d v here l e ∙ ap (λ (b : Bool). joined_if (b && bytes_eq d e) s.by (applied_in s.by l e (take i s.lines.now)) v) f)
 
-      same : view_of new k ≡ Some x → placed s.lines.now (hash.get nat_eq x.applied q) ≡ read_of (λ e. applied_in s.by k e (take (suc i) s.lines.now)) (record_digest s.records q)
+      same : kept_view new k ≡ Some x → placed s.lines.now (hash.get nat_eq x.applied q) ≡ read_of (λ e. applied_in s.by k e (take (suc i) s.lines.now)) (record_digest s.records q)
       same f =
-          let w : (y : View) × (view_of mid k ≡ Some y) × WritesRecord mid.by mid.lines.now i r p y x = both_some (WritesRecord mid.by mid.lines.now i r p) (view_of mid k) x (subst (Both (WritesRecord mid.by mid.lines.now i r p) (view_of mid k)) f writes.here) in
+          let w : (y : View) × (kept_view mid k ≡ Some y) × WritesRecord mid.by mid.lines.now i r p y x = both_some (WritesRecord mid.by mid.lines.now i r p) (kept_view mid k) x (subst (Both (WritesRecord mid.by mid.lines.now i r p) (kept_view mid k)) f writes.here) in
           joined_reads s.records s.lines.now s.by i r d v (λ e. applied_in s.by k e (take i s.lines.now)) (λ e. applied_in s.by k e (take (suc i) s.lines.now)) (hash.get nat_eq w.0.applied) (hash.get nat_eq x.applied) knows.stores.records.numbered named stands
           applied_in_here (told_before k w.0 (sym (mid_views k) ∙ w.1)) (raises w.0 x w.2) q
 
       go : (b : Bool) → same_key k l ≡ b → placed s.lines.now (hash.get nat_eq x.applied q) ≡ read_of (λ e. applied_in s.by l e (take (suc i) s.lines.now)) (record_digest s.records q)
       go true f = subst (λ (m : ClusterKey). placed s.lines.now (hash.get nat_eq x.applied q) ≡ read_of (λ e. applied_in s.by m e (take (suc i) s.lines.now)) (record_digest s.records q)) (same_key_is k l f)
-          (same (ap (view_of new) (same_key_is k l f) ∙ there))
+          (same (ap (kept_view new) (same_key_is k l f) ∙ there))
       go false f = told_before l x (sym (writes.others l f ∙ mid_views l) ∙ there) q ∙ other f (record_digest s.records q)
 
-  written_at : (l : ClusterKey) (x : View) (q : ℕ) → view_of new l ≡ Some x → has_node x.written.items q ≡ is_some (hash.get nat_eq x.applied q)
+  written_at : (l : ClusterKey) (x : View) (q : ℕ) → kept_view new l ≡ Some x → has_node x.written.items q ≡ is_some (hash.get nat_eq x.applied q)
   written_at l x q there = go (same_key k l) refl
     where
-      same : view_of new k ≡ Some x → has_node x.written.items q ≡ is_some (hash.get nat_eq x.applied q)
+      same : kept_view new k ≡ Some x → has_node x.written.items q ≡ is_some (hash.get nat_eq x.applied q)
       same f =
-          let w : (y : View) × (view_of mid k ≡ Some y) × WritesRecord mid.by mid.lines.now i r p y x = both_some (WritesRecord mid.by mid.lines.now i r p) (view_of mid k) x (subst (Both (WritesRecord mid.by mid.lines.now i r p) (view_of mid k)) f writes.here) in
+          let w : (y : View) × (kept_view mid k ≡ Some y) × WritesRecord mid.by mid.lines.now i r p y x = both_some (WritesRecord mid.by mid.lines.now i r p) (kept_view mid k) x (subst (Both (WritesRecord mid.by mid.lines.now i r p) (kept_view mid k)) f writes.here) in
           at w.0 (λ z. knows.stores.written.written k w.0 z (sym (mid_views k) ∙ w.1)) w.2 (nat_eq r q) refl
         where
           at : (y : View) → ((z : ℕ) → has_node y.written.items z ≡ is_some (hash.get nat_eq y.applied z)) → WritesRecord mid.by mid.lines.now i r p y x → (b : Bool) → nat_eq r q ≡ b → has_node x.written.items q ≡ is_some (hash.get nat_eq x.applied q)
@@ -198,22 +190,22 @@ module _ (s : Judge) (rs : Records) (mid new : Judge) (i n r p t : ℕ) (k : Clu
               ∙ (told q ∙ sym (ap is_some (raises y x w q ∙ ap (λ (b : Bool). cond b (raised s.by s.lines.now i (hash.get nat_eq y.applied r)) (hash.get nat_eq y.applied q)) e))))
 
       go : (b : Bool) → same_key k l ≡ b → has_node x.written.items q ≡ is_some (hash.get nat_eq x.applied q)
-      go true f = same (ap (view_of new) (same_key_is k l f) ∙ there)
+      go true f = same (ap (kept_view new) (same_key_is k l f) ∙ there)
       go false f = knows.stores.written.written l x q (sym (writes.others l f ∙ mid_views l) ∙ there)
 
   -- the records of a partition
-  part_of : (q u : ℕ) → IsOf s.records q u → IsOf new.records q u
+  part_of : (q u : ℕ) → IsRecordOf s.records q u → IsRecordOf new.records q u
   part_of q u h = ap (option_map partition_of) (digest_eq q) ∙ h
 
-  part_here : IsOf s.records r p
+  part_here : IsRecordOf s.records r p
   part_here = ap (option_map partition_of) named ∙ ap Some (sym part)
 
-  listed_at : (l : ClusterKey) (x : View) (q : ℕ) → view_of new l ≡ Some x → is_some (hash.get nat_eq x.applied q) ≡ true → (u : ℕ) × IsOf new.records q u × (has_node (written_of x u) q ≡ true)
+  listed_at : (l : ClusterKey) (x : View) (q : ℕ) → kept_view new l ≡ Some x → is_some (hash.get nat_eq x.applied q) ≡ true → (u : ℕ) × IsRecordOf new.records q u × (has_node (written_of x u) q ≡ true)
   listed_at l x q there some = go (same_key k l) refl
     where
-      at : (y : View) → ((z : ℕ) → is_some (hash.get nat_eq y.applied z) ≡ true → (u : ℕ) × IsOf s.records z u × (has_node (written_of y u) z ≡ true)) → WritesRecord mid.by mid.lines.now i r p y x
-          → (b : Bool) → nat_eq r q ≡ b → (u : ℕ) × IsOf new.records q u × (has_node (written_of x u) q ≡ true)
-      at y told w true e = subst (λ (z : ℕ). (u : ℕ) × IsOf new.records z u × (has_node (written_of x u) z ≡ true)) (number_same r q e) (
+      at : (y : View) → ((z : ℕ) → is_some (hash.get nat_eq y.applied z) ≡ true → (u : ℕ) × IsRecordOf s.records z u × (has_node (written_of y u) z ≡ true)) → WritesRecord mid.by mid.lines.now i r p y x
+          → (b : Bool) → nat_eq r q ≡ b → (u : ℕ) × IsRecordOf new.records q u × (has_node (written_of x u) q ≡ true)
+      at y told w true e = subst (λ (z : ℕ). (u : ℕ) × IsRecordOf new.records z u × (has_node (written_of x u) z ≡ true)) (number_same r q e) (
         p,
         part_of r p part_here,
         ap (λ (xs : List ℕ). has_node xs r) (w.here p ∙ ap (λ (b : Bool). cond b (held_since (is_some (hash.get nat_eq y.applied r)) r (written_of y p)) (written_of y p)) (number_here p))
@@ -222,47 +214,47 @@ module _ (s : Judge) (rs : Records) (mid new : Judge) (i n r p t : ℕ) (k : Clu
         where
           before : is_some (hash.get nat_eq y.applied r) ≡ true → has_node (written_of y p) r ≡ true
           before f =
-              let h : (u : ℕ) × IsOf s.records r u × (has_node (written_of y u) r ≡ true) = told r f in
+              let h : (u : ℕ) × IsRecordOf s.records r u × (has_node (written_of y u) r ≡ true) = told r f in
               subst (λ (u : ℕ). has_node (written_of y u) r ≡ true) (some_same (sym h.1 ∙ part_here)) h.2
       at y told w false e =
           let was : is_some (hash.get nat_eq y.applied q) ≡ true = sym (ap is_some (raises y x w q ∙ ap (λ (b : Bool). cond b (raised s.by s.lines.now i (hash.get nat_eq y.applied r)) (hash.get nat_eq y.applied q)) e)) ∙ some in
-          let h : (u : ℕ) × IsOf s.records q u × (has_node (written_of y u) q ≡ true) = told q was in
+          let h : (u : ℕ) × IsRecordOf s.records q u × (has_node (written_of y u) q ≡ true) = told q was in
           (h.0, part_of q h.0 h.1, ap (λ (xs : List ℕ). has_node xs q) (w.here h.0) ∙ more h.0 h.2 (nat_eq p h.0) refl)
         where
           more : (u : ℕ) → has_node (written_of y u) q ≡ true → (b : Bool) → nat_eq p u ≡ b → has_node (cond b (held_since (is_some (hash.get nat_eq y.applied r)) r (written_of y p)) (written_of y u)) q ≡ true
           more u h true f = apart_or r q e (written_of y p) (is_some (hash.get nat_eq y.applied r)) ∙ subst (λ (z : ℕ). has_node (written_of y z) q ≡ true) (sym (number_same p u f)) h
           more u h false f = h
 
-      same : view_of new k ≡ Some x → (u : ℕ) × IsOf new.records q u × (has_node (written_of x u) q ≡ true)
+      same : kept_view new k ≡ Some x → (u : ℕ) × IsRecordOf new.records q u × (has_node (written_of x u) q ≡ true)
       same f =
-          let w : (y : View) × (view_of mid k ≡ Some y) × WritesRecord mid.by mid.lines.now i r p y x = both_some (WritesRecord mid.by mid.lines.now i r p) (view_of mid k) x (subst (Both (WritesRecord mid.by mid.lines.now i r p) (view_of mid k)) f writes.here) in
+          let w : (y : View) × (kept_view mid k ≡ Some y) × WritesRecord mid.by mid.lines.now i r p y x = both_some (WritesRecord mid.by mid.lines.now i r p) (kept_view mid k) x (subst (Both (WritesRecord mid.by mid.lines.now i r p) (kept_view mid k)) f writes.here) in
           at w.0 (λ z. knows.stores.written.listed k w.0 z (sym (mid_views k) ∙ w.1)) w.2 (nat_eq r q) refl
 
-      go : (b : Bool) → same_key k l ≡ b → (u : ℕ) × IsOf new.records q u × (has_node (written_of x u) q ≡ true)
-      go true f = same (ap (view_of new) (same_key_is k l f) ∙ there)
+      go : (b : Bool) → same_key k l ≡ b → (u : ℕ) × IsRecordOf new.records q u × (has_node (written_of x u) q ≡ true)
+      go true f = same (ap (kept_view new) (same_key_is k l f) ∙ there)
       go false f =
-          let h : (u : ℕ) × IsOf s.records q u × (has_node (written_of x u) q ≡ true) = knows.stores.written.listed l x q (sym (writes.others l f ∙ mid_views l) ∙ there) some in
+          let h : (u : ℕ) × IsRecordOf s.records q u × (has_node (written_of x u) q ≡ true) = knows.stores.written.listed l x q (sym (writes.others l f ∙ mid_views l) ∙ there) some in
           (h.0, part_of q h.0 h.1, h.2)
 
-  listed_only_at : (l : ClusterKey) (x : View) (u q : ℕ) → view_of new l ≡ Some x → has_node (written_of x u) q ≡ true → IsOf new.records q u
+  listed_only_at : (l : ClusterKey) (x : View) (u q : ℕ) → kept_view new l ≡ Some x → has_node (written_of x u) q ≡ true → IsRecordOf new.records q u
   listed_only_at l x u q there has = part_of q u (go (same_key k l) refl)
     where
-      at : (y : View) → ((v z : ℕ) → has_node (written_of y v) z ≡ true → IsOf s.records z v) → (b : Bool) → nat_eq p u ≡ b
-          → has_node (cond b (held_since (is_some (hash.get nat_eq y.applied r)) r (written_of y p)) (written_of y u)) q ≡ true → IsOf s.records q u
-      at y told true f h = subst (IsOf s.records q) (number_same p u f) (pick (since_only (is_some (hash.get nat_eq y.applied r)) r (written_of y p) q h))
+      at : (y : View) → ((v z : ℕ) → has_node (written_of y v) z ≡ true → IsRecordOf s.records z v) → (b : Bool) → nat_eq p u ≡ b
+          → has_node (cond b (held_since (is_some (hash.get nat_eq y.applied r)) r (written_of y p)) (written_of y u)) q ≡ true → IsRecordOf s.records q u
+      at y told true f h = subst (IsRecordOf s.records q) (number_same p u f) (pick (since_only (is_some (hash.get nat_eq y.applied r)) r (written_of y p) q h))
         where
-          pick : (has_node (written_of y p) q ≡ true) ⊎ (r ≡ q) → IsOf s.records q p
+          pick : (has_node (written_of y p) q ≡ true) ⊎ (r ≡ q) → IsRecordOf s.records q p
           pick (inl g) = told p q g
-          pick (inr g) = subst (λ (z : ℕ). IsOf s.records z p) g part_here
+          pick (inr g) = subst (λ (z : ℕ). IsRecordOf s.records z p) g part_here
       at y told false f h = told u q h
 
-      same : view_of new k ≡ Some x → IsOf s.records q u
+      same : kept_view new k ≡ Some x → IsRecordOf s.records q u
       same f =
-          let w : (y : View) × (view_of mid k ≡ Some y) × WritesRecord mid.by mid.lines.now i r p y x = both_some (WritesRecord mid.by mid.lines.now i r p) (view_of mid k) x (subst (Both (WritesRecord mid.by mid.lines.now i r p) (view_of mid k)) f writes.here) in
+          let w : (y : View) × (kept_view mid k ≡ Some y) × WritesRecord mid.by mid.lines.now i r p y x = both_some (WritesRecord mid.by mid.lines.now i r p) (kept_view mid k) x (subst (Both (WritesRecord mid.by mid.lines.now i r p) (kept_view mid k)) f writes.here) in
           at w.0 (λ v z. knows.stores.written.listed_only k w.0 v z (sym (mid_views k) ∙ w.1)) (nat_eq p u) refl (sym (ap (λ (xs : List ℕ). has_node xs q) (w.2.here u)) ∙ has)
 
-      go : (b : Bool) → same_key k l ≡ b → IsOf s.records q u
-      go true f = same (ap (view_of new) (same_key_is k l f) ∙ there)
+      go : (b : Bool) → same_key k l ≡ b → IsRecordOf s.records q u
+      go true f = same (ap (kept_view new) (same_key_is k l f) ∙ there)
       go false f = knows.stores.written.listed_only l x u q (sym (writes.others l f ∙ mid_views l) ∙ there) has
 
   pub write_seen : SeesStores new (suc i) s.lines.now (take (suc i) s.lines.now)
@@ -333,7 +325,7 @@ next_stores s i all = let e : suc i ≡ i + 1 = omega arith in subst (λ (m : �
 -- ---- a version that is merged
 
 module _ (s mid : Judge) (i n r : ℕ) (k : ClusterKey) (d : List ℕ) (v : Version) (knows : Knows s i) (here : slice_get s.lines.now i ≡ Some (line.Merge n k d v)) (named : record_digest s.records r ≡ Some d)
-    (keeps : KeepsLines s mid) (held : SeesHeld mid (suc i)) (counts : AreCounted mid (nodes (take i s.lines.now))) where
+    (keeps : KeepsLines s mid) (held : SeesHeld mid (suc i)) (counts : AreHoldersCounted mid (nodes (take i s.lines.now))) where
   policy_next : policy_of (take i s.lines.now) ≡ policy_of (take (suc i) s.lines.now)
   policy_next = sym (ap policy_of (take_next s.lines.now i (line.Merge n k d v) here) ∙ policy_stays (take i s.lines.now) (line.Merge n k d v) refl)
 
@@ -363,21 +355,21 @@ module _ (s mid : Judge) (i n r : ℕ) (k : ClusterKey) (d : List ℕ) (v : Vers
         ∙ (ap (read_of (λ e. applied (policy_of (take (suc i) s.lines.now)) e (take i s.lines.now))) (sym (keeps.numbers.digests q))
         ∙ same_read (λ e. applied (policy_of (take (suc i) s.lines.now)) e (take i s.lines.now)) (λ e. applied (policy_of (take (suc i) s.lines.now)) e (take (suc i) s.lines.now))
         (λ e. sym (merged_next (policy_of (take (suc i) s.lines.now)) s.lines.now i n k d v here e)) (record_digest mid.records q))));
-    holders = subst (AreCounted mid) merged_nodes counts;
+    holders = subst (AreHoldersCounted mid) merged_nodes counts;
   }
 
   written_merged : SeesWritten mid s.lines.now (take (suc i) s.lines.now)
   written_merged = record {
-    applied = λ l x q there. knows.stores.written.applied l x q (sym (ap (λ (y : Judge). view_of y l) keeps.rest) ∙ there)
+    applied = λ l x q there. knows.stores.written.applied l x q (sym (ap (λ (y : Judge). kept_view y l) keeps.rest) ∙ there)
         ∙ (ap (λ (by : Policy). read_of (λ e. applied_in by l e (take i s.lines.now)) (record_digest s.records q)) policy_next
         ∙ (ap (read_of (λ e. applied_in (policy_of (take (suc i) s.lines.now)) l e (take i s.lines.now))) (sym (keeps.numbers.digests q))
         ∙ same_read (λ e. applied_in (policy_of (take (suc i) s.lines.now)) l e (take i s.lines.now)) (λ e. applied_in (policy_of (take (suc i) s.lines.now)) l e (take (suc i) s.lines.now))
         (λ e. sym (merged_in_next (policy_of (take (suc i) s.lines.now)) s.lines.now i n k d v here l e)) (record_digest mid.records q)));
-    written = λ l x q there. knows.stores.written.written l x q (sym (ap (λ (y : Judge). view_of y l) keeps.rest) ∙ there);
+    written = λ l x q there. knows.stores.written.written l x q (sym (ap (λ (y : Judge). kept_view y l) keeps.rest) ∙ there);
     listed = λ l x q there some.
-        let h : (u : ℕ) × IsOf s.records q u × (has_node (written_of x u) q ≡ true) = knows.stores.written.listed l x q (sym (ap (λ (y : Judge). view_of y l) keeps.rest) ∙ there) some in
+        let h : (u : ℕ) × IsRecordOf s.records q u × (has_node (written_of x u) q ≡ true) = knows.stores.written.listed l x q (sym (ap (λ (y : Judge). kept_view y l) keeps.rest) ∙ there) some in
         (h.0, ap (option_map partition_of) (keeps.numbers.digests q) ∙ h.1, h.2);
-    listed_only = λ l x u q there h. ap (option_map partition_of) (keeps.numbers.digests q) ∙ knows.stores.written.listed_only l x u q (sym (ap (λ (y : Judge). view_of y l) keeps.rest) ∙ there) h;
+    listed_only = λ l x u q there h. ap (option_map partition_of) (keeps.numbers.digests q) ∙ knows.stores.written.listed_only l x u q (sym (ap (λ (y : Judge). kept_view y l) keeps.rest) ∙ there) h;
   }
 
   pub merge_seen : SeesStores mid (suc i) s.lines.now (take (suc i) s.lines.now)

@@ -38,7 +38,7 @@ pub record Comes (s : Judge) (i : ℕ) (l : Line) : Type 0 where
   pub event : is_header l ≡ false
 
 -- the line fits all laws, and what is known is what it and those before it say
-pub record Takes (old new : Judge) (i : ℕ) (l : Line) : Type 0 where
+pub record AcceptsLine (old new : Judge) (i : ℕ) (l : Line) : Type 0 where
   pub lines : new.lines.now ≡ old.lines.now
   pub fits : Fits (so_far old i) l
   pub sees : SeesState new (i + 1) old.lines.now

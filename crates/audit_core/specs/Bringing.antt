@@ -9,7 +9,7 @@ use Rattle.journal_readings.specs.Lines.{same_key}
 use Rattle.audit_core.specs.declared.judge.Judge.{Judge}
 use Rattle.audit_core.specs.Frames.{Both}
 use Rattle.audit_core.specs.Holders.{content_now}
-use Rattle.audit_core.specs.Known.{view_of}
+use Rattle.audit_core.specs.Known.{kept_view}
 use Rattle.audit_state.specs.Places.{placed, placed_version, is_at_most}
 use Rattle.audit_state.specs.Records.{newest_of, record_digest, KeepsNumbers, AreNumberedRecords}
 use Rattle.audit_core.specs.Stored.{SeesContents, SeesCopies}
@@ -30,7 +30,7 @@ pub record StoresVersion (old new : Judge) (line n r p : ℕ) : Type 0 where
       (not (length (history_of old.stores n r) == 0))
 
 -- the version at the line comes to the node, which holds it only where it is above what it held
-pub record Brings (old new : Judge) (line n r p : ℕ) : Type 0 where
+pub record BringsVersion (old new : Judge) (line n r p : ℕ) : Type 0 where
   pub passed : is_at_most old.by (placed_version old.lines.now line)
       (placed old.lines.now (content_now old n r)) ≡ true → new ≡ old
   pub stored : is_at_most old.by (placed_version old.lines.now line)
@@ -47,8 +47,8 @@ pub record RemovesRecord (old new : Judge) (line n r p : ℕ) : Type 0 where
 pub record AppliesWrite (old new : Judge) (line r p : ℕ) (k : ClusterKey) : Type 0 where
   pub rest : record new { stores = old.stores; records = old.records; views = old.views } ≡ old
   pub numbers : KeepsNumbers old.records new.records
-  pub here : Both (WritesRecord old.by old.lines.now line r p) (view_of old k) (view_of new k)
-  pub others : (l : ClusterKey) → same_key k l ≡ false → view_of new l ≡ view_of old l
+  pub here : Both (WritesRecord old.by old.lines.now line r p) (kept_view old k) (kept_view new k)
+  pub others : (l : ClusterKey) → same_key k l ≡ false → kept_view new l ≡ kept_view old l
 
 -- ---- by the lines
 

@@ -2,7 +2,7 @@
 use Rattle.std.specs.Prelude.{◌≡◌, ℕ, ◌+◌, ◌*◌, ◌<◌, ◌≤◌, nat_eq, true, Option, Some}
 use Rattle.std.specs.HashMap as hash
 use Rattle.audit_core.specs.declared.judge.Judge.{Judge}
-use Rattle.audit_core.specs.Stored.{IsOf}
+use Rattle.audit_core.specs.Stored.{IsRecordOf}
 use Rattle.audit_state.specs.declared.copies.Cover.{Cover}
 use Rattle.audit_state.specs.Histories.{value_after}
 use Rattle.audit_state.specs.Places.{placed, is_at_most}
@@ -18,7 +18,7 @@ cover_of s n m p = hash.get nat_eq s.covers (cover_number n m p)
 -- after so many lines the node held at least what the member held after so many of each record of
 -- the partition
 abbrev pub Covers : Judge → ℕ → ℕ → ℕ → ℕ → ℕ → Type 0
-Covers s n held m of p = (r : ℕ) → IsOf s.records r p
+Covers s n held m of p = (r : ℕ) → IsRecordOf s.records r p
     → is_at_most s.by (placed s.lines.now (value_after (history_of s.stores m r) of))
     (placed s.lines.now (value_after (history_of s.stores n r) held)) ≡ true
 

@@ -12,7 +12,7 @@ use Rattle.audit_core.specs.declared.verdict.Stop.{Stop}
 use Rattle.audit_state.specs.declared.nodes.Node.{Node}
 use Rattle.audit_state.specs.declared.views.View.{View}
 use Rattle.audit_state.specs.Records.{record_digest}
-use Rattle.audit_core.specs.Known.{node_at, view_at, view_of}
+use Rattle.audit_core.specs.Known.{node_at, view_at, kept_view}
 use Rattle.audit_core.specs.Settling.{is_master_in}
 use Rattle.audit_core.specs.Trying.{SeesLines, IsTrying, StopsTrying, is_digest}
 use Rattle.audit_core.specs.Wholes.{empty_in}
@@ -40,18 +40,18 @@ members_in (Some x) = x.members
 -- the records that were applied in the view, or changed at a member that is in it
 abbrev pub moved_in : Judge → ClusterKey → List ℕ
 moved_in s k =
-    written_list (view_of s k) ++ flat_map (λ m. stay_in s k m.id) (members_in (view_of s k))
+    written_list (kept_view s k) ++ flat_map (λ m. stay_in s k m.id) (members_in (kept_view s k))
 
 -- ---- which of them are tried
 
 -- whether the node is the list master, and no member had a record of the partition as it entered
 abbrev pub is_empty_for : Judge → ClusterKey → ℕ → ℕ → Bool
-is_empty_for s k m p = is_master_in (view_of s k) m p && empty_in s p (view_of s k)
+is_empty_for s k m p = is_master_in (kept_view s k) m p && empty_in s p (kept_view s k)
 
 -- those that were tried, and of the records of these numbers those whose partition was empty
-abbrev pub with_empty : (ClusterKey → List ℕ → Bool) → Judge → ℕ → ClusterKey → List ℕ → ClusterKey
-    → List ℕ → Bool
-with_empty tried s m k ns l e =
+abbrev pub tried_with_empty : (ClusterKey → List ℕ → Bool) → Judge → ℕ → ClusterKey → List ℕ
+    → ClusterKey → List ℕ → Bool
+tried_with_empty tried s m k ns l e =
     tried l e
     || (same_key k l
     && (is_empty_for s k m (partition_of e)
@@ -60,7 +60,7 @@ with_empty tried s m k ns l e =
 -- these records are tried in the view where their partition was empty
 unfoldable pub TriesEmpty : ℕ → ClusterKey → List ℕ → Judge → Judge → Type 0
 TriesEmpty m k ns old new = (i : ℕ) (tried : ClusterKey → List ℕ → Bool) → SeesLines old i
-    → IsTrying old i tried → IsTrying new i (with_empty tried old m k ns)
+    → IsTrying old i tried → IsTrying new i (tried_with_empty tried old m k ns)
 
 -- trying stops rightly behind however many lines
 unfoldable pub StopsEmpty : Judge → Stop → Type 0

@@ -13,9 +13,9 @@ use Rattle.audit_core.specs.declared.verdict.Stop.{Stop}
 use Rattle.audit_core.specs.declared.verdict.Stop.TheVariants as stop
 use Rattle.audit_core.specs.Audits.{so_far}
 use Rattle.audit_core.specs.Covering.{SeesCovers}
-use Rattle.audit_core.specs.Known.{view_of}
+use Rattle.audit_core.specs.Known.{kept_view}
 use Rattle.audit_core.specs.Sees.{IsBound, AllJoin, IsTried, HasNoDoubts}
-use Rattle.audit_core.specs.Stored.{IsOf}
+use Rattle.audit_core.specs.Stored.{IsRecordOf}
 use Rattle.audit_core.specs.Trying.{SeesLines, SeesSettled, JoinsRecord, PartsRecord, StopsParted}
 use Rattle.audit_state.specs.declared.views.View.{View}
 use Rattle.audit_state.specs.declared.writes.Doubts.{Doubts}
@@ -38,16 +38,16 @@ pub record SeesEndedStand (j : List Line) (k : ClusterKey) (p more : ℕ) (x : S
 -- of each partition of a known view what the lines say, but that some of the ended writes in the
 -- view, one in each of these partitions, are still counted
 pub record IsEnding (s : Judge) (i : ℕ) (k : ClusterKey) (ended : List ℕ) : Type 0 where
-  pub stands : (l : ClusterKey) (p : ℕ) (x : View) → view_of s l ≡ Some x
+  pub stands : (l : ClusterKey) (p : ℕ) (x : View) → kept_view s l ≡ Some x
       → SeesEndedStand (so_far s i) l p (ended_in k ended l p) (stand_of x p)
-  pub listed : (l : ClusterKey) (p : ℕ) (x : View) → view_of s l ≡ Some x
+  pub listed : (l : ClusterKey) (p : ℕ) (x : View) → kept_view s l ≡ Some x
       → has_node x.settled.items p ≡ (stand_of x p).settled
-  pub unsettled : (l : ClusterKey) (p : ℕ) (x : View) → view_of s l ≡ Some x
+  pub unsettled : (l : ClusterKey) (p : ℕ) (x : View) → kept_view s l ≡ Some x
       → is_settled l p (so_far s i) ≡ false → HasNoDoubts (stand_of x p)
-  pub tried : (l : ClusterKey) (p : ℕ) (x : View) → view_of s l ≡ Some x
+  pub tried : (l : ClusterKey) (p : ℕ) (x : View) → kept_view s l ≡ Some x
       → IsBound l p (so_far s i) → IsTried s (so_far s i) l p (stand_of x p)
   pub covers : SeesCovers s i
-  pub known : (p : ℕ) → has_node ended p ≡ true → is_some (view_of s k) ≡ true
+  pub known : (p : ℕ) → has_node ended p ≡ true → is_some (kept_view s k) ≡ true
 
 -- ---- what a write's end says, by each number of lines by which the judge is known
 
@@ -88,7 +88,7 @@ JoinsRecords s k numbers p = (r : ℕ) → has_node numbers r ≡ true → Joins
 
 -- some replica doesn't hold the fold of the record, which is one of the partition
 pub record PartsOf (s : Judge) (k : ClusterKey) (r p : ℕ) : Type 0 where
-  pub of : IsOf s.records r p
+  pub of : IsRecordOf s.records r p
   pub parted : PartsRecord s k r p
 
 -- ... or of one of these

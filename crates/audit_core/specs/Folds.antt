@@ -8,7 +8,7 @@ use Rattle.audit_core.specs.declared.judge.Judge.{Judge}
 use Rattle.audit_state.specs.declared.nodes.Node.{Node}
 use Rattle.audit_state.specs.declared.views.View.{View}
 use Rattle.audit_state.specs.Histories.{value_after}
-use Rattle.audit_core.specs.Known.{node_at, view_of}
+use Rattle.audit_core.specs.Known.{node_at, kept_view}
 use Rattle.audit_state.specs.Views.{entry_line}
 use Rattle.audit_state.specs.Places.{placed}
 use Rattle.audit_core.specs.Sees.{SeesView}
@@ -33,7 +33,7 @@ folded s (Some x) r = folded_in s x r
 -- the view is known, after the first lines, this many, which keep the laws
 pub record KnowsView (s : Judge) (i : ℕ) (k : ClusterKey) (x : View) : Type 0 where
   pub knows : Knows s i
-  pub there : view_of s k ≡ Some x
+  pub there : kept_view s k ≡ Some x
   pub sees : SeesView (take i s.lines.now) k x
 
 -- the clock of a node

@@ -4,7 +4,7 @@ use Rattle.cluster_types.specs.declared.cluster_key.ClusterKey.{ClusterKey}
 use Rattle.audit_core.specs.declared.judge.Judge.{Judge}
 use Rattle.audit_state.specs.declared.nodes.Node.{Node}
 use Rattle.audit_state.specs.declared.views.View.{View}
-use Rattle.audit_core.specs.Known.{node_at, view_of}
+use Rattle.audit_core.specs.Known.{node_at, kept_view}
 use Rattle.audit_state.specs.Views.{SameEntries}
 
 -- both are nothing, or both something that stands in the relation
@@ -28,7 +28,7 @@ pub record KeepsFrame (old new : Judge) : Type 0 where
   pub factor : new.factor ≡ old.factor
   pub begun : new.begun ≡ old.begun
   pub nodes : (n : ℕ) → Both SameStand (node_at old n) (node_at new n)
-  pub views : (k : ClusterKey) → Both SameEntries (view_of old k) (view_of new k)
+  pub views : (k : ClusterKey) → Both SameEntries (kept_view old k) (kept_view new k)
   pub stamps : new.stamps ≡ old.stamps
 
 -- ---- the stores: what nodes hold, and what was written and tried
@@ -49,4 +49,4 @@ pub record SameStay (old new : Node) : Type 0 where
 pub record KeepsStores (old new : Judge) : Type 0 where
   pub rest : record new { nodes = old.nodes; views = old.views } ≡ old
   pub nodes : (n : ℕ) → Both SameStay (node_at old n) (node_at new n)
-  pub views : (k : ClusterKey) → Both SameWritten (view_of old k) (view_of new k)
+  pub views : (k : ClusterKey) → Both SameWritten (kept_view old k) (kept_view new k)

@@ -28,5 +28,5 @@ abbrev pub is_held_elsewhere : Judge → ℕ → ℕ → Bool
 is_held_elsewhere s n r = not (holds_newest s n r) || nat_lt 1 (holders_of s.records r)
 
 -- of each record it is known how many of these nodes hold its newest version
-abbrev pub AreCounted : Judge → List ℕ → Type 0
-AreCounted s ns = (r : ℕ) → holders_of s.records r ≡ count_by (λ n. holds_newest s n r) ns
+abbrev pub AreHoldersCounted : Judge → List ℕ → Type 0
+AreHoldersCounted s ns = (r : ℕ) → holders_of s.records r ≡ count_by (λ n. holds_newest s n r) ns

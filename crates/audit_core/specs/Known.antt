@@ -27,9 +27,9 @@ view_at s n = view_in (node_at s n)
 
 -- ---- views
 
--- the view of the key
-abbrev pub view_of : Judge → ClusterKey → Option View
-view_of s k = hash.get pair_eq s.views (key_pair k)
+-- what is kept of the view of the key
+abbrev pub kept_view : Judge → ClusterKey → Option View
+kept_view s k = hash.get pair_eq s.views (key_pair k)
 
 -- ---- stamps
 

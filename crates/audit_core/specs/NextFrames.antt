@@ -12,16 +12,17 @@ use Rattle.audit_state.specs.declared.nodes.Node.{Node}
 use Rattle.audit_state.specs.declared.stamps.Stamps.{Stamps}
 use Rattle.audit_state.specs.declared.views.View.{View}
 use Rattle.audit_core.specs.Frames.{Both}
-use Rattle.audit_core.specs.Known.{node_at, view_of, stamps_at}
+use Rattle.audit_core.specs.Known.{node_at, kept_view, stamps_at}
 use Rattle.audit_state.specs.Views.{entry_line, has_exchanged}
-use Rattle.audit_core.specs.Stamped.{mark_of, finished_from}
+use Rattle.audit_core.specs.Stamped.{mark_of, exchanged_places_from}
 use Rattle.audit_state.specs.Stamps.{stamp_marks, judged_of, wholes_of}
 
 -- what the line of this place makes of the node
 pub record NextNode (n place : ℕ) (l : Line) (old new : Node) : Type 0 where
   pub clock : new.clock ≡ clock_step n old.clock l
   pub view : new.view ≡ view_step n old.view l
-  pub exchanged : new.exchanged.items ≡ old.exchanged.items ++ finished_from n place (l ∷ [])
+  pub exchanged : new.exchanged.items
+      ≡ old.exchanged.items ++ exchanged_places_from n place (l ∷ [])
 
 -- of a view that was entered
 pub record NextView (k : ClusterKey) (place : ℕ) (l : Line) (old new : View) : Type 0 where
@@ -50,13 +51,13 @@ ViewAfter k place l (Some old) None = ⊥
 ViewAfter k place l (Some old) (Some new) = NextView k place l old new
 
 -- the change that a line of this place makes
-abbrev pub marked : ℕ → Option (Option ℕ) → List Change
-marked place None = []
-marked place (Some value) = record { line = place; value = value } ∷ []
+abbrev pub mark_changes : ℕ → Option (Option ℕ) → List Change
+mark_changes place None = []
+mark_changes place (Some value) = record { line = place; value = value } ∷ []
 
 -- of what is noted of a copy
 pub record NextStamps (n p place : ℕ) (l : Line) (old new : Option Stamps) : Type 0 where
-  pub marks : stamp_marks new ≡ stamp_marks old ++ marked place (mark_of n p place l)
+  pub marks : stamp_marks new ≡ stamp_marks old ++ mark_changes place (mark_of n p place l)
   pub judged : judged_of new ≡ judged_of old
   pub wholes : wholes_of new ≡ wholes_of old
 
@@ -64,7 +65,7 @@ pub record NextFrame (place : ℕ) (l : Line) (old new : Judge) : Type 0 where
   pub policy : new.by ≡ old.by
   pub factor : new.factor ≡ old.factor
   pub nodes : (n : ℕ) → Both (NextNode n place l) (node_at old n) (node_at new n)
-  pub views : (k : ClusterKey) → ViewAfter k place l (view_of old k) (view_of new k)
+  pub views : (k : ClusterKey) → ViewAfter k place l (kept_view old k) (kept_view new k)
   pub stamps : (n p : ℕ) → NextStamps n p place l (stamps_at old n p) (stamps_at new n p)
 
 -- whether the node finished exchange in the view

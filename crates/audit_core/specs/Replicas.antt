@@ -11,8 +11,8 @@ use Rattle.audit_core.specs.declared.verdict.Stop.TheVariants as stop
 use Rattle.audit_core.specs.Covering.{SeesCovers}
 use Rattle.audit_core.specs.Folds.{entry_place, folded}
 use Rattle.audit_core.specs.Holders.{content_now}
-use Rattle.audit_core.specs.Known.{view_at, view_of}
-use Rattle.audit_core.specs.Stored.{IsOf}
+use Rattle.audit_core.specs.Known.{view_at, kept_view}
+use Rattle.audit_core.specs.Stored.{IsRecordOf}
 use Rattle.audit_core.specs.Trying.{SeesLines, covers_record}
 use Rattle.audit_state.specs.declared.copies.RecordChange.{RecordChange}
 use Rattle.audit_state.specs.declared.views.View.{View}
@@ -24,12 +24,12 @@ use Rattle.audit_state.specs.Written.{written_of}
 -- of some record of the partition the node holds less than the member held after so many lines
 pub record Uncovered (s : Judge) (n m of p : ℕ) : Type 0 where
   pub number : ℕ
-  pub part : IsOf s.records number p
+  pub part : IsRecordOf s.records number p
   pub less : covers_record s n m of number ≡ false
 
 -- the node holds at least what the member held of each record of the partition; or it doesn't
 abbrev pub TellsCover : Judge → ℕ → ℕ → ℕ → ℕ → Bool → Type 0
-TellsCover s n m of p true = (r : ℕ) → IsOf s.records r p → covers_record s n m of r ≡ true
+TellsCover s n m of p true = (r : ℕ) → IsRecordOf s.records r p → covers_record s n m of r ≡ true
 TellsCover s n m of p false = Uncovered s n m of p
 
 -- whether it holds at least what the member held of the record that changed, if one did
@@ -50,25 +50,25 @@ TellsChanges s n m of from to changes false =
 
 -- the node holds the fold of each record of the partition
 abbrev pub HoldsFolds : Judge → ClusterKey → ℕ → ℕ → Type 0
-HoldsFolds s k n p = (r : ℕ) → IsOf s.records r p
-    → placed s.lines.now (content_now s n r) ≡ folded s (view_of s k) r
+HoldsFolds s k n p = (r : ℕ) → IsRecordOf s.records r p
+    → placed s.lines.now (content_now s n r) ≡ folded s (kept_view s k) r
 
 -- of some record it holds another version
 pub record PartsFolds (s : Judge) (k : ClusterKey) (n p : ℕ) : Type 0 where
   pub number : ℕ
-  pub part : IsOf s.records number p
-  pub parted : placed s.lines.now (content_now s n number) ≡ folded s (view_of s k) number → ⊥
+  pub part : IsRecordOf s.records number p
+  pub parted : placed s.lines.now (content_now s n number) ≡ folded s (kept_view s k) number → ⊥
 
 -- whether it holds at most the fold of the record
 abbrev pub holds_at_most : Judge → ClusterKey → ℕ → ℕ → Bool
 holds_at_most s k n r =
-    is_at_most s.by (placed s.lines.now (content_now s n r)) (folded s (view_of s k) r)
+    is_at_most s.by (placed s.lines.now (content_now s n r)) (folded s (kept_view s k) r)
 
 -- whether it holds just that
 abbrev pub holds_fold : Judge → ClusterKey → ℕ → ℕ → Bool
 holds_fold s k n r =
     holds_at_most s k n r
-    && is_at_most s.by (folded s (view_of s k) r) (placed s.lines.now (content_now s n r))
+    && is_at_most s.by (folded s (kept_view s k) r) (placed s.lines.now (content_now s n r))
 
 -- the records of the partition that were applied in the view
 abbrev pub written_from : Option View → ℕ → List ℕ
@@ -103,16 +103,16 @@ LearnsCover i n m of p old new b =
 
 -- the node holds at least what the member held as it entered the view
 abbrev pub CoversEntry : Judge → ClusterKey → ℕ → ℕ → ℕ → Type 0
-CoversEntry s k n m p = (x : View) (r : ℕ) → view_of s k ≡ Some x → IsOf s.records r p
+CoversEntry s k n m p = (x : View) (r : ℕ) → kept_view s k ≡ Some x → IsRecordOf s.records r p
     → is_at_most s.by (placed s.lines.now (entry_place s x r m))
     (placed s.lines.now (content_now s n r)) ≡ true
 
 -- of some record of the partition it holds less
 pub record PartsEntry (s : Judge) (k : ClusterKey) (n m p : ℕ) : Type 0 where
   pub known : View
-  pub there : view_of s k ≡ Some known
+  pub there : kept_view s k ≡ Some known
   pub number : ℕ
-  pub part : IsOf s.records number p
+  pub part : IsRecordOf s.records number p
   pub less : is_at_most s.by (placed s.lines.now (entry_place s known number m))
       (placed s.lines.now (content_now s n number)) ≡ false
 
@@ -148,8 +148,8 @@ StopsReplica i k n p s (stop.Breaks l) = SeesLines s i → SeesCovers s i
     → (l ≡ law.SettledJoin) × (view_at s n ≡ Some k) × PartsFolds s k n p
 
 -- the same of each of these nodes
-unfoldable pub JoinsReplicas : ℕ → ClusterKey → List ℕ → ℕ → Judge → Judge → Type 0
-JoinsReplicas i k ns p old new = SeesLines old i → SeesCovers old i
+unfoldable pub JoinsEachReplica : ℕ → ClusterKey → List ℕ → ℕ → Judge → Judge → Type 0
+JoinsEachReplica i k ns p old new = SeesLines old i → SeesCovers old i
     → SeesCovers new i
     × ((n : ℕ) → has_node ns n ≡ true → view_at old n ≡ Some k → HoldsFolds old k n p)
 

@@ -17,11 +17,11 @@ use Rattle.audit_core.specs.declared.judge.Judge.{Judge}
 use Rattle.audit_state.specs.declared.nodes.Node.{Node}
 use Rattle.audit_state.specs.declared.views.View.{View}
 use Rattle.audit_core.specs.Covering.{SeesCovers}
-use Rattle.audit_core.specs.Known.{node_at, is_declared, view_of, stamps_at}
+use Rattle.audit_core.specs.Known.{node_at, is_declared, kept_view, stamps_at}
 use Rattle.audit_state.specs.Views.{entry_line, has_exchanged}
 use Rattle.audit_state.specs.OpenWrites.{is_done_write, open_of}
 use Rattle.audit_state.specs.Records.{record_number, record_digest}
-use Rattle.audit_core.specs.Stamped.{SeesStamps, finished}
+use Rattle.audit_core.specs.Stamped.{SeesStamps, exchanged_places}
 use Rattle.audit_core.specs.Steps.{KnowsNoEvents}
 use Rattle.audit_core.specs.Stored.{SeesStores}
 use Rattle.audit_state.specs.Written.{Stand, stand_of}
@@ -36,7 +36,7 @@ pub record SeesHeader (s : Judge) (j : List Line) : Type 0 where
 pub record SeesNode (j : List Line) (n : ℕ) (node : Node) : Type 0 where
   pub clock : node.clock ≡ clock_of n j
   pub view : node.view ≡ view n j
-  pub exchanged : node.exchanged.items ≡ finished n j
+  pub exchanged : node.exchanged.items ≡ exchanged_places n j
 
 pub record SeesView (j : List Line) (k : ClusterKey) (v : View) : Type 0 where
   pub key : v.key ≡ k
@@ -49,8 +49,8 @@ pub record SeesView (j : List Line) (k : ClusterKey) (v : View) : Type 0 where
 pub record SeesFrame (s : Judge) (j : List Line) : Type 0 where
   pub header : SeesHeader s j
   pub nodes : (n : ℕ) (node : Node) → node_at s n ≡ Some node → SeesNode j n node
-  pub known_views : (k : ClusterKey) → is_some (view_of s k) ≡ list_any (enters_key k) j
-  pub views : (k : ClusterKey) (x : View) → view_of s k ≡ Some x → SeesView j k x
+  pub known_views : (k : ClusterKey) → is_some (kept_view s k) ≡ list_any (enters_key k) j
+  pub views : (k : ClusterKey) (x : View) → kept_view s k ≡ Some x → SeesView j k x
   pub stamps : (n p : ℕ) → SeesStamps (factor_of j) j n p (stamps_at s n p)
 
 -- ---- what was settled and tried
@@ -90,13 +90,13 @@ pub record IsTried (s : Judge) (j : List Line) (k : ClusterKey) (p : ℕ) (x : S
 -- of each partition of a known view: nothing is to be tried before it is settled; where it is
 -- bound, it was tried
 pub record SeesTried (s : Judge) (j : List Line) : Type 0 where
-  pub stands : (k : ClusterKey) (p : ℕ) (x : View) → view_of s k ≡ Some x
+  pub stands : (k : ClusterKey) (p : ℕ) (x : View) → kept_view s k ≡ Some x
       → SeesStand j k p (stand_of x p)
-  pub listed : (k : ClusterKey) (p : ℕ) (x : View) → view_of s k ≡ Some x
+  pub listed : (k : ClusterKey) (p : ℕ) (x : View) → kept_view s k ≡ Some x
       → has_node x.settled.items p ≡ (stand_of x p).settled
-  pub unsettled : (k : ClusterKey) (p : ℕ) (x : View) → view_of s k ≡ Some x
+  pub unsettled : (k : ClusterKey) (p : ℕ) (x : View) → kept_view s k ≡ Some x
       → is_settled k p j ≡ false → HasNoDoubts (stand_of x p)
-  pub tried : (k : ClusterKey) (p : ℕ) (x : View) → view_of s k ≡ Some x → IsBound k p j
+  pub tried : (k : ClusterKey) (p : ℕ) (x : View) → kept_view s k ≡ Some x → IsBound k p j
       → IsTried s j k p (stand_of x p)
 
 -- ---- the writes of a view
@@ -111,12 +111,12 @@ is_open_in k p n t j _ = false
 -- of each transaction in a known view: whether its `done` line stands, and the partition of each of
 -- its open writes as one of the list master
 pub record SeesWrites (s : Judge) (j : List Line) : Type 0 where
-  pub done : (k : ClusterKey) (x : View) (n t : ℕ) → view_of s k ≡ Some x
+  pub done : (k : ClusterKey) (x : View) (n t : ℕ) → kept_view s k ≡ Some x
       → is_done_write x n t ≡ list_any (is_done_line k n t) j
-  pub open_writes : (k : ClusterKey) (x : View) (n t p : ℕ) → view_of s k ≡ Some x
+  pub open_writes : (k : ClusterKey) (x : View) (n t p : ℕ) → kept_view s k ≡ Some x
       → master k p j ≡ n
       → count_by (λ q. q == p) (open_of x n t) ≡ count_by (is_open_in k p n t j) j
-  pub by_master : (k : ClusterKey) (x : View) (n t p : ℕ) → view_of s k ≡ Some x
+  pub by_master : (k : ClusterKey) (x : View) (n t p : ℕ) → kept_view s k ≡ Some x
       → has_node (open_of x n t) p ≡ true → master k p j ≡ n
 
 -- ---- the records of a stay
@@ -141,7 +141,7 @@ pub record SeesState (s : Judge) (i : ℕ) (all : List Line) : Type 0 where
   pub writes : SeesWrites s (take i all)
   pub stays : SeesStays s (take i all)
 
-pub record Sees (s : Judge) (i : ℕ) (all : List Line) : Type 0 where
+pub record SeesJournal (s : Judge) (i : ℕ) (all : List Line) : Type 0 where
   pub state : SeesState s i all
   pub begun : s.begun ≡ not (list_all is_header (take i all))
   pub bare : list_all is_header (take i all) ≡ true → KnowsNoEvents s

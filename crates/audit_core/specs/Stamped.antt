@@ -18,18 +18,19 @@ mark_of n p place (line.Drop m k q) = if (m == n) && (q == p) then Some None els
 mark_of n p place _ = None
 
 -- whether the line is the node's, and says that it finished exchange
-abbrev pub finishes : ℕ → Line → Bool
-finishes n (line.Exchanged m k) = m == n
-finishes n _ = false
+abbrev pub finishes_exchange : ℕ → Line → Bool
+finishes_exchange n (line.Exchanged m k) = m == n
+finishes_exchange n _ = false
 
 -- the places of these lines, from this one on
-abbrev pub finished_from : ℕ → ℕ → List Line → List ℕ
-finished_from n place [] = []
-finished_from n place (l ∷ ls) =
-    if finishes n l then place ∷ finished_from n (place + 1) ls else finished_from n (place + 1) ls
+abbrev pub exchanged_places_from : ℕ → ℕ → List Line → List ℕ
+exchanged_places_from n place [] = []
+exchanged_places_from n place (l ∷ ls) =
+    if finishes_exchange n l then place ∷ exchanged_places_from n (place + 1) ls
+    else exchanged_places_from n (place + 1) ls
 
-abbrev pub finished : ℕ → List Line → List ℕ
-finished n lines = finished_from n 0 lines
+abbrev pub exchanged_places : ℕ → List Line → List ℕ
+exchanged_places n lines = exchanged_places_from n 0 lines
 
 -- whether the line, behind these, makes the node's copy whole as it finishes exchange
 abbrev pub makes_whole : ℕ → ℕ → ℕ → List Line → Line → Bool
@@ -48,9 +49,9 @@ change_at [] place = None
 change_at (c ∷ cs) place = if c.line == place then Some c.value else change_at cs place
 
 -- each change stands behind those before it
-abbrev pub IsRising : List Change → Type 0
-IsRising [] = Unit {0}
-IsRising (c ∷ cs) = All (λ d. c.line < d.line) cs × IsRising cs
+abbrev pub StandInOrder : List Change → Type 0
+StandInOrder [] = Unit {0}
+StandInOrder (c ∷ cs) = All (λ d. c.line < d.line) cs × StandInOrder cs
 
 abbrev pub whole_of : Bool → ℕ → Option (Option ℕ)
 whole_of true place = Some (Some place)
@@ -62,13 +63,13 @@ pub record SeesStamps (factor : ℕ) (j : List Line) (n p : ℕ) (x : Option Sta
   pub marks : (a : ℕ)
       → change_at (stamp_marks x) a ≡ option_and_then (mark_of n p a) (slice_get j a)
   pub mark_lines : AreBelow (length j) (stamp_marks x)
-  pub mark_order : IsRising (stamp_marks x)
-  pub judged : judged_of x ≤ length (finished n j)
+  pub mark_order : StandInOrder (stamp_marks x)
+  pub judged : judged_of x ≤ length (exchanged_places n j)
   pub wholes : (a : ℕ)
       → change_at (wholes_of x) a
       ≡ whole_of
-      (has_node (take (judged_of x) (finished n j)) a
+      (has_node (take (judged_of x) (exchanged_places n j)) a
       && makes_whole_at factor n p j a (slice_get j a)) a
-  pub whole_order : IsRising (wholes_of x)
-  pub whole_lines : All (λ c. has_node (take (judged_of x) (finished n j)) c.line ≡ true)
+  pub whole_order : StandInOrder (wholes_of x)
+  pub whole_lines : All (λ c. has_node (take (judged_of x) (exchanged_places n j)) c.line ≡ true)
       (wholes_of x)

@@ -13,7 +13,7 @@ use Rattle.audit_state.specs.declared.nodes.Node.{Node}
 use Rattle.audit_state.specs.declared.stamps.Stamps.{Stamps}
 use Rattle.audit_state.specs.declared.views.View.{View}
 use Rattle.audit_core.specs.Frames.{Both, SameStand, SameWritten}
-use Rattle.audit_core.specs.Known.{node_at, is_declared, view_of, stamps_at}
+use Rattle.audit_core.specs.Known.{node_at, is_declared, kept_view, stamps_at}
 use Rattle.audit_state.specs.Nodes.{IsFreshNode}
 use Rattle.audit_state.specs.Views.{IsFreshView}
 use Rattle.audit_state.specs.Records.{AreNone}
@@ -30,7 +30,7 @@ pub record KnowsNoEvents (s : Judge) : Type 0 where
   pub touched : (n p : ℕ) → touched_of s.stores n p ≡ []
   pub holding : (n p : ℕ) → holding_of s.stores n p ≡ []
   pub changes : (n p : ℕ) → changes_of s.stores n p ≡ []
-  pub views : (k : ClusterKey) → view_of s k ≡ None
+  pub views : (k : ClusterKey) → kept_view s k ≡ None
   pub stamps : (n p : ℕ) → stamps_at s n p ≡ None
   pub covers : (c : ℕ) → hash.get nat_eq s.covers c ≡ None
 
@@ -101,16 +101,16 @@ pub record HasFinished (place : ℕ) (old new : Node) : Type 0 where
 -- the view is there, and new where it wasn't
 pub record OpensView (k : ClusterKey) (ms : List Member) (old new : Judge) : Type 0 where
   pub rest : record new { views = old.views } ≡ old
-  pub known : (x : View) → view_of old k ≡ Some x → view_of new k ≡ Some x
-  pub fresh : (x : View) → view_of old k ≡ None → view_of new k ≡ Some x → IsFreshView k ms x
-  pub there : is_some (view_of new k) ≡ true
-  pub others : (l : ClusterKey) → same_key k l ≡ false → view_of new l ≡ view_of old l
+  pub known : (x : View) → kept_view old k ≡ Some x → kept_view new k ≡ Some x
+  pub fresh : (x : View) → kept_view old k ≡ None → kept_view new k ≡ Some x → IsFreshView k ms x
+  pub there : is_some (kept_view new k) ≡ true
+  pub others : (l : ClusterKey) → same_key k l ≡ false → kept_view new l ≡ kept_view old l
 
 -- the view stands in the relation to what it was, and all else is as it was
 pub record ChangesView (R : View → View → Type 0) (k : ClusterKey) (old new : Judge) : Type 0 where
   pub rest : record new { views = old.views } ≡ old
-  pub here : Both R (view_of old k) (view_of new k)
-  pub others : (l : ClusterKey) → same_key k l ≡ false → view_of new l ≡ view_of old l
+  pub here : Both R (kept_view old k) (kept_view new k)
+  pub others : (l : ClusterKey) → same_key k l ≡ false → kept_view new l ≡ kept_view old l
 
 pub record HasEntry (n place : ℕ) (old new : View) : Type 0 where
   pub key : new.key ≡ old.key
@@ -142,11 +142,11 @@ pub record EntersView (n place : ℕ) (k : ClusterKey) (ms : List Member) (old n
   pub node : Both (BeginsStay (some_key k)) (node_at old n) (node_at new n)
   pub other_nodes : (m : ℕ) → (n == m) ≡ false → node_at new m ≡ node_at old m
   pub was : View
-  pub before : IsKnownOrFresh k ms (view_of old k) was
+  pub before : IsKnownOrFresh k ms (kept_view old k) was
   pub now : View
-  pub there : view_of new k ≡ Some now
+  pub there : kept_view new k ≡ Some now
   pub entry : HasEntry n place was now
-  pub other_views : (l : ClusterKey) → same_key k l ≡ false → view_of new l ≡ view_of old l
+  pub other_views : (l : ClusterKey) → same_key k l ≡ false → kept_view new l ≡ kept_view old l
 
 -- ---- stamps
 

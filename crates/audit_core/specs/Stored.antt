@@ -1,6 +1,6 @@
 -- What the auditor has of records, of what nodes hold and of what was written in views, is what the
 -- lines say.
-use Rattle.std.specs.Prelude.{◌≡◌, ℕ, ◌<◌, ◌≤◌, Bool, true, false, nat_eq, List, [], Option, Some, None, is_some, take, option_map, All, Contains}
+use Rattle.std.specs.Prelude.{◌≡◌, ℕ, ◌<◌, ◌≤◌, Bool, true, false, nat_eq, List, [], Option, Some, None, is_some, take, option_map, All, Contains, bytes_eq}
 use Rattle.std.specs.List.{list_any}
 use Rattle.std.specs.HashMap as hash
 use Rattle.conflict_order.specs.declared.policy.Policy.{Policy}
@@ -9,7 +9,7 @@ use Rattle.cluster_types.specs.declared.cluster_key.ClusterKey.{ClusterKey}
 use Rattle.cluster_types.specs.Partitions.{partition_of}
 use Rattle.journal_lines.specs.declared.line.Line.{Line}
 use Rattle.journal_lines.specs.declared.line.Line.TheVariants as line
-use Rattle.journal_readings.specs.Lines.{has_node, same_digest}
+use Rattle.journal_readings.specs.Lines.{has_node}
 use Rattle.journal_readings.specs.Settings.{policy_of, nodes}
 use Rattle.journal_readings.specs.Contents.{content, holds_any, applied}
 use Rattle.journal_readings.specs.Entries.{applied_in}
@@ -20,8 +20,8 @@ use Rattle.audit_state.specs.declared.records.Records.{Records}
 use Rattle.audit_state.specs.declared.stores.Stores.{Stores}
 use Rattle.audit_state.specs.declared.views.View.{View}
 use Rattle.audit_state.specs.Histories.{AreBelow, value_after, value_now}
-use Rattle.audit_core.specs.Holders.{AreCounted}
-use Rattle.audit_core.specs.Known.{view_of}
+use Rattle.audit_core.specs.Holders.{AreHoldersCounted}
+use Rattle.audit_core.specs.Known.{kept_view}
 use Rattle.audit_state.specs.Places.{placed}
 use Rattle.audit_state.specs.Records.{record_number, record_digest, newest_of, AreNumberedRecords}
 use Rattle.audit_state.specs.Stores.{history_of, held_of, touched_of, holding_of, changes_of}
@@ -31,8 +31,8 @@ use Rattle.audit_state.specs.Written.{written_of}
 
 -- the line brings a version of the record
 abbrev pub brings : List ℕ → Line → Bool
-brings d (line.Apply n k t e v) = same_digest e d
-brings d (line.Merge n k e v) = same_digest e d
+brings d (line.Apply n k t e v) = bytes_eq e d
+brings d (line.Merge n k e v) = bytes_eq e d
 brings d _ = false
 
 -- what is read of the record of a number, and nothing where there is none
@@ -46,7 +46,7 @@ pub record SeesRecords (s : Judge) (all j : List Line) : Type 0 where
   pub newest : (r : ℕ)
       → placed all (newest_of s.records r)
       ≡ read_of (λ d. applied (policy_of j) d j) (record_digest s.records r)
-  pub holders : AreCounted s (nodes j)
+  pub holders : AreHoldersCounted s (nodes j)
 
 -- ---- what nodes hold, now and before
 
@@ -65,8 +65,8 @@ IsUnchanged changes r a b =
     (x : RecordChange) → Contains changes x → x.number ≡ r → a ≤ x.line → x.line < b → ⊥
 
 -- whether the record of the number is one of the partition
-abbrev pub IsOf : Records → ℕ → ℕ → Type 0
-IsOf rs r p = option_map partition_of (record_digest rs r) ≡ Some p
+abbrev pub IsRecordOf : Records → ℕ → ℕ → Type 0
+IsRecordOf rs r p = option_map partition_of (record_digest rs r) ≡ Some p
 
 -- which records each copy has, and when they changed
 pub record SeesCopies (st : Stores) (rs : Records) (all : List Line) (i : ℕ) : Type 0 where
@@ -74,33 +74,33 @@ pub record SeesCopies (st : Stores) (rs : Records) (all : List Line) (i : ℕ) :
       → is_some (value_after (holding_of st n p) a) ≡ holds_any n p (take a all)
   pub holding_below : (n p : ℕ) → AreBelow i (holding_of st n p)
   pub changes_below : (n p : ℕ) → All (λ x. x.line < i) (changes_of st n p)
-  pub held : (n p r : ℕ) → IsOf rs r p → is_some (value_now (history_of st n r)) ≡ true
+  pub held : (n p r : ℕ) → IsRecordOf rs r p → is_some (value_now (history_of st n r)) ≡ true
       → has_node (held_of st n p) r ≡ true
-  pub held_only : (n p r : ℕ) → has_node (held_of st n p) r ≡ true → IsOf rs r p
+  pub held_only : (n p r : ℕ) → has_node (held_of st n p) r ≡ true → IsRecordOf rs r p
   pub held_ever : (n p r : ℕ) → has_node (held_of st n p) r ≡ true
       → has_node (touched_of st n p) r ≡ true
-  pub touched : (n p r : ℕ) → IsOf rs r p → has_node (touched_of st n p) r ≡ false
+  pub touched : (n p r : ℕ) → IsRecordOf rs r p → has_node (touched_of st n p) r ≡ false
       → history_of st n r ≡ []
-  pub touched_only : (n p r : ℕ) → has_node (touched_of st n p) r ≡ true → IsOf rs r p
+  pub touched_only : (n p r : ℕ) → has_node (touched_of st n p) r ≡ true → IsRecordOf rs r p
   pub changes_only : (n p : ℕ) (x : RecordChange) → Contains (changes_of st n p) x
-      → IsOf rs x.number p
-  pub changes : (n p r a b : ℕ) → IsOf rs r p → a ≤ b → IsUnchanged (changes_of st n p) r a b
+      → IsRecordOf rs x.number p
+  pub changes : (n p r a b : ℕ) → IsRecordOf rs r p → a ≤ b → IsUnchanged (changes_of st n p) r a b
       → value_after (history_of st n r) a ≡ value_after (history_of st n r) b
 
 -- ---- what was written in a view
 
 -- the records that were applied in each view, and by their partitions
 pub record SeesWritten (s : Judge) (all j : List Line) : Type 0 where
-  pub applied : (k : ClusterKey) (x : View) (r : ℕ) → view_of s k ≡ Some x
+  pub applied : (k : ClusterKey) (x : View) (r : ℕ) → kept_view s k ≡ Some x
       → placed all (hash.get nat_eq x.applied r)
       ≡ read_of (λ d. applied_in (policy_of j) k d j) (record_digest s.records r)
-  pub written : (k : ClusterKey) (x : View) (r : ℕ) → view_of s k ≡ Some x
+  pub written : (k : ClusterKey) (x : View) (r : ℕ) → kept_view s k ≡ Some x
       → has_node x.written.items r ≡ is_some (hash.get nat_eq x.applied r)
-  pub listed : (k : ClusterKey) (x : View) (r : ℕ) → view_of s k ≡ Some x
+  pub listed : (k : ClusterKey) (x : View) (r : ℕ) → kept_view s k ≡ Some x
       → is_some (hash.get nat_eq x.applied r) ≡ true
-      → (p : ℕ) × IsOf s.records r p × (has_node (written_of x p) r ≡ true)
-  pub listed_only : (k : ClusterKey) (x : View) (p r : ℕ) → view_of s k ≡ Some x
-      → has_node (written_of x p) r ≡ true → IsOf s.records r p
+      → (p : ℕ) × IsRecordOf s.records r p × (has_node (written_of x p) r ≡ true)
+  pub listed_only : (k : ClusterKey) (x : View) (p r : ℕ) → kept_view s k ≡ Some x
+      → has_node (written_of x p) r ≡ true → IsRecordOf s.records r p
 
 -- ---- all of it
 

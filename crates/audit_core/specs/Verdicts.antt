@@ -15,12 +15,12 @@ use Rattle.audit_core.specs.declared.verdict.Verdict.TheVariants as verdict
 -- ---- of a journal
 
 -- the journal keeps the law
-abbrev pub Keeps : Law → List Line → Type 0
-Keeps law.Shape j = Shape j
-Keeps law.OneMap j = OneMap j
-Keeps law.NoLoss j = NoLoss j
-Keeps law.SettledJoin j = SettledJoin j
-Keeps law.ReadJoin j = ReadJoin j
+abbrev pub KeepsLaw : Law → List Line → Type 0
+KeepsLaw law.Shape j = Shape j
+KeepsLaw law.OneMap j = OneMap j
+KeepsLaw law.NoLoss j = NoLoss j
+KeepsLaw law.SettledJoin j = SettledJoin j
+KeepsLaw law.ReadJoin j = ReadJoin j
 
 -- and those that are tried before it
 abbrev pub KeepsBefore : Law → List Line → Type 0
@@ -37,7 +37,7 @@ pub record FailsFirst (j : List Line) (law : Law) (line : ℕ) : Type 0 where
   pub within : line ≤ length j
   pub before : (i : ℕ) → i < line → Lawful (take i j)
   pub kept : KeepsBefore law (take line j)
-  pub broken : ¬ Keeps law (take line j)
+  pub broken : ¬ KeepsLaw law (take line j)
 
 -- the verdict is right
 abbrev pub IsVerdict : List Line → Verdict → Type 0

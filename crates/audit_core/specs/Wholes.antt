@@ -16,9 +16,9 @@ use Rattle.audit_state.specs.declared.views.View.{View}
 use Rattle.audit_state.specs.Histories.{value_after}
 use Rattle.journal_readings.specs.Lines.{has_node}
 use Rattle.audit_state.specs.declared.stamps.Stamps.{Stamps}
-use Rattle.audit_core.specs.Known.{node_at, view_of, stamps_at}
+use Rattle.audit_core.specs.Known.{node_at, kept_view, stamps_at}
 use Rattle.audit_state.specs.Views.{entry_line}
-use Rattle.audit_core.specs.Stamped.{IsRising, change_at, whole_of}
+use Rattle.audit_core.specs.Stamped.{StandInOrder, change_at, whole_of}
 use Rattle.audit_state.specs.Stamps.{stamp_marks, judged_of, wholes_of, stamped_key}
 use Rattle.audit_state.specs.Stores.{holding_of}
 
@@ -41,12 +41,12 @@ replica_in factor n p None = false
 replica_in factor n p (Some x) = list_any (λ m. m == n) (take factor (list x.ranks p))
 
 -- whether the node's copy is whole from the start in the view
-abbrev pub begins_whole : Judge → ClusterKey → ℕ → ℕ → Bool
-begins_whole s k n p = empty_in s p (view_of s k) && replica_in s.factor n p (view_of s k)
+abbrev pub is_whole_at_start : Judge → ClusterKey → ℕ → ℕ → Bool
+is_whole_at_start s k n p = empty_in s p (kept_view s k) && replica_in s.factor n p (kept_view s k)
 
 -- whether the node's `exchanged` line makes its copy whole
 abbrev pub makes_whole : Judge → ℕ → ℕ → Option Line → Bool
-makes_whole s n p (Some (line.Exchanged m k)) = begins_whole s k n p
+makes_whole s n p (Some (line.Exchanged m k)) = is_whole_at_start s k n p
 makes_whole s n p _ = false
 
 -- the places of the node's `exchanged` lines
@@ -55,9 +55,9 @@ exchanged_by None = []
 exchanged_by (Some node) = node.exchanged.items
 
 -- the key by which the node's copy was whole as it entered at the place, if it had a record
-abbrev pub whole_key : Judge → ℕ → ℕ → Option ℕ → Option ClusterKey
-whole_key s n p None = None
-whole_key s n p (Some place) =
+abbrev pub whole_key_at : Judge → ℕ → ℕ → Option ℕ → Option ClusterKey
+whole_key_at s n p None = None
+whole_key_at s n p (Some place) =
     if held_any s n p place then stamped_key s.lines.now (stamps_at s n p) place else None
 
 -- ---- of some members the one that acts
@@ -70,14 +70,16 @@ abbrev pub is_newest : List Whole → Option ClusterKey → Bool
 is_newest wholes None = false
 is_newest wholes (Some k) = not (list_any (λ w. has_key_above k w.key) wholes)
 
-abbrev pub node_of : Option Whole → Option ℕ
-node_of None = None
-node_of (Some w) = Some w.node
+-- the node of the copy, if there is one
+abbrev pub whole_node : Option Whole → Option ℕ
+whole_node None = None
+whole_node (Some w) = Some w.node
 
 -- the first by whose key no other's is above; the first of all where no copy is whole
 abbrev pub first_newest : List Whole → Option ℕ
 first_newest wholes =
-    option_or (node_of (find (λ w. is_newest wholes w.key) wholes)) (node_of (slice_get wholes 0))
+    option_or (whole_node (find (λ w. is_newest wholes w.key) wholes))
+    (whole_node (slice_get wholes 0))
 
 -- a member of the list, with the role that it has in the view
 abbrev pub listed_member : List Member → ℕ → Member
@@ -86,9 +88,9 @@ listed_member ms n = record { id = n; role = unwrap_or (role_of ms n) plain_role
 -- ---- what was judged
 
 -- each number is below those behind it
-abbrev pub AreRising : List ℕ → Type 0
-AreRising [] = Unit {0}
-AreRising (n ∷ ns) = All (λ m. n < m) ns × AreRising ns
+abbrev pub AreAscending : List ℕ → Type 0
+AreAscending [] = Unit {0}
+AreAscending (n ∷ ns) = All (λ m. n < m) ns × AreAscending ns
 
 -- of the first of the node's `exchanged` lines it is noted which of them make its copy whole
 pub record JudgesRight (s : Judge) (n p : ℕ) (x : Option Stamps) : Type 0 where
@@ -98,7 +100,7 @@ pub record JudgesRight (s : Judge) (n p : ℕ) (x : Option Stamps) : Type 0 wher
       ≡ whole_of
       (has_node (take (judged_of x) (exchanged_by (node_at s n))) a
       && makes_whole s n p (slice_get s.lines.now a)) a
-  pub order : IsRising (wholes_of x)
+  pub order : StandInOrder (wholes_of x)
   pub lines : All (λ c. has_node (take (judged_of x) (exchanged_by (node_at s n))) c.line ≡ true)
       (wholes_of x)
 

@@ -12,13 +12,13 @@ ghost use Rattle.journal_readings.specs.Lines.{has_node};
 ghost use Rattle.journal_readings.specs.Settings.{nodes, policy_of};
 ghost use Rattle.journal_readings.specs.Entries.{fold_of};
 ghost use Rattle.audit_state.specs.declared.views.View.{View};
-ghost use Rattle.audit_core.specs.Audits.{Comes, Takes, so_far};
+ghost use Rattle.audit_core.specs.Audits.{Comes, AcceptsLine, so_far};
 ghost use Rattle.audit_state.specs.Copies.{StandUpTo};
 ghost use Rattle.audit_core.specs.Dropping.{RemovesAll};
 ghost use Rattle.audit_core.specs.Folds.{entry_place, folded, folded_in, clock_at, KnowsView};
 ghost use Rattle.audit_state.specs.Histories.{AreUpTo, value_after};
-ghost use Rattle.audit_core.specs.Holders.{AreCounted};
-ghost use Rattle.audit_core.specs.Known.{view_at, view_of};
+ghost use Rattle.audit_core.specs.Holders.{AreHoldersCounted};
+ghost use Rattle.audit_core.specs.Known.{view_at, kept_view};
 ghost use Rattle.audit_state.specs.Places.{placed, placed_version};
 ghost use Rattle.audit_state.specs.Records.{numbered_record, record_digest, AreNumberedRecords, Opens};
 ghost use Rattle.audit_core.specs.Steps.{ChangesNode, ChangesView, HasChanged, HaveChanged};
@@ -27,7 +27,7 @@ ghost use Rattle.audit_state.specs.Stores.{history_of, held_of, holding_of, chan
 ghost use Rattle.audit_core.specs.Trying.{KeepsKnown, TriesRecords, StopsRecords};
 ghost use Rattle.audit_core.specs.Verdicts.{StopsRightly};
 ghost use Rattle.audit_state.specs.Written.{WritesRecord};
-ghost use Rattle.audit_core.specs.Bringing.{AppliesWrite, Brings, BringsHere, KeepsLines, SeesHeld, StoresVersion, RemovesRecord, WritesHere, MergesHere};
+ghost use Rattle.audit_core.specs.Bringing.{AppliesWrite, BringsVersion, BringsHere, KeepsLines, SeesHeld, StoresVersion, RemovesRecord, WritesHere, MergesHere};
 
 use crate::judge::Judge;
 use crate::verdict::{Law, Stop, demand};
@@ -50,7 +50,7 @@ impl<'a> Judge<'a> {
         requires room { line < 2 ^ 63 }
         ensures ok { OnOk result
             ((v : Version) → Comes self.old line (lines.Apply node view transaction digest.now v)
-            → Takes self.old self.new line (lines.Apply node view transaction digest.now v)) }
+            → AcceptsLine self.old self.new line (lines.Apply node view transaction digest.now v)) }
         ensures err { IfErr result
             (λ stop. (v : Version)
             → Comes self.old line (lines.Apply node view transaction digest.now v)
@@ -76,7 +76,7 @@ impl<'a> Judge<'a> {
         ensures ok { OnOk result
             ((k : ClusterKey) → (v : Version)
             → Comes self.old line (lines.Merge node k digest.now v)
-            → Takes self.old self.new line (lines.Merge node k digest.now v)) }
+            → AcceptsLine self.old self.new line (lines.Merge node k digest.now v)) }
         ensures err { IfErr result
             (λ stop. (k : ClusterKey) → (v : Version)
             → Comes self.old line (lines.Merge node k digest.now v)
@@ -123,12 +123,13 @@ impl<'a> Judge<'a> {
             → IsSome (numbered_record self.old.records r) }
         requires contents { (r : ℕ) → AreUpTo line (history_of self.old.stores node r) }
         requires changes { StandUpTo line (changes_of self.old.stores node p) }
-        requires counted { AreCounted self.old (nodes (take line self.old.lines.now)) }
+        requires counted { AreHoldersCounted self.old (nodes (take line self.old.lines.now)) }
         requires distinct { AreDistinct (nodes (take line self.old.lines.now)) }
         requires declared { IsTrue (has_node (nodes (take line self.old.lines.now)) node) }
         requires room { line < 2 ^ 64 - 1 }
         ensures removes { OnOk result (RemovesAll line node p dropped.now self.old self.new) }
-        ensures counted { OnOk result (AreCounted self.new (nodes (take line self.old.lines.now))) }
+        ensures counted { OnOk result
+            (AreHoldersCounted self.new (nodes (take line self.old.lines.now))) }
     {
         for number in dropped {
             self.remove(line, node, *number, p)?;
@@ -220,12 +221,13 @@ impl<'a> Judge<'a> {
         requires there { IsSome (numbered_record self.old.records number) }
         requires contents { AreUpTo line (history_of self.old.stores node number) }
         requires changes { StandUpTo line (changes_of self.old.stores node p) }
-        requires counted { AreCounted self.old (nodes (take line self.old.lines.now)) }
+        requires counted { AreHoldersCounted self.old (nodes (take line self.old.lines.now)) }
         requires distinct { AreDistinct (nodes (take line self.old.lines.now)) }
         requires declared { IsTrue (has_node (nodes (take line self.old.lines.now)) node) }
         requires room { line < 2 ^ 64 - 1 }
         ensures removes { OnOk result (RemovesRecord self.old self.new line node number p) }
-        ensures counted { OnOk result (AreCounted self.new (nodes (take line self.old.lines.now))) }
+        ensures counted { OnOk result
+            (AreHoldersCounted self.new (nodes (take line self.old.lines.now))) }
     {
         let held = self.holds_newest(node, number);
         self.stores.remove(self.alloc, line, node, number, p)?;
@@ -245,17 +247,18 @@ impl<'a> Judge<'a> {
         requires contents { AreUpTo line (history_of self.old.stores node number) }
         requires holding { AreUpTo line (holding_of self.old.stores node p) }
         requires changes { StandUpTo line (changes_of self.old.stores node p) }
-        requires counted { AreCounted self.old (nodes (take line self.old.lines.now)) }
+        requires counted { AreHoldersCounted self.old (nodes (take line self.old.lines.now)) }
         requires distinct { AreDistinct (nodes (take line self.old.lines.now)) }
         requires declared { IsTrue (has_node (nodes (take line self.old.lines.now)) node) }
         requires room { line < 2 ^ 64 - 1 }
-        ensures brings { OnOk result (Brings self.old self.new line node number p) }
+        ensures brings { OnOk result (BringsVersion self.old self.new line node number p) }
         ensures keeps { OnOk result (KeepsLines self.old self.new) }
         ensures sees { OnOk result
             ((l : Line) → (d : List ℕ) → (v : Version)
             → BringsHere self.old line node number p l d v → SeesHeld self.old line
             → SeesHeld self.new (line + 1)) }
-        ensures counted { OnOk result (AreCounted self.new (nodes (take line self.old.lines.now))) }
+        ensures counted { OnOk result
+            (AreHoldersCounted self.new (nodes (take line self.old.lines.now))) }
     {
         if self
             .versions()
@@ -278,16 +281,17 @@ impl<'a> Judge<'a> {
         requires contents { AreUpTo line (history_of self.old.stores node number) }
         requires holding { AreUpTo line (holding_of self.old.stores node p) }
         requires changes { StandUpTo line (changes_of self.old.stores node p) }
-        requires counted { AreCounted self.old (nodes (take line self.old.lines.now)) }
+        requires counted { AreHoldersCounted self.old (nodes (take line self.old.lines.now)) }
         requires distinct { AreDistinct (nodes (take line self.old.lines.now)) }
         requires declared { IsTrue (has_node (nodes (take line self.old.lines.now)) node) }
         requires room { line < 2 ^ 64 - 1 }
         ensures stores { OnOk result (StoresVersion self.old self.new line node number p) }
-        ensures counted { OnOk result (AreCounted self.new (nodes (take line self.old.lines.now))) }
+        ensures counted { OnOk result
+            (AreHoldersCounted self.new (nodes (take line self.old.lines.now))) }
     {
         let held = self.holds_newest(node, number);
+        let holds = self.is_newest(number, Some(line));
         self.stores.store(self.alloc, line, node, number, p)?;
-        let holds = self.holds_newest(node, number);
         self.records.count(number, held, holds);
         Ok(())
     }
@@ -338,7 +342,7 @@ impl<'a> Judge<'a> {
     /// entry or that was applied in it since.
     pub fn fold(&self, view: ClusterKey, number: usize) -> Option<usize>
         ensures said { placed self.now.lines.now result
-            ≡ folded self.now (view_of self.now view) number }
+            ≡ folded self.now (kept_view self.now view) number }
         ensures reads { (i : ℕ) → (d : List ℕ) → (x : View) → KnowsView self.now i view x
             → record_digest self.now.records number ≡ Some d
             → placed self.now.lines.now result

@@ -3,7 +3,7 @@
 //! view, or changed at a member since it entered.
 ghost use Rattle.std.specs.Prelude.{◌≡◌, ℕ, ◌∷◌, [], length, option_to_list, IfErr, OnOk};
 ghost use Rattle.audit_core.specs.Emptied.{is_empty_for, written_list, stay_list, stay_in, moved_in, StopsEmpty, TriesEmpty};
-ghost use Rattle.audit_core.specs.Known.{node_at, view_of};
+ghost use Rattle.audit_core.specs.Known.{node_at, kept_view};
 ghost use Rattle.audit_core.specs.Trying.{KeepsKnown, written_item, changed_item};
 
 use crate::judge::Judge;
@@ -32,7 +32,7 @@ impl<'a> Judge<'a> {
     /// Tries the records that were applied in the view.
     fn try_written(&mut self, master: NodeId, view: ClusterKey) -> Result<(), Stop>
         ensures ok { OnOk result
-            (TriesEmpty master view (written_list (view_of self.old view)) self.old self.new) }
+            (TriesEmpty master view (written_list (kept_view self.old view)) self.old self.new) }
         ensures keeps { OnOk result (KeepsKnown self.old self.new) }
         ensures err { IfErr result (λ stop. StopsEmpty self.old stop) }
     {
@@ -44,7 +44,7 @@ impl<'a> Judge<'a> {
     }
 
     fn written_count(&self, view: ClusterKey) -> usize
-        ensures { result ≡ length (written_list (view_of self.now view)) }
+        ensures { result ≡ length (written_list (kept_view self.now view)) }
     {
         match self.view_of(view) {
             None => 0,
@@ -53,7 +53,7 @@ impl<'a> Judge<'a> {
     }
 
     fn written_at(&self, view: ClusterKey, i: usize) -> Option<usize>
-        ensures { result ≡ written_item (view_of self.now view) i }
+        ensures { result ≡ written_item (kept_view self.now view) i }
     {
         self.view_of(view)?.written.get(i).copied()
     }

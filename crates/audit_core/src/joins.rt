@@ -7,24 +7,23 @@
 ghost use Rattle.std.specs.Prelude.{◌≡◌, ◌↔◌, ◌<◌, ◌≤◌, ◌+◌, ◌-◌, ◌^◌, ℕ, true, false, nat_lt, slice_get, length, take, option_map, option_to_list, Some, IfErr, IfOk, OnOk, IsTrue};
 ghost use Rattle.std.specs.List.{list_all};
 ghost use Rattle.journal_lines.specs.declared.line.Line.TheVariants as lines;
-ghost use Rattle.audit_core.specs.Audits.{Comes, Takes, so_far};
-ghost use Rattle.audit_core.specs.Known.{view_at, view_of};
+ghost use Rattle.audit_core.specs.Audits.{Comes, AcceptsLine, so_far};
+ghost use Rattle.audit_core.specs.Known.{view_at, kept_view};
 ghost use Rattle.audit_core.specs.Sees.{IsBound};
-ghost use Rattle.audit_core.specs.Settling.{stand_at, open_from, is_master_in, is_settled_in, master_from, TakesMasterWrite};
+ghost use Rattle.audit_core.specs.Settling.{stand_at, is_master_in, is_settled_in, master_from};
 ghost use Rattle.audit_core.specs.Steps.{ChangesView};
 ghost use Rattle.audit_core.specs.Covering.{HaveNumber, IsCover, SeesCovers, cover_number, cover_of};
-ghost use Rattle.audit_core.specs.Trying.{SeesLines, SeesSettled, joins_at, covers_record, JoinsRecord, PartsRecord, TriesRecord, TriesPresent, TriesPartition, JoinsPartition, StopsRecord, StopsTrying, StopsAll, KeepsKnown, KeepsStands, NotesCover, TriesPartitions, settled_list, settled_item};
-ghost use Rattle.audit_core.specs.Ending.{EndsOne, StopsEnding, TriesDoubts, StopsDoubts, JoinsRecords, PartsOf, PartsOneOf};
+ghost use Rattle.audit_core.specs.Trying.{SeesLines, SeesSettled, joins_at, holds_just, covers_record, JoinsRecord, PartsRecord, TriesRecord, TriesPresent, TriesPartition, JoinsPartition, StopsRecord, StopsTrying, StopsAll, KeepsKnown, KeepsStands, NotesCover, TriesPartitions, settled_list, settled_item};
 ghost use Rattle.audit_core.specs.Verdicts.{StopsRightly};
-ghost use Rattle.audit_core.specs.Replicas.{TellsCover, TellsChanges, TellsNoMore, TellsNoMoreSince, LearnsCover, JoinsEntry, JoinsEntries, JoinsReplica, JoinsReplicas, StopsEntry, StopsEntries, StopsReplica, StopsReplicas, covers_change, holds_at_most, holds_change, holds_fold, written_from};
+ghost use Rattle.audit_core.specs.Replicas.{TellsCover, TellsChanges, TellsNoMore, TellsNoMoreSince, LearnsCover, JoinsEntry, JoinsEntries, JoinsReplica, JoinsEachReplica, StopsEntry, StopsEntries, StopsReplica, StopsReplicas, covers_change, holds_at_most, holds_change, holds_fold, written_from};
 ghost use Rattle.audit_core.specs.Shapes.{entry_in};
 ghost use Rattle.audit_state.specs.Stores.{changes_of, touched_of};
 ghost use Rattle.audit_state.specs.Written.{written_of};
-ghost use Rattle.audit_state.specs.OpenWrites.{SettlesPartition, Suspects, Distrusts, EndsWrite, IsToTry, OpensWrite, FinishesWrites};
+ghost use Rattle.audit_state.specs.OpenWrites.{SettlesPartition, Suspects, Distrusts};
 
 use crate::judge::Judge;
 use crate::verdict::{Law, Stop, demand};
-use audit_state::{Cover, Doubts, View, key_pair};
+use audit_state::{Cover, View, key_pair};
 use cluster_types::{ClusterKey, Member, Members, NoMemory, NodeId, PartitionId};
 
 impl<'a> Judge<'a> {
@@ -50,7 +49,7 @@ impl<'a> Judge<'a> {
 
     /// The list master.
     fn master(&self, view: ClusterKey, p: PartitionId) -> Option<NodeId>
-        ensures { result ≡ master_from (view_of self.now view) p }
+        ensures { result ≡ master_from (kept_view self.now view) p }
     {
         match self.view_of(view) {
             None => None,
@@ -170,10 +169,15 @@ impl<'a> Judge<'a> {
     fn joins_at(&self, node: NodeId, view: ClusterKey, number: usize, place: Option<usize>) -> bool
         ensures { result ≡ joins_at self.now view number place node }
     {
+        !self.is_in_view(node, view) || self.holds_just(node, number, place)
+    }
+
+    /// Whether the node holds the version at that place.
+    fn holds_just(&self, node: NodeId, number: usize, place: Option<usize>) -> bool
+        ensures { result ≡ holds_just self.now number place node }
+    {
         let held = self.content(node, number);
-        let versions = self.versions();
-        !self.is_in_view(node, view)
-            || (versions.at_most(held, place) && versions.at_most(place, held))
+        self.is_at_most(held, place) && self.is_at_most(place, held)
     }
 
     // ---- whole partitions
@@ -188,7 +192,7 @@ impl<'a> Judge<'a> {
     ) -> Result<(), Stop>
         requires comes { Comes self.old line (lines.Settled node view p) }
         requires room { line < 2 ^ 63 }
-        ensures ok { OnOk result (Takes self.old self.new line (lines.Settled node view p)) }
+        ensures ok { OnOk result (AcceptsLine self.old self.new line (lines.Settled node view p)) }
         ensures err { IfErr result
             (λ stop. StopsRightly stop (so_far self.old line) (lines.Settled node view p)) }
     {
@@ -203,7 +207,7 @@ impl<'a> Judge<'a> {
     }
 
     pub fn is_master(&self, view: ClusterKey, node: NodeId, p: PartitionId) -> bool
-        ensures { result ≡ is_master_in (view_of self.now view) node p }
+        ensures { result ≡ is_master_in (kept_view self.now view) node p }
     {
         match self.view_of(view) {
             None => false,
@@ -254,7 +258,7 @@ impl<'a> Judge<'a> {
         requires room { line < 2 ^ 63 }
         ensures ok { OnOk result
             (TriesPartitions (line + 1) view
-            (settled_list (view_of self.old view)) self.old self.new) }
+            (settled_list (kept_view self.old view)) self.old self.new) }
         ensures keeps { OnOk result (KeepsKnown self.old self.new) }
         ensures err { IfErr result (λ stop. StopsTrying self.old (line + 1) stop) }
     {
@@ -285,7 +289,7 @@ impl<'a> Judge<'a> {
     }
 
     fn settled_count(&self, view: ClusterKey) -> usize
-        ensures { result ≡ length (settled_list (view_of self.now view)) }
+        ensures { result ≡ length (settled_list (kept_view self.now view)) }
     {
         match self.view_of(view) {
             None => 0,
@@ -294,13 +298,13 @@ impl<'a> Judge<'a> {
     }
 
     fn settled_at(&self, view: ClusterKey, i: usize) -> Option<PartitionId>
-        ensures { result ≡ settled_item (view_of self.now view) i }
+        ensures { result ≡ settled_item (kept_view self.now view) i }
     {
         self.view_of(view)?.settled.get(i).copied()
     }
 
     pub fn members_of(&self, view: ClusterKey) -> Option<Members>
-        ensures { result ≡ option_map (λ x. x.members) (view_of self.now view) }
+        ensures { result ≡ option_map (λ x. x.members) (kept_view self.now view) }
     {
         Some(self.view_of(view)?.members)
     }
@@ -328,7 +332,7 @@ impl<'a> Judge<'a> {
         view: ClusterKey,
         p: PartitionId,
     ) -> Result<(), Stop>
-        ensures ok { OnOk result (JoinsReplicas now view list.now p self.old self.new) }
+        ensures ok { OnOk result (JoinsEachReplica now view list.now p self.old self.new) }
         ensures keeps { OnOk result (KeepsStands self.old self.new) }
         ensures err { IfErr result (λ stop. StopsReplicas now view list.now p self.old stop) }
     {
@@ -405,7 +409,7 @@ impl<'a> Judge<'a> {
     /// Whether the node holds the fold of each record that was applied in the view.
     fn holds_written(&self, view: ClusterKey, node: NodeId, p: PartitionId) -> bool
         ensures { result ≡ list_all (holds_fold self.now view node)
-            (written_from (view_of self.now view) p) }
+            (written_from (kept_view self.now view) p) }
     {
         match self.view_of(view) {
             None => true,
@@ -424,24 +428,21 @@ impl<'a> Judge<'a> {
     fn holds_fold(&self, view: ClusterKey, node: NodeId, number: usize) -> bool
         ensures { result ≡ holds_fold self.now view node number }
     {
-        if !self.holds_at_most(view, node, number) {
-            return false;
-        }
-        let (fold, held) = (self.fold(view, number), self.content(node, number));
-        self.versions().at_most(fold, held)
+        let (held, fold) = (self.content(node, number), self.fold(view, number));
+        self.is_at_most(held, fold) && self.is_at_most(fold, held)
     }
 
     fn holds_at_most(&self, view: ClusterKey, node: NodeId, number: usize) -> bool
         ensures { result ≡ holds_at_most self.now view node number }
     {
         let (held, fold) = (self.content(node, number), self.fold(view, number));
-        self.versions().at_most(held, fold)
+        self.is_at_most(held, fold)
     }
 
     /// Whether the node holds at most the fold of each record that changed since it entered the
     /// view.
     fn holds_no_more(&self, view: ClusterKey, node: NodeId, p: PartitionId) -> bool
-        ensures { TellsNoMoreSince self.now view node (entry_in (view_of self.now view) node)
+        ensures { TellsNoMoreSince self.now view node (entry_in (kept_view self.now view) node)
             (changes_of self.now.stores node p) result }
     {
         match self.entry(view, node) {
@@ -565,8 +566,10 @@ impl<'a> Judge<'a> {
     fn covers_record(&self, node: NodeId, member: NodeId, of: usize, number: usize) -> bool
         ensures { result ≡ covers_record self.now node member of number }
     {
-        let held = self.content_at(member, number, of);
-        self.versions().at_most(held, self.content(node, number))
+        match self.content_at(member, number, of) {
+            None => true,
+            Some(held) => self.is_at_most(Some(held), self.content(node, number)),
+        }
     }
 
     fn covers_touched(&self, node: NodeId, member: NodeId, of: usize, p: PartitionId) -> bool

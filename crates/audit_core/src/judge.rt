@@ -4,13 +4,13 @@ ghost use Rattle.std.specs.Option.{option_copied};
 ghost use Rattle.cluster_types.specs.declared.cluster_key.ClusterKey.{ClusterKey};
 ghost use Rattle.journal_readings.specs.Views.{some_key};
 ghost use Rattle.journal_readings.specs.Shape.{is_header};
-ghost use Rattle.audit_laws.specs.Fits.{Fits, FitsShape};
+ghost use Rattle.audit_laws.specs.Fits.{Fits};
 ghost use Rattle.audit_laws.specs.Lawful.{Lawful};
-ghost use Rattle.audit_core.specs.Audits.{Audits, Comes, Takes, is_idle, so_far};
+ghost use Rattle.audit_core.specs.Audits.{Audits, Comes, AcceptsLine, is_idle, so_far};
 ghost use Rattle.audit_core.specs.Frames.{KeepsStores};
-ghost use Rattle.audit_core.specs.Known.{node_at, view_at, view_of};
+ghost use Rattle.audit_core.specs.Known.{view_at, kept_view};
 ghost use Rattle.audit_core.specs.NextFrames.{NextFrame, finished_in};
-ghost use Rattle.audit_core.specs.Sees.{Sees, SeesState};
+ghost use Rattle.audit_core.specs.Sees.{SeesJournal};
 ghost use Rattle.audit_core.specs.Steps.{KnowsNothing, ReadsHeader, DeclaresNode, ChangesNode, HasClock, HasView, BeginsStay, HasFinished, OpensView, ChangesView, HasEntry, HasExchanged, EntersView};
 ghost use Rattle.audit_core.specs.Verdicts.{StopsRightly};
 
@@ -76,13 +76,13 @@ impl<'a> Judge<'a> {
 
     /// Takes the line at that place, unless it breaks a law.
     pub fn judge(&mut self, line: usize, l: &Line) -> Result<(), Stop>
-        requires sees { Sees self.old line self.old.lines.now }
+        requires sees { SeesJournal self.old line self.old.lines.now }
         requires lawful { Lawful (take line self.old.lines.now) }
         requires stands { slice_get self.old.lines.now line ≡ Some l.now }
         requires room { line < 2 ^ 63 }
         ensures lines { OnOk result (self.new.lines.now ≡ self.old.lines.now) }
         ensures fits { OnOk result (Fits (take line self.old.lines.now) l.now) }
-        ensures sees { OnOk result (Sees self.new (line + 1) self.old.lines.now) }
+        ensures sees { OnOk result (SeesJournal self.new (line + 1) self.old.lines.now) }
         ensures breaks { IfErr result
             (λ stop. StopsRightly stop (take line self.old.lines.now) l.now) }
     {
@@ -122,7 +122,7 @@ impl<'a> Judge<'a> {
     fn judge_event(&mut self, line: usize, l: &Line) -> Result<(), Stop>
         requires comes { Comes self.old line l.now }
         requires room { line < 2 ^ 63 }
-        ensures ok { OnOk result (Takes self.old self.new line l.now) }
+        ensures ok { OnOk result (AcceptsLine self.old self.new line l.now) }
         ensures err { IfErr result (λ stop. StopsRightly stop (so_far self.old line) l.now) }
     {
         match l {
@@ -178,7 +178,7 @@ impl<'a> Judge<'a> {
     /// Of this line nothing is asked, and it changes nothing.
     fn pass(&self, l: &Line)
         requires { is_idle l.now ≡ true }
-        ensures { (i : ℕ) → Comes self.now i l.now → Takes self.now self.now i l.now }
+        ensures { (i : ℕ) → Comes self.now i l.now → AcceptsLine self.now self.now i l.now }
     {}
 
     // ---- what lines show
@@ -187,7 +187,7 @@ impl<'a> Judge<'a> {
     fn read(&self, view: ClusterKey, digest: &Digest, found: &Option<Version>) -> Result<(), Stop>
         ensures ok { OnOk result
             ((i n t : ℕ) → Comes self.now i (Line.Value n view t digest.now found.now)
-            → Takes self.now self.now i (Line.Value n view t digest.now found.now)) }
+            → AcceptsLine self.now self.now i (Line.Value n view t digest.now found.now)) }
         ensures err { IfErr result
             (λ stop. (i n t : ℕ) → Comes self.now i (Line.Value n view t digest.now found.now)
             → StopsRightly stop (so_far self.now i) (Line.Value n view t digest.now found.now)) }
@@ -206,7 +206,7 @@ impl<'a> Judge<'a> {
         requires { (i : ℕ) × Audits self.old i }
         ensures ok { OnOk result
             ((i n : ℕ) → Comes self.old i (Line.Map n view p members.now acting)
-            → Takes self.old self.new i (Line.Map n view p members.now acting)) }
+            → AcceptsLine self.old self.new i (Line.Map n view p members.now acting)) }
         ensures err { IfErr result
             (λ stop. (i n : ℕ) → Comes self.old i (Line.Map n view p members.now acting)
             → StopsRightly stop (so_far self.old i) (Line.Map n view p members.now acting)) }
@@ -220,7 +220,7 @@ impl<'a> Judge<'a> {
     /// The node's clock stands at the time.
     fn set_clock(&mut self, node: NodeId, time: u64)
         ensures { (i : ℕ) → Comes self.old i (Line.Clock node time)
-            → Takes self.old self.new i (Line.Clock node time) }
+            → AcceptsLine self.old self.new i (Line.Clock node time) }
     {
         self.note_clock(node, time);
     }
@@ -236,7 +236,7 @@ impl<'a> Judge<'a> {
     /// The node has stopped.
     fn leave(&mut self, node: NodeId)
         ensures { (i : ℕ) → Comes self.old i (Line.Stop node)
-            → Takes self.old self.new i (Line.Stop node) }
+            → AcceptsLine self.old self.new i (Line.Stop node) }
     {
         self.note_stop(node);
     }
@@ -274,7 +274,7 @@ impl<'a> Judge<'a> {
         requires { (k : ClusterKey) × Comes self.old line (Line.Learn node k p) }
         ensures { OnOk result
             ((k : ClusterKey) → Comes self.old line (Line.Learn node k p)
-            → Takes self.old self.new line (Line.Learn node k p)) }
+            → AcceptsLine self.old self.new line (Line.Learn node k p)) }
     {
         self.mark(line, node, p, Some(line))
     }
@@ -285,7 +285,7 @@ impl<'a> Judge<'a> {
         requires room { line < 2 ^ 63 }
         ensures ok { OnOk result
             ((k : ClusterKey) → Comes self.old line (Line.Drop node k p)
-            → Takes self.old self.new line (Line.Drop node k p)) }
+            → AcceptsLine self.old self.new line (Line.Drop node k p)) }
         ensures err { IfErr result
             (λ stop. (k : ClusterKey) → Comes self.old line (Line.Drop node k p)
             → StopsRightly stop (so_far self.old line) (Line.Drop node k p)) }
@@ -301,7 +301,7 @@ impl<'a> Judge<'a> {
 
     /// The view of the key.
     pub fn view_of(&self, key: ClusterKey) -> Option<&View>
-        ensures { option_copied result ≡ view_of self.now key }
+        ensures { option_copied result ≡ kept_view self.now key }
     {
         self.views.get(&key_pair(key))
     }
@@ -315,7 +315,8 @@ impl<'a> Judge<'a> {
     ) -> Result<(), Stop>
         requires comes { Comes self.old line (Line.Enter node key members) }
         requires room { line < 2 ^ 63 }
-        ensures ok { OnOk result (Takes self.old self.new line (Line.Enter node key members)) }
+        ensures ok { OnOk result
+            (AcceptsLine self.old self.new line (Line.Enter node key members)) }
         ensures err { IfErr result
             (λ stop. StopsRightly stop (so_far self.old line) (Line.Enter node key members)) }
     {
@@ -373,7 +374,7 @@ impl<'a> Judge<'a> {
     fn finish_exchange(&mut self, line: usize, node: NodeId, key: ClusterKey) -> Result<(), Stop>
         requires comes { Comes self.old line (Line.Exchanged node key) }
         requires room { line < 2 ^ 63 }
-        ensures ok { OnOk result (Takes self.old self.new line (Line.Exchanged node key)) }
+        ensures ok { OnOk result (AcceptsLine self.old self.new line (Line.Exchanged node key)) }
         ensures err { IfErr result
             (λ stop. StopsRightly stop (so_far self.old line) (Line.Exchanged node key)) }
     {
@@ -407,7 +408,7 @@ impl<'a> Judge<'a> {
     }
 
     pub fn has_exchanged(&self, key: ClusterKey, node: NodeId) -> bool
-        ensures { result ≡ finished_in (view_of self.now key) node }
+        ensures { result ≡ finished_in (kept_view self.now key) node }
     {
         match self.view_of(key) {
             None => false,

@@ -11,7 +11,7 @@ ghost use Rattle.audit_state.specs.Places.{placed_version, placed, is_at_most};
 ghost use Rattle.audit_state.specs.Records.{newest_of, record_digest};
 ghost use Rattle.audit_core.specs.Stored.{Knows};
 ghost use Rattle.audit_state.specs.Stores.{held_of};
-ghost use Rattle.audit_core.specs.Holders.{content_now, holds_newest, is_held_elsewhere};
+ghost use Rattle.audit_core.specs.Holders.{content_now, holds_newest, holds_top, is_held_elsewhere};
 
 use crate::judge::Judge;
 use cluster_types::{NodeId, PartitionId};
@@ -41,9 +41,30 @@ impl<'a> Judge<'a> {
     pub fn holds_newest(&self, node: NodeId, number: usize) -> bool
         ensures { result ≡ holds_newest self.now node number }
     {
+        self.is_newest(number, self.content(node, number))
+    }
+
+    /// Whether who holds the version at that place holds the newest of the record.
+    pub fn is_newest(&self, number: usize, held: Option<usize>) -> bool
+        ensures { result ≡ holds_top self.now.by
+            (placed self.now.lines.now (newest_of self.now.records number))
+            (placed self.now.lines.now held) }
+    {
         let newest = self.records.newest(number);
         let versions = self.versions();
-        versions.has(newest) && versions.at_most(newest, self.content(node, number))
+        versions.has(newest) && versions.at_most(newest, held)
+    }
+
+    /// Whether the version at the first place is at most that at the second; nothing is below every
+    /// version.
+    pub fn is_at_most(&self, a: Option<usize>, b: Option<usize>) -> bool
+        ensures { result ≡ is_at_most self.now.by (placed self.now.lines.now a)
+            (placed self.now.lines.now b) }
+    {
+        if a == b {
+            return true;
+        }
+        self.versions().at_most(a, b)
     }
 
     /// Whether another node holds the newest version of each record that the node has of the

@@ -1,15 +1,14 @@
 //! The list and the acting master that a `map` line is to show.
-ghost use Rattle.std.specs.Prelude.{◌≡◌, ◌↔◌, ◌==◌, ℕ, true, Some, IfOk, OnOk, IsTrue, find, is_some, map, take};
+ghost use Rattle.std.specs.Prelude.{◌≡◌, ◌↔◌, ◌==◌, ℕ, true, Some, IfOk, OnOk, IsTrue, find, is_some, take};
 ghost use Rattle.std.specs.List.{list_any, list_all};
 ghost use Rattle.std.specs.Option.{option_copied};
-ghost use Rattle.cluster_types.specs.Members.{role_of};
 ghost use Rattle.partition_lists.specs.Lists.{list};
 ghost use Rattle.journal_readings.specs.Settings.{factor_of};
 ghost use Rattle.journal_lines.specs.declared.line.Line.TheVariants as line;
 ghost use Rattle.journal_readings.specs.Claims.{ShowsMap};
 ghost use Rattle.journal_readings.specs.Maps.{acting, has_key_above, listed_members, with_roles};
 ghost use Rattle.audit_core.specs.Audits.{Audits, KeepsAll, entered_whole, so_far};
-ghost use Rattle.audit_core.specs.Known.{view_of};
+ghost use Rattle.audit_core.specs.Known.{kept_view};
 ghost use Rattle.audit_state.specs.Views.{entry_line};
 ghost use Rattle.audit_core.specs.Shapes.{entry_in};
 ghost use Rattle.audit_core.specs.Wholes as wholes;
@@ -37,7 +36,7 @@ impl<'a> Judge<'a> {
     ) -> Result<bool, NoMemory>
         requires audits { (i : ℕ) × Audits self.old i }
         ensures shown { IfOk result
-            (λ shown. (i n : ℕ) → Audits self.old i → is_some (view_of self.old key) ≡ true
+            (λ shown. (i n : ℕ) → Audits self.old i → is_some (kept_view self.old key) ≡ true
             → IsTrue shown ↔ ShowsMap (so_far self.old i) (line.Map n key p members.now acting)) }
         ensures keeps { OnOk result (KeepsAll self.old self.new) }
         ensures audits { OnOk result ((i : ℕ) → Audits self.old i → Audits self.new i) }
@@ -50,7 +49,7 @@ impl<'a> Judge<'a> {
     }
 
     fn shows_list(&self, key: ClusterKey, p: PartitionId, shown: &[Member]) -> bool
-        ensures { (i : ℕ) → Audits self.now i → is_some (view_of self.now key) ≡ true
+        ensures { (i : ℕ) → Audits self.now i → is_some (kept_view self.now key) ≡ true
             → IsTrue result ↔ (shown.now ≡ listed_members key p (so_far self.now i)) }
     {
         match self.view_of(key) {
@@ -64,7 +63,7 @@ impl<'a> Judge<'a> {
     fn acting(&mut self, view: ClusterKey, p: PartitionId) -> Result<Option<NodeId>, NoMemory>
         requires audits { (i : ℕ) × Audits self.old i }
         ensures acting { IfOk result
-            (λ found. (i : ℕ) → Audits self.old i → is_some (view_of self.old view) ≡ true
+            (λ found. (i : ℕ) → Audits self.old i → is_some (kept_view self.old view) ≡ true
             → found ≡ Some (acting (factor_of (so_far self.old i)) view p (so_far self.old i))) }
         ensures keeps { OnOk result (KeepsAll self.old self.new) }
         ensures audits { OnOk result ((i : ℕ) → Audits self.old i → Audits self.new i) }
@@ -124,7 +123,7 @@ impl<'a> Judge<'a> {
 
     /// The place of the member's `enter` line.
     pub fn entry(&self, view: ClusterKey, node: NodeId) -> Option<usize>
-        ensures { result ≡ entry_in (view_of self.now view) node }
+        ensures { result ≡ entry_in (kept_view self.now view) node }
     {
         self.view_of(view)?.entry_of(node)
     }
@@ -139,14 +138,14 @@ impl<'a> Judge<'a> {
     /// Whether a member's copy is whole from the start in a view that all have entered: no member
     /// had a record, and it is a replica.
     pub fn begins_whole(&self, view: ClusterKey, node: NodeId, p: PartitionId) -> bool
-        ensures { result ≡ wholes.begins_whole self.now view node p }
+        ensures { result ≡ wholes.is_whole_at_start self.now view node p }
     {
         self.is_empty_everywhere(view, p) && self.is_replica(view, node, p)
     }
 
     /// Whether every member has entered the view, and none had a record of the partition as it did.
     pub fn is_empty_everywhere(&self, view: ClusterKey, p: PartitionId) -> bool
-        ensures { result ≡ wholes.empty_in self.now p (view_of self.now view) }
+        ensures { result ≡ wholes.empty_in self.now p (kept_view self.now view) }
     {
         match self.view_of(view) {
             None => true,
@@ -175,7 +174,7 @@ impl<'a> Judge<'a> {
 
     /// Whether the member is a replica of the partition.
     pub fn is_replica(&self, view: ClusterKey, node: NodeId, p: PartitionId) -> bool
-        ensures { result ≡ wholes.replica_in self.now.factor node p (view_of self.now view) }
+        ensures { result ≡ wholes.replica_in self.now.factor node p (kept_view self.now view) }
     {
         match self.view_of(view) {
             None => false,

@@ -1,9 +1,9 @@
 //! What the shape of a journal asks of a line.
-ghost use Rattle.std.specs.Prelude.{◌≡◌, ◌==◌, ◌||◌, ◌&&◌, not, IsTrue};
+ghost use Rattle.std.specs.Prelude.{◌≡◌, ◌==◌, ◌||◌, ◌&&◌, IsTrue};
 ghost use Rattle.std.specs.List.{list_any, list_all, concat};
 ghost use Rattle.cluster_types.specs.Members.{AreMembers, ids_of};
 ghost use Rattle.journal_readings.specs.Shape.{EntersFalling, end_nodes, is_header, refusal_nodes, reply_nodes, scan_refusal_nodes};
-ghost use Rattle.audit_core.specs.Known.{is_declared, view_of};
+ghost use Rattle.audit_core.specs.Known.{is_declared, kept_view};
 ghost use Rattle.audit_core.specs.Shapes as shapes;
 
 use crate::judge::Judge;
@@ -27,13 +27,13 @@ impl<'a> Judge<'a> {
 
     /// No line but those of a header stands before one of a header.
     fn follows_header(&self, l: &Line) -> bool
-        ensures { result ≡ shapes.follows_header self.now l.now }
+        ensures { result ≡ shapes.header_goes_on self.now l.now }
     {
         !self.begun || !is_header(l)
     }
 
     fn declares_new(&self, l: &Line) -> bool
-        ensures { result ≡ shapes.declares_new self.now l.now }
+        ensures { result ≡ shapes.declares_unknown_node self.now l.now }
     {
         match l {
             Line::Node { node, .. } => !self.is_declared(*node),
@@ -113,7 +113,7 @@ impl<'a> Judge<'a> {
     /// Whether every node that the line names is declared by now.
     #[tactic(auto, unfolding(journal_readings::specs::Shape::named_nodes))]
     fn names_declared(&self, l: &Line) -> bool
-        ensures { result ≡ shapes.names_declared self.now l.now }
+        ensures { result ≡ shapes.names_known_nodes self.now l.now }
     {
         match l {
             Line::Clock { node, .. } => self.is_declared(*node),
@@ -220,7 +220,7 @@ impl<'a> Judge<'a> {
     }
 
     fn agrees_on_members(&self, key: ClusterKey, members: &Members) -> bool
-        ensures { result ≡ shapes.agrees_with (view_of self.now key) members.now }
+        ensures { result ≡ shapes.agrees_with (kept_view self.now key) members.now }
     {
         match self.view_of(key) {
             None => true,
@@ -229,7 +229,7 @@ impl<'a> Judge<'a> {
     }
 
     pub fn has_entered(&self, key: ClusterKey, node: NodeId) -> bool
-        ensures { result ≡ shapes.has_entered self.now key node }
+        ensures { result ≡ shapes.has_entry self.now key node }
     {
         match self.view_of(key) {
             None => false,
@@ -239,7 +239,7 @@ impl<'a> Judge<'a> {
 
     /// Whether a line of a node in its view names a view that the node has entered.
     fn names_entered(&self, l: &Line) -> bool
-        ensures { result ≡ shapes.names_entered self.now l.now }
+        ensures { result ≡ shapes.names_known_entry self.now l.now }
     {
         match l {
             Line::Exchanged { node, key } => self.has_entered(*key, *node),
@@ -257,7 +257,7 @@ impl<'a> Judge<'a> {
     }
 
     fn have_all_entered(&self, key: ClusterKey) -> bool
-        ensures { result ≡ shapes.all_entered_in (view_of self.now key) }
+        ensures { result ≡ shapes.all_entered_in (kept_view self.now key) }
     {
         match self.view_of(key) {
             None => true,
@@ -267,7 +267,7 @@ impl<'a> Judge<'a> {
 
     /// Whether a node finishes exchange, or shows a map, where all members have entered.
     fn follows_entries(&self, l: &Line) -> bool
-        ensures { result ≡ shapes.follows_entries self.now l.now }
+        ensures { result ≡ shapes.follows_every_entry self.now l.now }
     {
         match l {
             Line::Exchanged { key, .. } => self.have_all_entered(*key),

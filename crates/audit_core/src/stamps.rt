@@ -4,7 +4,7 @@ ghost use Rattle.audit_state.specs.Histories.{AreUpTo};
 ghost use Rattle.audit_core.specs.Known.{node_at, stamps_at};
 ghost use Rattle.audit_state.specs.Stamps.{stamped_key, stamping_key_at, stamp_marks, judged_of, wholes_of};
 ghost use Rattle.audit_core.specs.Steps.{ChangesStamps, SameStamps, HasMark, HasJudged};
-ghost use Rattle.audit_core.specs.Wholes.{AreRising, JudgesRight, JudgesSome, exchanged_by, makes_whole};
+ghost use Rattle.audit_core.specs.Wholes.{AreAscending, JudgesRight, JudgesSome, exchanged_by, makes_whole};
 
 use crate::judge::Judge;
 use audit_state::{Stamps, key_at};
@@ -65,7 +65,7 @@ impl<'a> Judge<'a> {
     /// Judges the `exchanged` lines of the node that weren't judged yet: whether each makes its
     /// copy of the partition whole.
     pub fn judge_exchanged(&mut self, node: NodeId, p: PartitionId) -> Result<(), NoMemory>
-        requires rises { AreRising (exchanged_by (node_at self.old node)) }
+        requires rises { AreAscending (exchanged_by (node_at self.old node)) }
         requires right { JudgesRight self.old node p (stamps_at self.old node p) }
         ensures { OnOk result
             (JudgesSome node p (length (exchanged_by (node_at self.old node))) self.old self.new) }
@@ -79,7 +79,7 @@ impl<'a> Judge<'a> {
 
     /// Judges the node's `exchanged` line of this number, from 0: those before it are judged.
     fn judge_next(&mut self, i: usize, node: NodeId, p: PartitionId) -> Result<(), NoMemory>
-        requires rises { AreRising (exchanged_by (node_at self.old node)) }
+        requires rises { AreAscending (exchanged_by (node_at self.old node)) }
         requires right { JudgesRight self.old node p (stamps_at self.old node p) }
         requires judged { judged_of (stamps_at self.old node p) ≡ i }
         requires there { is_some (stamps_at self.old node p) ≡ true }

@@ -1,28 +1,21 @@
 //! The writes of a view that are open, and what is tried as the last of a partition ends.
 //!
 //! A write of the list master is open from its `apply` line to the `done` line of its transaction.
-ghost use Rattle.std.specs.Prelude.{◌≡◌, ◌↔◌, ◌<◌, ◌≤◌, ◌+◌, ◌-◌, ◌^◌, ℕ, true, false, nat_lt, slice_get, length, take, option_map, option_to_list, Some, IfErr, IfOk, OnOk, IsTrue};
-ghost use Rattle.std.specs.List.{list_all};
+ghost use Rattle.std.specs.Prelude.{◌≡◌, ◌<◌, ◌+◌, ◌-◌, ◌^◌, ℕ, Some, IfErr, IfOk, OnOk};
 ghost use Rattle.journal_lines.specs.declared.line.Line.TheVariants as lines;
-ghost use Rattle.audit_core.specs.Audits.{Comes, Takes, so_far};
-ghost use Rattle.audit_core.specs.Known.{view_at, view_of};
-ghost use Rattle.audit_core.specs.Sees.{IsBound};
-ghost use Rattle.audit_core.specs.Settling.{stand_at, open_from, is_master_in, is_settled_in, master_from, TakesMasterWrite};
+ghost use Rattle.audit_core.specs.Audits.{Comes, AcceptsLine, so_far};
+ghost use Rattle.audit_core.specs.Known.{kept_view};
+ghost use Rattle.audit_core.specs.Settling.{stand_at, open_from, TakesMasterWrite};
 ghost use Rattle.audit_core.specs.Steps.{ChangesView};
-ghost use Rattle.audit_core.specs.Covering.{HaveNumber, IsCover, SeesCovers, cover_number, cover_of};
-ghost use Rattle.audit_core.specs.Trying.{SeesLines, SeesSettled, joins_at, covers_record, JoinsRecord, PartsRecord, TriesRecord, TriesPresent, TriesPartition, JoinsPartition, StopsRecord, StopsTrying, StopsAll, KeepsKnown, KeepsStands, NotesCover, TriesPartitions, settled_list, settled_item};
+ghost use Rattle.audit_core.specs.Trying.{JoinsRecord, KeepsKnown, KeepsStands};
 ghost use Rattle.audit_core.specs.Ending.{EndsOne, StopsEnding, TriesDoubts, StopsDoubts, JoinsRecords, PartsOf, PartsOneOf};
 ghost use Rattle.audit_core.specs.Verdicts.{StopsRightly};
-ghost use Rattle.audit_core.specs.Replicas.{TellsCover, TellsChanges, TellsNoMore, TellsNoMoreSince, LearnsCover, JoinsEntry, JoinsEntries, JoinsReplica, JoinsReplicas, StopsEntry, StopsEntries, StopsReplica, StopsReplicas, covers_change, holds_at_most, holds_change, holds_fold, written_from};
-ghost use Rattle.audit_core.specs.Shapes.{entry_in};
-ghost use Rattle.audit_state.specs.Stores.{changes_of, touched_of};
-ghost use Rattle.audit_state.specs.Written.{written_of};
-ghost use Rattle.audit_state.specs.OpenWrites.{SettlesPartition, Suspects, Distrusts, EndsWrite, IsToTry, OpensWrite, FinishesWrites};
+ghost use Rattle.audit_state.specs.OpenWrites.{EndsWrite, IsToTry, OpensWrite, FinishesWrites};
 
 use crate::judge::Judge;
-use crate::verdict::{Law, Stop, demand};
-use audit_state::{Cover, Doubts, View, key_pair};
-use cluster_types::{ClusterKey, Member, Members, NoMemory, NodeId, PartitionId};
+use crate::verdict::{Law, Stop};
+use audit_state::{Doubts, key_pair};
+use cluster_types::{ClusterKey, NoMemory, NodeId, PartitionId};
 
 impl<'a> Judge<'a> {
     /// The list master's write is open, unless its `done` line stands already.
@@ -69,7 +62,8 @@ impl<'a> Judge<'a> {
     ) -> Result<(), Stop>
         requires comes { Comes self.old line (lines.Done node view transaction) }
         requires room { line < 2 ^ 63 }
-        ensures ok { OnOk result (Takes self.old self.new line (lines.Done node view transaction)) }
+        ensures ok { OnOk result
+            (AcceptsLine self.old self.new line (lines.Done node view transaction)) }
         ensures err { IfErr result
             (λ stop. StopsRightly stop (so_far self.old line) (lines.Done node view transaction)) }
     {
@@ -88,7 +82,7 @@ impl<'a> Judge<'a> {
         transaction: u32,
     ) -> Result<Vec<PartitionId>, NoMemory>
         ensures ended { IfOk result
-            (λ ended. ended.items ≡ open_from (view_of self.old view) node transaction) }
+            (λ ended. ended.items ≡ open_from (kept_view self.old view) node transaction) }
         ensures finishes { OnOk result
             (ChangesView (FinishesWrites node transaction) view self.old self.new) }
     {

@@ -9,6 +9,7 @@ use Rattle.conflict_order.specs.Order.{version_cmp, is_newer}
 use Rattle.conflict_order.specs.Join.{join, AtMost}
 use Rattle.conflict_order.proofs.OrderLaws.{AtMost_refl, AtMost_antisymm, above_AtMost}
 use Rattle.conflict_order.proofs.JoinLaws.{join_of_AtMost, join_comm}
+use Rattle.cluster_types.proofs.BoolFacts.{and_left, and_right, and_both}
 use Rattle.audit_state.specs.Places.{is_at_most}
 
 pub newer_is : (by : Policy) (v : Version) (o : Option Version) → not (is_newer by v o) ≡ is_at_most by (Some v) o
@@ -36,18 +37,6 @@ above by a b e = above_AtMost (go (is_gt (option_cmp (version_cmp by) a b)) e)
     go : (c : Bool) → not c ≡ false → c ≡ true
     go true q = refl
     go false q = cc
-
-and_left : (a b : Bool) → (a && b) ≡ true → a ≡ true
-and_left true b e = refl
-and_left false b e = e
-
-and_right : (a b : Bool) → (a && b) ≡ true → b ≡ true
-and_right true b e = e
-and_right false b e = cc
-
-and_both : (a b : Bool) → a ≡ true → b ≡ true → (a && b) ≡ true
-and_both true b e f = f
-and_both false b e f = e
 
 pub equal_is : (by : Policy) (a b : Option Version) → IsTrue (is_at_most by a b && is_at_most by b a) ↔ (a ≡ b)
 equal_is by a b = (

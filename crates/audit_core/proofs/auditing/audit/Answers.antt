@@ -4,7 +4,7 @@ use Rattle.std.proofs.lemmas.Result.{IfOk-weaker}
 use Rattle.journal_lines.specs.declared.line.Line.{Line}
 use Rattle.audit_laws.specs.Fits.{Fits}
 use Rattle.audit_laws.proofs.Steps.{none_lawful}
-use Rattle.audit_core.specs.Sees.{Sees}
+use Rattle.audit_core.specs.Sees.{SeesJournal}
 use Rattle.audit_core.specs.Verdicts.{IsAnswer, IsVerdict, StopsRightly}
 use Rattle.audit_core.proofs.BareLaws.{sees_nothing}
 use Rattle.audit_core.proofs.VerdictLaws.{answered, lawful_next, line_got}
@@ -37,5 +37,5 @@ loop-i-preserved c =
     record {
       lines = c.in-Ok.ensures.lines ∙ c.loop-i.invariant.lines;
       lawful = lawful_next c.as_slice-lines.result.now c.loop-i.i c.index-lines-i.result c.loop-i.invariant.lawful stands (subst (λ ls. Fits (take c.loop-i.i ls) c.index-lines-i.result) c.loop-i.invariant.lines c.in-Ok.ensures.fits);
-      sees = subst (λ ls. Sees c.judge.new.self (c.loop-i.i + 1) ls) c.loop-i.invariant.lines c.in-Ok.ensures.sees;
+      sees = subst (λ ls. SeesJournal c.judge.new.self (c.loop-i.i + 1) ls) c.loop-i.invariant.lines c.in-Ok.ensures.sees;
     }

@@ -3,7 +3,7 @@ use Rattle.std.specs.Prelude.{IsSome}
 use Rattle.std.specs.HashMap as hash
 use Rattle.std.proofs.lemmas.Result.{on_ok_weaker}
 use Rattle.audit_state.specs.declared.views.View.{View}
-use Rattle.audit_core.specs.Known.{view_of}
+use Rattle.audit_core.specs.Known.{kept_view}
 use Rattle.audit_state.specs.Keys.{pair_eq}
 use Rattle.audit_state.specs.OpenWrites.{Distrusts}
 use Rattle.audit_core.proofs.ViewLaws.{changed}
@@ -11,7 +11,7 @@ use Rattle.audit_core.proofs.judge.Judge.distrust.Goals as goal
 
 pub returns-in-Some : goal.returns-in-Some
 returns-in-Some c =
-    let there : view_of c.args.self.now c.args.view ≡ Some c.in-Some.view.now =
+    let there : kept_view c.args.self.now c.args.view ≡ Some c.in-Some.view.now =
     subst (λ (q : ℕ × ℕ). hash.get pair_eq c.args.self.now.views q ≡ Some c.in-Some.view.now) c.key_pair.ensures (sym c.in-Some.ensures.value) in
     on_ok_weaker c.distrust.result
     (λ done. changed (Distrusts c.args.p) c.args.view c.args.self.now _ c.in-Some.view.now c.distrust.new.self refl there

@@ -1,7 +1,7 @@
 use Rattle.std.proofs.Common.{◌≡◌, ℕ, List, ◌∙◌, sym, ap, subst, take}
 use Rattle.journal_readings.specs.Settings.{nodes}
 use Rattle.audit_state.specs.declared.stores.Stores.{Stores}
-use Rattle.audit_core.specs.Holders.{AreCounted}
+use Rattle.audit_core.specs.Holders.{AreHoldersCounted}
 use Rattle.audit_core.specs.Dropping.{RemovesAll}
 use Rattle.audit_core.proofs.DroppedLaws.{drop_seen}
 use Rattle.audit_core.proofs.judge.Judge.drop_held.Goals as goal
@@ -9,7 +9,7 @@ use Rattle.audit_core.proofs.judge.Judge.drop_held.Goals as goal
 pub remove_all-requires-clause-counted : goal.remove_all-requires-clause-counted
 remove_all-requires-clause-counted c =
     let same : record c.args.self.now.stores { contents = c.take_held.new.self.contents } ≡ c.args.self.now.stores = ap (λ (m : _). record c.args.self.now.stores { contents = m }) c.in_ok-dropped.ensures.contents in
-    subst (λ (st : Stores). AreCounted (record c.args.self.now { stores = st }) (nodes (take c.args.line c.args.self.now.lines.now))) (sym same) c.requires.knows.stores.records.holders
+    subst (λ (st : Stores). AreHoldersCounted (record c.args.self.now { stores = st }) (nodes (take c.args.line c.args.self.now.lines.now))) (sym same) c.requires.knows.stores.records.holders
 
 pub returns-clause-stores : goal.returns-clause-stores
 returns-clause-stores c =

@@ -3,7 +3,7 @@ use Rattle.std.specs.Prelude.{IsSome}
 use Rattle.std.specs.HashMap as hash
 use Rattle.std.proofs.lemmas.Result.{on_ok_weaker}
 use Rattle.audit_state.specs.declared.views.View.{View}
-use Rattle.audit_core.specs.Known.{view_of}
+use Rattle.audit_core.specs.Known.{kept_view}
 use Rattle.audit_core.specs.Settling.{stand_from}
 use Rattle.audit_state.specs.Keys.{pair_eq}
 use Rattle.audit_state.specs.OpenWrites.{OpensWrite}
@@ -12,7 +12,7 @@ use Rattle.audit_core.proofs.judge.Judge.open_in_view.Goals as goal
 
 pub returns-in-Some : goal.returns-in-Some
 returns-in-Some c =
-    let there : view_of c.args.self.now c.args.view ≡ Some c.in-Some.view.now =
+    let there : kept_view c.args.self.now c.args.view ≡ Some c.in-Some.view.now =
     subst (λ (q : ℕ × ℕ). hash.get pair_eq c.args.self.now.views q ≡ Some c.in-Some.view.now) c.key_pair.ensures (sym c.in-Some.ensures.value) in
     on_ok_weaker c.open_write.result
     (λ done. changed (OpensWrite c.args.node c.args.transaction c.args.p) c.args.view c.args.self.now _ c.in-Some.view.now c.open_write.new.self refl there
@@ -23,6 +23,6 @@ returns-in-Some c =
 
 pub open_write-requires : goal.open_write-requires
 open_write-requires c =
-    let there : view_of c.args.self.now c.args.view ≡ Some c.in-Some.view.now =
+    let there : kept_view c.args.self.now c.args.view ≡ Some c.in-Some.view.now =
     subst (λ (q : ℕ × ℕ). hash.get pair_eq c.args.self.now.views q ≡ Some c.in-Some.view.now) c.key_pair.ensures (sym c.in-Some.ensures.value) in
     record { room = subst (λ (o : Option View). (stand_from o c.args.p).open_writes < 2 ^ 64 - 1) there c.requires.room }

@@ -1,7 +1,7 @@
 use Rattle.std.proofs.Common.{◌≡◌, ◌+◌, ℕ, List, sym, ap₂, subst, ◌∙◌, take}
 use Rattle.std.proofs.lemmas.Result.{on_ok_weaker}
 use Rattle.partition_lists.specs.Lists.{list}
-use Rattle.audit_core.specs.Replicas.{JoinsReplicas, StopsReplicas}
+use Rattle.audit_core.specs.Replicas.{JoinsEachReplica, StopsReplicas}
 use Rattle.audit_core.proofs.PassLaws.{if_err_then}
 use Rattle.audit_core.proofs.TrialLaws.{partition_none, partition_joins, partition_stops}
 use Rattle.audit_core.proofs.judge.Judge.try_all.Goals as goal
@@ -15,7 +15,7 @@ returns-clause-ok c =
     c.first_of-replicas.ensures ∙ ap₂ (λ (a : ℕ) (ns : List ℕ). take a ns) c.from.ensures (c.as_slice.ensures.same ∙ c.list-list.ensures) in
     on_ok_weaker c.try_replicas.result
     (λ joins. partition_joins (c.args.line + 1) c.args.view c.args.p c.in-Some.known.now c.args.self.now c.try_replicas.new.self (sym c.in-Some.ensures)
-    (subst (λ (ns : List ℕ). JoinsReplicas (c.args.line + 1) c.args.view ns c.args.p c.args.self.now c.try_replicas.new.self) same joins))
+    (subst (λ (ns : List ℕ). JoinsEachReplica (c.args.line + 1) c.args.view ns c.args.p c.args.self.now c.try_replicas.new.self) same joins))
     c.try_replicas.ensures.ok
 
 pub returns-clause-err : goal.returns-clause-err

@@ -1,6 +1,6 @@
 use Rattle.std.proofs.Common.{refl, arith}
 use Rattle.audit_core.specs.Emptied.{written_list}
-use Rattle.audit_core.specs.Known.{view_of}
+use Rattle.audit_core.specs.Known.{kept_view}
 use Rattle.audit_core.proofs.EmptyLaws.{emptying_none, emptying_stops, member_next, members_first, members_done, no_members}
 use Rattle.audit_core.proofs.TouchLaws.{err_then}
 use Rattle.audit_core.proofs.judge.Judge.try_empty.Goals as goal
@@ -15,10 +15,10 @@ returns-in_default-clause-ok c = (no_members c.args.master c.args.view c.args.se
     (record { tries = c.in_ok-try_written.ensures.ok; keeps = c.in_ok-try_written.ensures.keeps })).tries
 
 pub loop-m-init : goal.loop-m-init
-loop-m-init c = members_first c.args.master c.args.view (written_list (view_of c.args.self.now c.args.view)) _ c.args.self.now c.try_written.new.self refl (record { tries = c.in_ok-try_written.ensures.ok; keeps = c.in_ok-try_written.ensures.keeps })
+loop-m-init c = members_first c.args.master c.args.view (written_list (kept_view c.args.self.now c.args.view)) _ c.args.self.now c.try_written.new.self refl (record { tries = c.in_ok-try_written.ensures.ok; keeps = c.in_ok-try_written.ensures.keeps })
 
 pub loop-m-preserved : goal.loop-m-preserved
-loop-m-preserved c = member_next c.args.master c.args.view (written_list (view_of c.args.self.now c.args.view)) c.as_slice-m-items.result.now c.loop-m.m-index c.m-item.result c.args.self.now c.loop-m.self c.try_member.new.self
+loop-m-preserved c = member_next c.args.master c.args.view (written_list (kept_view c.args.self.now c.args.view)) c.as_slice-m-items.result.now c.loop-m.m-index c.m-item.result c.args.self.now c.loop-m.self c.try_member.new.self
     (omega (arith, c.loop-m-test.true)) c.m-item.is c.loop-m.invariant c.in_ok-try_member.ensures.ok c.in_ok-try_member.ensures.keeps
 
 pub returns-in_err-try_member-clause-err : goal.returns-in_err-try_member-clause-err
