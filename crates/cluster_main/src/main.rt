@@ -2,10 +2,10 @@
 #![tactic(auto)]
 
 use byte_ends::{StdSink, StdSource};
-use cluster_top::{Status, code, fault_text, run};
+use cluster_top::{Outcome, Status, code, fault_text, run};
 use std::io::{ErrorKind, Write};
 use std::process::ExitCode;
-use std::{env, io};
+use std::{env, io, mem};
 
 /// The words after the program's name.
 fn words(rt: &HostRuntime) -> io::Result<Vec<String>> {
@@ -22,7 +22,15 @@ fn status(rt: &HostRuntime) -> Status {
         Ok(words) => {
             let mut source = StdSource::new(rt.reader());
             let mut sink = StdSink::new(io::writer(rt));
-            run(rt.alloc(), words.as_slice(), &mut source, &mut sink).status
+            let Outcome { status, journal } = run(
+                rt.alloc(),
+                words.as_slice(),
+                &mut source,
+                &mut sink,
+            );
+            // The process ends soon: the memory of the lines needn't be given back one by one.
+            mem::forget(journal);
+            status
         }
         Err(error) if error.kind() == ErrorKind::OutOfMemory => Status::NoMemory,
         Err(_) => Status::BadWords,

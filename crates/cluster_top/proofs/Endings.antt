@@ -18,7 +18,7 @@ use Rattle.cluster_top.specs.declared.status.Status.{Status}
 use Rattle.cluster_top.specs.declared.status.Status.TheVariants as status
 use Rattle.cluster_top.specs.declared.words.Words.{Words}
 use Rattle.cluster_top.specs.Generating.{generated}
-use Rattle.cluster_top.specs.Outcome.{Ended, EndsBy, EndsBytes, EndsScript, FitsWhole, HadScript, IsCut, IsDecided, IsWritten, Misread, Outgrown, Replayed}
+use Rattle.cluster_top.specs.Outcome.{ReplayEnded, EndsBy, EndsBytes, EndsScript, FitsWhole, HadScript, IsCut, IsDecided, WritingEnded, Misread, Outgrown, Replayed}
 use Rattle.cluster_top.specs.Streams.{HadAll, Overlong, script_limit}
 use Rattle.cluster_top.specs.Transcripts.{transcript}
 use Rattle.cluster_top.specs.Words.{Asks}
@@ -84,7 +84,7 @@ too_long (Some n) had left o e = absurd (no e)
     no : Some n ≡ None → ⊥
     no i = cc
 
-pub decided : (words : Words) (st : Status) (j : List Line) (had left old new : Option (List ℕ)) (a b c d : ℕ) → Ended words st j had left old new
+pub decided : (words : Words) (st : Status) (j : List Line) (had left old new : Option (List ℕ)) (a b c d : ℕ) → ReplayEnded words st j had left old new
     → (st ≡ status.ReadFault → Rose a b) → (st ≡ status.WriteFault → Rose c d) → ¬ Rose a b → ¬ Rose c d → IsDecided words had st
 decided words status.Done j had left old new a b c d e r k p q = inl (done words had left j e.0)
 decided words status.NoMemory j had left old new a b c d e r k p q = inr refl
@@ -100,32 +100,32 @@ decided words (status.Refuted law line) j had left old new a b c d e r k p q = a
 
 -- ---- how a run ended
 
-pub refused_at_once : (words : Words) (st : Status) (j : List Line) (had left old : Option (List ℕ)) → st ≡ status.NoMemory → j ≡ [] → Ended words st j had left old old
-refused_at_once words st j had left old s e = subst (λ (x : Status). Ended words x j had left old old) (sym s) (e, inl refl)
+pub refused_at_once : (words : Words) (st : Status) (j : List Line) (had left old : Option (List ℕ)) → st ≡ status.NoMemory → j ≡ [] → ReplayEnded words st j had left old old
+refused_at_once words st j had left old s e = subst (λ (x : Status). ReplayEnded words x j had left old old) (sym s) (e, inl refl)
 
-pub read_failed : (words : Words) (st : Status) (j : List Line) (had left old : Option (List ℕ)) → st ≡ status.ReadFault → j ≡ [] → Ended words st j had left old old
-read_failed words st j had left old s e = subst (λ (x : Status). Ended words x j had left old old) (sym s) (record { empty = e; unwritten = refl })
+pub read_failed : (words : Words) (st : Status) (j : List Line) (had left old : Option (List ℕ)) → st ≡ status.ReadFault → j ≡ [] → ReplayEnded words st j had left old old
+read_failed words st j had left old s e = subst (λ (x : Status). ReplayEnded words x j had left old old) (sym s) (record { empty = e; unwritten = refl })
 
 pub was_overlong : (words : Words) (st : Status) (j : List Line) (had left old : Option (List ℕ)) → words.generate ≡ None → st ≡ status.ScriptTooLong → j ≡ [] → IfSome had (λ bytes. Overlong script_limit bytes left)
-    → Ended words st j had left old old
+    → ReplayEnded words st j had left old old
 was_overlong words st j had left old none s e long =
-    subst (λ (x : Status). Ended words x j had left old old) (sym s) (record { empty = e; unwritten = refl }, long, none)
+    subst (λ (x : Status). ReplayEnded words x j had left old old) (sym s) (record { empty = e; unwritten = refl }, long, none)
 
 pub was_bad : (words : Words) (st : Status) (j : List Line) (had left old : Option (List ℕ)) (bytes : List ℕ) (line : ℕ) (cause : Cause) → st ≡ status.BadScript line cause → j ≡ []
-    → script_of bytes ≡ Err (record { line = line; cause = cause }) → HadScript words.generate had left bytes → Ended words st j had left old old
+    → script_of bytes ≡ Err (record { line = line; cause = cause }) → HadScript words.generate had left bytes → ReplayEnded words st j had left old old
 was_bad words st j had left old bytes line cause s e bad read =
-    subst (λ (x : Status). Ended words x j had left old old) (sym s) (record { empty = e; unwritten = refl }, record { bytes = bytes; read = read; bad = bad })
+    subst (λ (x : Status). ReplayEnded words x j had left old old) (sym s) (record { empty = e; unwritten = refl }, record { bytes = bytes; read = read; bad = bad })
 
 pub was_cut : (words : Words) (script : Script) (j : List Line) (had left old : Option (List ℕ)) (bytes : List ℕ) → IsCut script j → IsWithin j → IsProper script
-    → HadScript words.generate had left bytes → script_of bytes ≡ Ok script → Ended words status.RunTooLong j had left old old
+    → HadScript words.generate had left bytes → script_of bytes ≡ Ok script → ReplayEnded words status.RunTooLong j had left old old
 was_cut words script j had left old bytes cut within proper read parsed =
     (refl, record { bytes = bytes; script = script; read = read; parsed = parsed; proper = proper; cut = cut; within = within })
 
 pub was_written : (words : Words) (script : Script) (st : Status) (j kept : List Line) (had left old new : Option (List ℕ)) (bytes : List ℕ) → Run script j → IsWithin j → IsProper script
-    → IsWritten st old new (transcript words j) → (st ≢ status.NoMemory → kept ≡ j) → (st ≡ status.NoMemory → kept ≡ [])
-    → HadScript words.generate had left bytes → script_of bytes ≡ Ok script → Ended words st kept had left old new
+    → WritingEnded st old new (transcript words j) → (st ≢ status.NoMemory → kept ≡ j) → (st ≡ status.NoMemory → kept ≡ [])
+    → HadScript words.generate had left bytes → script_of bytes ≡ Ok script → ReplayEnded words st kept had left old new
 was_written words script status.Done j kept had left old new bytes played within proper w same none read parsed =
-    subst (λ (x : List Line). Ended words status.Done x had left old new) (sym (same (λ e. cc)))
+    subst (λ (x : List Line). ReplayEnded words status.Done x had left old new) (sym (same (λ e. cc)))
     (record { bytes = bytes; script = script; read = read; parsed = parsed; proper = proper; played = played; within = within }, w)
 was_written words script status.NoMemory j kept had left old new bytes played within proper w same none read parsed = (
   none refl,
@@ -136,7 +136,7 @@ was_written words script status.NoMemory j kept had left old new bytes played wi
   }),
 )
 was_written words script status.WriteFault j kept had left old new bytes played within proper w same none read parsed =
-    subst (λ (x : List Line). Ended words status.WriteFault x had left old new) (sym (same (λ e. cc)))
+    subst (λ (x : List Line). ReplayEnded words status.WriteFault x had left old new) (sym (same (λ e. cc)))
     (record { bytes = bytes; script = script; read = read; parsed = parsed; proper = proper; played = played; within = within }, w)
 was_written words script status.BadWords j kept had left old new bytes played within proper w same none read parsed = absurd w
 was_written words script (status.BadScript line cause) j kept had left old new bytes played within proper w same none read parsed = absurd w
@@ -147,11 +147,11 @@ was_written words script status.TranscriptTooLong j kept had left old new bytes 
 was_written words script (status.BadTranscript line) j kept had left old new bytes played within proper w same none read parsed = absurd w
 was_written words script (status.Refuted law line) j kept had left old new bytes played within proper w same none read parsed = absurd w
 
-pub no_read_fault : (st : Status) (old new : Option (List ℕ)) (bytes : List ℕ) → IsWritten st old new bytes → st ≡ status.ReadFault → ⊥
-no_read_fault st old new bytes w e = subst (λ (x : Status). IsWritten x old new bytes) e w
+pub no_read_fault : (st : Status) (old new : Option (List ℕ)) (bytes : List ℕ) → WritingEnded st old new bytes → st ≡ status.ReadFault → ⊥
+no_read_fault st old new bytes w e = subst (λ (x : Status). WritingEnded x old new bytes) e w
 
-pub no_bad_words : (words : Words) (st : Status) (j : List Line) (had left old new : Option (List ℕ)) → Ended words st j had left old new → st ≡ status.BadWords → ⊥
-no_bad_words words st j had left old new h e = subst (λ (x : Status). Ended words x j had left old new) e h
+pub no_bad_words : (words : Words) (st : Status) (j : List Line) (had left old new : Option (List ℕ)) → ReplayEnded words st j had left old new → st ≡ status.BadWords → ⊥
+no_bad_words words st j had left old new h e = subst (λ (x : Status). ReplayEnded words x j had left old new) e h
 
 -- ---- where the script came from
 
@@ -166,8 +166,8 @@ from_number words n had bytes some is = subst (λ (g : Option ℕ). HadScript g 
 -- ---- by what the words ask for
 
 pub asked_ended : (ws : List (List ℕ)) (words asked : Words) (st : Status) (j : List Line) (had left old new : Option (List ℕ)) → Asks ws words → Asks ws asked
-    → Ended words st j had left old new → Ended asked st j had left old new
-asked_ended ws words asked st j had left old new a b h = subst (λ (w : Words). Ended w st j had left old new) (asks_one ws words asked a b) h
+    → ReplayEnded words st j had left old new → ReplayEnded asked st j had left old new
+asked_ended ws words asked st j had left old new a b h = subst (λ (w : Words). ReplayEnded w st j had left old new) (asks_one ws words asked a b) h
 
 pub asked_number : (ws : List (List ℕ)) (words asked : Words) → Asks ws words → Asks ws asked → IsSome asked.generate → IsSome words.generate
 asked_number ws words asked a b s = subst (λ (w : Words). IsSome w.generate) (sym (asks_one ws words asked a b)) s

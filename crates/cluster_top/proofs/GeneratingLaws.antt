@@ -4,7 +4,7 @@ use Rattle.std.specs.Prelude.{codes}
 use Rattle.std.specs.Fmt.{decimal}
 use Rattle.std.proofs.lemmas.Fmt.{length-decimal-le}
 use Rattle.std.proofs.lemmas.List.{append-nil}
-use Rattle.cluster_top.specs.Generating.{delete_lines, drawn_of, generated, get_lines, key_of, line, next_state, node_of, opening_lines, parted, put_lines, restart_lines, split_lines, split_rest, step_lines, steps_from}
+use Rattle.cluster_top.specs.Generating.{delete_lines, drawn_of, generated, get_lines, drawn_key, text_line, next_state, drawn_node, opening_lines, parted, put_lines, restart_lines, split_lines, split_rest, step_lines, steps_from}
 
 -- one step more is done
 pub step_taken : (done new all : List ℕ) (j s after r : ℕ) → j < 400 → done ++ steps_from (400 - j) j s ≡ all → after ≡ next_state s → r ≡ drawn_of after → new ≡ done ++ step_lines j r
@@ -20,22 +20,22 @@ step_taken done new all j s after r below left drawn value made =
     ∙ left
 
 -- all steps are done, and the last line
-pub all_written : (done script : List ℕ) (j s n : ℕ) → 400 ≤ j → done ++ steps_from (400 - j) j s ≡ opening_lines ++ steps_from 400 0 n → script ≡ done ++ line (codes "calm") → script ≡ generated n
+pub all_written : (done script : List ℕ) (j s n : ℕ) → 400 ≤ j → done ++ steps_from (400 - j) j s ≡ opening_lines ++ steps_from 400 0 n → script ≡ done ++ text_line (codes "calm") → script ≡ generated n
 unfolding steps_from
 all_written done script j s n past left last =
     let none : 400 - j ≡ 0 = omega (arith, past) in
     let all : done ≡ opening_lines ++ steps_from 400 0 n = sym (append-nil done) ∙ ap (λ k. done ++ steps_from k j s) (sym none) ∙ left in
-    last ∙ ap (λ xs. xs ++ line (codes "calm")) all ∙ append_assoc opening_lines (steps_from 400 0 n) (line (codes "calm"))
+    last ∙ ap (λ xs. xs ++ text_line (codes "calm")) all ∙ append_assoc opening_lines (steps_from 400 0 n) (text_line (codes "calm"))
 
 -- ---- their length
 
 decimal_short : (n : ℕ) → n < 2 ^ 64 → length (decimal n) ≤ 20
 decimal_short n fits = let wide : n < 10 ^ 20 = omega (arith, fits) in length-decimal-le 20 n (omega arith) wide fits
 
-node_short : (r : ℕ) → length (decimal (node_of r)) ≤ 20
-node_short r = decimal_short (node_of r) (omega arith)
+node_short : (r : ℕ) → length (decimal (drawn_node r)) ≤ 20
+node_short r = decimal_short (drawn_node r) (omega arith)
 
-key_short : (r : ℕ) → length (key_of r) ≤ 23
+key_short : (r : ℕ) → length (drawn_key r) ≤ 23
 key_short r = let k : length (decimal ((r / 2 ^ 8) % 200)) ≤ 20 = decimal_short ((r / 2 ^ 8) % 200) (omega arith) in omega (arith, k)
 
 put_short : (j r : ℕ) → j < 2 ^ 64 → length (put_lines j r) ≤ 400
@@ -55,7 +55,7 @@ get_short r = let k = key_short r in simp length-append (omega (arith, k))
 restart_short : (r : ℕ) → length (restart_lines r) ≤ 400
 restart_short r = let n = node_short r in simp length-append (omega (arith, n))
 
-parted_by : (a b c : Bool) → length (cond a (line (codes "groups 1 | 2 3 4 5")) (cond b (line (codes "groups 1 2 | 3 4 5")) (cond c (line (codes "groups 1 2 3 | 4 5")) (line (codes "groups 1 2 3 4 | 5"))))) ≤ 30
+parted_by : (a b c : Bool) → length (cond a (text_line (codes "groups 1 | 2 3 4 5")) (cond b (text_line (codes "groups 1 2 | 3 4 5")) (cond c (text_line (codes "groups 1 2 3 | 4 5")) (text_line (codes "groups 1 2 3 4 | 5"))))) ≤ 30
 parted_by true b c = omega arith
 parted_by false true c = omega arith
 parted_by false false true = omega arith
@@ -97,5 +97,5 @@ steps_short (suc n) j s fits =
 pub generated_short : (n : ℕ) → length (generated n) < 2 ^ 60
 generated_short n =
     let steps = steps_short 400 0 n (omega arith) in
-    let size = length-append (steps_from 400 0 n) (line (codes "calm")) in
-    omega (arith, steps, size, length-append opening_lines (steps_from 400 0 n ++ line (codes "calm")))
+    let size = length-append (steps_from 400 0 n) (text_line (codes "calm")) in
+    omega (arith, steps, size, length-append opening_lines (steps_from 400 0 n ++ text_line (codes "calm")))

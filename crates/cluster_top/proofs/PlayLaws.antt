@@ -30,7 +30,7 @@ use Rattle.calm_run.specs.Playing.{PlaysOn, StandsIn, StopsIn, followed}
 use Rattle.cluster_top.specs.Outcome.{CalmsAreInTime, IsCut}
 use Rattle.cluster_top.specs.Playing.{ArePlayable, PlaysAllOn, StandsAmong, StopsAmong}
 use Rattle.cluster_top.proofs.EmptyClaims.{no_claims_fail}
-use Rattle.run_laws.proofs.Named.{all_playable, same_nodes}
+use Rattle.run_laws.proofs.Named.{all_playable}
 
 -- ---- one command more
 
@@ -159,7 +159,7 @@ playable_at_first world s commands is same p =
     (subst (λ (r : RunSoFar). ArePlayable r.header s.commands) (sym is) (playable (declared_nodes s.header) s.commands (all_playable s p)))
 
 pub declares_nodes : (s : Script) → IsProper s → IsNodeList (declared_nodes s.header)
-declares_nodes s p = subst IsNodeList (same_nodes s.header) p.nodes
+declares_nodes s p = p.nodes
 
 run_of_first : (s : Script) (last : RunSoFar) (lines : List Line) → PlaysAllOn (run_begun s.header) last s.commands → lines ≡ run_lines last → runs.Run s lines
 unfolding standing run_lines

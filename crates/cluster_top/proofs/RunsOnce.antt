@@ -1,8 +1,9 @@
 -- A run that is begun is a front of the script's run: so where the run fits in a journal, the next lines fit too.
-use Rattle.std.proofs.Common.{◌≡◌, ℕ, zero, suc, ◌+◌, ◌-◌, ◌<◌, ◌≤◌, ◌⊎◌, inl, inr, Bool, true, false, List, [], ◌∷◌, ◌++◌, sym, ap, subst, ◌∙◌, arith, append_assoc, ⊎_elim}
+use Rattle.std.proofs.Common.{◌≡◌, ℕ, zero, suc, ◌+◌, ◌-◌, ◌<◌, ◌≤◌, ◌⊎◌, inl, inr, List, [], ◌∷◌, ◌++◌, sym, ap, subst, ◌∙◌, arith, append_assoc, ⊎_elim}
 use Rattle.std.proofs.lemmas.Bool.{cases_lt}
 use Rattle.std.proofs.lemmas.List.{append-nil}
 use Rattle.std.proofs.lemmas.Grind.{flat_map-append}
+use Rattle.cluster_types.proofs.BoolFacts.{not_both as both}
 use Rattle.script_lang.specs.declared.script.Command.{Command}
 use Rattle.script_lang.specs.declared.script.Command.TheVariants as command
 use Rattle.script_lang.specs.declared.script.Script.{Script}
@@ -51,9 +52,6 @@ rounds_front n w (suc k) l =
     }
 
 -- ---- calm
-
-both : (b : Bool) → b ≡ true → b ≡ false → ⊥
-both b h i = cc
 
 -- rounds that are begun are no more than those of a calm that ends
 no_more : (n : ℕ) (w : World) (x y : Played) (b : AreBegun n w x) (c : Calms n w y) → b.number ≤ c.number

@@ -7,7 +7,7 @@ use Rattle.byte_ends.specs.declared.sink.Pushed.TheVariants.{Took, Failed}
 use Rattle.byte_ends.specs.declared.source.Pulled.TheVariants.{Got, End}
 use Rattle.byte_ends.specs.Source.{Pulls}
 use Rattle.byte_ends.specs.Sink.{Pushes}
-use Rattle.cluster_top.specs.Streams.{Gave, HadAll, Overlong, Wrote, WroteFront}
+use Rattle.cluster_top.specs.Streams.{Gave, HadAll, Overlong, WroteBytes, WroteFront}
 
 -- ---- a sink
 
@@ -20,13 +20,13 @@ take_take (suc n) (suc m) (x ∷ xs) h = ap (λ ys. x ∷ ys) (take_take n m xs 
 take_on : (at count end : ℕ) (xs : List ℕ) → count ≤ end - at → take at xs ++ take count (slice_range xs at end) ≡ take (at + count) xs
 take_on at count end xs h = ap (λ y. take at xs ++ y) (take_take count (end - at) (drop at xs) h) ∙ sym (take-add at count xs)
 
-pub wrote_more : (old mid new : Option (List ℕ)) (bytes : List ℕ) (at count end : ℕ) → Wrote old mid (take at bytes) → Pushes mid new (Took count) (slice_range bytes at end) → count ≤ end - at → Wrote old new (take (at + count) bytes)
+pub wrote_more : (old mid new : Option (List ℕ)) (bytes : List ℕ) (at count end : ℕ) → WroteBytes old mid (take at bytes) → Pushes mid new (Took count) (slice_range bytes at end) → count ≤ end - at → WroteBytes old new (take (at + count) bytes)
 wrote_more None mid new bytes at count end w p h = tt
 wrote_more (Some t) mid new bytes at count end w p h =
     let q = subst (λ m. Pushes m new (Took count) (slice_range bytes at end)) w p in
     q ∙ ap Some (append_assoc t (take at bytes) _ ∙ ap (λ y. t ++ y) (take_on at count end bytes h))
 
-pub wrote_front : (old mid new : Option (List ℕ)) (bytes piece : List ℕ) (at : ℕ) → Wrote old mid (take at bytes) → Pushes mid new Failed piece → WroteFront old new bytes
+pub wrote_front : (old mid new : Option (List ℕ)) (bytes piece : List ℕ) (at : ℕ) → WroteBytes old mid (take at bytes) → Pushes mid new Failed piece → WroteFront old new bytes
 wrote_front None mid new bytes piece at w p = tt
 wrote_front (Some t) mid new bytes piece at w p =
     let q = subst (λ m. Pushes m new Failed piece) w p in record {
@@ -55,9 +55,9 @@ buffered_more (Some t) new bytes buffer more h = record {
   now = h.now;
 }
 
-pub all_written : (old mid new : Option (List ℕ)) (bytes buffer : List ℕ) → Buffered old mid bytes buffer → Wrote mid new buffer → Wrote old new bytes
+pub all_written : (old mid new : Option (List ℕ)) (bytes buffer : List ℕ) → Buffered old mid bytes buffer → WroteBytes mid new buffer → WroteBytes old new bytes
 all_written None mid new bytes buffer h w = tt
-all_written (Some t) mid new bytes buffer h w = subst (λ m. Wrote m new buffer) h.now w ∙ ap Some (append_assoc t h.front buffer ∙ ap (λ y. t ++ y) h.whole)
+all_written (Some t) mid new bytes buffer h w = subst (λ m. WroteBytes m new buffer) h.now w ∙ ap Some (append_assoc t h.front buffer ∙ ap (λ y. t ++ y) h.whole)
 
 -- the bytes go on with more
 pub buffered_front : (old new : Option (List ℕ)) (bytes buffer more : List ℕ) → Buffered old new bytes buffer → WroteFront old new (bytes ++ more)
@@ -112,7 +112,7 @@ gave_too_much limit (Some all) new bytes g size =
 
 -- ---- one text and then another
 
-pub front_of_both : (old mid new : Option (List ℕ)) (first second : List ℕ) → Wrote old mid first → WroteFront mid new second → WroteFront old new (first ++ second)
+pub front_of_both : (old mid new : Option (List ℕ)) (first second : List ℕ) → WroteBytes old mid first → WroteFront mid new second → WroteFront old new (first ++ second)
 front_of_both None mid new first second a h = tt
 front_of_both (Some t) mid new first second a h =
     let q = subst (λ m. WroteFront m new second) a h in record {

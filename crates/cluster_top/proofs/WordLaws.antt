@@ -7,6 +7,7 @@ use Rattle.std.specs.Str.{bytes_eq}
 use Rattle.std.specs.Str.Parse.{digits_value}
 use Rattle.std.specs.Borrow.{Bor}
 use Rattle.std.proofs.lemmas.Bool.{and_parts, eqb-true, leb-true, ne_eqb}
+use Rattle.cluster_types.proofs.BoolFacts.{or_none as or_false, neither_left as or_first, neither_right as or_second}
 use Rattle.clap.specs.Facts.{Entry}
 use Rattle.clap.specs.Lexer.{long_of, long_of_rest, name_and_value, short_of, short_of_rest, strip_byte}
 use Rattle.clap.specs.Matches.{first_value, one_text}
@@ -25,7 +26,7 @@ use Rattle.script_lang.specs.Values.{is_digit}
 use Rattle.cluster_top.specs.declared.words.Words.{Words}
 use Rattle.cluster_top.specs.declared.words.WordsFault.{WordsFault}
 use Rattle.cluster_top.specs.declared.words.WordsFault.TheVariants as fault
-use Rattle.cluster_top.specs.Words.{Asks, nothing, summary, generate, generate_of, AreNumber, IsNoNumber, IsNumber, command_line, is_dashes}
+use Rattle.cluster_top.specs.Words.{Asks, nothing, summary, generate, generate_of, AreNumber, IsNoNumber, SpellsNumber, replay_options, is_dashes}
 use Rattle.cluster_top.proofs.WordWalks.{Goes, Kept, bare, flagged, valued, flag_first, value_first, Named, names_summary, names_generate, names_nothing, Out, awaits, end, end_asks, end_goes, fault_from, faults_are, flag_asks, flag_goes, flag_text, given, has_flag, held, joined_asks, joined_goes, matches_are, more_none, named, next, no_end, no_option, no_plain, no_stranger, no_value, option_asks, option_goes, rest_none, settle, shape, simple_and_free, stands, takes_value, turn, turn_none, value_goes, with_flag, with_value}
 use Rattle.clap.specs.Walk.{idle}
 
@@ -111,7 +112,7 @@ plain_text (d ∷ ds) some all =
     let low = leb-true 48 d (and_parts (nat_le 48 d) (nat_le d 57) (and_parts (is_digit d) (list_all is_digit ds) all).0).0 in
     plain_by d ds (ne_eqb d 45 (λ e. omega (arith, low, e)))
 
-plain_number : (text : Text) (n : ℕ) → IsNumber text n → IsPlain text
+plain_number : (text : Text) (n : ℕ) → SpellsNumber text n → IsPlain text
 plain_number text n h =
     let most = and_parts (nat_lt 0 (length text) && nat_le (length text) 20 && list_all is_digit text) _ h.digits in
     let some = and_parts (nat_lt 0 (length text) && nat_le (length text) 20) (list_all is_digit text) most.0 in
@@ -122,10 +123,6 @@ plain_number text n h =
 abbrev either_text : Option Text → Option Text → Option Text
 either_text None t = t
 either_text (Some s) t = Some s
-
-or_false : (b : Bool) → (b || false) ≡ b
-or_false true = refl
-or_false false = refl
 
 either_none : (g : Option Text) → either_text g None ≡ g
 either_none None = refl
@@ -224,7 +221,7 @@ flag_read k words found f r = record {
 
 -- a value, in whichever way it is written
 value_read : (t : Text) (k : Kept) (words longer : List Text) (found : List Row)
-    → ((s : Bool) (m : ℕ) → Asks words (record { summary = s; generate = None }) → IsNumber t m → Asks longer (record { summary = s; generate = Some m }))
+    → ((s : Bool) (m : ℕ) → Asks words (record { summary = s; generate = None }) → SpellsNumber t m → Asks longer (record { summary = s; generate = Some m }))
     → given k ≡ None → Read (with_value t k) words found → Read k longer found
 value_read t k words longer found make g r = record {
   flag = r.flag;
@@ -248,14 +245,6 @@ found_from w words = finished shape.rules (end w words)
 
 goes_found : (w v : Walk) (word : Text) (words : List Text) → next w word ≡ v → found_from w (word ∷ words) ≡ found_from v words
 goes_found w v word words e = ap (λ (x : Walk). found_from x words) e
-
-or_first : (a b : Bool) → (a || b) ≡ false → a ≡ false
-or_first true b e = e
-or_first false b e = refl
-
-or_second : (a b : Bool) → (a || b) ≡ false → b ≡ false
-or_second true b e = absurd (true≢false e)
-or_second false b e = e
 
 abbrev Accepted : Kept → Option Text → List Text → Type 0
 Accepted k p words = (k' : Kept) × (settle k p ≡ Some k') × Read k' words (found_from (stands k p) words)
@@ -374,11 +363,11 @@ record Taken (f : Bool) (g : Option Text) (w : Words) (fault : Kinds) (found : L
   number : AreNumber text w.generate
   out : first_of (codes "generate") found ≡ either_text g text
 
-abbrev Takes : Kept → Option Text → List Text → Words → Type 0
-Takes k p ws w = (k' : Kept) → settle k p ≡ Some k' → (w.summary ≡ true → has_flag k' ≡ false) → (is_some w.generate ≡ true → given k' ≡ None)
+abbrev TakesWords : Kept → Option Text → List Text → Words → Type 0
+TakesWords k p ws w = (k' : Kept) → settle k p ≡ Some k' → (w.summary ≡ true → has_flag k' ≡ false) → (is_some w.generate ≡ true → given k' ≡ None)
     → Taken (has_flag k') (given k') w (fault_from (stands k p) ws) (found_from (stands k p) ws)
 
-taken_value : (flag : Bool) (g : Option Text) (t : Text) (w v : Words) (fault more : Kinds) (found other : List Row) (n : ℕ) → fault ≡ [] → found ≡ other → g ≡ None → IsNumber t n
+taken_value : (flag : Bool) (g : Option Text) (t : Text) (w v : Words) (fault more : Kinds) (found other : List Row) (n : ℕ) → fault ≡ [] → found ≡ other → g ≡ None → SpellsNumber t n
     → v.generate ≡ Some n → w.summary ≡ v.summary → Taken flag (Some t) w more other → Taken flag g v fault found
 taken_value flag g t w v fault more found other n none f fresh number gives same r = record {
   none = none;
@@ -393,7 +382,7 @@ value_kept : (t : Text) (k : Kept) (w : Words) (fault : Kinds) (found : List Row
 value_kept t k w fault found g r =
     subst (λ (b : Bool). Taken b (Some t) w fault found) (flag_value t k) (subst (λ (x : Option Text). Taken (has_flag (with_value t k)) x w fault found) (value_there t k g) r)
 
-take : (ws : List Text) (w : Words) → Asks ws w → (k : Kept) (p : Option Text) → Takes k p ws w
+take : (ws : List Text) (w : Words) → Asks ws w → (k : Kept) (p : Option Text) → TakesWords k p ws w
 take _ _ nothing k p k' e f g = let o = end_goes k p k' e in record {
   none = o.0;
   flag_out = o.1.flag_out ∙ ap (λ b. Some (flag_text b)) (sym (or_false (has_flag k')));
@@ -496,11 +485,11 @@ asks_one ws w v a b =
     let numbers : w.generate ≡ v.generate = same_number t.text u.text w.generate v.generate (sym t.out ∙ u.out) t.number u.number in
     λ i. record { summary = flags i; generate = numbers i }
 
-fault_none : (app : App) (ws : List Text) → app ≡ command_line → fault_of app ws ≡ fault_from (stands bare None) ws
+fault_none : (app : App) (ws : List Text) → app ≡ replay_options → fault_of app ws ≡ fault_from (stands bare None) ws
 fault_none app ws is = ap (λ (x : App). fault_of x ws) is ∙ faults_are ws
 
 -- a parse of words that ask for something fails for want of memory alone
-pub asking_is_taken : (app : App) (ws : List Text) (w : Words) (k : ErrorKind) → app ≡ command_line
+pub asking_is_taken : (app : App) (ws : List Text) (w : Words) (k : ErrorKind) → app ≡ replay_options
     → (is_simple_and_free app ≡ true → (k ≡ kind.OutOfMemory) ⊎ IsAmong k (fault_of app ws)) → Asks ws w → k ≡ kind.OutOfMemory
 asking_is_taken app ws w k is fails a = go (fails (ap is_simple_and_free is ∙ simple_and_free))
   where
@@ -508,7 +497,7 @@ asking_is_taken app ws w k is fails a = go (fails (ap is_simple_and_free is ∙ 
     go (inl e) = e
     go (inr h) = absurd (subst (IsAmong k) (fault_none app ws is ∙ (taken_at_start ws w a).none) h)
 
-found_is : (app : App) (ws : List Text) (f : Found) → app ≡ command_line → rows_of f ≡ matches_of app ws → rows_of f ≡ found_from (stands bare None) ws
+found_is : (app : App) (ws : List Text) (f : Found) → app ≡ replay_options → rows_of f ≡ matches_of app ws → rows_of f ≡ found_from (stands bare None) ws
 found_is app ws f is m = m ∙ ap (λ (x : App). matches_of x ws) is ∙ matches_are ws
 
 -- where they ask for something, the text that is given stands for a number
@@ -516,9 +505,9 @@ no_number_by : (t u : Option Text) (n : Option ℕ) → t ≡ u → AreNumber u 
 no_number_by None u n e a h = h
 no_number_by (Some t) None n e a h = no_some (sym e)
 no_number_by (Some t) (Some u) None e a h = a
-no_number_by (Some t) (Some u) (Some n) e a h = h n (subst (λ (x : Text). IsNumber x n) (sym (same_some t u e)) a)
+no_number_by (Some t) (Some u) (Some n) e a h = h n (subst (λ (x : Text). SpellsNumber x n) (sym (same_some t u e)) a)
 
-pub no_number_asks_nothing : (app : App) (ws : List Text) (f : Found) → app ≡ command_line → rows_of f ≡ matches_of app ws → IsNoNumber (first_value f (codes "generate"))
+pub no_number_asks_nothing : (app : App) (ws : List Text) (f : Found) → app ≡ replay_options → rows_of f ≡ matches_of app ws → IsNoNumber (first_value f (codes "generate"))
     → (w : Words) → Asks ws w → ⊥
 no_number_asks_nothing app ws f is m h w a =
     let t = taken_at_start ws w a in
@@ -526,7 +515,7 @@ no_number_asks_nothing app ws f is m h w a =
     (value_of_rows f (codes "generate") ∙ ap (first_of (codes "generate")) (found_is app ws f is m) ∙ t.out) t.number h
 
 -- words that are taken ask for what is found
-pub taken_asks : (app : App) (ws : List Text) (f : Found) (flag : Bool) (n : Option ℕ) → app ≡ command_line → rows_of f ≡ matches_of app ws → fault_of app ws ≡ []
+pub taken_asks : (app : App) (ws : List Text) (f : Found) (flag : Bool) (n : Option ℕ) → app ≡ replay_options → rows_of f ≡ matches_of app ws → fault_of app ws ≡ []
     → list_any is_dashes ws ≡ false
     → (one_text f (codes "summary") ≡ Some (codes "true") → flag ≡ true) → (one_text f (codes "summary") ≡ Some (codes "false") → flag ≡ false)
     → AreNumber (first_value f (codes "generate")) n → Asks ws (record { summary = flag; generate = n })

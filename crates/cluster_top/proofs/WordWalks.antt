@@ -14,18 +14,18 @@ use Rattle.clap.specs.declared.error.kind.ErrorKind.{ErrorKind}
 use Rattle.clap.specs.declared.parser.matches.ValueSource.TheVariants.{CommandLine}
 use Rattle.clap.specs.declared.builder.value_parser.Reading.TheVariants.{AsWritten}
 use Rattle.clap.proofs.OnLiterals.{clap_on_literals}
-use Rattle.cluster_top.specs.Words.{command_line, is_dashes}
+use Rattle.cluster_top.specs.Words.{replay_options, is_dashes}
 
 -- ---- the command line
 
 abbrev pub shape : Shape
-shape = (built command_line).top
+shape = (built replay_options).top
 
-pub simple : is_simple command_line ≡ true
+pub simple : is_simple replay_options ≡ true
 unfolding clap_on_literals
 simple = refl
 
-pub simple_and_free : is_simple_and_free command_line ≡ true
+pub simple_and_free : is_simple_and_free replay_options ≡ true
 unfolding clap_on_literals
 simple_and_free = refl
 
@@ -156,17 +156,17 @@ rest_none w v word words is e =
 pub more_none : (w v : Walk) (word : Text) (words : List Text) → turn w word ≡ [] → next w word ≡ v → fault_from v words ≡ [] → fault_from w (word ∷ words) ≡ []
 more_none w v word words t is e = step w word words ∙ both_none (turn w word) (fault_from (next w word) words) t (ap (λ (x : Walk). fault_from x words) is ∙ e)
 
-pub faults_are : (words : List Text) → fault_of command_line words ≡ fault_from (stands bare None) words
+pub faults_are : (words : List Text) → fault_of replay_options words ≡ fault_from (stands bare None) words
 faults_are words = go (fold (walked shape.rules []) (walk_from nothing_held) words).stopped
   where
     go : (stop : Option (Text × List Text))
         → or_else (walk_fault shape [] (stands bare None) words)
-        (or_else (entered_fault (built command_line) stop) (check (end (stands bare None) words) (is_some (entered (built command_line) stop))))
+        (or_else (entered_fault (built replay_options) stop) (check (end (stands bare None) words) (is_some (entered (built replay_options) stop))))
         ≡ fault_from (stands bare None) words
     go None = refl
     go (Some p) = refl
 
-pub matches_are : (words : List Text) → matches_of command_line words ≡ finished shape.rules (end (stands bare None) words)
+pub matches_are : (words : List Text) → matches_of replay_options words ≡ finished shape.rules (end (stands bare None) words)
 matches_are words = refl
 
 -- ---- a word by its parts

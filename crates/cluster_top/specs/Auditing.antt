@@ -10,7 +10,7 @@ use Rattle.audit_core.specs.VerdictTexts.{verdict_text}
 use Rattle.cluster_top.specs.declared.status.Status.{Status}
 use Rattle.cluster_top.specs.declared.status.Status.TheVariants as status
 use Rattle.cluster_top.specs.Outcome.{Unplayed}
-use Rattle.cluster_top.specs.Streams.{HadAll, Overlong, Wrote, WroteFront, transcript_limit}
+use Rattle.cluster_top.specs.Streams.{HadAll, Overlong, WroteBytes, WroteFront, transcript_limit}
 
 -- ---- what was read
 
@@ -52,9 +52,10 @@ verdict_line found = verdict_text found ++ 10 ∷ []
 pub record Told (journal : List Line) (found : Verdict) (had left old new : Option (List ℕ))
     : Type 0 where
   pub judged : Judged had left journal found
-  pub written : Wrote old new (verdict_line found)
+  pub written : WroteBytes old new (verdict_line found)
 
--- there is no journal, as the sink took no more than a front of the right verdict on that which was read
+-- there is no journal, as the sink took no more than a front of the right verdict on that which
+-- was read
 pub record BrokenOff (journal : List Line) (had left old new : Option (List ℕ)) : Type 0 where
   pub empty : journal ≡ []
   pub audited : List Line
@@ -62,8 +63,8 @@ pub record BrokenOff (journal : List Line) (had left old new : Option (List ℕ)
   pub judged : Judged had left audited found
   pub front : WroteFront old new (verdict_line found)
 
--- what each status says: of the journal, of what the source had left and has left now, and of what the sink had taken
--- and has taken now
+-- what each status says: of the journal, of what the source had left and has left now, and of what
+-- the sink had taken and has taken now
 abbrev pub AuditEnded : Status → List Line → Option (List ℕ) → Option (List ℕ) → Option (List ℕ)
     → Option (List ℕ) → Type 0
 AuditEnded status.Done journal had left old new = Told journal verdict.Holds had left old new
@@ -100,7 +101,8 @@ IsUnread _ had left = ⊥
 
 -- ---- what decides the status
 
--- Done where the journal keeps the laws, and otherwise Refuted with the first law that it breaks and the line that does
+-- Done where the journal keeps the laws, and otherwise Refuted with the first law that it breaks and
+-- the line that does
 abbrev pub EndsAudit : List Line → Status → Type 0
 EndsAudit journal status.Done = Lawful journal
 EndsAudit journal (status.Refuted law line) = FailsFirst journal law line
@@ -110,7 +112,8 @@ abbrev pub EndsAtFault : List ℕ → Status → Type 0
 EndsAtFault bytes (status.BadTranscript line) = IsFirstFault bytes line
 EndsAtFault bytes _ = ⊥
 
--- by the journal whose transcript the bytes are, and where they are none by the line at which they cease to be one
+-- by the journal whose transcript the bytes are, and where they are none by the line at which they
+-- cease to be one
 pub record EndsTranscript (bytes : List ℕ) (st : Status) : Type 0 where
   pub audited : (journal : List Line) → IsTranscript bytes journal → EndsAudit journal st
   pub faulty : ((journal : List Line) → ¬ IsTranscript bytes journal) → EndsAtFault bytes st

@@ -22,55 +22,58 @@ drawn_of s = shifted 31 (scrambled 27 10723151780598845931 (scrambled 30 1378784
 
 -- ---- lines
 
-abbrev pub line : List ℕ → List ℕ
-line text = text ++ 10 ∷ []
+-- a text and a line feed
+abbrev pub text_line : List ℕ → List ℕ
+text_line text = text ++ 10 ∷ []
 
 -- a new table of the client, from node 1
 abbrev pub table_lines : List ℕ
-table_lines = line (codes "ask 1") ++ line (codes "flow") ++ line (codes "flow")
+table_lines = text_line (codes "ask 1") ++ text_line (codes "flow") ++ text_line (codes "flow")
 
 abbrev pub opening_lines : List ℕ
 opening_lines =
-    line (codes "factor 2") ++ line (codes "node 1") ++ line (codes "node 2")
-    ++ line (codes "node 3") ++ line (codes "node 4") ++ line (codes "node 5")
-    ++ line (codes "calm") ++ table_lines
+    text_line (codes "factor 2") ++ text_line (codes "node 1") ++ text_line (codes "node 2")
+    ++ text_line (codes "node 3") ++ text_line (codes "node 4") ++ text_line (codes "node 5")
+    ++ text_line (codes "calm") ++ table_lines
 
-abbrev pub node_of : ℕ → ℕ
-node_of r = 1 + (r / 2 ^ 32) % 5
+-- the node and the key that the drawn number names
+abbrev pub drawn_node : ℕ → ℕ
+drawn_node r = 1 + (r / 2 ^ 32) % 5
 
-abbrev pub key_of : ℕ → List ℕ
-key_of r = codes "u/k" ++ decimal ((r / 2 ^ 8) % 200)
+abbrev pub drawn_key : ℕ → List ℕ
+drawn_key r = codes "u/k" ++ decimal ((r / 2 ^ 8) % 200)
 
 abbrev pub put_lines : ℕ → ℕ → List ℕ
 put_lines j r =
-    line (codes "clock " ++ decimal (node_of r) ++ codes " " ++ decimal ((r / 2 ^ 40) % 1000))
-    ++ line (codes "cput " ++ key_of r ++ codes " v" ++ decimal j)
-    ++ line (codes "round")
+    text_line
+    (codes "clock " ++ decimal (drawn_node r) ++ codes " " ++ decimal ((r / 2 ^ 40) % 1000))
+    ++ text_line (codes "cput " ++ drawn_key r ++ codes " v" ++ decimal j)
+    ++ text_line (codes "round")
 
 abbrev pub delete_lines : ℕ → List ℕ
-delete_lines r = line (codes "cdel " ++ key_of r) ++ line (codes "round")
+delete_lines r = text_line (codes "cdel " ++ drawn_key r) ++ text_line (codes "round")
 
 abbrev pub get_lines : ℕ → List ℕ
-get_lines r = line (codes "cget " ++ key_of r)
+get_lines r = text_line (codes "cget " ++ drawn_key r)
 
 abbrev pub restart_lines : ℕ → List ℕ
 restart_lines r =
-    line (codes "stop " ++ decimal (node_of r)) ++ line (codes "round")
-    ++ line (codes "start " ++ decimal (node_of r))
+    text_line (codes "stop " ++ decimal (drawn_node r)) ++ text_line (codes "round")
+    ++ text_line (codes "start " ++ decimal (drawn_node r))
 
 -- the five nodes in two groups, of which the first ends with that node
 abbrev pub parted : ℕ → List ℕ
 parted last =
-    if last == 1 then line (codes "groups 1 | 2 3 4 5")
-    else if last == 2 then line (codes "groups 1 2 | 3 4 5")
-    else if last == 3 then line (codes "groups 1 2 3 | 4 5")
-    else line (codes "groups 1 2 3 4 | 5")
+    if last == 1 then text_line (codes "groups 1 | 2 3 4 5")
+    else if last == 2 then text_line (codes "groups 1 2 | 3 4 5")
+    else if last == 3 then text_line (codes "groups 1 2 3 | 4 5")
+    else text_line (codes "groups 1 2 3 4 | 5")
 
 -- twelve rounds, and then one group that comes to calm, with a new table after each
 unfoldable pub split_rest : List ℕ
 split_rest =
-    repeat 12 (line (codes "round")) ++ table_lines ++ line (codes "groups 1 2 3 4 5")
-    ++ line (codes "calm") ++ table_lines
+    repeat 12 (text_line (codes "round")) ++ table_lines ++ text_line (codes "groups 1 2 3 4 5")
+    ++ text_line (codes "calm") ++ table_lines
 
 -- two groups, and then one again
 abbrev pub split_lines : ℕ → List ℕ
@@ -82,7 +85,7 @@ step_lines j r =
     if nat_lt (r % 16) 8 then put_lines j r
     else if nat_lt (r % 16) 10 then delete_lines r
     else if nat_lt (r % 16) 13 then get_lines r
-    else if r % 16 == 13 then line (codes "round")
+    else if r % 16 == 13 then text_line (codes "round")
     else if r % 16 == 14 then restart_lines r
     else split_lines r
 
@@ -94,4 +97,4 @@ steps_from (suc n) j s =
 
 -- the script that the number stands for
 abbrev pub generated : ℕ → List ℕ
-generated n = opening_lines ++ steps_from 400 0 n ++ line (codes "calm")
+generated n = opening_lines ++ steps_from 400 0 n ++ text_line (codes "calm")

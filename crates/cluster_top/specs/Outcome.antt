@@ -15,13 +15,13 @@ use Rattle.cluster_top.specs.declared.status.Status.{Status}
 use Rattle.cluster_top.specs.declared.status.Status.TheVariants as status
 use Rattle.cluster_top.specs.declared.words.Words.{Words}
 use Rattle.cluster_top.specs.Generating.{generated}
-use Rattle.cluster_top.specs.Streams.{Overlong, Wrote, WroteFront, script_limit}
+use Rattle.cluster_top.specs.Streams.{Overlong, WroteBytes, WroteFront, script_limit}
 use Rattle.cluster_top.specs.Transcripts.{transcript}
 
 -- ---- where the script comes from
 
--- the bytes are those of the script that is replayed: the generated one, of which the source gives nothing, or all
--- that the source had left
+-- the bytes are those of the script that is replayed: the generated one, of which the source gives
+-- nothing, or all that the source had left
 abbrev pub HadScript : Option ℕ → Option (List ℕ) → Option (List ℕ) → List ℕ → Type 0
 HadScript (Some n) had left bytes = (bytes ≡ generated n) × (left ≡ had)
 HadScript None had left bytes =
@@ -40,7 +40,8 @@ pub record Replayed (words : Words) (had left : Option (List ℕ)) (journal : Li
   pub played : Run script journal
   pub within : IsWithin journal
 
--- the run was begun, and the lines of the event that comes next don't fit behind those of the events before it
+-- the run was begun, and the lines of the event that comes next don't fit behind those of the events
+-- before it
 pub record StopsBefore (script : Script) (journal : List Line) : Type 0 where
   pub next : List Line
   pub begun : BegunRun script journal next
@@ -89,27 +90,28 @@ abbrev pub CutOff : Words → Option (List ℕ) → Option (List ℕ) → Option
     → Type 0
 CutOff words had left old new = (new ≡ old) ⊎ BrokeOff words had left old new
 
--- what each status says where the words ask for such a replay: of the journal, of what the source had left and has left now, and
--- of what the sink had taken and has taken now
-abbrev pub Ended : Words → Status → List Line → Option (List ℕ) → Option (List ℕ) → Option (List ℕ)
-    → Option (List ℕ) → Type 0
-Ended words status.Done journal had left old new =
-    Replayed words had left journal × Wrote old new (transcript words journal)
-Ended words status.NoMemory journal had left old new =
+-- what each status says where the words ask for such a replay: of the journal, of what the source
+-- had left and has left now, and of what the sink had taken and has taken now
+abbrev pub ReplayEnded : Words → Status → List Line → Option (List ℕ) → Option (List ℕ)
+    → Option (List ℕ) → Option (List ℕ) → Type 0
+ReplayEnded words status.Done journal had left old new =
+    Replayed words had left journal × WroteBytes old new (transcript words journal)
+ReplayEnded words status.NoMemory journal had left old new =
     (journal ≡ []) × CutOff words had left old new
-Ended words status.BadWords journal had left old new = ⊥
-Ended words (status.BadScript line cause) journal had left old new =
+ReplayEnded words status.BadWords journal had left old new = ⊥
+ReplayEnded words (status.BadScript line cause) journal had left old new =
     Unplayed journal old new × Misread words had left line cause
-Ended words status.ReadFault journal had left old new = Unplayed journal old new
-Ended words status.WriteFault journal had left old new =
+ReplayEnded words status.ReadFault journal had left old new = Unplayed journal old new
+ReplayEnded words status.WriteFault journal had left old new =
     Replayed words had left journal × WroteFront old new (transcript words journal)
-Ended words status.ScriptTooLong journal had left old new =
-    Unplayed journal old new × IfSome had (λ bytes. Overlong script_limit bytes left) × (words.generate ≡ None)
-Ended words status.RunTooLong journal had left old new =
+ReplayEnded words status.ScriptTooLong journal had left old new =
+    Unplayed journal old new × IfSome had (λ bytes. Overlong script_limit bytes left)
+    × (words.generate ≡ None)
+ReplayEnded words status.RunTooLong journal had left old new =
     (new ≡ old) × Outgrown words had left journal
-Ended words status.TranscriptTooLong journal had left old new = ⊥
-Ended words (status.BadTranscript line) journal had left old new = ⊥
-Ended words (status.Refuted law line) journal had left old new = ⊥
+ReplayEnded words status.TranscriptTooLong journal had left old new = ⊥
+ReplayEnded words (status.BadTranscript line) journal had left old new = ⊥
+ReplayEnded words (status.Refuted law line) journal had left old new = ⊥
 
 -- wherever the run of a proper script that has this journal begins rounds of calm, they are in time
 abbrev pub CalmsAreInTime : List Line → Type 0
@@ -118,16 +120,17 @@ CalmsAreInTime journal = (script : Script) → IsProper script → (r : FrontRun
 
 -- ---- on the way
 
--- what was written of a text, and that nothing else can have come between
-abbrev pub IsWritten : Status → Option (List ℕ) → Option (List ℕ) → List ℕ → Type 0
-IsWritten status.Done old new bytes = Wrote old new bytes
-IsWritten status.NoMemory old new bytes = WroteFront old new bytes
-IsWritten status.WriteFault old new bytes = WroteFront old new bytes
-IsWritten _ old new bytes = ⊥
+-- what was written of a text where that ended so: nothing else can have come between
+abbrev pub WritingEnded : Status → Option (List ℕ) → Option (List ℕ) → List ℕ → Type 0
+WritingEnded status.Done old new bytes = WroteBytes old new bytes
+WritingEnded status.NoMemory old new bytes = WroteFront old new bytes
+WritingEnded status.WriteFault old new bytes = WroteFront old new bytes
+WritingEnded _ old new bytes = ⊥
 
--- how a run ends where the words are none that the program takes: so, or for want of the memory that reading them takes
-abbrev pub IsRefusal : Status → Type 0
-IsRefusal st = (st ≡ status.BadWords) ⊎ (st ≡ status.NoMemory)
+-- how a run ends where the words are none that the program takes: so, or for want of the memory
+-- that reading them takes
+abbrev pub EndsBadWords : Status → Type 0
+EndsBadWords st = (st ≡ status.BadWords) ⊎ (st ≡ status.NoMemory)
 
 -- ---- what decides the status
 

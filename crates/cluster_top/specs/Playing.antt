@@ -22,7 +22,8 @@ pub record PlaysAllOn (old new : RunSoFar) (cs : List Command) : Type 0 where
   pub plays : PlaysAll partition_count (standing old) cs played
   pub steps : new ≡ followed old played.steps
 
--- the commands were begun; the lines of the step that comes next don't fit behind those of the steps that were taken
+-- the commands were begun; the lines of the step that comes next don't fit behind those of the steps
+-- that were taken
 pub record StopsAmong (old new : RunSoFar) (cs : List Command) : Type 0 where
   pub taken : List Step
   pub next : Step

@@ -28,8 +28,8 @@ pub record Overlong (limit : ℕ) (bytes : List ℕ) (left : Option (List ℕ)) 
   pub read : left ≡ Some (drop (limit + 1) bytes)
 
 -- the sink took these bytes
-abbrev pub Wrote : Option (List ℕ) → Option (List ℕ) → List ℕ → Type 0
-Wrote old new bytes = IfSome old (λ taken. new ≡ Some (taken ++ bytes))
+abbrev pub WroteBytes : Option (List ℕ) → Option (List ℕ) → List ℕ → Type 0
+WroteBytes old new bytes = IfSome old (λ taken. new ≡ Some (taken ++ bytes))
 
 -- the sink took a front of these bytes
 pub record TookFront (taken : List ℕ) (new : Option (List ℕ)) (bytes : List ℕ) : Type 0 where

@@ -10,42 +10,42 @@ use Rattle.cluster_top.specs.declared.words.Words.{Words}
 
 -- ---- kinds of lines
 
-abbrev pub is_apply : Line → Bool
-is_apply (line.Apply n k t d v) = true
-is_apply _ = false
+abbrev pub counts_as_apply : Line → Bool
+counts_as_apply (line.Apply n k t d v) = true
+counts_as_apply _ = false
 
-abbrev pub is_drop : Line → Bool
-is_drop (line.Drop n k p) = true
-is_drop _ = false
+abbrev pub counts_as_drop : Line → Bool
+counts_as_drop (line.Drop n k p) = true
+counts_as_drop _ = false
 
-abbrev pub is_merge : Line → Bool
-is_merge (line.Merge n k d v) = true
-is_merge _ = false
+abbrev pub counts_as_merge : Line → Bool
+counts_as_merge (line.Merge n k d v) = true
+counts_as_merge _ = false
 
-abbrev pub is_node : Line → Bool
-is_node (line.Node n rack) = true
-is_node _ = false
+abbrev pub counts_as_node : Line → Bool
+counts_as_node (line.Node n rack) = true
+counts_as_node _ = false
 
-abbrev pub is_sent : Line → Bool
-is_sent (line.Sent i a b bytes) = true
-is_sent _ = false
+abbrev pub counts_as_sent : Line → Bool
+counts_as_sent (line.Sent i a b bytes) = true
+counts_as_sent _ = false
 
-abbrev pub is_settled : Line → Bool
-is_settled (line.Settled n k p) = true
-is_settled _ = false
+abbrev pub counts_as_settled : Line → Bool
+counts_as_settled (line.Settled n k p) = true
+counts_as_settled _ = false
 
 -- ---- the summary
 
 -- how many lines there are of each kind that it names, and of all kinds
 abbrev pub counts_of : List Line → Counts
 counts_of j = record {
-  applied = length (filter is_apply j);
-  drops = length (filter is_drop j);
+  applied = length (filter counts_as_apply j);
+  drops = length (filter counts_as_drop j);
   lines = length j;
-  merges = length (filter is_merge j);
-  nodes = length (filter is_node j);
-  sent = length (filter is_sent j);
-  settled = length (filter is_settled j);
+  merges = length (filter counts_as_merge j);
+  nodes = length (filter counts_as_node j);
+  sent = length (filter counts_as_sent j);
+  settled = length (filter counts_as_settled j);
 }
 
 -- the numbers as compact JSON, with the names in rising order
@@ -61,8 +61,8 @@ object_of c =
     ++ codes "}"
 
 -- the same as a value of JSON
-abbrev pub value_of : Counts → Data
-value_of c =
+abbrev pub data_of : Counts → Data
+data_of c =
     object (member (codes "applied") (number (unsigned c.applied))
     (member (codes "drops") (number (unsigned c.drops))
     (member (codes "lines") (number (unsigned c.lines))
@@ -81,10 +81,11 @@ abbrev pub summary_if : Bool → List Line → List ℕ
 summary_if true j = summary j
 summary_if false j = []
 
-abbrev pub written : Bool → Option ℕ → List Line → List ℕ
-written wanted (Some n) j = summary j
-written wanted None j = text j ++ summary_if wanted j
+-- by whether a summary is wanted, and by the number whose script was replayed, if it was generated
+abbrev pub transcript_by : Bool → Option ℕ → List Line → List ℕ
+transcript_by wanted (Some n) j = summary j
+transcript_by wanted None j = text j ++ summary_if wanted j
 
 -- the journal's text and, where it is wanted, its summary; of a generated script the summary alone
 abbrev pub transcript : Words → List Line → List ℕ
-transcript words j = written words.summary words.generate j
+transcript words j = transcript_by words.summary words.generate j

@@ -11,37 +11,37 @@ use Rattle.cluster_top.specs.declared.words.Words.{Words}
 -- ---- the number
 
 -- 1 to 20 decimal digits that stand for that number, below 2^64
-pub record IsNumber (text : List ℕ) (n : ℕ) : Type 0 where
+pub record SpellsNumber (text : List ℕ) (n : ℕ) : Type 0 where
   pub digits : IsTrue (is_number text)
   pub value : n ≡ digits_value 10 text
 
 -- the number where a text is given
 abbrev pub AreNumber : Option (List ℕ) → Option ℕ → Type 0
 AreNumber None None = Unit {0}
-AreNumber (Some text) (Some n) = IsNumber text n
+AreNumber (Some text) (Some n) = SpellsNumber text n
 AreNumber given number = ⊥
 
 -- a text is given that stands for no number
 abbrev pub IsNoNumber : Option (List ℕ) → Type 0
 IsNoNumber None = ⊥
-IsNoNumber (Some text) = (n : ℕ) → ¬ IsNumber text n
+IsNoNumber (Some text) = (n : ℕ) → ¬ SpellsNumber text n
 
 -- ---- the words
 
 abbrev pub no_words : Words
 no_words = record { summary = false; generate = None }
 
--- which replay the words ask for: each is `--summary`, or `--generate` with a number as the next word or behind `=`, and
--- neither stands twice
+-- which replay the words ask for: each is `--summary`, or `--generate` with a number as the next word
+-- or behind `=`, and neither stands twice
 pub data Asks : List (List ℕ) → Words → Type 0 where
   nothing : Asks [] no_words
   summary : {ws : List (List ℕ)} {w : Words} → Asks ws w → w.summary ≡ false
       → Asks (codes "--summary" ∷ ws) (record w { summary = true })
   generate : {ws : List (List ℕ)} {w : Words} {text : List ℕ} {n : ℕ} → Asks ws w
-      → w.generate ≡ None → IsNumber text n
+      → w.generate ≡ None → SpellsNumber text n
       → Asks (codes "--generate" ∷ text ∷ ws) (record w { generate = Some n })
   generate_of : {ws : List (List ℕ)} {w : Words} {text : List ℕ} {n : ℕ} → Asks ws w
-      → w.generate ≡ None → IsNumber text n
+      → w.generate ≡ None → SpellsNumber text n
       → Asks ((codes "--generate=" ++ text) ∷ ws) (record w { generate = Some n })
 
 abbrev pub AskNoReplay : List (List ℕ) → Type 0
@@ -70,9 +70,9 @@ generate_rule = record (new_rule (codes "generate")) {
   action = Some Set;
 }
 
--- a command line without the program's name and without help, of the two options
-abbrev pub command_line : App
-command_line =
+-- the two options of a replay, on a command line without the program's name and without help
+abbrev pub replay_options : App
+replay_options =
     with_rule (with_rule (on_top (λ s. record s { no_binary_name = true; disable_help_flag = true })
     (new_app (codes "cluster_main"))) summary_rule) generate_rule
 

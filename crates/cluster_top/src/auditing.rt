@@ -3,7 +3,7 @@ ghost use Rattle.std.specs.Prelude.{◌≡◌, ◌≢◌, ℕ, List, Option, OnO
 ghost use Rattle.byte_ends.specs.Faults.{Rose};
 ghost use Rattle.audit_core.specs.Transcripts.{IsTranscript};
 ghost use Rattle.cluster_top.specs.Auditing.{AuditEnded, IsUnread, IsUnreadBytes, Judged, Transcribed, status_of, verdict_line};
-ghost use Rattle.cluster_top.specs.Streams.{Wrote, WroteFront};
+ghost use Rattle.cluster_top.specs.Streams.{WroteBytes, WroteFront};
 
 use crate::reading::{ReadFault, read_all};
 use crate::replay::{Outcome, unplayed};
@@ -108,7 +108,8 @@ fn ending_of(verdict: Verdict) -> Status
 
 /// Writes the verdict and a line feed. Memory is refused before anything is written.
 fn write_verdict<K: Sink>(alloc: Global, verdict: Verdict, out: &mut K) -> Result<(), WriteFault>
-    ensures ok { OnOk result (Wrote (K.taken out.old) (K.taken out.new) (verdict_line verdict)) }
+    ensures ok { OnOk result
+        (WroteBytes (K.taken out.old) (K.taken out.new) (verdict_line verdict)) }
     ensures front { WroteFront (K.taken out.old) (K.taken out.new) (verdict_line verdict) }
     ensures refused { IsErrOf result WriteFault.NoMemory → out.new ≡ out.old }
     ensures fault { IsErrOf result WriteFault.Sink → Rose (K.faults out.old) (K.faults out.new) }

@@ -20,8 +20,8 @@ pub struct Counts {
     pub settled: u64,
 }
 
-/// The journal's summary: one line of compact JSON with the numbers of its `apply`, `drop`, `merge`,
-/// `node`, `sent` and `settled` lines and of all its lines, and a line feed.
+/// The journal's summary: one line of compact JSON with the numbers of its `apply`, `drop`,
+/// `merge`, `node`, `sent` and `settled` lines and of all its lines, and a line feed.
 pub fn summary(alloc: Global, journal: &Journal) -> Result<Bytes, NoMemory>
     ensures { IfOk result (λ text. text ≡ transcripts.summary journal.now.lines) }
 {
@@ -56,7 +56,7 @@ fn object_of(alloc: Global, counts: Counts) -> Result<String, NoMemory>
 
 /// The numbers as a value of JSON.
 fn value_of(alloc: Global, counts: Counts) -> Result<Value, NoMemory>
-    ensures { IfOk result (λ value. view value ≡ transcripts.value_of counts) }
+    ensures { IfOk result (λ value. view value ≡ transcripts.data_of counts) }
 {
     json!(in alloc; {
         "applied": counts.applied,
@@ -70,37 +70,37 @@ fn value_of(alloc: Global, counts: Counts) -> Result<Value, NoMemory>
 }
 
 fn is_apply(line: &Line) -> bool
-    ensures { result ≡ transcripts.is_apply line.now }
+    ensures { result ≡ transcripts.counts_as_apply line.now }
 {
     matches!(line, Line::Apply { .. })
 }
 
 fn is_drop(line: &Line) -> bool
-    ensures { result ≡ transcripts.is_drop line.now }
+    ensures { result ≡ transcripts.counts_as_drop line.now }
 {
     matches!(line, Line::Drop { .. })
 }
 
 fn is_merge(line: &Line) -> bool
-    ensures { result ≡ transcripts.is_merge line.now }
+    ensures { result ≡ transcripts.counts_as_merge line.now }
 {
     matches!(line, Line::Merge { .. })
 }
 
 fn is_node(line: &Line) -> bool
-    ensures { result ≡ transcripts.is_node line.now }
+    ensures { result ≡ transcripts.counts_as_node line.now }
 {
     matches!(line, Line::Node { .. })
 }
 
 fn is_sent(line: &Line) -> bool
-    ensures { result ≡ transcripts.is_sent line.now }
+    ensures { result ≡ transcripts.counts_as_sent line.now }
 {
     matches!(line, Line::Sent { .. })
 }
 
 fn is_settled(line: &Line) -> bool
-    ensures { result ≡ transcripts.is_settled line.now }
+    ensures { result ≡ transcripts.counts_as_settled line.now }
 {
     matches!(line, Line::Settled { .. })
 }

@@ -68,7 +68,7 @@ fn add_step(alloc: Global, script: &mut String, step: u32, drawn: u64) -> Result
 
 /// The node of a step.
 fn node_of(drawn: u64) -> u64
-    ensures { result ≡ script_text.node_of drawn }
+    ensures { result ≡ script_text.drawn_node drawn }
 {
     1 + (drawn >> 32) % 5
 }

@@ -13,8 +13,8 @@ use std::alloc::Global;
 use world::{StepFault, World};
 
 /// Plays the script in a new world, and puts its journal in place of the empty one that is passed.
-/// `RunTooLong` where its lines don't fit; the journal then has those of the events before the first
-/// that doesn't fit. Want of memory leaves the journal as it was.
+/// `RunTooLong` where its lines don't fit; the journal then has those of the events before the
+/// first that doesn't fit. Want of memory leaves the journal as it was.
 pub fn play_script(alloc: Global, script: &Script, journal: &mut Journal) -> Result<(), StepFault>
     requires proper { IsProper script.now }
     requires empty { journal.old.lines ≡ [] }

@@ -7,7 +7,7 @@ ghost use Rattle.script_lang.specs.Grammar.{script_of};
 ghost use Rattle.script_lang.specs.Proper.{IsProper};
 ghost use Rattle.world.specs.Claims.{HasClaims};
 ghost use Rattle.cluster_top.specs.Auditing.{AuditEnded, IsAuditDecided};
-ghost use Rattle.cluster_top.specs.Outcome.{CalmsAreInTime, Ended, HadScript, IsDecided, IsRefusal, IsWritten};
+ghost use Rattle.cluster_top.specs.Outcome.{CalmsAreInTime, ReplayEnded, HadScript, IsDecided, EndsBadWords, WritingEnded};
 ghost use Rattle.cluster_top.specs.Transcripts as transcripts;
 ghost use Rattle.cluster_top.specs.Words.{AreBad, AskAudit, AskNoReplay, Asks};
 
@@ -42,25 +42,27 @@ pub struct Outcome {
 /// Replays the script that the source has left, and writes the transcript to the sink; or audits
 /// the transcript that it has left, and writes the verdict.
 ///
-/// `words` are those after the program's name. With `--summary` the transcript's summary follows it.
-/// With `--generate NUMBER` the script is the generated one of that number, nothing is pulled from
-/// the source, and the summary alone is written. With `--audit`, and no word beside it, the verdict
-/// is `holds`, or `fails` with the law and the line.
+/// `words` are those after the program's name. With `--summary` the transcript's summary follows
+/// it. With `--generate NUMBER` the script is the generated one of that number, nothing is pulled
+/// from the source, and the summary alone is written. With `--audit`, and no word beside it, the
+/// verdict is `holds`, or `fails` with the law and the line.
 pub fn run<S: Source, K: Sink>(
     alloc: Global,
     words: &[String],
     source: &mut S,
     out: &mut K,
 ) -> Outcome
-    // What each status of a replay says of the journal, the source and the sink, and what each status of an audit.
+    // What each status of a replay says of the journal, the source and the sink, and what each
+    // status of an audit.
     ensures ended { (asked : Words) → Asks (map string_bytes words.now) asked
-        → Ended asked result.status result.journal.lines (S.left source.old) (S.left source.new)
-        (K.taken out.old) (K.taken out.new) }
+        → ReplayEnded asked result.status result.journal.lines (S.left source.old)
+        (S.left source.new) (K.taken out.old) (K.taken out.new) }
     ensures audited { AskAudit (map string_bytes words.now)
         → AuditEnded result.status result.journal.lines (S.left source.old) (S.left source.new)
         (K.taken out.old) (K.taken out.new) }
 
-    // What holds of the journal, however the run ended, unless it is that of a transcript that was to be audited.
+    // What holds of the journal, however the run ended, unless it is that of a transcript that was
+    // to be audited.
     ensures no_loss { ¬ AskAudit (map string_bytes words.now) → NoLoss result.journal.lines }
     ensures read_join { ¬ AskAudit (map string_bytes words.now) → ReadJoin result.journal.lines }
     ensures settled_join { ¬ AskAudit (map string_bytes words.now)
@@ -73,10 +75,11 @@ pub fn run<S: Source, K: Sink>(
     ensures calms { ¬ AskAudit (map string_bytes words.now)
         → CalmsAreInTime result.journal.lines }
 
-    // The cause of each status. Bad words are refused before anything is pulled or written, also for want of memory.
+    // The cause of each status. Bad words are refused before anything is pulled or written, also for
+    // want of memory.
     ensures bad_words { result.status ≡ Status.BadWords → AreBad (map string_bytes words.now) }
     ensures refused { AreBad (map string_bytes words.now)
-        → IsRefusal result.status × (result.journal.lines ≡ []) }
+        → EndsBadWords result.status × (result.journal.lines ≡ []) }
     ensures untouched { AreBad (map string_bytes words.now)
         → (source.new ≡ source.old) × (out.new ≡ out.old) }
     ensures read_fault { result.status ≡ Status.ReadFault
@@ -88,7 +91,8 @@ pub fn run<S: Source, K: Sink>(
     ensures unread { (asked : Words) → Asks (map string_bytes words.now) asked
         → IsSome asked.generate → source.new ≡ source.old }
 
-    // Without a fault of either end, the words and the bytes decide how the run ends, unless memory is refused.
+    // Without a fault of either end, the words and the bytes decide how the run ends, unless memory
+    // is refused.
     ensures decided { (asked : Words) → Asks (map string_bytes words.now) asked
         → ¬ Rose (S.faults source.old) (S.faults source.new)
         → ¬ Rose (K.faults out.old) (K.faults out.new)
@@ -113,14 +117,14 @@ fn replay_asked<S: Source, K: Sink>(
     out: &mut K,
 ) -> Outcome
     ensures ended { (asked : Words) → Asks (map string_bytes words.now) asked
-        → Ended asked result.status result.journal.lines (S.left source.old) (S.left source.new)
-        (K.taken out.old) (K.taken out.new) }
+        → ReplayEnded asked result.status result.journal.lines (S.left source.old)
+        (S.left source.new) (K.taken out.old) (K.taken out.new) }
     ensures claims { HasClaims result.journal.lines }
     ensures calms { CalmsAreInTime result.journal.lines }
     ensures bad_words { result.status ≡ Status.BadWords
         → AskNoReplay (map string_bytes words.now) }
     ensures refused { AskNoReplay (map string_bytes words.now)
-        → IsRefusal result.status × (result.journal.lines ≡ []) }
+        → EndsBadWords result.status × (result.journal.lines ≡ []) }
     ensures untouched { AskNoReplay (map string_bytes words.now)
         → (source.new ≡ source.old) × (out.new ≡ out.old) }
     ensures read_fault { result.status ≡ Status.ReadFault
@@ -156,7 +160,7 @@ pub(crate) fn unplayed(alloc: Global, status: Status) -> Outcome
 
 /// Replays what the words ask for.
 fn replay<S: Source, K: Sink>(alloc: Global, words: Words, source: &mut S, out: &mut K) -> Outcome
-    ensures ended { Ended words result.status result.journal.lines (S.left source.old)
+    ensures ended { ReplayEnded words result.status result.journal.lines (S.left source.old)
         (S.left source.new) (K.taken out.old) (K.taken out.new) }
     ensures claims { HasClaims result.journal.lines }
     ensures calms { CalmsAreInTime result.journal.lines }
@@ -180,7 +184,7 @@ fn replay_source<S: Source, K: Sink>(
     out: &mut K,
 ) -> Outcome
     requires { words.generate ≡ None }
-    ensures ended { Ended words result.status result.journal.lines (S.left source.old)
+    ensures ended { ReplayEnded words result.status result.journal.lines (S.left source.old)
         (S.left source.new) (K.taken out.old) (K.taken out.new) }
     ensures claims { HasClaims result.journal.lines }
     ensures calms { CalmsAreInTime result.journal.lines }
@@ -201,7 +205,7 @@ fn replay_source<S: Source, K: Sink>(
 fn replay_generated<K: Sink>(alloc: Global, words: Words, number: u64, out: &mut K) -> Outcome
     requires { words.generate ≡ Some number }
     ensures ended { (had : Option (List ℕ))
-        → Ended words result.status result.journal.lines had had (K.taken out.old)
+        → ReplayEnded words result.status result.journal.lines had had (K.taken out.old)
         (K.taken out.new) }
     ensures claims { HasClaims result.journal.lines }
     ensures calms { CalmsAreInTime result.journal.lines }
@@ -219,7 +223,7 @@ fn replay_generated<K: Sink>(alloc: Global, words: Words, number: u64, out: &mut
 fn replay_bytes<K: Sink>(alloc: Global, words: Words, bytes: &[u8], out: &mut K) -> Outcome
     requires { length bytes.now < 2 ^ 60 }
     ensures ended { (had left : Option (List ℕ)) → HadScript words.generate had left bytes.now
-        → Ended words result.status result.journal.lines had left (K.taken out.old)
+        → ReplayEnded words result.status result.journal.lines had left (K.taken out.old)
         (K.taken out.new) }
     ensures claims { HasClaims result.journal.lines }
     ensures calms { CalmsAreInTime result.journal.lines }
@@ -239,7 +243,7 @@ fn replay_script<K: Sink>(alloc: Global, words: Words, script: &Script, out: &mu
     requires { IsProper script.now }
     ensures ended { (had left : Option (List ℕ)) (bytes : List ℕ)
         → HadScript words.generate had left bytes → script_of bytes ≡ Ok script.now
-        → Ended words result.status result.journal.lines had left (K.taken out.old)
+        → ReplayEnded words result.status result.journal.lines had left (K.taken out.old)
         (K.taken out.new) }
     ensures claims { HasClaims result.journal.lines }
     ensures calms { CalmsAreInTime result.journal.lines }
@@ -262,7 +266,7 @@ fn replay_script<K: Sink>(alloc: Global, words: Words, script: &Script, out: &mu
 fn transcribe<K: Sink>(alloc: Global, words: Words, journal: Journal, out: &mut K) -> Outcome
     requires claims { HasClaims journal.lines }
     requires calms { CalmsAreInTime journal.lines }
-    ensures written { IsWritten result.status (K.taken out.old) (K.taken out.new)
+    ensures written { WritingEnded result.status (K.taken out.old) (K.taken out.new)
         (transcripts.transcript words journal.lines) }
     ensures kept { result.status ≢ Status.NoMemory → result.journal.lines ≡ journal.lines }
     ensures empty { result.status ≡ Status.NoMemory → result.journal.lines ≡ [] }

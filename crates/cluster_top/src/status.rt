@@ -11,7 +11,8 @@ use std::fmt;
 /// How a run ended.
 #[derive(Clone, Copy, Debug, PartialEq, Eq)]
 pub enum Status {
-    /// All was played and written.
+    /// All was played and written, or the audited transcript keeps every law and the verdict was
+    /// written.
     Done,
     /// Memory was refused.
     NoMemory,

@@ -1,7 +1,7 @@
 //! Writes what the words ask for of a journal.
 ghost use Rattle.std.specs.Prelude.{OnOk, IsErrOf, None, true};
 ghost use Rattle.byte_ends.specs.Faults.{Rose};
-ghost use Rattle.cluster_top.specs.Streams.{Wrote, WroteFront};
+ghost use Rattle.cluster_top.specs.Streams.{WroteBytes, WroteFront};
 ghost use Rattle.cluster_top.specs.Transcripts as transcripts;
 
 use crate::counting::summary;
@@ -18,7 +18,7 @@ pub fn write_transcript<K: Sink>(
     journal: &Journal,
     out: &mut K,
 ) -> Result<(), WriteFault>
-    ensures ok { OnOk result (Wrote (K.taken out.old) (K.taken out.new)
+    ensures ok { OnOk result (WroteBytes (K.taken out.old) (K.taken out.new)
         (transcripts.transcript words journal.now.lines)) }
     ensures front { WroteFront (K.taken out.old) (K.taken out.new)
         (transcripts.transcript words journal.now.lines) }
@@ -36,10 +36,10 @@ pub fn write_transcript<K: Sink>(
 
 /// Writes the journal's text and then its summary.
 fn write_both<K: Sink>(alloc: Global, journal: &Journal, out: &mut K) -> Result<(), WriteFault>
-    ensures ok { OnOk result (Wrote (K.taken out.old) (K.taken out.new)
-        (transcripts.written true None journal.now.lines)) }
+    ensures ok { OnOk result (WroteBytes (K.taken out.old) (K.taken out.new)
+        (transcripts.transcript_by true None journal.now.lines)) }
     ensures front { WroteFront (K.taken out.old) (K.taken out.new)
-        (transcripts.written true None journal.now.lines) }
+        (transcripts.transcript_by true None journal.now.lines) }
 
     ensures fault { IsErrOf result WriteFault.Sink → Rose (K.faults out.old) (K.faults out.new) }
 {
@@ -49,7 +49,7 @@ fn write_both<K: Sink>(alloc: Global, journal: &Journal, out: &mut K) -> Result<
 
 fn write_summary<K: Sink>(alloc: Global, journal: &Journal, out: &mut K) -> Result<(), WriteFault>
     ensures ok { OnOk result
-        (Wrote (K.taken out.old) (K.taken out.new) (transcripts.summary journal.now.lines)) }
+        (WroteBytes (K.taken out.old) (K.taken out.new) (transcripts.summary journal.now.lines)) }
     ensures front { WroteFront (K.taken out.old) (K.taken out.new)
         (transcripts.summary journal.now.lines) }
 

@@ -3,7 +3,7 @@ ghost use Rattle.std.specs.Prelude.{◌≡◌, ◌↔◌, ℕ, map, codes, strin
 ghost use Rattle.std.specs.List.{list_all, list_any};
 ghost use Rattle.clap.specs.Words.{app_of, first_value, found_of, kind_of};
 ghost use Rattle.script_lang.specs.Values.{is_digit};
-ghost use Rattle.cluster_top.specs.Words.{Asks, AskAudit, AskNoReplay, AreNumber, IsNoNumber, IsNumber, command_line, is_audit, is_dashes};
+ghost use Rattle.cluster_top.specs.Words.{Asks, AskAudit, AskNoReplay, AreNumber, IsNoNumber, SpellsNumber, replay_options, is_audit, is_dashes};
 
 use clap::error::ErrorKind;
 use clap::{Arg, ArgAction, ArgMatches, Command, Error};
@@ -64,8 +64,9 @@ fn is_audit_word(word: &String) -> bool
     word.as_str() == "--audit"
 }
 
-/// Reads the words that ask for a replay: `--summary`, and `--generate` with a number as the next word or behind `=`, each
-/// at most once and in any order. The number is 1 to 20 digits below 2^64. `Bad` for all others.
+/// Reads the words that ask for a replay: `--summary`, and `--generate` with a number as the next
+/// word or behind `=`, each at most once and in any order. The number is 1 to 20 digits below 2^64.
+/// `Bad` for all others.
 pub fn read_words(alloc: Global, words: &[String]) -> Result<Words, WordsFault>
     ensures asked { IfOk result (λ asked. Asks (map string_bytes words.now) asked) }
     ensures bad { IsErrOf result WordsFault.Bad → AskNoReplay (map string_bytes words.now) }
@@ -94,7 +95,7 @@ fn are_dashes(word: &String) -> bool
 }
 
 fn command<'a>(alloc: Global) -> Result<Command<'a>, AllocError>
-    ensures { IfOk result (λ command. app_of command ≡ command_line) }
+    ensures { IfOk result (λ command. app_of command ≡ replay_options) }
 {
     let summary = Arg::new(alloc, "summary")
         .long("summary")
@@ -126,8 +127,8 @@ fn number_given(matches: &ArgMatches<'_>) -> Result<Option<u64>, WordsFault>
 
 /// The number of 1 to 20 decimal digits, where it is below 2^64.
 fn number_of(text: &str) -> Option<u64>
-    ensures number { IfSome result (IsNumber text.now) }
-    ensures none { IsNone result → (n : ℕ) → ¬ IsNumber text.now n }
+    ensures number { IfSome result (SpellsNumber text.now) }
+    ensures none { IsNone result → (n : ℕ) → ¬ SpellsNumber text.now n }
 {
     if text.len() > 20 || !are_digits(text) {
         return None;

@@ -1,13 +1,12 @@
 //! Writes a journal's text to its sink.
 ghost use Rattle.std.specs.Prelude.{◌≢◌, ◌≤◌, OnOk, IsErrOf, Err};
 ghost use Rattle.byte_ends.specs.Faults.{Rose};
-ghost use Rattle.cluster_top.specs.Streams.{Wrote, WroteFront};
+ghost use Rattle.cluster_top.specs.Streams.{WroteBytes, WroteFront};
 ghost use Rattle.journal_text.specs.Text as texts;
 
 use byte_ends::{Pushed, Sink};
-use journal_text::{Line, LineText};
+use journal_text::{Line, TextBuffer};
 use std::alloc::{AllocError, Global};
-use std::fmt::Write;
 
 /// The most bytes of one push.
 const PIECE: usize = 65_536;
@@ -32,27 +31,27 @@ impl From<AllocError> for WriteFault {
 
 /// Writes the text of the lines, and keeps no more of it in memory than two pieces.
 pub fn write_lines<K: Sink>(alloc: Global, lines: &[Line], out: &mut K) -> Result<(), WriteFault>
-    ensures ok { OnOk result (Wrote (K.taken out.old) (K.taken out.new) (texts.text lines.now)) }
+    ensures ok { OnOk result
+        (WroteBytes (K.taken out.old) (K.taken out.new) (texts.text lines.now)) }
     ensures front { WroteFront (K.taken out.old) (K.taken out.new) (texts.text lines.now) }
 
     ensures fault { IsErrOf result WriteFault.Sink → Rose (K.faults out.old) (K.faults out.new) }
     ensures never_falls { K.faults out.old ≤ K.faults out.new }
 {
-    let mut text = String::new(alloc);
+    let mut text = TextBuffer::new(alloc);
     for line in lines {
-        let line = LineText(line);
-        writeln!(text, "{line}")?;
+        text.push(line)?;
         if text.len() >= PIECE {
-            write_all(out, text.as_bytes())?;
+            write_all(out, text.as_slice())?;
             text.clear();
         }
     }
-    write_all(out, text.as_bytes())
+    write_all(out, text.as_slice())
 }
 
 /// Writes all of the bytes, or fails at a fault of the sink.
 pub fn write_all<K: Sink>(out: &mut K, bytes: &[u8]) -> Result<(), WriteFault>
-    ensures ok { OnOk result (Wrote (K.taken out.old) (K.taken out.new) bytes.now) }
+    ensures ok { OnOk result (WroteBytes (K.taken out.old) (K.taken out.new) bytes.now) }
     ensures front { WroteFront (K.taken out.old) (K.taken out.new) bytes.now }
 
     ensures only { result ≢ Err WriteFault.NoMemory }

@@ -7,10 +7,10 @@ use Rattle.cluster_top.specs.declared.counting.Counts.{Counts}
 use Rattle.cluster_top.specs.Transcripts as transcripts
 use Rattle.cluster_top.proofs.counting.object_of.Goals as goal
 
-no_float : (n : Counts) → has_float (transcripts.value_of n) ≡ false
+no_float : (n : Counts) → has_float (transcripts.data_of n) ≡ false
 no_float n = refl
 
-written : (n : Counts) → compact_text (transcripts.value_of n) ≡ transcripts.object_of n
+written : (n : Counts) → compact_text (transcripts.data_of n) ≡ transcripts.object_of n
 unfolding serde_json_on_literals
 written n = simp append_assoc refl
 

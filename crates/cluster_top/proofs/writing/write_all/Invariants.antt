@@ -1,11 +1,11 @@
 use Rattle.std.proofs.Common.{◌≤◌, ◌-◌, length, take}
-use Rattle.cluster_top.specs.Streams.{Wrote}
+use Rattle.cluster_top.specs.Streams.{WroteBytes}
 use Rattle.cluster_top.proofs.writing.write_all.Given as goal
 
 abbrev pub invariant-loop-at : goal.invariant-loop-at
 invariant-loop-at g l = record {
   in_range : l.at ≤ length l.bytes;
-  written : Wrote (g.K.Sink.taken l.initial.out) (g.K.Sink.taken l.out) (take l.at l.bytes);
+  written : WroteBytes (g.K.Sink.taken l.initial.out) (g.K.Sink.taken l.out) (take l.at l.bytes);
   never_falls : g.K.Sink.faults l.initial.out ≤ g.K.Sink.faults l.out;
 }
 

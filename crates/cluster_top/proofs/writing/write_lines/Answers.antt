@@ -2,14 +2,14 @@ use Rattle.std.proofs.Common.{◌+◌}
 use Rattle.cluster_top.proofs.TextLaws.{line_buffered, front_of_text, front_of_text_written}
 use Rattle.cluster_top.proofs.writing.write_lines.Goals as goal
 
-pub returns-in_err-writeln-clause-front : goal.returns-in_err-writeln-clause-front
-returns-in_err-writeln-clause-front g c = front_of_text _ _ _ _ _ c.loop-line.invariant.buffered
+pub returns-in_err-push-clause-front : goal.returns-in_err-push-clause-front
+returns-in_err-push-clause-front g c = front_of_text _ _ _ _ _ c.loop-line.invariant.buffered
 
 pub returns-in_err-write_all-clause-front : goal.returns-in_err-write_all-clause-front
 returns-in_err-write_all-clause-front g c =
     front_of_text_written _ _ _ c.args.lines.now (c.loop-line.line-index + 1) _ _
-    (line_buffered _ _ _ _ _ _ _ c.loop-line.invariant.buffered c.loop-line-test.true c.line-item.is c.in_ok-writeln.ensures.bytes)
-    c.as_bytes.ensures.value c.in_err-write_all.ensures.front
+    (line_buffered _ _ _ _ _ _ _ c.loop-line.invariant.buffered c.loop-line-test.true c.line-item.is c.in_ok-push.ensures)
+    c.as_slice.ensures c.in_err-write_all.ensures.front
 
 pub returns-clause-front : goal.returns-clause-front
-returns-clause-front g c = front_of_text_written _ _ _ _ _ _ _ c.loop-line.invariant.buffered c.as_bytes-2.ensures.value c.write_all-2.ensures.front
+returns-clause-front g c = front_of_text_written _ _ _ _ _ _ _ c.loop-line.invariant.buffered c.as_slice-2.ensures c.write_all-2.ensures.front
