@@ -4,13 +4,15 @@ ghost use Rattle.std.specs.Ordering.{nat_cmp};
 ghost use Rattle.std.specs.Cmp.{partial_equiv_from_equiv};
 ghost use Rattle.std.specs.Cmp.Lexicographic.{pointwise, slice_cmp, nat_list_eq_equiv, nat_list_cmp_total, texts_ties, texts_po};
 ghost use Rattle.cluster_types.specs.Texts.{digest_text};
+ghost use Rattle.std.proofs.Common.{rules};
 
+use item_lists::ExactClone;
 use std::cmp::Ordering;
 use std::fmt;
 use std::marker::Model;
 
 /// The 160-bit digest that stands for a record's key. Digests are ordered byte by byte.
-#[derive(Clone, Copy, Debug)]
+#[derive(Clone, Copy, Debug, Hash)]
 pub struct Digest {
     bytes: [u8; 20],
 }
@@ -21,6 +23,10 @@ impl Model for Digest {
     ghost view = { λ d. d.bytes };
 
     ghost inverse = { λ bytes. record { bytes = bytes } };
+}
+
+impl ExactClone for Digest {
+    ghost equal = { Prim.search rules };
 }
 
 impl Digest {

@@ -5,13 +5,11 @@
 #![tactic(auto)]
 
 mod boxed_groups;
-mod bytes;
 mod cluster_key;
 mod copy_state;
 mod digest;
-mod digest_list;
 mod groups;
-mod id_list;
+mod lists;
 mod map_view;
 mod member;
 mod member_list;
@@ -23,13 +21,11 @@ mod row;
 mod state_row;
 
 pub use boxed_groups::BoxedGroups;
-pub use bytes::Bytes;
 pub use cluster_key::ClusterKey;
 pub use copy_state::CopyState;
 pub use digest::Digest;
-pub use digest_list::DigestList;
 pub use groups::Groups;
-pub use id_list::IdList;
+pub use lists::{Bytes, DigestList, IdList};
 pub use map_view::{MapEntry, MapView};
 pub use member::{Member, Role};
 pub use member_list::MemberList;
