@@ -35,7 +35,7 @@ impl<T: Copy> CopyList<T> {
         }
     }
 
-    /// These items.
+    /// These items. It fails only where the allocator refuses.
     pub fn from_slice(alloc: Global, items: &[T]) -> Result<Self, AllocError>
         ensures { IfOk result (λ l. l ≡ items.now) }
     {
@@ -43,7 +43,7 @@ impl<T: Copy> CopyList<T> {
         Ok(CopyList { items, taken: 0 })
     }
 
-    /// Adds an item at the end.
+    /// Adds an item at the end. Where the allocator refuses, the list is as it was.
     pub fn push(&mut self, item: T) -> Result<(), AllocError>
         ensures ok { OnOk result (self.new ≡ self.old ++ item ∷ []) }
         ensures err { OnErr result (self.new ≡ self.old) }
@@ -52,7 +52,7 @@ impl<T: Copy> CopyList<T> {
         Ok(())
     }
 
-    /// Adds items at the end.
+    /// Adds items at the end. Where the allocator refuses, the list is as it was.
     pub fn extend_from_slice(&mut self, items: &[T]) -> Result<(), AllocError>
         ensures ok { OnOk result (self.new ≡ self.old ++ items.now) }
         ensures err { OnErr result (self.new ≡ self.old) }
@@ -61,7 +61,7 @@ impl<T: Copy> CopyList<T> {
         Ok(())
     }
 
-    /// An equal list of its own.
+    /// An equal list of its own. It fails only where the allocator refuses.
     pub fn copy(&self, alloc: Global) -> Result<Self, AllocError>
         ensures { IfOk result (λ l. l ≡ self.now) }
     {

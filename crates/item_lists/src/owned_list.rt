@@ -35,7 +35,7 @@ impl<T: Drop> OwnedList<T> {
         }
     }
 
-    /// Adds an item at the end.
+    /// Adds an item at the end. Where the allocator refuses, the list is as it was.
     pub fn push(&mut self, item: T) -> Result<(), AllocError>
         ensures ok { OnOk result (self.new ≡ self.old ++ item ∷ []) }
         ensures err { OnErr result (self.new ≡ self.old) }
@@ -75,7 +75,7 @@ impl<T: Drop> OwnedList<T> {
 }
 
 impl<T: ExactClone> OwnedList<T> {
-    /// An equal list of its own.
+    /// An equal list of its own. It fails only where an allocator refuses.
     pub fn copy(&self, alloc: Global) -> Result<Self, AllocError>
         ensures { IfOk result (λ l. l ≡ self.now) }
     {
