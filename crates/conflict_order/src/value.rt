@@ -93,6 +93,14 @@ impl ValueBytes {
     }
 }
 
+impl Clone for ValueBytes {
+    ghost is_clone = { λ a b. b ≡ a };
+
+    fn clone(&self) -> Result<ValueBytes, AllocError> {
+        self.copy(*self.bytes.allocator())
+    }
+}
+
 impl PartialEq for ValueBytes {
     ghost eq = { bytes_eq };
 

@@ -1,30 +1,36 @@
 //! The versions of a record, and which of two remains.
 ghost use Rattle.std.specs.Prelude.{◌≡◌, IfOk};
 ghost use Rattle.std.specs.Option.{option_copied};
+ghost use Rattle.std.proofs.Common.{rules};
 ghost use Rattle.conflict_order.specs.Join as join;
 ghost use Rattle.conflict_order.specs.Order as order;
 
 use crate::policy::Policy;
 use crate::value::ValueBytes;
+use item_lists::ExactClone;
 use std::alloc::{AllocError, Global};
 use std::cmp::Ordering;
 
 /// What a version says of its record: it is gone, or has a value. A tombstone is below every
 /// value, and values compare by their bytes.
-#[derive(Debug, Drop, PartialEq, Eq, PartialOrd, Ord)]
+#[derive(Clone, Debug, Drop, PartialEq, Eq, PartialOrd, Ord)]
 pub enum Body {
     Tombstone,
     Value(ValueBytes),
 }
 
 /// One version of a record.
-#[derive(Debug, Drop, PartialEq, Eq)]
+#[derive(Clone, Debug, Drop, PartialEq, Eq)]
 pub struct Version {
     /// The last update time: the clock of the node that wrote it, or a later time that it knew.
     pub lut: u64,
     /// How often the record was written, from 1; it stays at 4,294,967,295.
     pub generation: u32,
     pub body: Body,
+}
+
+impl ExactClone for Version {
+    ghost equal = { Prim.search rules };
 }
 
 impl Body {

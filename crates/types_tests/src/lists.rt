@@ -3,6 +3,7 @@ use cluster_types::{
     Bytes, Digest, DigestList, Groups, IdList, ListFault, Member, MemberList, Members,
     MembersFault, NodeId, NodeList, Role,
 };
+use item_lists::OwnedList;
 use std::test::Fail;
 
 const RACK_ONE: Role = Role {
@@ -126,5 +127,23 @@ fn takes_items_from_the_front(rt: HostRuntime) -> Result<(), Fail> {
     assert_eq!(rt; digests.copy(rt.alloc())?.len(), 1);
     assert_eq!(rt; digests.take_first(), Some(Digest::new([9; 20])));
     assert!(rt; digests.is_empty());
+    Ok(())
+}
+
+fn pair(first: u8, second: u8) -> (Digest, Digest) {
+    (Digest::new([first; 20]), Digest::new([second; 20]))
+}
+
+#[test]
+fn takes_pairs_from_the_front(rt: HostRuntime) -> Result<(), Fail> {
+    let mut pairs = OwnedList::new(rt.alloc());
+    assert!(rt; pairs.is_empty());
+    pairs.push(pair(1, 2))?;
+    pairs.push(pair(3, 4))?;
+    let copy = pairs.copy(rt.alloc())?;
+    assert_eq!(rt; copy, pairs);
+    assert_eq!(rt; pairs.take_first(), Some(pair(1, 2)));
+    assert_eq!(rt; pairs.len(), 1);
+    assert_eq!(rt; pairs.get(0), copy.get(1));
     Ok(())
 }
