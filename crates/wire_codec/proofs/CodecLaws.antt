@@ -8,9 +8,13 @@ use Rattle.wire_messages.specs.declared.fault.FieldFault.{FieldFault}
 use Rattle.wire_messages.specs.declared.fault.FieldFault.TheVariants.{Bad, Short}
 use Rattle.wire_codec.specs.declared.reading.ReadFault.{ReadFault}
 use Rattle.wire_codec.specs.declared.reading.ReadFault.TheVariants.{Field, NoMemory}
-use Rattle.wire_messages.specs.Decoding.{alone, whole, of_kind, decoded}
+use Rattle.wire_messages.specs.Decoding.{whole, of_kind, decoded}
+use Rattle.wire_messages.specs.Kinds.{kinds as readings, kind_of}
+use Rattle.wire_messages.specs.Kinds as kinds
+use Rattle.wire_codec.specs.declared.kind.Kind.{Kind}
+use Rattle.wire_codec.specs.declared.kind.Kind.TheVariants as kind
 use Rattle.wire_codec.specs.Decoding.{located, Decodes}
-use Rattle.wire_messages.specs.Kinds.{kinds, kind_of}
+use Rattle.wire_codec.specs.KindBytes.{byte_of}
 use Rattle.wire_messages.specs.Proper.{IsProper}
 use Rattle.wire_codec.specs.Reading.{Fails}
 use Rattle.wire_messages.specs.Spelling.{spelling}
@@ -24,34 +28,44 @@ past [] n h = refl
 past (x ∷ xs) zero h = absurd (omega (arith, h))
 past (x ∷ xs) (suc n) h = past xs n (omega (arith, h))
 
-within : {A : Type 0} (xs : List A) (n : ℕ) → n < length xs → (x : A) × (slice_get xs n ≡ Some x)
-within [] n h = absurd (omega (arith, h))
-within (x ∷ xs) zero h = (x, refl)
-within (x ∷ xs) (suc n) h = within xs n (omega (arith, h))
-
 no_kind : (kind : ℕ) → 25 < kind → kind_of kind ≡ None
 no_kind zero h = absurd (omega (arith, h))
-no_kind (suc n) h = past kinds n (omega (arith, h))
+no_kind (suc n) h = past readings n (omega (arith, h))
 
 pub other_kind : (kind : ℕ) → ¬ ((0 < kind) × (kind ≤ 25)) → kind_of kind ≡ None
 other_kind zero h = refl
 other_kind (suc n) h =
     elim (cases_lt 25 (suc n)) [ inl above ↦ no_kind (suc n) above | inr most ↦ absurd (h (omega arith, most)) ]
 
-pub some_kind : (kind : ℕ) → 0 < kind → kind ≤ 25 → (read : List ℕ → Result (Message × List ℕ) FieldFault) × (kind_of kind ≡ Some read)
-some_kind zero h k = absurd (omega (arith, h))
-some_kind (suc n) h k = within kinds n (omega (arith, k))
+-- each kind is read in some way
+pub known_kind : (k : Kind) → (read : List ℕ → Result (Message × List ℕ) FieldFault) × (kind_of (byte_of k) ≡ Some read)
+known_kind kind.Heartbeat = (kinds.heartbeat_at, refl)
+known_kind kind.Propose = (kinds.propose_at, refl)
+known_kind kind.Accept = (kinds.accept_at, refl)
+known_kind kind.Refuse = (kinds.refuse_at, refl)
+known_kind kind.Commit = (kinds.commit_at, refl)
+known_kind kind.State = (kinds.state_message_at, refl)
+known_kind kind.Batch = (kinds.batch_at, refl)
+known_kind kind.BatchAck = (kinds.batch_ack_at, refl)
+known_kind kind.Progress = (kinds.progress_at, refl)
+known_kind kind.Repl = (kinds.repl_at, refl)
+known_kind kind.ReplAck = (kinds.repl_ack_at, refl)
+known_kind kind.Ask = (kinds.ask_at, refl)
+known_kind kind.Answer = (kinds.answer_at, refl)
+known_kind kind.MapAsk = (kinds.map_ask_at, refl)
+known_kind kind.MapTable = (kinds.map_table_at, refl)
+known_kind kind.HeartbeatWithRole = (kinds.heartbeat_with_role_at, refl)
+known_kind kind.ProposeWithRoles = (kinds.propose_with_roles_at, refl)
+known_kind kind.CommitWithRoles = (kinds.commit_with_roles_at, refl)
+known_kind kind.Proxy = (kinds.proxy_at, refl)
+known_kind kind.ProxyReply = (kinds.proxy_reply_at, refl)
+known_kind kind.Call = (kinds.call_at, refl)
+known_kind kind.Reply = (kinds.reply_message_at, refl)
+known_kind kind.ScanAsk = (kinds.scan_ask_at, refl)
+known_kind kind.ScanPage = (kinds.scan_page_at, refl)
+known_kind kind.ScanNo = (kinds.scan_no_at, refl)
 
 -- ---- a message that was read, or wasn't
-
-alone_decodes : (m : Message) (rest : List ℕ) → Decodes (alone m rest) (alone m rest)
-alone_decodes m [] = refl
-alone_decodes m (b ∷ rest) = refl
-
-pub read_decodes : (kind : ℕ) (fields : List ℕ) (m : Message) (rest : List ℕ) (r : Result Message DecodeFault) (read : List ℕ → Result (Message × List ℕ) FieldFault)
-    → kind_of kind ≡ Some read → read fields ≡ Ok (m, rest) → r ≡ alone m rest → Decodes r (of_kind kind fields (kind_of kind))
-read_decodes kind fields m rest r read known is answer =
-    rw (known, is, answer) (alone_decodes m rest)
 
 fail_decodes : (size : ℕ) (f : ReadFault) (read : Result (Message × List ℕ) FieldFault) → Fails f read → Decodes (Err (located size f)) (whole size read)
 fail_decodes size (Field (Bad left)) read h = ap (whole size) h

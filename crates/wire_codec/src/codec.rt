@@ -1,5 +1,5 @@
 //! Messages as bytes, and bytes as messages.
-ghost use Rattle.std.specs.Prelude.{◌≡◌, ◌↔◌, ◌<◌, ◌≤◌, IsTrue, IfOk, Ok};
+ghost use Rattle.std.specs.Prelude.{◌≡◌, IfOk, Ok};
 ghost use Rattle.wire_messages.specs.declared.message.Message.{Message};
 ghost use Rattle.wire_codec.specs.Decoding.{located, Decodes};
 ghost use Rattle.wire_messages.specs.Decoding as decoding;
@@ -8,14 +8,12 @@ ghost use Rattle.wire_messages.specs.Kinds.{kind_of};
 ghost use Rattle.wire_messages.specs.Proper.{IsProper};
 ghost use Rattle.wire_messages.specs.Spelling.{spelling};
 
+use crate::kind::Kind;
 use crate::reading::{ReadFault, Reader};
 use crate::writing::put_message;
 use cluster_types::{Bytes, NoMemory};
 use std::alloc::Global;
 use wire_messages::{DecodeFault, FieldFault, Message};
-
-/// How many kinds of messages there are. They are counted from 1.
-const KINDS: u8 = 25;
 
 /// Few messages have more bytes.
 const USUAL_SIZE: usize = 128;
@@ -54,20 +52,13 @@ fn alone(m: Message, rest: &[u8]) -> Result<Message, DecodeFault>
     Err(DecodeFault::Long(rest.len()))
 }
 
-/// Whether there is such a kind.
-fn is_kind(kind: u8) -> bool
-    ensures { IsTrue result ↔ ((0 < kind) × (kind ≤ 25)) }
+/// The message whose fields stand first behind the byte of its kind, all of the bytes.
+fn decode_kind(alloc: Global, byte: u8, fields: &[u8]) -> Result<Message, DecodeFault>
+    ensures { Decodes result (of_kind byte fields.now (kind_of byte)) }
 {
-    0 < kind && kind <= KINDS
-}
-
-/// The message of that kind whose fields stand first in the bytes, all of the bytes.
-fn decode_kind(alloc: Global, kind: u8, fields: &[u8]) -> Result<Message, DecodeFault>
-    ensures { Decodes result (of_kind kind fields.now (kind_of kind)) }
-{
-    if !is_kind(kind) {
-        return Err(DecodeFault::BadKind(kind));
-    }
+    let Ok(kind) = Kind::try_from(byte) else {
+        return Err(DecodeFault::BadKind(byte));
+    };
     let mut reader = Reader { rest: fields };
     match reader.message(alloc, kind) {
         Ok(m) => alone(m, reader.rest),
@@ -81,7 +72,7 @@ fn decode_whole(alloc: Global, bytes: &[u8]) -> Result<Message, DecodeFault>
 {
     match bytes {
         [] => Err(DecodeFault::Short),
-        [kind, fields @ ..] => decode_kind(alloc, *kind, fields),
+        [byte, fields @ ..] => decode_kind(alloc, *byte, fields),
     }
 }
 

@@ -3,6 +3,7 @@
 #![tactic(auto)]
 
 mod codec;
+mod kind;
 mod reading;
 mod roles;
 mod writing;

@@ -1,5 +1,5 @@
 //! Fields are read one by one, up to the first fault.
-ghost use Rattle.std.specs.Prelude.{◌≡◌, length};
+ghost use Rattle.std.specs.Prelude.{◌≡◌, ◌<◌, ◌≤◌, drop, length, take, IfErr, IfOk, OnErr, OnOk};
 ghost use Rattle.wire_messages.specs.declared.fault.FieldFault.TheVariants.{Bad, Short};
 ghost use Rattle.wire_codec.specs.declared.reading.ReadFault.TheVariants.{Field, NoMemory};
 
@@ -20,6 +20,24 @@ use wire_messages::FieldFault;
 #[derive(Drop)]
 pub(crate) struct Reader<'a> {
     pub(crate) rest: &'a [u8],
+}
+
+impl<'a> Reader<'a> {
+    /// So many bytes, or `Short` where fewer are left.
+    pub(crate) fn take(&mut self, count: usize) -> Result<&'a [u8], ReadFault>
+        ensures front { IfOk result (λ front. front.now ≡ take count self.old.rest.now) }
+        ensures rest { OnOk result (self.new.rest.now ≡ drop count self.old.rest.now) }
+        ensures whole { OnOk result (count ≤ length self.old.rest.now) }
+        ensures cut { OnErr result (length self.old.rest.now < count) }
+        ensures short { IfErr result (λ fault. fault ≡ Field Short) }
+    {
+        if self.rest.len() < count {
+            return Err(short());
+        }
+        let (front, rest) = self.rest.split_at(count);
+        self.rest = rest;
+        Ok(front)
+    }
 }
 
 /// Why a field isn't read.

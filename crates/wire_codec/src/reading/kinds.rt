@@ -1,10 +1,12 @@
 //! Each kind of message is read: its fields, behind the byte of the kind.
-ghost use Rattle.std.specs.Prelude.{◌≡◌, ◌<◌, ◌≤◌, List, ℕ, Result, Some};
+ghost use Rattle.std.specs.Prelude.{◌≡◌, List, ℕ, Result, Some};
 ghost use Rattle.wire_messages.specs.declared.message.Message.{Message};
 ghost use Rattle.wire_messages.specs.declared.fault.FieldFault.{FieldFault};
 ghost use Rattle.wire_messages.specs.Kinds as kinds;
+ghost use Rattle.wire_codec.specs.KindBytes.{byte_of};
 ghost use Rattle.wire_codec.specs.Reading.{Reads};
 
+use crate::kind::Kind;
 use crate::reading::keys::is_none;
 use crate::reading::{ReadFault, Reader};
 use cluster_types::Role;
@@ -338,38 +340,37 @@ impl<'a> Reader<'a> {
     }
 
     /// The fields of a message of that kind.
-    pub(crate) fn message(&mut self, alloc: Global, kind: u8) -> Result<Message, ReadFault>
-        requires { (0 < kind) × (kind ≤ 25) }
+    pub(crate) fn message(&mut self, alloc: Global, kind: Kind) -> Result<Message, ReadFault>
         ensures { (read : List ℕ → Result (Message × List ℕ) FieldFault)
-            → kinds.kind_of kind ≡ Some read
+            → kinds.kind_of (byte_of kind) ≡ Some read
             → Reads result (read self.old.rest.now) self.new.rest.now }
     {
         match kind {
-            1 => self.heartbeat(),
-            2 => self.propose(),
-            3 => self.accept(),
-            4 => self.refuse(),
-            5 => self.commit(),
-            6 => self.state_message(alloc),
-            7 => self.batch(alloc),
-            8 => self.batch_ack(),
-            9 => self.progress(alloc),
-            10 => self.repl(alloc),
-            11 => self.repl_ack(),
-            12 => self.ask(),
-            13 => self.answer(alloc),
-            14 => self.map_ask(),
-            15 => self.map_table(alloc),
-            16 => self.heartbeat_with_role(),
-            17 => self.propose_with_roles(),
-            18 => self.commit_with_roles(),
-            19 => self.proxy(alloc),
-            20 => self.proxy_reply(alloc),
-            21 => self.call(alloc),
-            22 => self.reply_message(alloc),
-            23 => self.scan_ask(),
-            24 => self.scan_page(alloc),
-            _ => self.scan_no(),
+            Kind::Heartbeat => self.heartbeat(),
+            Kind::Propose => self.propose(),
+            Kind::Accept => self.accept(),
+            Kind::Refuse => self.refuse(),
+            Kind::Commit => self.commit(),
+            Kind::State => self.state_message(alloc),
+            Kind::Batch => self.batch(alloc),
+            Kind::BatchAck => self.batch_ack(),
+            Kind::Progress => self.progress(alloc),
+            Kind::Repl => self.repl(alloc),
+            Kind::ReplAck => self.repl_ack(),
+            Kind::Ask => self.ask(),
+            Kind::Answer => self.answer(alloc),
+            Kind::MapAsk => self.map_ask(),
+            Kind::MapTable => self.map_table(alloc),
+            Kind::HeartbeatWithRole => self.heartbeat_with_role(),
+            Kind::ProposeWithRoles => self.propose_with_roles(),
+            Kind::CommitWithRoles => self.commit_with_roles(),
+            Kind::Proxy => self.proxy(alloc),
+            Kind::ProxyReply => self.proxy_reply(alloc),
+            Kind::Call => self.call(alloc),
+            Kind::Reply => self.reply_message(alloc),
+            Kind::ScanAsk => self.scan_ask(),
+            Kind::ScanPage => self.scan_page(alloc),
+            Kind::ScanNo => self.scan_no(),
         }
     }
 }

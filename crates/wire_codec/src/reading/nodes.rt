@@ -4,7 +4,7 @@ ghost use Rattle.cluster_types.specs.Distinct.{IsDescending};
 ghost use Rattle.wire_messages.specs.Nodes.{id_below_at, falling_ids_at, ids_at, id_at, role_at};
 ghost use Rattle.wire_codec.specs.Reading.{Reads};
 
-use crate::reading::{ReadFault, Reader, bad, short};
+use crate::reading::{ReadFault, Reader, bad};
 use cluster_types::{NodeId, NodeList, Role};
 
 impl<'a> Reader<'a> {
@@ -70,15 +70,12 @@ impl<'a> Reader<'a> {
     pub(crate) fn role(&mut self, plain: bool) -> Result<Role, ReadFault>
         ensures { Reads result (role_at plain self.old.rest.now) self.new.rest.now }
     {
-        if self.rest.len() < 2 {
-            return Err(short());
-        }
-        let (front, rest) = self.rest.split_at(2);
+        let bytes = self.rest;
+        let front = self.take(2)?;
         let (rack, mark) = (front[0], front[1]);
         if mark > 1 || (!plain && rack == 0 && mark == 0) {
-            return Err(bad(self.rest));
+            return Err(bad(bytes));
         }
-        self.rest = rest;
         Ok(Role {
             rack,
             quiesced: mark == 1,

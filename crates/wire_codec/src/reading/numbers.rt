@@ -12,11 +12,7 @@ impl<'a> Reader<'a> {
     pub(crate) fn u16(&mut self) -> Result<u16, ReadFault>
         ensures { Reads result (number_at w16 every self.old.rest.now) self.new.rest.now }
     {
-        if self.rest.len() < 2 {
-            return Err(short());
-        }
-        let (front, rest) = self.rest.split_at(2);
-        self.rest = rest;
+        let front = self.take(2)?;
         Ok(u16::from_be_bytes([front[0], front[1]]))
     }
 
@@ -25,11 +21,7 @@ impl<'a> Reader<'a> {
     pub(crate) fn u32(&mut self) -> Result<u32, ReadFault>
         ensures { Reads result (number_at w32 every self.old.rest.now) self.new.rest.now }
     {
-        if self.rest.len() < 4 {
-            return Err(short());
-        }
-        let (front, rest) = self.rest.split_at(4);
-        self.rest = rest;
+        let front = self.take(4)?;
         let number = u32::from_be_bytes([front[0], front[1], front[2], front[3]]);
         Ok(number)
     }
@@ -52,11 +44,7 @@ impl<'a> Reader<'a> {
     pub(crate) fn u64(&mut self) -> Result<u64, ReadFault>
         ensures { Reads result (number_at w64 every self.old.rest.now) self.new.rest.now }
     {
-        if self.rest.len() < 8 {
-            return Err(short());
-        }
-        let (front, rest) = self.rest.split_at(8);
-        self.rest = rest;
+        let front = self.take(8)?;
         let number = u64::from_be_bytes([
             front[0], front[1], front[2], front[3], front[4], front[5], front[6], front[7],
         ]);

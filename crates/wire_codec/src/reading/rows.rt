@@ -10,7 +10,7 @@ ghost use Rattle.wire_messages.specs.Numbers.{between, number_at};
 ghost use Rattle.wire_codec.specs.Reading.{Reads, Fills};
 ghost use Rattle.wire_messages.specs.Rows.{is_above, row_at, state_at, entry_at, with_entry, state_row_at};
 
-use crate::reading::{ReadFault, Reader, bad, short};
+use crate::reading::{ReadFault, Reader, bad};
 use cluster_types::{CopyState, NodeId, PARTITIONS, PartitionId, Row4096, StateRow};
 use std::alloc::Global;
 use wire_messages::{BoxedIds, BoxedRow};
@@ -39,12 +39,8 @@ impl<'a> Reader<'a> {
     pub(crate) fn row(&mut self, alloc: Global) -> Result<BoxedRow, ReadFault>
         ensures { Reads result (row_at self.old.rest.now) self.new.rest.now }
     {
-        if self.rest.len() < ROW_BYTES {
-            return Err(short());
-        }
-        let (front, rest) = self.rest.split_at(ROW_BYTES);
-        self.rest = rest;
-        Ok(BoxedRow::new(alloc, row_of(front))?)
+        let row = row_of(self.take(ROW_BYTES)?);
+        Ok(BoxedRow::new(alloc, row)?)
     }
 
     /// A partition.

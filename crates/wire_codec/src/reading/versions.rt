@@ -4,7 +4,7 @@ ghost use Rattle.wire_messages.specs.Fields.{items_at};
 ghost use Rattle.wire_codec.specs.Reading.{Reads};
 ghost use Rattle.wire_messages.specs.Versions.{digest_at, digest_above_at, option_digest_at, value_at, body_at, version_at, option_version_at, record_at, with_record, records_at};
 
-use crate::reading::{ReadFault, Reader, bad, short};
+use crate::reading::{ReadFault, Reader, bad};
 use cluster_types::Digest;
 use conflict_order::{Body, ValueBytes, Version};
 use std::alloc::Global;
@@ -16,13 +16,8 @@ impl<'a> Reader<'a> {
     pub(crate) fn digest(&mut self) -> Result<Digest, ReadFault>
         ensures { Reads result (digest_at self.old.rest.now) self.new.rest.now }
     {
-        if self.rest.len() < 20 {
-            return Err(short());
-        }
-        let (front, rest) = self.rest.split_at(20);
-        self.rest = rest;
         let mut digest = [0; 20];
-        digest.copy_from_slice(front);
+        digest.copy_from_slice(self.take(20)?);
         Ok(Digest::new(digest))
     }
 
@@ -59,12 +54,8 @@ impl<'a> Reader<'a> {
         ensures { Reads result (value_at self.old.rest.now) self.new.rest.now }
     {
         let count = usize::from(self.byte(0, 128)?);
-        if self.rest.len() < count {
-            return Err(short());
-        }
-        let (front, rest) = self.rest.split_at(count);
-        self.rest = rest;
-        ValueBytes::from_slice(alloc, front).map_err(|_| ReadFault::NoMemory)
+        let bytes = self.take(count)?;
+        ValueBytes::from_slice(alloc, bytes).map_err(|_| ReadFault::NoMemory)
     }
 
     /// 0 for a tombstone, or 1 and a value.

@@ -1,5 +1,5 @@
 //! Each kind of message is written: the byte of the kind, and then its fields.
-ghost use Rattle.std.specs.Prelude.{◌≡◌, ◌∷◌, [], OnOk};
+ghost use Rattle.std.specs.Prelude.{◌≡◌, ◌++◌, ◌∷◌, [], OnOk};
 ghost use Rattle.std.specs.Int.{w32};
 ghost use Rattle.wire_messages.specs.declared.message.Message.TheVariants as message;
 ghost use Rattle.wire_messages.specs.Keys.{key_field, IsKeyField};
@@ -9,7 +9,9 @@ ghost use Rattle.wire_messages.specs.Proper.{IsProper};
 ghost use Rattle.wire_messages.specs.Spelling.{fields_of, view_fields};
 ghost use Rattle.wire_messages.specs.Versions.{option_digest_field};
 ghost use Rattle.wire_messages.specs.Writing.{appended};
+ghost use Rattle.wire_codec.specs.KindBytes.{byte_of};
 
+use crate::kind::Kind;
 use crate::roles::is_plain;
 use crate::writing::keys::put_key;
 use crate::writing::members::{put_members, put_plain_members};
@@ -26,6 +28,13 @@ use cluster_types::{
 use conflict_order::{Version, Want};
 use wire_messages::{Batch, BoxedRow, MapTable, Message, ReplyBody, ScanPage, ScanRefusal};
 
+/// The byte of a kind.
+fn put_kind(out: &mut Vec<u8>, kind: Kind) -> Result<(), NoMemory>
+    ensures { OnOk result (out.new.items ≡ out.old.items ++ byte_field (byte_of kind)) }
+{
+    put_byte(out, u8::from(kind))
+}
+
 /// A node tells of itself. A plain role isn't written.
 #[tactic(auto, unfolding(wire_messages::specs::Numbers::byte_field))]
 fn put_heartbeat(
@@ -41,7 +50,12 @@ fn put_heartbeat(
         ≡ appended out.old.items (fields_of (message.Heartbeat view promised hears.now role))) }
 {
     let plain = is_plain(role);
-    put_byte(out, if plain { 1 } else { 16 })?;
+    let kind = if plain {
+        Kind::Heartbeat
+    } else {
+        Kind::HeartbeatWithRole
+    };
+    put_kind(out, kind)?;
     put_key(out, view)?;
     put_key(out, promised)?;
     put_ids(out, hears)?;
@@ -55,7 +69,7 @@ fn put_accept(out: &mut Vec<u8>, key: ClusterKey) -> Result<(), NoMemory>
     ensures { OnOk result
         (out.new.items ≡ appended out.old.items (fields_of (message.Accept key))) }
 {
-    put_byte(out, 3)?;
+    put_kind(out, Kind::Accept)?;
     put_key(out, key)
 }
 
@@ -66,7 +80,7 @@ fn put_refuse(out: &mut Vec<u8>, refused: ClusterKey, promised: ClusterKey) -> R
     ensures { OnOk result
         (out.new.items ≡ appended out.old.items (fields_of (message.Refuse refused promised))) }
 {
-    put_byte(out, 4)?;
+    put_kind(out, Kind::Refuse)?;
     put_key(out, refused)?;
     put_key(out, promised)
 }
@@ -83,7 +97,7 @@ fn put_state(
     ensures { OnOk result
         (out.new.items ≡ appended out.old.items (fields_of (message.State key wants row.now))) }
 {
-    put_byte(out, 6)?;
+    put_kind(out, Kind::State)?;
     put_key(out, key)?;
     put_flag(out, wants)?;
     put_state_row(out, row)
@@ -96,7 +110,7 @@ fn put_batch(out: &mut Vec<u8>, batch: &Batch) -> Result<(), NoMemory>
     ensures { OnOk result
         (out.new.items ≡ appended out.old.items (fields_of (message.Batch batch.now))) }
 {
-    put_byte(out, 7)?;
+    put_kind(out, Kind::Batch)?;
     put_key(out, batch.key)?;
     put_u32(out, batch.number)?;
     put_records(out, &batch.records)
@@ -109,7 +123,7 @@ fn put_batch_ack(out: &mut Vec<u8>, key: ClusterKey, number: u32) -> Result<(), 
     ensures { OnOk result
         (out.new.items ≡ appended out.old.items (fields_of (message.BatchAck key number))) }
 {
-    put_byte(out, 8)?;
+    put_kind(out, Kind::BatchAck)?;
     put_key(out, key)?;
     put_u32(out, number)
 }
@@ -129,7 +143,7 @@ fn put_progress(
         (out.new.items ≡ appended out.old.items
         (fields_of (message.Progress key wants done.now handed.now settled.now))) }
 {
-    put_byte(out, 9)?;
+    put_kind(out, Kind::Progress)?;
     put_key(out, key)?;
     put_flag(out, wants)?;
     put_row(out, done.row())?;
@@ -152,7 +166,7 @@ fn put_repl(
         (out.new.items ≡ appended out.old.items
         (fields_of (message.Repl key transaction nth digest.now version.now))) }
 {
-    put_byte(out, 10)?;
+    put_kind(out, Kind::Repl)?;
     put_key(out, key)?;
     put_u32(out, transaction)?;
     put_u32(out, nth)?;
@@ -167,7 +181,7 @@ fn put_repl_ack(out: &mut Vec<u8>, key: ClusterKey, transaction: u32) -> Result<
     ensures { OnOk result
         (out.new.items ≡ appended out.old.items (fields_of (message.ReplAck key transaction))) }
 {
-    put_byte(out, 11)?;
+    put_kind(out, Kind::ReplAck)?;
     put_key(out, key)?;
     put_u32(out, transaction)
 }
@@ -185,7 +199,7 @@ fn put_ask(
         (out.new.items
         ≡ appended out.old.items (fields_of (message.Ask key transaction digest.now))) }
 {
-    put_byte(out, 12)?;
+    put_kind(out, Kind::Ask)?;
     put_key(out, key)?;
     put_u32(out, transaction)?;
     put_digest(out, digest)
@@ -204,7 +218,7 @@ fn put_answer(
         (out.new.items
         ≡ appended out.old.items (fields_of (message.Answer key transaction version.now))) }
 {
-    put_byte(out, 13)?;
+    put_kind(out, Kind::Answer)?;
     put_key(out, key)?;
     put_u32(out, transaction)?;
     put_option_version(out, version)
@@ -217,7 +231,7 @@ fn put_map_table(out: &mut Vec<u8>, table: &MapTable) -> Result<(), NoMemory>
     ensures { OnOk result
         (out.new.items ≡ appended out.old.items (fields_of (message.MapTable table.now))) }
 {
-    put_byte(out, 15)?;
+    put_kind(out, Kind::MapTable)?;
     put_key(out, table.key)?;
     put_each_id(out, table.ids.as_slice())?;
     put_row(out, table.moved.row())
@@ -237,7 +251,7 @@ fn put_proxy(
         (out.new.items
         ≡ appended out.old.items (fields_of (message.Proxy key number digest.now want.now))) }
 {
-    put_byte(out, 19)?;
+    put_kind(out, Kind::Proxy)?;
     put_key(out, key)?;
     put_u32(out, number)?;
     put_digest(out, digest)?;
@@ -257,7 +271,7 @@ fn put_proxy_reply(
         (out.new.items
         ≡ appended out.old.items (fields_of (message.ProxyReply key number reply.now))) }
 {
-    put_byte(out, 20)?;
+    put_kind(out, Kind::ProxyReply)?;
     put_key(out, key)?;
     put_u32(out, number)?;
     put_reply(out, reply)
@@ -271,7 +285,7 @@ fn put_call(out: &mut Vec<u8>, number: u32, digest: &Digest, want: &Want) -> Res
         (out.new.items
         ≡ appended out.old.items (fields_of (message.Call number digest.now want.now))) }
 {
-    put_byte(out, 21)?;
+    put_kind(out, Kind::Call)?;
     put_u32(out, number)?;
     put_digest(out, digest)?;
     put_want(out, want)
@@ -289,7 +303,7 @@ fn put_client_reply(
     ensures { OnOk result
         (out.new.items ≡ appended out.old.items (fields_of (message.Reply key number reply.now))) }
 {
-    put_byte(out, 22)?;
+    put_kind(out, Kind::Reply)?;
     put_key(out, key)?;
     put_u32(out, number)?;
     put_reply(out, reply)
@@ -308,7 +322,7 @@ fn put_scan_ask(
         (out.new.items
         ≡ appended out.old.items (fields_of (message.ScanAsk scan partition after.now))) }
 {
-    put_byte(out, 23)?;
+    put_kind(out, Kind::ScanAsk)?;
     put_u32(out, scan)?;
     put_u16(out, partition.number())?;
     put_option_digest(out, after)
@@ -321,7 +335,7 @@ fn put_scan_no(out: &mut Vec<u8>, scan: u32, refusal: &ScanRefusal) -> Result<()
     ensures { OnOk result
         (out.new.items ≡ appended out.old.items (fields_of (message.ScanNo scan refusal.now))) }
 {
-    put_byte(out, 25)?;
+    put_kind(out, Kind::ScanNo)?;
     put_u32(out, scan)?;
     put_refusal(out, refusal)
 }
@@ -337,21 +351,22 @@ fn all_plain(members: &[Member]) -> bool
 #[tactic(auto, unfolding(wire_messages::specs::Numbers::byte_field))]
 fn put_view(
     out: &mut Vec<u8>,
-    plain_kind: u8,
-    kind: u8,
+    plain_kind: Kind,
+    kind: Kind,
     key: ClusterKey,
     members: &Members,
 ) -> Result<(), NoMemory>
     requires { IsKeyField key }
     ensures { OnOk result
-        (out.new.items ≡ appended out.old.items (view_fields plain_kind kind key members.now)) }
+        (out.new.items ≡ appended out.old.items
+        (view_fields (byte_of plain_kind) (byte_of kind) key members.now)) }
 {
     if all_plain(members.as_slice()) {
-        put_byte(out, plain_kind)?;
+        put_kind(out, plain_kind)?;
         put_key(out, key)?;
         return put_plain_members(out, members);
     }
-    put_byte(out, kind)?;
+    put_kind(out, kind)?;
     put_key(out, key)?;
     put_members(out, members)
 }
@@ -363,7 +378,7 @@ fn put_propose(out: &mut Vec<u8>, key: ClusterKey, members: &Members) -> Result<
     ensures { OnOk result
         (out.new.items ≡ appended out.old.items (fields_of (message.Propose key members.now))) }
 {
-    put_view(out, 2, 17, key, members)
+    put_view(out, Kind::Propose, Kind::ProposeWithRoles, key, members)
 }
 
 /// A proposed view is entered. Roles aren't written where all are plain.
@@ -373,7 +388,7 @@ fn put_commit(out: &mut Vec<u8>, key: ClusterKey, members: &Members) -> Result<(
     ensures { OnOk result
         (out.new.items ≡ appended out.old.items (fields_of (message.Commit key members.now))) }
 {
-    put_view(out, 5, 18, key, members)
+    put_view(out, Kind::Commit, Kind::CommitWithRoles, key, members)
 }
 
 /// The numbers of a page of a scan.
@@ -385,7 +400,7 @@ fn put_page_head(out: &mut Vec<u8>, page: &ScanPage) -> Result<(), NoMemory>
         (byte_field 24 ∷ key_field page.now.key ∷ number_field w32 page.now.scan
         ∷ option_digest_field page.now.after ∷ number_field w32 page.now.writes ∷ [])) }
 {
-    put_byte(out, 24)?;
+    put_kind(out, Kind::ScanPage)?;
     put_key(out, page.key)?;
     put_u32(out, page.scan)?;
     put_option_digest(out, &page.after)?;
@@ -449,7 +464,7 @@ pub(crate) fn put_message(out: &mut Vec<u8>, m: &Message) -> Result<(), NoMemory
             transaction,
             version,
         } => put_answer(out, *key, *transaction, version),
-        Message::MapAsk => put_byte(out, 14),
+        Message::MapAsk => put_kind(out, Kind::MapAsk),
         Message::MapTable(table) => put_map_table(out, table),
         Message::Proxy {
             key,
