@@ -1,5 +1,5 @@
 //! The text of lines, as bytes.
-ghost use Rattle.std.specs.Prelude.{◌≡◌, ◌+◌, ◌≤◌, ◌++◌, ◌∷◌, [], length, drop, codes, OnOk};
+ghost use Rattle.std.specs.Prelude.{◌≡◌, ◌+◌, ◌≤◌, ◌++◌, ◌∷◌, [], length, drop, take, codes, OnErr, OnOk};
 ghost use Rattle.std.specs.Fmt.{decimal};
 ghost use Rattle.hex.specs.Hex.{encode_lower};
 ghost use Rattle.journal_text.specs.Text.{line_text, message_text};
@@ -41,9 +41,23 @@ impl TextBuffer {
         }
     }
 
-    /// Adds the text of a line. Where memory is refused, a part of it may stand there.
+    /// Adds the text of a line. Where memory is refused, the text stays as it was.
     pub fn push(&mut self, line: &Line) -> Result<(), NoMemory>
-        ensures { OnOk result (self.new ≡ self.old ++ line_text line.now) }
+        ensures text { OnOk result (self.new ≡ self.old ++ line_text line.now) }
+        ensures refused { OnErr result (self.new ≡ self.old) }
+    {
+        let len = self.text.len();
+        let added = self.add(line);
+        if added.is_err() {
+            self.text.truncate(len);
+        }
+        added
+    }
+
+    /// Adds the text of a line, or, where memory is refused, a part of it.
+    fn add(&mut self, line: &Line) -> Result<(), NoMemory>
+        ensures text { OnOk result (self.new ≡ self.old ++ line_text line.now) }
+        ensures refused { OnErr result (take (length self.old) self.new ≡ self.old) }
     {
         // Most lines of a long run are of messages. They take no formatter.
         match line {
@@ -99,8 +113,9 @@ fn push_message(
     from: u16,
     to: u16,
 ) -> Result<(), NoMemory>
-    ensures { OnOk result
+    ensures text { OnOk result
         (text.new.items ≡ text.old.items ++ message_text word.now message from to) }
+    ensures refused { OnErr result (take (length text.old.items) text.new.items ≡ text.old.items) }
 {
     let mut numbers = [0; NUMBERS];
     let at = write_spaced(u64::from(to), &mut numbers, NUMBERS);
@@ -127,8 +142,9 @@ fn write_spaced(n: u64, room: &mut [u8], end: usize) -> usize
 
 /// Adds a space and the bytes as hex digits in lower case.
 fn push_digits(text: &mut Vec<u8>, bytes: &[u8]) -> Result<(), NoMemory>
-    ensures { OnOk result
+    ensures text { OnOk result
         (text.new.items ≡ text.old.items ++ codes " " ++ encode_lower bytes.now) }
+    ensures refused { OnErr result (take (length text.old.items) text.new.items ≡ text.old.items) }
 {
     text.push(b' ')?;
     let at = text.len();

@@ -8,7 +8,7 @@ returns-in_err-push-clause-front g c = front_of_text _ _ _ _ _ c.loop-line.invar
 pub returns-in_err-write_all-clause-front : goal.returns-in_err-write_all-clause-front
 returns-in_err-write_all-clause-front g c =
     front_of_text_written _ _ _ c.args.lines.now (c.loop-line.line-index + 1) _ _
-    (line_buffered _ _ _ _ _ _ _ c.loop-line.invariant.buffered c.loop-line-test.true c.line-item.is c.in_ok-push.ensures)
+    (line_buffered _ _ _ _ _ _ _ c.loop-line.invariant.buffered c.loop-line-test.true c.line-item.is c.in_ok-push.ensures.text)
     c.as_slice.ensures c.in_err-write_all.ensures.front
 
 pub returns-clause-front : goal.returns-clause-front
