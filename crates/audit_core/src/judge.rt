@@ -128,7 +128,7 @@ impl<'a> Judge<'a> {
         match l {
             Line::Clock { node, time } => Ok(self.set_clock(*node, *time)),
             Line::Stop { node } => Ok(self.leave(*node)),
-            Line::Enter { node, key, members } => self.enter(line, *node, *key, *members),
+            Line::Enter { node, key, members } => self.enter(line, *node, *key, *members.get()),
             Line::Exchanged { node, key } => self.finish_exchange(line, *node, *key),
             Line::Settled {
                 node,
@@ -163,14 +163,14 @@ impl<'a> Judge<'a> {
                 digest,
                 version,
                 ..
-            } => self.read(*key, digest, version.version()),
+            } => self.read(*key, digest, version.get()),
             Line::Map {
                 key,
                 partition,
                 members,
                 acting,
                 ..
-            } => self.show(*key, *partition, members, *acting),
+            } => self.show(*key, *partition, members.get(), *acting),
             _ => Ok(self.pass(l)),
         }
     }

@@ -117,7 +117,7 @@ impl<'a> Judge<'a> {
     {
         match l {
             Line::Clock { node, .. } => self.is_declared(*node),
-            Line::Groups { groups } => self.are_groups_declared(groups.groups()),
+            Line::Groups { groups } => self.are_groups_declared(groups.get()),
             Line::Tick { node } => self.is_declared(*node),
             Line::Stop { node } => self.is_declared(*node),
             Line::Start { node } => self.is_declared(*node),
@@ -134,7 +134,7 @@ impl<'a> Judge<'a> {
             Line::Spent { endpoint } => self.is_end(*endpoint),
             Line::Promise { node, .. } => self.is_declared(*node),
             Line::Enter { node, members, .. } => {
-                self.is_declared(*node) && self.are_declared(members.as_slice())
+                self.is_declared(*node) && self.are_declared(members.get().as_slice())
             }
             Line::Exchanged { node, .. } => self.is_declared(*node),
             Line::Opened { node, .. } => self.is_declared(*node),
@@ -159,25 +159,25 @@ impl<'a> Judge<'a> {
             } => {
                 self.is_declared(*node)
                     && self.is_declared(*acting)
-                    && self.are_declared(members.as_slice())
+                    && self.are_declared(members.get().as_slice())
             }
             Line::Mapless { node, cause } => {
                 self.is_declared(*node) && self.is_cause_declared(cause)
             }
-            Line::Place { members, .. } => self.are_declared(members.as_slice()),
+            Line::Place { members, .. } => self.are_declared(members.get().as_slice()),
             Line::Holds { node, .. } => self.is_declared(*node),
             Line::Client { node, .. } => self.is_declared(*node),
             Line::Proxy { node, acting, .. } => {
                 self.is_declared(*node) && self.is_declared(*acting)
             }
             Line::Proxied { node, reply, .. } => {
-                self.is_declared(*node) && self.is_reply_declared(reply)
+                self.is_declared(*node) && self.is_reply_declared(reply.get())
             }
             Line::Unproxied { node, .. } => self.is_declared(*node),
             Line::Call { node, .. } => self.is_declared(*node),
             Line::Again { node, .. } => self.is_declared(*node),
             Line::Reply { node, reply, .. } => {
-                self.is_declared(*node) && self.is_reply_declared(reply)
+                self.is_declared(*node) && self.is_reply_declared(reply.get())
             }
             Line::Scan { node, .. } => self.is_declared(*node),
             Line::Scanned { node, .. } => self.is_declared(*node),
@@ -211,6 +211,7 @@ impl<'a> Judge<'a> {
     {
         match l {
             Line::Enter { node, key, members } => {
+                let members = members.get();
                 is_among(*node, members)
                     && !self.has_entered(*key, *node)
                     && self.agrees_on_members(*key, members)

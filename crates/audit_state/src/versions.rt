@@ -75,8 +75,8 @@ fn version_of(line: &Line) -> Option<&Version>
     ensures { option_copied result ≡ brought_version line.now }
 {
     match line {
-        Line::Apply { version, .. } => Some(version),
-        Line::Merge { version, .. } => Some(version),
+        Line::Apply { version, .. } => Some(version.get()),
+        Line::Merge { version, .. } => Some(version.get()),
         _ => None,
     }
 }

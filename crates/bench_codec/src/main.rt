@@ -8,11 +8,11 @@ ghost use Rattle.std.specs.Prelude.{◌≡◌, ◌≤◌, ◌<◌, ◌+◌, ◌-
 ghost use Rattle.wire_messages.specs.Proper.{IsProper};
 
 use anyhow::{Context, Result};
-use cluster_types::{Bytes, NoMemory, PartitionId};
+use cluster_types::{Boxed, Bytes, NoMemory, PartitionId, Row4096};
 use net_script::Net;
 use std::alloc::Global;
 use std::time::Instant;
-use wire_codec::{BoxedRow, Message, decode, encode};
+use wire_codec::{Message, decode, encode};
 
 /// The key 1.2.
 const KEY: [u8; 8] = [0, 0, 0, 0, 0, 1, 0, 2];
@@ -44,10 +44,10 @@ fn progress(alloc: Global) -> Result<Vec<u8>, NoMemory> {
 }
 
 /// 1 where the row has the bit of partition 0.
-fn first_bit(row: &BoxedRow) -> u64
+fn first_bit(row: &Boxed<Row4096>) -> u64
     ensures { result ≤ 1 }
 {
-    u64::from(PartitionId::new(0).is_some_and(|first| row.row().get(first)))
+    u64::from(PartitionId::new(0).is_some_and(|first| row.get().get(first)))
 }
 
 /// How many entries a State has, or how many rows of a Progress have the bit of partition 0.

@@ -3,7 +3,7 @@ ghost use Rattle.std.specs.Prelude.{◌≡◌, IfOk, Some};
 ghost use Rattle.cluster_rules.specs.Allowed as allowed;
 
 use cluster_rules::Event;
-use cluster_types::{BoxedGroups, NoMemory};
+use cluster_types::{Boxed, NoMemory};
 use script_lang::Command;
 use std::alloc::Global;
 
@@ -18,7 +18,7 @@ pub(crate) fn event_of(alloc: Global, command: &Command) -> Result<Option<Event>
             time: *time,
         },
         Command::Groups { groups } => Event::Groups {
-            groups: BoxedGroups::new(alloc, *groups.groups())?,
+            groups: Boxed::new(alloc, *groups.get())?,
         },
         Command::Tick { node } => Event::Tick { node: *node },
         Command::Stop { node } => Event::Stop { node: *node },

@@ -111,7 +111,7 @@ fn entry_of(table: &MapTable, p: PartitionId) -> Entry
 {
     Entry {
         key: table.key,
-        moved: table.moved.row().get(p),
+        moved: table.moved.get().get(p),
         node: table.ids.get(p),
     }
 }

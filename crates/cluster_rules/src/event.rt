@@ -1,5 +1,5 @@
 //! What happens in a world, one step at a time.
-use cluster_types::{BoxedGroups, Digest, NodeId, PartitionId};
+use cluster_types::{Boxed, Digest, Groups, NodeId, PartitionId};
 use conflict_order::ValueBytes;
 
 /// What happens in one step: one of a script's commands, or the end of its rounds.
@@ -12,7 +12,7 @@ pub enum Event {
     },
     /// The network is divided. Every declared node stands in one of the groups.
     Groups {
-        groups: BoxedGroups,
+        groups: Boxed<Groups>,
     },
     /// The node ticks.
     Tick {

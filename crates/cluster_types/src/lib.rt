@@ -4,7 +4,6 @@
 //! `Digest`. Short lists are copied; `Bytes`, `DigestList`, `IdList` and `StateRow` take memory.
 #![tactic(auto)]
 
-mod boxed_groups;
 mod cluster_key;
 mod copy_state;
 mod digest;
@@ -20,7 +19,7 @@ mod partition;
 mod row;
 mod state_row;
 
-pub use boxed_groups::BoxedGroups;
+pub use boxed_item::Boxed;
 pub use cluster_key::ClusterKey;
 pub use copy_state::CopyState;
 pub use digest::Digest;

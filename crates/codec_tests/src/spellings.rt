@@ -3,16 +3,16 @@ ghost use Rattle.std.specs.Prelude.{◌≡◌, IfOk};
 
 use crate::bytes::{DIGEST, HI, KEY, fault_of};
 use cluster_types::{
-    ClusterKey, CopyState, Digest, Member, Members, NodeId, NodeList, PartitionId, Role, Row4096,
-    StateRow,
+    Boxed, ClusterKey, CopyState, Digest, Member, Members, NodeId, NodeList, PartitionId, Role,
+    Row4096, StateRow,
 };
 use conflict_order::{Body, ValueBytes, Version, Want};
 use std::alloc::Global;
 use std::process::Abort;
 use std::test::Fail;
 use wire_codec::{
-    Batch, BoxedIds, BoxedRow, DecodeFault, MapTable, Message, Records, ReplyBody, ScanPage,
-    ScanRefusal, decode, encode,
+    Batch, BoxedIds, DecodeFault, MapTable, Message, Records, ReplyBody, ScanPage, ScanRefusal,
+    decode, encode,
 };
 
 /// The key 2.1.
@@ -114,12 +114,12 @@ fn members(alloc: Global, rows: &[(u16, u8, bool)]) -> Result<Members, Fail> {
 }
 
 /// The row of these partitions.
-fn row(alloc: Global, partitions: &[u16]) -> Result<BoxedRow, Fail> {
+fn row(alloc: Global, partitions: &[u16]) -> Result<Boxed<Row4096>, Fail> {
     let mut row = Row4096::new();
     for number in partitions {
         row.put(partition(*number)?);
     }
-    Ok(BoxedRow::new(alloc, row)?)
+    Ok(Boxed::new(alloc, row)?)
 }
 
 fn heartbeat(hears: &[NodeId], role: Role) -> Result<Message, Fail> {

@@ -1,14 +1,12 @@
 //! The versions of a record, how they compare, and which of two remains.
 #![tactic(auto)]
 
-mod best_version;
 pub mod laws;
 mod policy;
 mod value;
 mod version;
 mod want;
 
-pub use best_version::BestVersion;
 pub use policy::Policy;
 pub use value::{VALUE_LIMIT, ValueBytes, ValueFault};
 pub use version::{Body, Version, join};

@@ -1,9 +1,9 @@
 //! The lines of a journal.
 use crate::refusal::Refusal;
 use cluster_types::{
-    BoxedGroups, Bytes, ClusterKey, Digest, MemberList, Members, NodeId, PartitionId,
+    Boxed, Bytes, ClusterKey, Digest, Groups, MemberList, Members, NodeId, PartitionId,
 };
-use conflict_order::{Action, BestVersion, Policy, Version};
+use conflict_order::{Action, Policy, Version};
 use wire_messages::{ReplyBody, ScanRefusal};
 
 /// One line of the journal. It is written as docs/FORMATS.md says, without its line feed.
@@ -36,7 +36,7 @@ pub enum Line {
     },
     /// The network was divided into these groups.
     Groups {
-        groups: BoxedGroups,
+        groups: Boxed<Groups>,
     },
     /// An up node ticked.
     Tick {
@@ -129,7 +129,7 @@ pub enum Line {
     Enter {
         node: NodeId,
         key: ClusterKey,
-        members: Members,
+        members: Boxed<Members>,
     },
     /// The node knows the copies of every member of its view.
     Exchanged {
@@ -156,7 +156,7 @@ pub enum Line {
         key: ClusterKey,
         transaction: u32,
         digest: Digest,
-        version: BestVersion,
+        version: Boxed<Option<Version>>,
     },
     /// A write was applied, with the version that it made.
     Apply {
@@ -164,7 +164,7 @@ pub enum Line {
         key: ClusterKey,
         transaction: u32,
         digest: Digest,
-        version: Version,
+        version: Boxed<Version>,
     },
     /// Every other replica has the write.
     Done {
@@ -189,7 +189,7 @@ pub enum Line {
         node: NodeId,
         key: ClusterKey,
         digest: Digest,
-        version: Version,
+        version: Boxed<Version>,
     },
     /// The node no longer acts for the partition, since the first of its list does.
     Handed {
@@ -220,7 +220,7 @@ pub enum Line {
         node: NodeId,
         key: ClusterKey,
         partition: PartitionId,
-        members: MemberList,
+        members: Boxed<MemberList>,
         acting: NodeId,
     },
     /// The node has no map. The cause is `Down`, `NoView` or `Exchanging`.
@@ -231,7 +231,7 @@ pub enum Line {
     /// The list of the partition over all declared nodes.
     Place {
         partition: PartitionId,
-        members: MemberList,
+        members: Boxed<MemberList>,
     },
     /// The digest of a key, and its partition.
     Hash {
@@ -242,7 +242,7 @@ pub enum Line {
     Holds {
         node: NodeId,
         digest: Digest,
-        version: Option<Version>,
+        version: Boxed<Option<Version>>,
     },
     /// The client chose the node for a request; the request's lines follow.
     Client {
@@ -275,7 +275,7 @@ pub enum Line {
         node: NodeId,
         key: ClusterKey,
         number: u32,
-        reply: ReplyBody,
+        reply: Boxed<ReplyBody>,
     },
     /// The node left the view before the request that it passed on was replied to.
     Unproxied {
@@ -305,7 +305,7 @@ pub enum Line {
     Reply {
         number: u32,
         node: NodeId,
-        reply: ReplyBody,
+        reply: Boxed<ReplyBody>,
     },
     /// The client asked a node for a page of a scan.
     Scan {
@@ -338,7 +338,7 @@ pub enum Line {
     Record {
         scan: u32,
         digest: Digest,
-        version: Version,
+        version: Boxed<Version>,
     },
     /// A node has no page for a scan.
     Unscanned {

@@ -113,6 +113,7 @@ fn a_version_has_the_parts_that_stand_there(rt: HostRuntime) -> Result<(), Fail>
             assert_eq!(rt; node.number(), 1);
             assert_eq!(rt; (key.round, key.principal), (2, 3));
             assert_eq!(rt; digest.bytes()[1], 255);
+            let version = version.get();
             assert_eq!(rt; (version.lut, version.generation), (9, 4));
             assert!(rt; matches!(version.body, Body::Tombstone));
         }
@@ -125,7 +126,7 @@ fn a_version_has_the_parts_that_stand_there(rt: HostRuntime) -> Result<(), Fail>
 fn members_have_their_racks_and_marks(rt: HostRuntime) -> Result<(), Fail> {
     match line(rt.alloc(), "enter 3 2.3 3/0q,2/7\n")? {
         Line::Enter { members, .. } => {
-            let members = members.as_slice();
+            let members = members.get().as_slice();
             assert_eq!(rt; members.len(), 2);
             assert_eq!(rt; members[0].id.number(), 3);
             assert!(rt; members[0].role.quiesced);
@@ -140,7 +141,7 @@ fn members_have_their_racks_and_marks(rt: HostRuntime) -> Result<(), Fail> {
 #[test]
 fn groups_are_told_apart(rt: HostRuntime) -> Result<(), Fail> {
     match line(rt.alloc(), "groups 1 2 | 4\n")? {
-        Line::Groups { groups } => assert_eq!(rt; groups.groups().len(), 2),
+        Line::Groups { groups } => assert_eq!(rt; groups.get().len(), 2),
         _ => panic!(rt; "another line"),
     }
     Ok(())
@@ -156,7 +157,7 @@ fn causes_and_replies_have_their_parts(rt: HostRuntime) -> Result<(), Fail> {
     match line(rt.alloc(), "reply 7 3 done\n")? {
         Line::Reply { number, reply, .. } => {
             assert_eq!(rt; number, 7);
-            assert_eq!(rt; reply, ReplyBody::Done);
+            assert_eq!(rt; *reply.get(), ReplyBody::Done);
         }
         _ => panic!(rt; "another line"),
     }

@@ -77,7 +77,7 @@ fn script_fields(line: &Line) -> Option<[Field<'_>; 7]>
         Line::Node { node, rack } => padded!(Word("node"), Node(*node), Rack(*rack)),
         Line::Policy { policy } => padded!(Word("policy"), Policy(*policy)),
         Line::Clock { node, time } => padded!(Word("clock"), Node(*node), Number(*time)),
-        Line::Groups { groups } => padded!(Word("groups"), Groups(groups.groups().as_slice())),
+        Line::Groups { groups } => padded!(Word("groups"), Groups(groups.get().as_slice())),
         _ => None,
     }
 }
@@ -177,7 +177,7 @@ fn view_fields(line: &Line) -> Option<[Field<'_>; 7]>
             Word("enter"),
             Node(*node),
             Key(*key),
-            Members(members.as_slice())
+            Members(members.get().as_slice())
         ),
         Line::Exchanged { node, key } => padded!(Word("exchanged"), Node(*node), Key(*key)),
         Line::Handed {
@@ -252,7 +252,7 @@ fn request_fields(line: &Line) -> Option<[Field<'_>; 7]>
             Key(*key),
             Count(*transaction),
             Digest(digest),
-            Found(version.version())
+            Found(version.get())
         ),
         Line::Apply {
             node,
@@ -266,7 +266,7 @@ fn request_fields(line: &Line) -> Option<[Field<'_>; 7]>
             Key(*key),
             Count(*transaction),
             Digest(digest),
-            Version(version)
+            Version(version.get())
         ),
         Line::Done {
             node,
@@ -293,7 +293,7 @@ fn request_fields(line: &Line) -> Option<[Field<'_>; 7]>
             Node(*node),
             Key(*key),
             Digest(digest),
-            Version(version)
+            Version(version.get())
         ),
         _ => None,
     }
@@ -317,14 +317,14 @@ fn answer_fields(line: &Line) -> Option<[Field<'_>; 7]>
             Node(*node),
             Key(*key),
             Partition(*partition),
-            Members(members.as_slice()),
+            Members(members.get().as_slice()),
             Node(*acting)
         ),
         Line::Mapless { node, cause } => padded!(Word("mapless"), Node(*node), Cause(*cause)),
         Line::Place { partition, members } => padded!(
             Word("place"),
             Partition(*partition),
-            Members(members.as_slice())
+            Members(members.get().as_slice())
         ),
         Line::Hash { digest, partition } => padded!(
             Word("hash"),
@@ -335,7 +335,12 @@ fn answer_fields(line: &Line) -> Option<[Field<'_>; 7]>
             node,
             digest,
             version,
-        } => padded!(Word("holds"), Node(*node), Digest(digest), Found(version)),
+        } => padded!(
+            Word("holds"),
+            Node(*node),
+            Digest(digest),
+            Found(version.get())
+        ),
         Line::Client { node, digest } => padded!(Word("client"), Node(*node), Digest(digest)),
         Line::NoMap { partition } => padded!(Word("nomap"), Partition(*partition)),
         Line::Table { key } => padded!(Word("table"), Key(*key)),
@@ -377,7 +382,7 @@ fn call_fields(line: &Line) -> Option<[Field<'_>; 7]>
             Node(*node),
             Key(*key),
             Count(*number),
-            Reply(reply)
+            Reply(reply.get())
         ),
         Line::Unproxied { node, key, number } => padded!(
             Word("unproxied"),
@@ -404,7 +409,12 @@ fn call_fields(line: &Line) -> Option<[Field<'_>; 7]>
             number,
             node,
             reply,
-        } => padded!(Word("reply"), Count(*number), Node(*node), Reply(reply)),
+        } => padded!(
+            Word("reply"),
+            Count(*number),
+            Node(*node),
+            Reply(reply.get())
+        ),
         _ => None,
     }
 }
@@ -451,7 +461,7 @@ fn scan_fields(line: &Line) -> Option<[Field<'_>; 7]>
             Word("record"),
             Count(*scan),
             Digest(digest),
-            Version(version)
+            Version(version.get())
         ),
         Line::Unscanned { scan, cause } => padded!(
             Word("unscanned"),

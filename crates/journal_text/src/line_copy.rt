@@ -1,8 +1,8 @@
 //! Copies of lines.
 ghost use Rattle.std.specs.Prelude.{◌≡◌, IfOk};
 
-use cluster_types::{BoxedGroups, NoMemory};
-use conflict_order::{BestVersion, Version};
+use cluster_types::{Boxed, NoMemory};
+use conflict_order::Version;
 use journal_lines::Line;
 use std::alloc::Global;
 
@@ -23,7 +23,7 @@ pub fn copy_line(alloc: Global, line: &Line) -> Result<Line, NoMemory>
             time: *time,
         }),
         Line::Groups { groups } => Ok(Line::Groups {
-            groups: BoxedGroups::new(alloc, *groups.groups())?,
+            groups: Boxed::new(alloc, *groups.get())?,
         }),
         Line::Tick { node } => Ok(Line::Tick { node: *node }),
         Line::Stop { node } => Ok(Line::Stop { node: *node }),
@@ -84,7 +84,7 @@ pub fn copy_line(alloc: Global, line: &Line) -> Result<Line, NoMemory>
         Line::Enter { node, key, members } => Ok(Line::Enter {
             node: *node,
             key: *key,
-            members: *members,
+            members: Boxed::new(alloc, *members.get())?,
         }),
         Line::Exchanged { node, key } => Ok(Line::Exchanged {
             node: *node,
@@ -123,7 +123,7 @@ pub fn copy_line(alloc: Global, line: &Line) -> Result<Line, NoMemory>
             key: *key,
             transaction: *transaction,
             digest: *digest,
-            version: BestVersion::new(alloc, copy_version(alloc, version.version())?)?,
+            version: Boxed::new(alloc, copy_version(alloc, version.get())?)?,
         }),
         Line::Apply {
             node,
@@ -136,7 +136,7 @@ pub fn copy_line(alloc: Global, line: &Line) -> Result<Line, NoMemory>
             key: *key,
             transaction: *transaction,
             digest: *digest,
-            version: version.copy(alloc)?,
+            version: Boxed::new(alloc, version.get().copy(alloc)?)?,
         }),
         Line::Done {
             node,
@@ -174,7 +174,7 @@ pub fn copy_line(alloc: Global, line: &Line) -> Result<Line, NoMemory>
             node: *node,
             key: *key,
             digest: *digest,
-            version: version.copy(alloc)?,
+            version: Boxed::new(alloc, version.get().copy(alloc)?)?,
         }),
         Line::Handed {
             node,
@@ -222,7 +222,7 @@ pub fn copy_line(alloc: Global, line: &Line) -> Result<Line, NoMemory>
             node: *node,
             key: *key,
             partition: *partition,
-            members: *members,
+            members: Boxed::new(alloc, *members.get())?,
             acting: *acting,
         }),
         Line::Mapless { node, cause } => Ok(Line::Mapless {
@@ -231,7 +231,7 @@ pub fn copy_line(alloc: Global, line: &Line) -> Result<Line, NoMemory>
         }),
         Line::Place { partition, members } => Ok(Line::Place {
             partition: *partition,
-            members: *members,
+            members: Boxed::new(alloc, *members.get())?,
         }),
         Line::Hash { digest, partition } => Ok(Line::Hash {
             digest: *digest,
@@ -244,7 +244,7 @@ pub fn copy_line(alloc: Global, line: &Line) -> Result<Line, NoMemory>
         } => Ok(Line::Holds {
             node: *node,
             digest: *digest,
-            version: copy_version(alloc, version)?,
+            version: Boxed::new(alloc, copy_version(alloc, version.get())?)?,
         }),
         Line::Client { node, digest } => Ok(Line::Client {
             node: *node,
@@ -279,7 +279,7 @@ pub fn copy_line(alloc: Global, line: &Line) -> Result<Line, NoMemory>
             node: *node,
             key: *key,
             number: *number,
-            reply: reply.copy(alloc)?,
+            reply: Boxed::new(alloc, reply.get().copy(alloc)?)?,
         }),
         Line::Unproxied { node, key, number } => Ok(Line::Unproxied {
             node: *node,
@@ -310,7 +310,7 @@ pub fn copy_line(alloc: Global, line: &Line) -> Result<Line, NoMemory>
         } => Ok(Line::Reply {
             number: *number,
             node: *node,
-            reply: reply.copy(alloc)?,
+            reply: Boxed::new(alloc, reply.get().copy(alloc)?)?,
         }),
         Line::Scan {
             scan,
@@ -347,7 +347,7 @@ pub fn copy_line(alloc: Global, line: &Line) -> Result<Line, NoMemory>
         } => Ok(Line::Record {
             scan: *scan,
             digest: *digest,
-            version: version.copy(alloc)?,
+            version: Boxed::new(alloc, version.get().copy(alloc)?)?,
         }),
         Line::Unscanned { scan, cause } => Ok(Line::Unscanned {
             scan: *scan,

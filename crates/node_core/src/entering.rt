@@ -8,7 +8,7 @@ ghost use Rattle.node_steps.specs.Viewing.{ending_of};
 ghost use Rattle.node_view.specs.Views.{IsEntered};
 
 use crate::node::Node;
-use cluster_types::{ClusterKey, Members, NoMemory};
+use cluster_types::{Boxed, ClusterKey, Members, NoMemory};
 use dup_resolve::Txn;
 use journal_lines::Line;
 use node_steps::Effects;
@@ -35,7 +35,7 @@ impl Node {
         out.lines.push(Line::Enter {
             node,
             key,
-            members: *members,
+            members: Boxed::new(alloc, *members)?,
         })?;
         if members.len() == 1 {
             out.lines.push(Line::Exchanged { node, key })?;

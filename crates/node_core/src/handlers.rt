@@ -115,9 +115,9 @@ impl Node {
                 from,
                 *key,
                 *wants,
-                done.row(),
-                handed.row(),
-                settled.row(),
+                done.get(),
+                handed.get(),
+                settled.get(),
             ),
             Message::Repl {
                 key,

@@ -16,8 +16,8 @@ ghost use Rattle.node_view.specs.Views.{IsInView, IsNodeInView, IsSame, viewed_k
 ghost use Rattle.node_steps.specs.Viewing.{HasNumbers};
 
 use crate::effects::Effects;
-use cluster_types::{Digest, NoMemory, NodeList, partition_of};
-use conflict_order::{BestVersion, Body, Version, Want};
+use cluster_types::{Boxed, Digest, NoMemory, NodeList, partition_of};
+use conflict_order::{Body, Version, Want};
 use journal_lines::Line;
 use node_view::{Outcome, View, ViewStep, Writing};
 use record_store::RecordStore;
@@ -174,7 +174,7 @@ pub fn plan_outcome(
                 key: view.key(),
                 transaction,
                 digest,
-                version: BestVersion::new(alloc, best)?,
+                version: Boxed::new(alloc, best)?,
             })?;
             return Ok(Outcome::Read);
         }
@@ -273,7 +273,7 @@ fn write_lines(
         key,
         transaction,
         digest: *digest,
-        version: version.copy(alloc)?,
+        version: Boxed::new(alloc, version.copy(alloc)?)?,
     })?;
     if is_done {
         out.lines.push(Line::Done {

@@ -155,9 +155,9 @@ impl View {
     {
         self.progress.heard(
             progressed.from,
-            progressed.done.row(),
-            progressed.handed.row(),
-            progressed.settled.row(),
+            progressed.done.get(),
+            progressed.handed.get(),
+            progressed.settled.get(),
         );
     }
 

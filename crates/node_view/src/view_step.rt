@@ -1,11 +1,10 @@
 //! Planned steps of a view.
 use crate::live::Live;
-use cluster_types::{Digest, NodeId, NodeList, StateRow};
+use cluster_types::{Boxed, Digest, NodeId, NodeList, Row4096, StateRow};
 use conflict_order::{Version, Want};
 use emigrate::Emigration;
 use exchange::ServedTable;
 use immigrate::Merged;
-use wire_messages::BoxedRow;
 use write_path::Seen;
 
 /// What a planned step changes of a view and of the node's store, with all the memory that this
@@ -80,11 +79,11 @@ pub struct Progressed {
     /// Its sender, another member.
     pub from: NodeId,
     /// The partitions at which the sender is done.
-    pub done: BoxedRow,
+    pub done: Boxed<Row4096>,
     /// Those that it knows handed over.
-    pub handed: BoxedRow,
+    pub handed: Boxed<Row4096>,
     /// Those that it knows settled.
-    pub settled: BoxedRow,
+    pub settled: Boxed<Row4096>,
 }
 
 /// A write of another node.

@@ -1,10 +1,10 @@
 //! Tests of `client_map` by its public calls.
 use client_map::ClientMap;
-use cluster_types::{ClusterKey, NoMemory, NodeId, PartitionId, Row4096};
+use cluster_types::{Boxed, ClusterKey, NoMemory, NodeId, PartitionId, Row4096};
 use std::alloc::Global;
 use std::process::Abort;
 use std::test::Fail;
-use wire_messages::{BoxedIds, BoxedRow, MapTable};
+use wire_messages::{BoxedIds, MapTable};
 
 fn node(rt: &impl Abort, n: u16) -> NodeId {
     NodeId::new(n).expect(rt, "no node")
@@ -27,7 +27,7 @@ fn table(
             principal: 2,
         },
         ids: BoxedIds::new(alloc, [acting; 4096])?,
-        moved: BoxedRow::new(alloc, row)?,
+        moved: Boxed::new(alloc, row)?,
     })
 }
 

@@ -10,6 +10,6 @@ mod writing;
 
 pub use codec::{decode, encode};
 pub use wire_messages::{
-    Batch, BoxedIds, BoxedRow, DecodeFault, Known, MapTable, Message, Records, ReplyBody, ScanPage,
+    Batch, BoxedIds, DecodeFault, Known, MapTable, Message, Records, ReplyBody, ScanPage,
     ScanRefusal,
 };

@@ -3,7 +3,7 @@
 #![tactic(auto)]
 
 mod before;
-mod boxed;
+mod boxed_ids;
 mod fault;
 pub mod laws;
 mod message;
@@ -12,7 +12,7 @@ mod reply;
 mod scan;
 
 pub use before::Before;
-pub use boxed::{BoxedIds, BoxedRow};
+pub use boxed_ids::BoxedIds;
 pub use fault::{DecodeFault, FieldFault};
 pub use message::{Batch, MapTable, Message};
 pub use records::Records;

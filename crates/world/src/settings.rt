@@ -7,7 +7,7 @@ use crate::fault::StepFault;
 use crate::showing::{holds_line, map_lines};
 use crate::world::World;
 use cluster_rules::Event;
-use cluster_types::{BoxedGroups, Digest, NodeId, PartitionId, Role, partition_of};
+use cluster_types::{Boxed, Digest, Groups, NodeId, PartitionId, Role, partition_of};
 use journal_text::Line;
 use std::alloc::Global;
 use std::snapshot::Snapshot;
@@ -102,17 +102,17 @@ impl World {
     pub(crate) fn set_groups(
         &mut self,
         alloc: Global,
-        groups: &BoxedGroups,
+        groups: &Boxed<Groups>,
         event: Snapshot<Event>,
     ) -> Result<(), StepFault>
         requires is { event.value ≡ events.Groups groups.now }
         requires comes { MayCome self.old event.value }
         ensures { TakesStep self.old self.new event.value result }
     {
-        let parts = *groups.groups();
+        let parts = *groups.get();
         // What the type ensures of groups: no node is in two.
         let _ = parts.as_slice();
-        let groups = BoxedGroups::new(alloc, parts)?;
+        let groups = Boxed::new(alloc, parts)?;
         self.ledger.tell(Line::Groups { groups }, event)?;
         self.net.set_groups(parts);
         Ok(())

@@ -16,7 +16,9 @@ ghost use Rattle.world.specs.Steps.{standing};
 use crate::lines::one_line;
 use crate::order::falling;
 use crate::world::World;
-use cluster_types::{Digest, Member, MemberList, Members, NoMemory, NodeId, PartitionId, Role};
+use cluster_types::{
+    Boxed, Digest, Member, MemberList, Members, NoMemory, NodeId, PartitionId, Role,
+};
 use journal_text::{Line, LineList};
 use node_core::Node;
 use partition_lists::list;
@@ -86,7 +88,7 @@ fn map_line(
         node: id,
         key,
         partition,
-        members: with_roles(alloc, &members, entry.list.as_slice())?,
+        members: Boxed::new(alloc, with_roles(alloc, &members, entry.list.as_slice())?)?,
         acting: entry.acting,
     })
 }
@@ -104,7 +106,7 @@ impl World {
         self.write_members(ids.as_slice(), members);
         Ok(Line::Place {
             partition,
-            members: place(alloc, members, partition)?,
+            members: Boxed::new(alloc, place(alloc, members, partition)?)?,
         })
     }
 }
@@ -164,6 +166,6 @@ pub(crate) fn holds_line(
     Ok(Line::Holds {
         node: id,
         digest: *digest,
-        version,
+        version: Boxed::new(alloc, version)?,
     })
 }

@@ -8,6 +8,7 @@ ghost use Rattle.journal_reader.specs.declared.reading.word.Word.TheVariants as 
 use crate::reading::causes::mapless_of;
 use crate::reading::parts::Parts;
 use crate::reading::unread::Unread;
+use cluster_types::Boxed;
 use journal_lines::Line;
 use std::alloc::Global;
 
@@ -17,7 +18,7 @@ pub fn map_line(alloc: Global, mut fields: Parts) -> Result<Line, Unread>
     let node = fields.node()?;
     let key = fields.key()?;
     let partition = fields.partition()?;
-    let members = fields.list(alloc)?;
+    let members = Boxed::new(alloc, fields.list(alloc)?)?;
     let acting = fields.node()?;
     fields.end()?;
     Ok(Line::Map {
@@ -41,7 +42,7 @@ pub fn place_line(alloc: Global, mut fields: Parts) -> Result<Line, Unread>
     ensures { ReadsFields result (of_word word.Place fields.entry) }
 {
     let partition = fields.partition()?;
-    let members = fields.list(alloc)?;
+    let members = Boxed::new(alloc, fields.list(alloc)?)?;
     fields.end()?;
     Ok(Line::Place { partition, members })
 }
@@ -60,7 +61,7 @@ pub fn holds_line(alloc: Global, mut fields: Parts) -> Result<Line, Unread>
 {
     let node = fields.node()?;
     let digest = fields.digest()?;
-    let version = fields.optional_version(alloc)?;
+    let version = Boxed::new(alloc, fields.optional_version(alloc)?)?;
     fields.end()?;
     Ok(Line::Holds {
         node,

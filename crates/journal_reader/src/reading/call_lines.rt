@@ -8,6 +8,7 @@ ghost use Rattle.journal_reader.specs.declared.reading.word.Word.TheVariants as 
 use crate::reading::parts::Parts;
 use crate::reading::replies::reply_of;
 use crate::reading::unread::Unread;
+use cluster_types::Boxed;
 use journal_lines::Line;
 use std::alloc::Global;
 
@@ -37,7 +38,10 @@ pub fn proxied_line(alloc: Global, mut fields: Parts) -> Result<Line, Unread>
     let node = fields.node()?;
     let key = fields.key()?;
     let number = fields.number()?;
-    let reply = reply_of(alloc, false, fields)?.ok_or(Unread::NoLine)?;
+    let reply = Boxed::new(
+        alloc,
+        reply_of(alloc, false, fields)?.ok_or(Unread::NoLine)?,
+    )?;
     Ok(Line::Proxied {
         node,
         key,
@@ -101,7 +105,7 @@ pub fn reply_line(alloc: Global, mut fields: Parts) -> Result<Line, Unread>
 {
     let number = fields.number()?;
     let node = fields.node()?;
-    let reply = reply_of(alloc, true, fields)?.ok_or(Unread::NoLine)?;
+    let reply = Boxed::new(alloc, reply_of(alloc, true, fields)?.ok_or(Unread::NoLine)?)?;
     Ok(Line::Reply {
         number,
         node,

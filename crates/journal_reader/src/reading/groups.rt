@@ -5,12 +5,12 @@ ghost use Rattle.journal_reader.specs.Fields as grammar;
 
 use crate::reading::numbers::node_of;
 use crate::reading::parts::Parts;
-use cluster_types::{BoxedGroups, Groups, NoMemory, NodeId, NodeList};
+use cluster_types::{Boxed, Groups, NoMemory, NodeId, NodeList};
 use std::alloc::Global;
 
 /// 1 to 16 groups, none empty, with at most 16 ids in all and none twice.
 #[tactic(auto, unfolding(crate::specs::Fields::parsed_groups))]
-pub fn groups_of(alloc: Global, fields: Parts) -> Result<Option<BoxedGroups>, NoMemory>
+pub fn groups_of(alloc: Global, fields: Parts) -> Result<Option<Boxed<Groups>>, NoMemory>
     ensures { IfOk result (λ g. g ≡ grammar.parsed_groups fields.entry) }
 {
     let Some(groups) = each_group_of(alloc, fields)? else {
@@ -20,7 +20,7 @@ pub fn groups_of(alloc: Global, fields: Parts) -> Result<Option<BoxedGroups>, No
         return Ok(None);
     }
     let groups = Groups::from_lists(groups.as_slice());
-    Ok(Some(BoxedGroups::new(alloc, groups)?))
+    Ok(Some(Boxed::new(alloc, groups)?))
 }
 
 fn each_group_of(alloc: Global, mut fields: Parts) -> Result<Option<Vec<NodeList>>, NoMemory>

@@ -8,7 +8,7 @@ ghost use Rattle.journal_reader.specs.declared.reading.word.Word.TheVariants as 
 use crate::reading::causes::cause_of;
 use crate::reading::parts::Parts;
 use crate::reading::unread::Unread;
-use conflict_order::BestVersion;
+use cluster_types::Boxed;
 use journal_lines::Line;
 use std::alloc::Global;
 
@@ -52,7 +52,7 @@ pub fn value_line(alloc: Global, mut fields: Parts) -> Result<Line, Unread>
     let digest = fields.digest()?;
     let found = fields.optional_version(alloc)?;
     fields.end()?;
-    let version = BestVersion::new(alloc, found)?;
+    let version = Boxed::new(alloc, found)?;
     Ok(Line::Value {
         node,
         key,
@@ -69,7 +69,7 @@ pub fn apply_line(alloc: Global, mut fields: Parts) -> Result<Line, Unread>
     let key = fields.key()?;
     let transaction = fields.number()?;
     let digest = fields.digest()?;
-    let version = fields.version(alloc)?;
+    let version = Boxed::new(alloc, fields.version(alloc)?)?;
     fields.end()?;
     Ok(Line::Apply {
         node,
@@ -128,7 +128,7 @@ pub fn merge_line(alloc: Global, mut fields: Parts) -> Result<Line, Unread>
     let node = fields.node()?;
     let key = fields.key()?;
     let digest = fields.digest()?;
-    let version = fields.version(alloc)?;
+    let version = Boxed::new(alloc, fields.version(alloc)?)?;
     fields.end()?;
     Ok(Line::Merge {
         node,

@@ -8,6 +8,7 @@ ghost use Rattle.journal_reader.specs.declared.reading.word.Word.TheVariants as 
 use crate::reading::causes::scan_refusal_of;
 use crate::reading::parts::Parts;
 use crate::reading::unread::Unread;
+use cluster_types::Boxed;
 use journal_lines::Line;
 use std::alloc::Global;
 
@@ -73,7 +74,7 @@ pub fn record_line(alloc: Global, mut fields: Parts) -> Result<Line, Unread>
 {
     let scan = fields.number()?;
     let digest = fields.digest()?;
-    let version = fields.version(alloc)?;
+    let version = Boxed::new(alloc, fields.version(alloc)?)?;
     fields.end()?;
     Ok(Line::Record {
         scan,

@@ -7,6 +7,7 @@ ghost use Rattle.journal_reader.specs.declared.reading.word.Word.TheVariants as 
 
 use crate::reading::parts::Parts;
 use crate::reading::unread::Unread;
+use cluster_types::Boxed;
 use journal_lines::Line;
 use std::alloc::Global;
 
@@ -24,7 +25,7 @@ pub fn enter_line(alloc: Global, mut fields: Parts) -> Result<Line, Unread>
 {
     let node = fields.node()?;
     let key = fields.key()?;
-    let members = fields.members(alloc)?;
+    let members = Boxed::new(alloc, fields.members(alloc)?)?;
     fields.end()?;
     Ok(Line::Enter { node, key, members })
 }

@@ -10,11 +10,10 @@ ghost use Rattle.node_rules.specs.Senders.{ComesFrom};
 ghost use Rattle.node_steps.specs.Spelled.{spelled};
 
 use crate::node::Node;
-use cluster_types::{ClusterKey, NoMemory, NodeId, Row4096};
+use cluster_types::{Boxed, ClusterKey, NoMemory, NodeId, Row4096};
 use node_steps::{Effects, Planned, progress_effects};
 use node_view::{Progressed, View, ViewStep};
 use std::alloc::Global;
-use wire_messages::BoxedRow;
 
 impl Node {
     /// The rows are the sender's done row, and the handed and settled rows as it knows them. A node
@@ -49,9 +48,9 @@ impl Node {
         let out = progress_effects(alloc, view, from, wants, handed, settled)?;
         let progressed = Progressed {
             from,
-            done: BoxedRow::new(alloc, *done)?,
-            handed: BoxedRow::new(alloc, *handed)?,
-            settled: BoxedRow::new(alloc, *settled)?,
+            done: Boxed::new(alloc, *done)?,
+            handed: Boxed::new(alloc, *handed)?,
+            settled: Boxed::new(alloc, *settled)?,
         };
         Ok(self.plan(out, Planned::View(ViewStep::Progressed(progressed))))
     }

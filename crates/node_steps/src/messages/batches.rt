@@ -8,7 +8,7 @@ ghost use Rattle.node_rules.specs.Messages.{merge_line};
 ghost use Rattle.node_steps.specs.Spelled.{spelled};
 
 use crate::effects::Effects;
-use cluster_types::{ClusterKey, NoMemory, NodeId};
+use cluster_types::{Boxed, ClusterKey, NoMemory, NodeId};
 use journal_text::{Line, LineList};
 use node_view::View;
 use std::alloc::Global;
@@ -54,7 +54,7 @@ fn write_merges(
                 node,
                 key,
                 digest: *digest,
-                version: version.copy(alloc)?,
+                version: Boxed::new(alloc, version.copy(alloc)?)?,
             })?;
         }
     }

@@ -15,10 +15,10 @@ ghost use Rattle.node_rules.specs.Effects.{nothing, sends_only, to_one};
 ghost use Rattle.node_rules.specs.Tick.{progress_message};
 
 use crate::effects::Effects;
-use cluster_types::{NoMemory, NodeId, Row4096};
+use cluster_types::{Boxed, NoMemory, NodeId, Row4096};
 use node_view::View;
 use std::alloc::Global;
-use wire_messages::{BoxedRow, Message};
+use wire_messages::Message;
 
 /// The answer to the member, where it is wanted and the node then knows every partition settled.
 pub fn progress_effects(
@@ -69,9 +69,9 @@ fn answer(
     Ok(Message::Progress {
         key: view.key(),
         wants: false,
-        done: BoxedRow::new(alloc, *view.done_row())?,
-        handed: BoxedRow::new(alloc, either(view.handed_row(), handed))?,
-        settled: BoxedRow::new(alloc, either(view.settled_row(), settled))?,
+        done: Boxed::new(alloc, *view.done_row())?,
+        handed: Boxed::new(alloc, either(view.handed_row(), handed))?,
+        settled: Boxed::new(alloc, either(view.settled_row(), settled))?,
     })
 }
 

@@ -8,10 +8,10 @@ ghost use Rattle.node_view.specs.Views.{IsInView, viewed_key};
 
 use crate::effects::Effects;
 use crate::fields::ids_fit;
-use cluster_types::{NoMemory, PARTITIONS, PartitionId, Row4096};
+use cluster_types::{Boxed, NoMemory, PARTITIONS, PartitionId, Row4096};
 use node_view::View;
 use std::alloc::Global;
-use wire_messages::{BoxedIds, BoxedRow, MapTable, Message};
+use wire_messages::{BoxedIds, MapTable, Message};
 
 /// The client, as an endpoint of messages.
 const CLIENT: u16 = 0;
@@ -49,6 +49,6 @@ fn map_table(alloc: Global, view: &View) -> Result<MapTable, NoMemory>
     Ok(MapTable {
         key: view.key(),
         ids: BoxedIds::new(alloc, ids)?,
-        moved: BoxedRow::new(alloc, moved)?,
+        moved: Boxed::new(alloc, moved)?,
     })
 }

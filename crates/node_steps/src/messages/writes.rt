@@ -14,7 +14,7 @@ ghost use Rattle.node_view.specs.Plans.{some_if};
 ghost use Rattle.node_steps.specs.Spelled.{then_effects, spelled};
 
 use crate::effects::Effects;
-use cluster_types::{ClusterKey, Digest, NoMemory, NodeId};
+use cluster_types::{Boxed, ClusterKey, Digest, NoMemory, NodeId};
 use conflict_order::Version;
 use journal_lines::Line;
 use record_store::{Joined, RecordStore};
@@ -40,7 +40,7 @@ pub fn merge_effects(
         node,
         key,
         digest: *digest,
-        version: version.copy(alloc)?,
+        version: Boxed::new(alloc, version.copy(alloc)?)?,
     };
     Effects::of_line(alloc, merge)
 }

@@ -12,10 +12,10 @@ ghost use Rattle.node_steps.specs.Spelled.{then_effects};
 
 use crate::effects::Effects;
 use crate::ground::Ground;
-use cluster_types::{NoMemory, Row4096};
+use cluster_types::{Boxed, NoMemory, Row4096};
 use node_view::{Settling, View};
 use std::alloc::Global;
-use wire_messages::{BoxedRow, Message};
+use wire_messages::Message;
 
 /// As long as some partition isn't known settled, a Progress to each other member, in member order.
 /// It tells besides of what this tick settles.
@@ -44,9 +44,9 @@ pub fn progress(
     let message = Message::Progress {
         key: view.key(),
         wants: true,
-        done: BoxedRow::new(alloc, *view.done_row())?,
-        handed: BoxedRow::new(alloc, handed_row(view, settlings))?,
-        settled: BoxedRow::new(alloc, settled_row(view, settlings))?,
+        done: Boxed::new(alloc, *view.done_row())?,
+        handed: Boxed::new(alloc, handed_row(view, settlings))?,
+        settled: Boxed::new(alloc, settled_row(view, settlings))?,
     };
     out.send_to_each(alloc, view.others().as_slice(), &message)
 }

@@ -9,7 +9,7 @@ use crate::fault::{Cause, LineFault};
 use crate::fields::{Field, Fields};
 use crate::nodes::declared_node;
 use crate::script::Command;
-use cluster_types::{BoxedGroups, Groups, NodeList};
+use cluster_types::{Boxed, Groups, NodeList};
 use std::alloc::Global;
 
 /// `groups`, and then ids, with a bar between two groups.
@@ -21,7 +21,7 @@ pub fn groups(alloc: Global, before: &Before, fields: Fields) -> Result<Command,
     };
     check_ids(before, fields.again())?;
     let groups = grouped(alloc, before, fields)?;
-    let groups = BoxedGroups::new(alloc, groups)?;
+    let groups = Boxed::new(alloc, groups)?;
     Ok(Command::Groups { groups })
 }
 

@@ -11,9 +11,9 @@ ghost use Rattle.wire_codec.specs.Reading.{Reads, Fills};
 ghost use Rattle.wire_messages.specs.Rows.{is_above, row_at, state_at, entry_at, with_entry, state_row_at};
 
 use crate::reading::{ReadFault, Reader, bad};
-use cluster_types::{CopyState, NodeId, PARTITIONS, PartitionId, Row4096, StateRow};
+use cluster_types::{Boxed, CopyState, NodeId, PARTITIONS, PartitionId, Row4096, StateRow};
 use std::alloc::Global;
-use wire_messages::{BoxedIds, BoxedRow};
+use wire_messages::BoxedIds;
 
 /// The bytes of a bit row.
 const ROW_BYTES: usize = 512;
@@ -36,11 +36,11 @@ fn row_of(bytes: &[u8]) -> Row4096
 impl<'a> Reader<'a> {
     /// A bit row.
     #[tactic(auto, unfolding(wire_messages::specs::Fields::field, wire_messages::specs::Rows::row_at))]
-    pub(crate) fn row(&mut self, alloc: Global) -> Result<BoxedRow, ReadFault>
+    pub(crate) fn row(&mut self, alloc: Global) -> Result<Boxed<Row4096>, ReadFault>
         ensures { Reads result (row_at self.old.rest.now) self.new.rest.now }
     {
         let row = row_of(self.take(ROW_BYTES)?);
-        Ok(BoxedRow::new(alloc, row)?)
+        Ok(Boxed::new(alloc, row)?)
     }
 
     /// A partition.

@@ -23,10 +23,11 @@ use crate::writing::versions::{
     put_digest, put_option_digest, put_option_version, put_records, put_version,
 };
 use cluster_types::{
-    ClusterKey, Digest, Member, Members, NoMemory, NodeList, PartitionId, Role, StateRow,
+    Boxed, ClusterKey, Digest, Member, Members, NoMemory, NodeList, PartitionId, Role, Row4096,
+    StateRow,
 };
 use conflict_order::{Version, Want};
-use wire_messages::{Batch, BoxedRow, MapTable, Message, ReplyBody, ScanPage, ScanRefusal};
+use wire_messages::{Batch, MapTable, Message, ReplyBody, ScanPage, ScanRefusal};
 
 /// The byte of a kind.
 fn put_kind(out: &mut Vec<u8>, kind: Kind) -> Result<(), NoMemory>
@@ -134,9 +135,9 @@ fn put_progress(
     out: &mut Vec<u8>,
     key: ClusterKey,
     wants: bool,
-    done: &BoxedRow,
-    handed: &BoxedRow,
-    settled: &BoxedRow,
+    done: &Boxed<Row4096>,
+    handed: &Boxed<Row4096>,
+    settled: &Boxed<Row4096>,
 ) -> Result<(), NoMemory>
     requires { IsProper (message.Progress key wants done.now handed.now settled.now) }
     ensures { OnOk result
@@ -146,9 +147,9 @@ fn put_progress(
     put_kind(out, Kind::Progress)?;
     put_key(out, key)?;
     put_flag(out, wants)?;
-    put_row(out, done.row())?;
-    put_row(out, handed.row())?;
-    put_row(out, settled.row())
+    put_row(out, done.get())?;
+    put_row(out, handed.get())?;
+    put_row(out, settled.get())
 }
 
 /// A write is replicated.
@@ -234,7 +235,7 @@ fn put_map_table(out: &mut Vec<u8>, table: &MapTable) -> Result<(), NoMemory>
     put_kind(out, Kind::MapTable)?;
     put_key(out, table.key)?;
     put_each_id(out, table.ids.as_slice())?;
-    put_row(out, table.moved.row())
+    put_row(out, table.moved.get())
 }
 
 /// A request is passed on.

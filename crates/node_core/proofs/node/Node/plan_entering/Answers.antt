@@ -1,4 +1,4 @@
-use Rattle.std.proofs.Common.{◌≡◌, ◌++◌, Bool, List, append-nil, length, refl, sym, ap, subst, ◌∙◌, []}
+use Rattle.std.proofs.Common.{◌≡◌, ◌++◌, ◌∷◌, Bool, List, append-nil, length, refl, sym, ap, subst, ◌∙◌, []}
 use Rattle.cluster_types.specs.declared.member.Member.{Member}
 use Rattle.node_rules.specs.Facts.{Facts}
 use Rattle.node_rules.specs.Steps.{Planning}
@@ -19,7 +19,7 @@ returns-clause-lines c =
     let own : me ≡ f.me = ap (λ (p : Planning). p.now.me) c.self.view_is in
     let ls = c.push.new.self in
     let ends = c.in_ok-close_transactions.ensures in
-    let enters = c.in_ok-push.ensures.ok in
+    let enters = c.in_ok-push.ensures.ok ∙ ap (λ (x : List Member). c.close_transactions.new.out.lines ++ line.Enter me key x ∷ []) c.in_ok-new.ensures in
     elim c.if-len-eq1.branch [
       | then-len-eq1+in_ok-push-2 w ↦
           w.out-is
@@ -38,5 +38,5 @@ returns-clause-view c =
     let stored : IsWithStore f c.self.inside.store = subst (λ (g : Facts). IsWithStore g c.self.inside.store) now (record { content = refl; stamps = refl; by = refl }) in
     let entered : IsEntered f c.args.key c.in_ok-lists.lists c.in_ok-view.view =
     c.in_ok-view.ensures f (ap (λ (g : Facts). g.me) (sym now)) (ap (λ (g : Facts). g.factor) (sym now)) stored in
-    subst (λ (v : Viewed). IsEntered f c.args.key c.args.members.now v) (sym c.in_ok-new.ensures.ok)
+    subst (λ (v : Viewed). IsEntered f c.args.key c.args.members.now v) (sym c.in_ok-new-2.ensures.ok)
     (subst (λ (ms : List Member). IsEntered f c.args.key ms c.in_ok-view.view) c.in_ok-lists.ensures entered)

@@ -19,6 +19,6 @@ place-requires-clause-order c =
 
 pub returns : goal.returns
 returns c =
-    place_due c.args.self.now c.args.partition c.as_slice.result.now c.write_members.new.members c.in_ok-place.field-0 (fits_of c.self.inside c.args.self.now c.self.view_is c.self.invariant).taken.declared.distinct
+    place_due c.args.self.now c.args.partition c.as_slice.result.now c.write_members.new.members c.in_ok-new.field-0 (fits_of c.self.inside c.args.self.now c.self.view_is c.self.invariant).taken.declared.distinct
     (c.as_slice.ensures.same ∙ c.falling-ids.ensures ∙ ap (in_order (λ m n. nat_lt n m)) c.rising_ids.ensures)
-    c.write_members.ensures c.in_ok-place.ensures
+    c.write_members.ensures (c.in_ok-new.ensures ∙ c.in_ok-place.ensures)
