@@ -26,7 +26,8 @@ use Rattle.node_rules.specs.Keys.{same_key}
 use Rattle.node_rules.specs.Tables.{table_with}
 use Rattle.heartbeat.specs.declared.entries.Entry.{Entry}
 use Rattle.heartbeat.specs.Entries.{table_by, heard_entry, table_of, is_entry_above, is_entry_below, with_one, still_heard, one_older, aged_entries, entry_names, names_from_above, names_from_below, member_in, Falls, AreHeardBy, of_itself}
-use Rattle.heartbeat.proofs.TableLaws.{all_below, filtered, lower, lt_false, lt_true, none_above, reversed, table_by-append, table_by-put}
+use Rattle.partition_lists.proofs.NumberLaws.{lt_false, lt_true}
+use Rattle.heartbeat.proofs.TableLaws.{all_below, filtered, lower, none_above, reversed, table_by-append, table_by-put}
 
 -- ---- loops
 

@@ -11,26 +11,7 @@ use Rattle.std.proofs.lemmas.List.{reverse-append, append-nil, map-append}
 use Rattle.std.proofs.lemmas.List.Elements.{All-head, All-tail, filter-append}
 use Rattle.heartbeat.specs.declared.entries.Entry.{Entry}
 use Rattle.heartbeat.specs.Entries.{table_by, is_entry_above, is_entry_below, Falls}
-
-pub lt_true : (a b : ℕ) → a < b → nat_lt a b ≡ true
-lt_true a b h = grind (arith, nat_tests)
-
-pub lt_false : (a b : ℕ) → b ≤ a → nat_lt a b ≡ false
-lt_false a b h = grind (arith, nat_tests)
-
--- how two numbers stand
-pub data Stand (a b : ℕ) : Type 0 where
-  Below : a < b → Stand a b
-  Same : a ≡ b → Stand a b
-  Above : b < a → Stand a b
-
-pub stand : (a b : ℕ) → Stand a b
-stand a b = go (nat_lt a b) (nat_lt b a) refl refl
-  where
-    go : (p q : Bool) → nat_lt a b ≡ p → nat_lt b a ≡ q → Stand a b
-    go true q h i = Below (grind (arith, nat_tests))
-    go false true h i = Above (grind (arith, nat_tests))
-    go false false h i = Same (grind (arith, nat_tests))
+use Rattle.partition_lists.proofs.NumberLaws.{Stand, lt_false, lt_true, stand}
 
 -- ---- putting in
 
@@ -117,12 +98,12 @@ table_by-put g same k v [] h = refl
 table_by-put {X} g same k v (e ∷ es) h = go (stand k e.node) (table_by-put g same k v es h.1)
   where
     go : Stand k e.node → put nat_cmp k v (table_by g es) ≡ table_by g (filter (is_entry_below k) es) ++ (k, v) ∷ table_by g (filter (is_entry_above k) es) → put nat_cmp k v (table_by g es ++ g e ∷ []) ≡ table_by g (filter (is_entry_below k) (e ∷ es)) ++ (k, v) ∷ table_by g (filter (is_entry_above k) (e ∷ es))
-    go (Below lt) ih =
+    go (Stand.Below lt) ih =
         rw (lt_true k e.node lt, lt_false e.node k (omega (arith, lt)))
         (put_before k v (table_by g es) (g e) (rw (same e) lt)
         ∙ ap (λ t. t ++ g e ∷ []) ih
         ∙ append_assoc (table_by g (filter (is_entry_below k) es)) ((k, v) ∷ table_by g (filter (is_entry_above k) es)) (g e ∷ []))
-    go (Same eq) ih =
+    go (Stand.Same eq) ih =
         let under : All (λ x. x.node < k) es = lower k e es h.0 (omega (arith, eq)) in
         rw (lt_false k e.node (omega (arith, eq)), lt_false e.node k (omega (arith, eq)), none_above k es under, all_below k es under)
         (put_behind k v (table_by g es) (g e ∷ []) (under_tabled g same k es under) ∙ ap (λ t. table_by g es ++ t) here)
@@ -131,7 +112,7 @@ table_by-put {X} g same k v (e ∷ es) h = go (stand k e.node) (table_by-put g s
         here =
             let is : (k == e.node) ≡ true = grind (arith, nat_tests, eq) in
             rw (same e) (rw (lt_false k e.node (let le : e.node ≤ k = omega (arith, eq) in le), is) (ap (λ n. (n, v) ∷ []) (sym eq)))
-    go (Above lt) ih =
+    go (Stand.Above lt) ih =
         let under : All (λ x. x.node < k) es = lower k e es h.0 (omega (arith, lt)) in
         rw (lt_false k e.node (omega (arith, lt)), lt_true e.node k lt, none_above k es under, all_below k es under)
         (ap (put nat_cmp k v) (sym (append-nil (table_by g es ++ g e ∷ [])))

@@ -2,7 +2,6 @@ pub mod AckLaws
 mod AgainLaws
 pub mod BatchMessageLaws
 pub mod CandidateLaws
-mod FieldLaws
 pub mod MemberLaws
 pub mod OpeningLaws
 mod ProgressLaws

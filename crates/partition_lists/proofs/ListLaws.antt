@@ -13,6 +13,7 @@ use Rattle.cluster_types.proofs.DistinctLaws.{fresh_next}
 use Rattle.partition_lists.specs.declared.ranks.Rank.{Rank}
 use Rattle.partition_lists.specs.declared.ranks.Candidate.{Candidate}
 use Rattle.partition_lists.specs.Hashes.{place}
+use Rattle.partition_lists.specs.RankKeys.{id_in}
 use Rattle.partition_lists.specs.Ranks.{rank_of, is_smaller}
 use Rattle.partition_lists.specs.Candidates.{candidates_of, is_ahead, repeats, rank_in}
 use Rattle.partition_lists.specs.Lists.{in_order, ranks_of, list, position_of, IsListOf}
@@ -147,14 +148,15 @@ list_unique members p ids distinct h = same_lists ids (list members p) (h.size �
         ∙ ap (λ j. unwrap_or (slice_get (list members p) j) d) from.2
         ∙ unwrap_or-slice_get (list members p) k d
 
--- the id of a rank isn't that of one before it
-pub fresh_id : (ranks : List Rank) (i : ℕ) (r : Rank) → i < length ranks → r ≡ get_or ranks i r → AreDistinct (map (λ r. r.id) ranks) → ¬ (Contains (map (λ r. r.id) (take i ranks)) r.id)
-fresh_id ranks i r within read distinct found =
-    fresh_next (map (λ (z : Rank). z.id) ranks) i r.id
-    (omega (arith, within, length-map ranks (λ (z : Rank). z.id)))
-    (ap (λ (z : Rank). z.id) read ∙ sym (get_or-map (λ (z : Rank). z.id) ranks i r r.id within))
+-- the id in a rank's number isn't that in one before it
+pub fresh_id : (keys : List ℕ) (i d : ℕ) → i < length keys → AreDistinct (map id_in keys) → ¬ (Contains (map id_in (take i keys)) (id_in (get_or keys i d)))
+fresh_id keys i d within distinct found =
+    let id = id_in (get_or keys i d) in
+    fresh_next (map id_in keys) i id
+    (omega (arith, within, length-map keys id_in))
+    (sym (get_or-map id_in keys i d id within))
     distinct
-    (subst (λ ids. Contains ids r.id) (sym (take-map (λ (z : Rank). z.id) i ranks)) found)
+    (subst (λ ids. Contains ids id) (sym (take-map id_in i keys)) found)
 
 -- a member that isn't quiesced and has a rack repeats it where another is ahead
 pub active_repeats : (candidates : List Candidate) (c : Candidate) → c.member.role.quiesced ≡ false → c.member.role.rack ≢ 0 → list_any (λ first. is_ahead first c) candidates ≡ repeats candidates c

@@ -52,3 +52,7 @@ partition_bytes p = to_le_bytes w64 (fnv1a (to_le_bytes w16 p))
 -- the number by which a node stands in the list of a partition
 unfoldable pub place : ℕ → ℕ → ℕ
 place n p = one_at_a_time (node_bytes n ++ partition_bytes p)
+
+-- that number, where the node's part of the input led to this state
+abbrev pub place_after : ℕ → ℕ → ℕ
+place_after p state = jenkins_end (jenkins_state state (partition_bytes p))

@@ -6,5 +6,6 @@ pub mod Hashes
 pub mod Leaving
 pub mod Lists
 pub mod NodeStates
+pub mod RankKeys
 pub mod Ranks
 pub mod ViewLists

@@ -1,6 +1,6 @@
 //! The two hashes, and the place of a node in a partition.
 ghost use Rattle.std.specs.Prelude.{◌≡◌, ℕ, List};
-ghost use Rattle.partition_lists.specs.Hashes.{fnv1a, one_at_a_time, place, jenkins_state, jenkins_step, jenkins_end, node_bytes, partition_bytes};
+ghost use Rattle.partition_lists.specs.Hashes.{fnv1a, one_at_a_time, place, place_after, jenkins_state, jenkins_step, jenkins_end, node_bytes, partition_bytes};
 
 use cluster_types::{NodeId, PartitionId};
 
@@ -57,8 +57,7 @@ pub(crate) fn partition_bytes(p: PartitionId) -> [u8; 8]
 
 /// The place where the node's part of the input led to this state.
 pub(crate) fn place_from(state: u32, partition: &[u8]) -> u32
-    ensures { (n : ℕ) → (p : ℕ) → state ≡ jenkins_state 0 (node_bytes n)
-        → partition.now ≡ partition_bytes p → result ≡ place n p }
+    ensures { (p : ℕ) → partition.now ≡ partition_bytes p → result ≡ place_after p state }
 {
     jenkins_end(jenkins_state(state, partition))
 }

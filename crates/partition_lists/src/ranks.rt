@@ -1,8 +1,10 @@
 //! The ranks of members, which are the same for every partition but for the places.
-ghost use Rattle.std.specs.Prelude.{◌≡◌, ◌≤◌, length, map};
+ghost use Rattle.std.specs.Prelude.{◌≡◌, ◌<◌, ◌≤◌, nat_lt, length, map, take, All};
 ghost use Rattle.std.specs.List.{list_any};
 ghost use Rattle.partition_lists.specs.Candidates.{candidates_of, is_ahead, repeats, rank_in};
+ghost use Rattle.partition_lists.specs.Hashes.{place_after};
 ghost use Rattle.partition_lists.specs.Lists.{list, IsListOf, in_order};
+ghost use Rattle.partition_lists.specs.RankKeys.{CandidateFits, RankFits, id_in, key_of};
 ghost use Rattle.partition_lists.specs.Ranks.{is_smaller};
 ghost use Rattle.partition_lists.specs.NodeStates.{node_states};
 ghost use Rattle.cluster_types.specs.Distinct.{AreDistinct};
@@ -13,6 +15,9 @@ use std::marker::Model;
 
 /// How many members there may be.
 const LIMIT: usize = 16;
+
+/// How many nodes are hashed side by side.
+const LANES: usize = 8;
 
 /// The rack of a member that has none.
 const NO_RACK: u8 = 0;
@@ -37,8 +42,13 @@ impl Model for Ranks {
     ghost invariant = { λ r. take (length r.members) r.states ≡ node_states r.members };
 }
 
+/// How many places there are, and how many ids.
+const PLACES: u64 = 1 << 32;
+
+const IDS: u64 = 1 << 16;
+
 /// By what members stand in a list, in this order.
-#[derive(Clone, Copy, PartialEq, Eq, PartialOrd, Ord)]
+#[derive(Clone, Copy)]
 pub(crate) struct Rank {
     quiesced: bool,
     repeats_rack: bool,
@@ -47,12 +57,13 @@ pub(crate) struct Rank {
 }
 
 impl Rank {
-    const PLACEHOLDER: Rank = Rank {
-        quiesced: false,
-        repeats_rack: false,
-        place: 0,
-        id: NodeId::MIN,
-    };
+    /// The rank as one number, so that two of them are compared at once.
+    fn key(self) -> u64
+        ensures { result ≡ key_of self }
+    {
+        let marks = u64::from(self.quiesced) * 2 + u64::from(self.repeats_rack);
+        (marks * PLACES + u64::from(self.place)) * IDS + u64::from(self.id.number())
+    }
 }
 
 /// A member, and the place of its node in one partition.
@@ -93,7 +104,7 @@ impl Ranks {
         let members = self.members.as_slice();
         let mut room = [Candidate::PLACEHOLDER; LIMIT];
         let candidates = &mut room[..members.len()];
-        place_members(members, &self.states[..members.len()], p, candidates);
+        place_members(members, &self.states, p, candidates);
         ids_by_rank(candidates)
     }
 }
@@ -107,17 +118,49 @@ fn hash_nodes(members: &[Member], states: &mut [u32])
     }
 }
 
-fn place_members(members: &[Member], states: &[u32], p: PartitionId, candidates: &mut [Candidate])
-    requires states { states.now ≡ node_states members.now }
+fn place_members(
+    members: &[Member],
+    states: &[u32; 16],
+    p: PartitionId,
+    candidates: &mut [Candidate],
+)
+    requires states { take (length members.now) states.now ≡ node_states members.now }
     requires room { length members.now ≡ length candidates.old }
+    requires limit { length members.now ≤ 16 }
     ensures { candidates.new ≡ candidates_of members.now p }
 {
-    let partition = partition_bytes(p);
+    let places = places_of(states, members.len(), p);
     for i in 0..members.len() {
         candidates[i] = Candidate {
             member: members[i],
-            place: place_from(states[i], &partition),
+            place: places[i],
         };
+    }
+}
+
+/// The places of so many nodes, and others behind them.
+fn places_of(states: &[u32; 16], count: usize, p: PartitionId) -> [u32; 16]
+    requires { count ≤ 16 }
+    ensures { take count result ≡ map (place_after p) (take count states.now) }
+{
+    let mut places = [0; LIMIT];
+    // A fixed number of nodes is hashed side by side, which takes less time than three of them one
+    // after another.
+    if count <= LANES {
+        hash_places(&states[..LANES], p, &mut places[..LANES]);
+    } else {
+        hash_places(states, p, &mut places);
+    }
+    places
+}
+
+fn hash_places(states: &[u32], p: PartitionId, places: &mut [u32])
+    requires { length states.now ≡ length places.old }
+    ensures { places.new ≡ map (place_after p) states.now }
+{
+    let partition = partition_bytes(p);
+    for i in 0..states.len() {
+        places[i] = place_from(states[i], &partition);
     }
 }
 
@@ -127,19 +170,36 @@ fn ids_by_rank(candidates: &[Candidate]) -> NodeList
     ensures { result
         ≡ map (λ r. r.id) (in_order is_smaller (map (rank_in candidates.now) candidates.now)) }
 {
-    let mut room = [Rank::PLACEHOLDER; LIMIT];
-    let ranks = &mut room[..candidates.len()];
-    rank_candidates(candidates, ranks);
-    sort(ranks);
-    ids_of(ranks)
+    let mut room = [0; LIMIT];
+    let keys = &mut room[..candidates.len()];
+    candidates_fit(candidates);
+    rank_candidates(candidates, keys);
+    sort(keys);
+    ids_of(keys)
 }
 
-fn rank_candidates(candidates: &[Candidate], ranks: &mut [Rank])
-    requires { length candidates.now ≡ length ranks.old }
-    ensures { ranks.new ≡ map (rank_in candidates.now) candidates.now }
+/// Their types keep the ranges of places and ids.
+fn candidates_fit(candidates: &[Candidate])
+    ensures { All CandidateFits candidates.now }
+{
+    for candidate in candidates {
+        candidate_fits(candidate);
+    }
+}
+
+fn candidate_fits(candidate: &Candidate)
+    ensures { CandidateFits candidate.now }
+{
+    let _place = candidate.place;
+    let _number = candidate.member.id.number();
+}
+
+fn rank_candidates(candidates: &[Candidate], keys: &mut [u64])
+    requires { length candidates.now ≡ length keys.old }
+    ensures { keys.new ≡ map key_of (map (rank_in candidates.now) candidates.now) }
 {
     for i in 0..candidates.len() {
-        ranks[i] = rank_in(candidates, &candidates[i]);
+        keys[i] = rank_in(candidates, &candidates[i]).key();
     }
 }
 
@@ -179,22 +239,34 @@ fn is_ahead(first: &Candidate, c: &Candidate) -> bool
         && (first.place, first.member.id) < (c.place, c.member.id)
 }
 
-fn sort(ranks: &mut [Rank])
-    requires { AreDistinct (map (λ r. r.id) ranks.old) }
-    ensures order { ranks.new ≡ in_order is_smaller ranks.old }
-    ensures distinct { AreDistinct (map (λ r. r.id) ranks.new) }
+fn sort(keys: &mut [u64])
+    requires { AreDistinct (map id_in keys.old) }
+    ensures order { keys.new ≡ in_order nat_lt keys.old }
+    ensures distinct { AreDistinct (map id_in keys.new) }
 {
-    ranks.sort_unstable();
+    keys.sort_unstable();
 }
 
-fn ids_of(ranks: &[Rank]) -> NodeList
-    requires limit { length ranks.now ≤ 16 }
-    requires distinct { AreDistinct (map (λ r. r.id) ranks.now) }
-    ensures { result ≡ map (λ r. r.id) ranks.now }
+fn ids_of(keys: &[u64]) -> NodeList
+    requires limit { length keys.now ≤ 16 }
+    requires distinct { AreDistinct (map id_in keys.now) }
+    requires nodes { All (λ key. 0 < id_in key) keys.now }
+    ensures { result ≡ map id_in keys.now }
 {
     let mut ids = NodeList::new();
-    for rank in ranks {
-        ids.push(rank.id);
+    for key in keys {
+        ids.push(id_in(*key));
     }
     ids
+}
+
+/// The id in the number of a rank.
+fn id_in(key: u64) -> NodeId
+    requires { 0 < id_in key }
+    ensures { result ≡ id_in key }
+{
+    match NodeId::new((key % IDS) as u16) {
+        Some(id) => id,
+        None => unreachable!(),
+    }
 }

@@ -1,7 +1,7 @@
 use Rattle.std.proofs.Common.{All, arith, subst, ◌∙◌}
 use Rattle.std.proofs.lemmas.List.{take_all}
 use Rattle.wire_messages.specs.Nodes.{FitsMember}
-use Rattle.node_steps.proofs.FieldLaws.{one_more_fits}
+use Rattle.partition_lists.proofs.ItemLaws.{one_more_fits}
 use Rattle.node_steps.proofs.fields.members_fit.Goals as goal
 
 pub loop-member-preserved : goal.loop-member-preserved

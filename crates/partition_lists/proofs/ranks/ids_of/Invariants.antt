@@ -1,5 +1,6 @@
 use Rattle.std.proofs.Common.{◌≡◌, map, take}
+use Rattle.partition_lists.specs.RankKeys.{id_in}
 use Rattle.partition_lists.proofs.ranks.ids_of.Given as goal
 
-abbrev pub invariant-loop-rank : goal.invariant-loop-rank
-invariant-loop-rank l = l.ids ≡ map (λ r. r.id) (take l.rank-index l.ranks)
+abbrev pub invariant-loop-key : goal.invariant-loop-key
+invariant-loop-key l = l.ids ≡ map id_in (take l.key-index l.keys)
