@@ -89,15 +89,17 @@ impl Adjacency {
         });
     }
 
-    /// A tick.
-    pub fn tick(&mut self)
-        ensures { self.new
+    /// A tick. It answers the neighbours from then on.
+    pub fn tick(&mut self) -> Members
+        ensures ticked { self.new
             ≡ record self.old { hearing = ticked self.old.me self.old.role self.old.hearing } }
+        ensures set { result ≡ neighbours_of self.new.me self.new.role self.new.hearing.heard }
     {
         self.heard.age();
         let set = self.neighbours();
         self.quiet = quieter(self.quiet, is_unchanged(&self.set, &set));
         self.set = Some(set);
+        set
     }
 
     /// A view was entered.

@@ -4,6 +4,7 @@ use Rattle.std.specs.Global.{Box}
 use Rattle.cluster_types.specs.declared.member.Role.{Role}
 use Rattle.node_rules.specs.Notes.{started, with_role}
 use Rattle.node_rules.specs.Steps.{Planning, unplanned}
+use Rattle.node_view.specs.declared.list_cache.ListCache.{ListCache}
 use Rattle.node_view.specs.declared.view.View.{View}
 use Rattle.node_rules.specs.Facts.{Facts}
 use Rattle.node_view.specs.declared.view_step.ViewStep.{ViewStep}
@@ -70,6 +71,25 @@ IsNode n = PartsAgree n × FitsPlan n × HasRoomForPlan n
 -- what was planned is given up
 pub given_up : (n : Inside) → PartsAgree n → IsNode (record n { planned = None })
 given_up n h = (agrees_planned n None h, none_for (IsPlannedFrom (node_facts n)), none_for (λ p. ForSome n.view (λ v. HasRoomForStep v.value n.store.spare p)))
+
+-- other lists are kept
+pub listed : (n : Inside) (lists : ListCache) → IsNode n → IsNode (record n { lists = lists })
+listed n lists h = (
+  record {
+    peers = h.0.peers;
+    factor = h.0.factor;
+    hearing = h.0.hearing;
+    heard = h.0.heard;
+    role = h.0.role;
+    agree = h.0.agree;
+    by = h.0.by;
+    view = h.0.view;
+    in_one = h.0.in_one;
+    ranges = h.0.ranges;
+  },
+  h.1,
+  h.2,
+)
 
 -- a step is planned that fits and needs no room
 pub planned_so : (n : Inside) (p : Planned) → PartsAgree n → FitsPlanned (node_facts n) p → HasRanges (taken (node_facts n) p) → NeedsNoRoom p → IsNode (record n { planned = Some p })

@@ -40,10 +40,9 @@ impl Node {
         out.lines.push(Line::Tick { node: self.me })?;
 
         let mut hearing = self.hearing.copy();
-        hearing.tick();
+        let set = hearing.tick();
         let before = self.ground(&hearing, &self.agree, self.own_view());
         beat(alloc, &before, &mut out)?;
-        let set = hearing.neighbours();
         let candidate = is_candidate(&before, &set);
 
         let (agree, proposal) = self.agree.copy().on_tick(set, candidate);

@@ -4,6 +4,7 @@ use Rattle.node_rules.specs.Facts.{Facts}
 use Rattle.node_rules.specs.Steps.{Planning}
 use Rattle.node_view.specs.Views.{IsEntered, IsWithStore, Viewed}
 use Rattle.node_core.specs.Nodes.{node_facts}
+use Rattle.node_core.proofs.NodeLaws.{listed}
 use Rattle.node_core.proofs.LeadLaws.{one_member, several_members, told_entering}
 use Rattle.node_core.proofs.node.Node.plan_entering.Goals.{then-len-eq1+in_ok-push-2, else-len-eq1}
 use Rattle.node_core.proofs.node.Node.plan_entering.Goals as goal
@@ -40,3 +41,6 @@ returns-clause-view c =
     c.in_ok-view.ensures f (ap (λ (g : Facts). g.me) (sym now)) (ap (λ (g : Facts). g.factor) (sym now)) stored in
     subst (λ (v : Viewed). IsEntered f c.args.key c.args.members.now v) (sym c.in_ok-new-2.ensures.ok)
     (subst (λ (ms : List Member). IsEntered f c.args.key ms c.in_ok-view.view) c.in_ok-lists.ensures entered)
+
+pub invariant_of-self-in_err-new-2 : goal.invariant_of-self-in_err-new-2
+invariant_of-self-in_err-new-2 c = listed c.self.inside c.lists.new.self c.self.invariant

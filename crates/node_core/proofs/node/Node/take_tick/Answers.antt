@@ -12,7 +12,7 @@ use Rattle.node_core.proofs.CommitLaws.{aged_is, aging, fits_aged, next_settled,
 use Rattle.node_core.proofs.node.Node.take_tick.Goals as goal
 
 pub invariant_of-self : goal.invariant_of-self
-invariant_of-self c = aging c.self.inside c.args.self.now c.tick.new.self c.self.invariant.0 c.tick.ensures c.self.view_is c.requires.unplanned
+invariant_of-self c = aging c.self.inside c.args.self.now c.tick.new.self c.self.invariant.0 c.tick.ensures.ticked c.self.view_is c.requires.unplanned
 
 pub take_agreed-requires-clause-unplanned : goal.take_agreed-requires-clause-unplanned
 take_agreed-requires-clause-unplanned c = still_unplanned _ c.self.inside.planned (none_before c.self.inside c.args.self.now c.self.view_is c.requires.unplanned)
@@ -21,18 +21,18 @@ pub take_agreed-requires-clause-fits : goal.take_agreed-requires-clause-fits
 take_agreed-requires-clause-fits c = fits_aged c.self.inside c.args.self.now c.tick.new.self c.args.tick c.self.view_is c.requires.fits
 
 pub take_agreed-requires-clause-ranges : goal.take_agreed-requires-clause-ranges
-take_agreed-requires-clause-ranges c = subst HasRanges (sym (aged_is c.self.inside c.args.self.now c.tick.new.self c.args.tick c.self.invariant.0 c.tick.ensures c.self.view_is)) c.requires.fits.ranges
+take_agreed-requires-clause-ranges c = subst HasRanges (sym (aged_is c.self.inside c.args.self.now c.tick.new.self c.args.tick c.self.invariant.0 c.tick.ensures.ticked c.self.view_is)) c.requires.fits.ranges
 
 pub settle_all-requires : goal.settle_all-requires
 settle_all-requires c =
     let f : Facts = ticked_facts c.args.self.now.now c.args.tick in
-    let seen : planning_of c.self-2.inside ≡ unplanned f = c.self-2.view_is ∙ c.take_agreed.ensures ∙ ap unplanned (aged_is c.self.inside c.args.self.now c.tick.new.self c.args.tick c.self.invariant.0 c.tick.ensures c.self.view_is) in
+    let seen : planning_of c.self-2.inside ≡ unplanned f = c.self-2.view_is ∙ c.take_agreed.ensures ∙ ap unplanned (aged_is c.self.inside c.args.self.now c.tick.new.self c.args.tick c.self.invariant.0 c.tick.ensures.ticked c.self.view_is) in
     rw (c.deref_mut.ensures.value, c.deref.ensures.value) (ready_to_settle c.self-2.inside f c.in-Some.view c.args.tick.settlings.items c.self-2.invariant.0 seen c.in-Some.is c.requires.fits.settlings)
 
 pub send_batches-requires : goal.send_batches-requires
 send_batches-requires c =
     let f : Facts = ticked_facts c.args.self.now.now c.args.tick in
-    let seen : planning_of c.self-2.inside ≡ unplanned f = c.self-2.view_is ∙ c.take_agreed.ensures ∙ ap unplanned (aged_is c.self.inside c.args.self.now c.tick.new.self c.args.tick c.self.invariant.0 c.tick.ensures c.self.view_is) in
+    let seen : planning_of c.self-2.inside ≡ unplanned f = c.self-2.view_is ∙ c.take_agreed.ensures ∙ ap unplanned (aged_is c.self.inside c.args.self.now c.tick.new.self c.args.tick c.self.invariant.0 c.tick.ensures.ticked c.self.view_is) in
     let node : IsNodeInView (settled_by f c.args.tick.settlings.items) c.settle_all.new.self c.settle_all.new.store =
     settled_node c.self-2.inside f c.in-Some.view c.deref_mut.result.now c.settle_all.new.self c.settle_all.new.store c.args.tick.settlings.items c.deref.result.now
     c.self-2.invariant.0 seen c.in-Some.is c.deref_mut.ensures.value c.deref.ensures.value c.settle_all.ensures in
@@ -42,7 +42,7 @@ send_batches-requires c =
 pub invariant_of-self-in-Some-1 : goal.invariant_of-self-in-Some-1
 invariant_of-self-in-Some-1 c =
     let f : Facts = ticked_facts c.args.self.now.now c.args.tick in
-    let seen : planning_of c.self-2.inside ≡ unplanned f = c.self-2.view_is ∙ c.take_agreed.ensures ∙ ap unplanned (aged_is c.self.inside c.args.self.now c.tick.new.self c.args.tick c.self.invariant.0 c.tick.ensures c.self.view_is) in
+    let seen : planning_of c.self-2.inside ≡ unplanned f = c.self-2.view_is ∙ c.take_agreed.ensures ∙ ap unplanned (aged_is c.self.inside c.args.self.now c.tick.new.self c.args.tick c.self.invariant.0 c.tick.ensures.ticked c.self.view_is) in
     let node : IsNodeInView (settled_by f c.args.tick.settlings.items) c.settle_all.new.self c.settle_all.new.store =
     settled_node c.self-2.inside f c.in-Some.view c.deref_mut.result.now c.settle_all.new.self c.settle_all.new.store c.args.tick.settlings.items c.deref.result.now
     c.self-2.invariant.0 seen c.in-Some.is c.deref_mut.ensures.value c.deref.ensures.value c.settle_all.ensures in
@@ -52,7 +52,7 @@ invariant_of-self-in-Some-1 c =
 pub returns-in-Some : goal.returns-in-Some
 returns-in-Some c =
     let f : Facts = ticked_facts c.args.self.now.now c.args.tick in
-    let seen : planning_of c.self-2.inside ≡ unplanned f = c.self-2.view_is ∙ c.take_agreed.ensures ∙ ap unplanned (aged_is c.self.inside c.args.self.now c.tick.new.self c.args.tick c.self.invariant.0 c.tick.ensures c.self.view_is) in
+    let seen : planning_of c.self-2.inside ≡ unplanned f = c.self-2.view_is ∙ c.take_agreed.ensures ∙ ap unplanned (aged_is c.self.inside c.args.self.now c.tick.new.self c.args.tick c.self.invariant.0 c.tick.ensures.ticked c.self.view_is) in
     let node : IsNodeInView (settled_by f c.args.tick.settlings.items) c.settle_all.new.self c.settle_all.new.store =
     settled_node c.self-2.inside f c.in-Some.view c.deref_mut.result.now c.settle_all.new.self c.settle_all.new.store c.args.tick.settlings.items c.deref.result.now
     c.self-2.invariant.0 seen c.in-Some.is c.deref_mut.ensures.value c.deref.ensures.value c.settle_all.ensures in
@@ -62,5 +62,5 @@ returns-in-Some c =
 pub returns-in_default : goal.returns-in_default
 returns-in_default c =
     let f : Facts = ticked_facts c.args.self.now.now c.args.tick in
-    let seen : planning_of c.self-2.inside ≡ unplanned f = c.self-2.view_is ∙ c.take_agreed.ensures ∙ ap unplanned (aged_is c.self.inside c.args.self.now c.tick.new.self c.args.tick c.self.invariant.0 c.tick.ensures c.self.view_is) in
+    let seen : planning_of c.self-2.inside ≡ unplanned f = c.self-2.view_is ∙ c.take_agreed.ensures ∙ ap unplanned (aged_is c.self.inside c.args.self.now c.tick.new.self c.args.tick c.self.invariant.0 c.tick.ensures.ticked c.self.view_is) in
     ticking_outside c.self-2.inside f c.args.tick.settlings.items c.args.tick.batches.items seen c.in_default.is c.requires.fits.settlings c.requires.fits.next

@@ -37,9 +37,9 @@ use Rattle.node_core.proofs.node.Node.tick.Goals as goal
 pub ground-before-requires : goal.ground-before-requires
 ground-before-requires c =
     let f : Facts = c.give_up.new.self.now in
-    let hearing : Adjacent = c.tick.new.self in
+    let hearing : Adjacent = c.tick-set.new.self in
     let heard : hearing ≡ record { me = f.me; role = f.role; hearing = ticked f.me f.role f.hearing } =
-    heard_so c.self.inside c.give_up.new.self c.copy-hearing.result hearing c.self.view_is c.self.invariant.0.hearing c.self.invariant.0.role c.copy-hearing.ensures c.tick.ensures in
+    heard_so c.self.inside c.give_up.new.self c.copy-hearing.result hearing c.self.view_is c.self.invariant.0.hearing c.self.invariant.0.role c.copy-hearing.ensures c.tick-set.ensures.ticked in
     let ranges : HasRanges f = subst (λ (p : Planning). HasRanges p.now) c.self.view_is c.self.invariant.0.ranges in
     let up : f.up ≡ true = ap (λ (p : Planning). p.now.up) c.give_up.ensures ∙ c.requires.up in
     ground_in_own f hearing c.self.inside.agree c.own_view.result c.own_view.ensures.some c.own_view.ensures.none c.own_view.ensures.view up
@@ -49,29 +49,29 @@ ground-before-requires c =
 pub on_tick-agree-requires : goal.on_tick-agree-requires
 on_tick-agree-requires c =
     let f : Facts = c.give_up.new.self.now in
-    let hearing : Adjacent = c.tick.new.self in
+    let hearing : Adjacent = c.tick-set.new.self in
     let heard : hearing ≡ record { me = f.me; role = f.role; hearing = ticked f.me f.role f.hearing } =
-    heard_so c.self.inside c.give_up.new.self c.copy-hearing.result hearing c.self.view_is c.self.invariant.0.hearing c.self.invariant.0.role c.copy-hearing.ensures c.tick.ensures in
+    heard_so c.self.inside c.give_up.new.self c.copy-hearing.result hearing c.self.view_is c.self.invariant.0.hearing c.self.invariant.0.role c.copy-hearing.ensures c.tick-set.ensures.ticked in
     let ranges : HasRanges f = subst (λ (p : Planning). HasRanges p.now) c.self.view_is c.self.invariant.0.ranges in
-    let set : c.neighbours-set.result ≡ neighbours (after_ages f) = c.neighbours-set.ensures ∙ ap (λ (x : Adjacent). neighbours_of x.me x.role x.hearing.heard) heard in
+    let set : c.tick-set.result ≡ neighbours (after_ages f) = c.tick-set.ensures.set ∙ ap (λ (x : Adjacent). neighbours_of x.me x.role x.hearing.heard) heard in
     let own : c.copy.result.me ≡ f.me = ap (λ (x : Agreeing). x.me) c.copy.ensures ∙ c.self.invariant.0.agree ∙ ap (λ (p : Planning). p.now.me) c.self.view_is in
-    subst (λ (n : ℕ). Contains (ids_of c.neighbours-set.result) n) (sym own)
+    subst (λ (n : ℕ). Contains (ids_of c.tick-set.result) n) (sym own)
     (subst (λ (ms : List Member). Contains (ids_of ms) f.me) (sym set) (itself_among f.me f.role (ticked f.me f.role f.hearing).heard))
 
 pub propose-requires : goal.propose-requires
 propose-requires c =
     let f : Facts = c.give_up.new.self.now in
-    let hearing : Adjacent = c.tick.new.self in
+    let hearing : Adjacent = c.tick-set.new.self in
     let heard : hearing ≡ record { me = f.me; role = f.role; hearing = ticked f.me f.role f.hearing } =
-    heard_so c.self.inside c.give_up.new.self c.copy-hearing.result hearing c.self.view_is c.self.invariant.0.hearing c.self.invariant.0.role c.copy-hearing.ensures c.tick.ensures in
+    heard_so c.self.inside c.give_up.new.self c.copy-hearing.result hearing c.self.view_is c.self.invariant.0.hearing c.self.invariant.0.role c.copy-hearing.ensures c.tick-set.ensures.ticked in
     let ranges : HasRanges f = subst (λ (p : Planning). HasRanges p.now) c.self.view_is c.self.invariant.0.ranges in
     let agreed_on : c.self.inside.agree.agreement ≡ f.agreement = ap (λ (p : Planning). p.now.agreement) c.self.view_is in
     let seen : c.ground-before.result ≡ agreeing_with f hearing.hearing c.self.inside.agree.agreement =
     c.ground-before.ensures ∙ ground_own f hearing.hearing c.self.inside.agree.agreement (lent c.own_view.result) (lent_view f c.own_view.result c.own_view.ensures.none c.own_view.ensures.view) in
-    let set : c.neighbours-set.result ≡ neighbours (after_ages f) = c.neighbours-set.ensures ∙ ap (λ (x : Adjacent). neighbours_of x.me x.role x.hearing.heard) heard in
+    let set : c.tick-set.result ≡ neighbours (after_ages f) = c.tick-set.ensures.set ∙ ap (λ (x : Adjacent). neighbours_of x.me x.role x.hearing.heard) heard in
     let own : c.copy.result.me ≡ f.me = ap (λ (x : Agreeing). x.me) c.copy.ensures ∙ c.self.invariant.0.agree ∙ ap (λ (p : Planning). p.now.me) c.self.view_is in
     let proposed : IsProposed (after_ages f) c.on_tick-agree.result.0 c.on_tick-agree.result.1 =
-    proposed_so f c.copy.result c.on_tick-agree.result.0 c.on_tick-agree.result.1 c.neighbours-set.result c.is_candidate-candidate.result own
+    proposed_so f c.copy.result c.on_tick-agree.result.0 c.on_tick-agree.result.1 c.tick-set.result c.is_candidate-candidate.result own
     (ap (λ (x : Agreeing). x.agreement) c.copy.ensures ∙ agreed_on) set
     (c.is_candidate-candidate.ensures ∙ candidate_so f c.ground-before.result hearing c.self.inside.agree.agreement seen heard)
     c.on_tick-agree.ensures.agree c.on_tick-agree.ensures.answer in
@@ -80,17 +80,17 @@ propose-requires c =
 pub plan_rest-requires-clause-counts : goal.plan_rest-requires-clause-counts
 plan_rest-requires-clause-counts c =
     let f : Facts = c.give_up.new.self.now in
-    let hearing : Adjacent = c.tick.new.self in
+    let hearing : Adjacent = c.tick-set.new.self in
     let heard : hearing ≡ record { me = f.me; role = f.role; hearing = ticked f.me f.role f.hearing } =
-    heard_so c.self.inside c.give_up.new.self c.copy-hearing.result hearing c.self.view_is c.self.invariant.0.hearing c.self.invariant.0.role c.copy-hearing.ensures c.tick.ensures in
+    heard_so c.self.inside c.give_up.new.self c.copy-hearing.result hearing c.self.view_is c.self.invariant.0.hearing c.self.invariant.0.role c.copy-hearing.ensures c.tick-set.ensures.ticked in
     let ranges : HasRanges f = subst (λ (p : Planning). HasRanges p.now) c.self.view_is c.self.invariant.0.ranges in
     let agreed_on : c.self.inside.agree.agreement ≡ f.agreement = ap (λ (p : Planning). p.now.agreement) c.self.view_is in
     let seen : c.ground-before.result ≡ agreeing_with f hearing.hearing c.self.inside.agree.agreement =
     c.ground-before.ensures ∙ ground_own f hearing.hearing c.self.inside.agree.agreement (lent c.own_view.result) (lent_view f c.own_view.result c.own_view.ensures.none c.own_view.ensures.view) in
-    let set : c.neighbours-set.result ≡ neighbours (after_ages f) = c.neighbours-set.ensures ∙ ap (λ (x : Adjacent). neighbours_of x.me x.role x.hearing.heard) heard in
+    let set : c.tick-set.result ≡ neighbours (after_ages f) = c.tick-set.ensures.set ∙ ap (λ (x : Adjacent). neighbours_of x.me x.role x.hearing.heard) heard in
     let own : c.copy.result.me ≡ f.me = ap (λ (x : Agreeing). x.me) c.copy.ensures ∙ c.self.invariant.0.agree ∙ ap (λ (p : Planning). p.now.me) c.self.view_is in
     let proposed : IsProposed (after_ages f) c.on_tick-agree.result.0 c.on_tick-agree.result.1 =
-    proposed_so f c.copy.result c.on_tick-agree.result.0 c.on_tick-agree.result.1 c.neighbours-set.result c.is_candidate-candidate.result own
+    proposed_so f c.copy.result c.on_tick-agree.result.0 c.on_tick-agree.result.1 c.tick-set.result c.is_candidate-candidate.result own
     (ap (λ (x : Agreeing). x.agreement) c.copy.ensures ∙ agreed_on) set
     (c.is_candidate-candidate.ensures ∙ candidate_so f c.ground-before.result hearing c.self.inside.agree.agreement seen heard)
     c.on_tick-agree.ensures.agree c.on_tick-agree.ensures.answer in
@@ -110,17 +110,17 @@ plan_rest-requires-clause-counts c =
 pub plan_rest-requires-clause-view : goal.plan_rest-requires-clause-view
 plan_rest-requires-clause-view c =
     let f : Facts = c.give_up.new.self.now in
-    let hearing : Adjacent = c.tick.new.self in
+    let hearing : Adjacent = c.tick-set.new.self in
     let heard : hearing ≡ record { me = f.me; role = f.role; hearing = ticked f.me f.role f.hearing } =
-    heard_so c.self.inside c.give_up.new.self c.copy-hearing.result hearing c.self.view_is c.self.invariant.0.hearing c.self.invariant.0.role c.copy-hearing.ensures c.tick.ensures in
+    heard_so c.self.inside c.give_up.new.self c.copy-hearing.result hearing c.self.view_is c.self.invariant.0.hearing c.self.invariant.0.role c.copy-hearing.ensures c.tick-set.ensures.ticked in
     let ranges : HasRanges f = subst (λ (p : Planning). HasRanges p.now) c.self.view_is c.self.invariant.0.ranges in
     let agreed_on : c.self.inside.agree.agreement ≡ f.agreement = ap (λ (p : Planning). p.now.agreement) c.self.view_is in
     let seen : c.ground-before.result ≡ agreeing_with f hearing.hearing c.self.inside.agree.agreement =
     c.ground-before.ensures ∙ ground_own f hearing.hearing c.self.inside.agree.agreement (lent c.own_view.result) (lent_view f c.own_view.result c.own_view.ensures.none c.own_view.ensures.view) in
-    let set : c.neighbours-set.result ≡ neighbours (after_ages f) = c.neighbours-set.ensures ∙ ap (λ (x : Adjacent). neighbours_of x.me x.role x.hearing.heard) heard in
+    let set : c.tick-set.result ≡ neighbours (after_ages f) = c.tick-set.ensures.set ∙ ap (λ (x : Adjacent). neighbours_of x.me x.role x.hearing.heard) heard in
     let own : c.copy.result.me ≡ f.me = ap (λ (x : Agreeing). x.me) c.copy.ensures ∙ c.self.invariant.0.agree ∙ ap (λ (p : Planning). p.now.me) c.self.view_is in
     let proposed : IsProposed (after_ages f) c.on_tick-agree.result.0 c.on_tick-agree.result.1 =
-    proposed_so f c.copy.result c.on_tick-agree.result.0 c.on_tick-agree.result.1 c.neighbours-set.result c.is_candidate-candidate.result own
+    proposed_so f c.copy.result c.on_tick-agree.result.0 c.on_tick-agree.result.1 c.tick-set.result c.is_candidate-candidate.result own
     (ap (λ (x : Agreeing). x.agreement) c.copy.ensures ∙ agreed_on) set
     (c.is_candidate-candidate.ensures ∙ candidate_so f c.ground-before.result hearing c.self.inside.agree.agreement seen heard)
     c.on_tick-agree.ensures.agree c.on_tick-agree.ensures.answer in
@@ -139,17 +139,17 @@ plan_rest-requires-clause-view c =
 pub plan_rest-requires-clause-ranges : goal.plan_rest-requires-clause-ranges
 plan_rest-requires-clause-ranges c =
     let f : Facts = c.give_up.new.self.now in
-    let hearing : Adjacent = c.tick.new.self in
+    let hearing : Adjacent = c.tick-set.new.self in
     let heard : hearing ≡ record { me = f.me; role = f.role; hearing = ticked f.me f.role f.hearing } =
-    heard_so c.self.inside c.give_up.new.self c.copy-hearing.result hearing c.self.view_is c.self.invariant.0.hearing c.self.invariant.0.role c.copy-hearing.ensures c.tick.ensures in
+    heard_so c.self.inside c.give_up.new.self c.copy-hearing.result hearing c.self.view_is c.self.invariant.0.hearing c.self.invariant.0.role c.copy-hearing.ensures c.tick-set.ensures.ticked in
     let ranges : HasRanges f = subst (λ (p : Planning). HasRanges p.now) c.self.view_is c.self.invariant.0.ranges in
     let agreed_on : c.self.inside.agree.agreement ≡ f.agreement = ap (λ (p : Planning). p.now.agreement) c.self.view_is in
     let seen : c.ground-before.result ≡ agreeing_with f hearing.hearing c.self.inside.agree.agreement =
     c.ground-before.ensures ∙ ground_own f hearing.hearing c.self.inside.agree.agreement (lent c.own_view.result) (lent_view f c.own_view.result c.own_view.ensures.none c.own_view.ensures.view) in
-    let set : c.neighbours-set.result ≡ neighbours (after_ages f) = c.neighbours-set.ensures ∙ ap (λ (x : Adjacent). neighbours_of x.me x.role x.hearing.heard) heard in
+    let set : c.tick-set.result ≡ neighbours (after_ages f) = c.tick-set.ensures.set ∙ ap (λ (x : Adjacent). neighbours_of x.me x.role x.hearing.heard) heard in
     let own : c.copy.result.me ≡ f.me = ap (λ (x : Agreeing). x.me) c.copy.ensures ∙ c.self.invariant.0.agree ∙ ap (λ (p : Planning). p.now.me) c.self.view_is in
     let proposed : IsProposed (after_ages f) c.on_tick-agree.result.0 c.on_tick-agree.result.1 =
-    proposed_so f c.copy.result c.on_tick-agree.result.0 c.on_tick-agree.result.1 c.neighbours-set.result c.is_candidate-candidate.result own
+    proposed_so f c.copy.result c.on_tick-agree.result.0 c.on_tick-agree.result.1 c.tick-set.result c.is_candidate-candidate.result own
     (ap (λ (x : Agreeing). x.agreement) c.copy.ensures ∙ agreed_on) set
     (c.is_candidate-candidate.ensures ∙ candidate_so f c.ground-before.result hearing c.self.inside.agree.agreement seen heard)
     c.on_tick-agree.ensures.agree c.on_tick-agree.ensures.answer in
@@ -168,17 +168,17 @@ plan_rest-requires-clause-ranges c =
 pub plan-requires-clause-fits : goal.plan-requires-clause-fits
 plan-requires-clause-fits c =
     let f : Facts = c.give_up.new.self.now in
-    let hearing : Adjacent = c.tick.new.self in
+    let hearing : Adjacent = c.tick-set.new.self in
     let heard : hearing ≡ record { me = f.me; role = f.role; hearing = ticked f.me f.role f.hearing } =
-    heard_so c.self.inside c.give_up.new.self c.copy-hearing.result hearing c.self.view_is c.self.invariant.0.hearing c.self.invariant.0.role c.copy-hearing.ensures c.tick.ensures in
+    heard_so c.self.inside c.give_up.new.self c.copy-hearing.result hearing c.self.view_is c.self.invariant.0.hearing c.self.invariant.0.role c.copy-hearing.ensures c.tick-set.ensures.ticked in
     let ranges : HasRanges f = subst (λ (p : Planning). HasRanges p.now) c.self.view_is c.self.invariant.0.ranges in
     let agreed_on : c.self.inside.agree.agreement ≡ f.agreement = ap (λ (p : Planning). p.now.agreement) c.self.view_is in
     let seen : c.ground-before.result ≡ agreeing_with f hearing.hearing c.self.inside.agree.agreement =
     c.ground-before.ensures ∙ ground_own f hearing.hearing c.self.inside.agree.agreement (lent c.own_view.result) (lent_view f c.own_view.result c.own_view.ensures.none c.own_view.ensures.view) in
-    let set : c.neighbours-set.result ≡ neighbours (after_ages f) = c.neighbours-set.ensures ∙ ap (λ (x : Adjacent). neighbours_of x.me x.role x.hearing.heard) heard in
+    let set : c.tick-set.result ≡ neighbours (after_ages f) = c.tick-set.ensures.set ∙ ap (λ (x : Adjacent). neighbours_of x.me x.role x.hearing.heard) heard in
     let own : c.copy.result.me ≡ f.me = ap (λ (x : Agreeing). x.me) c.copy.ensures ∙ c.self.invariant.0.agree ∙ ap (λ (p : Planning). p.now.me) c.self.view_is in
     let proposed : IsProposed (after_ages f) c.on_tick-agree.result.0 c.on_tick-agree.result.1 =
-    proposed_so f c.copy.result c.on_tick-agree.result.0 c.on_tick-agree.result.1 c.neighbours-set.result c.is_candidate-candidate.result own
+    proposed_so f c.copy.result c.on_tick-agree.result.0 c.on_tick-agree.result.1 c.tick-set.result c.is_candidate-candidate.result own
     (ap (λ (x : Agreeing). x.agreement) c.copy.ensures ∙ agreed_on) set
     (c.is_candidate-candidate.ensures ∙ candidate_so f c.ground-before.result hearing c.self.inside.agree.agreement seen heard)
     c.on_tick-agree.ensures.agree c.on_tick-agree.ensures.answer in
@@ -200,17 +200,17 @@ plan-requires-clause-fits c =
 pub plan-requires-clause-ranges : goal.plan-requires-clause-ranges
 plan-requires-clause-ranges c =
     let f : Facts = c.give_up.new.self.now in
-    let hearing : Adjacent = c.tick.new.self in
+    let hearing : Adjacent = c.tick-set.new.self in
     let heard : hearing ≡ record { me = f.me; role = f.role; hearing = ticked f.me f.role f.hearing } =
-    heard_so c.self.inside c.give_up.new.self c.copy-hearing.result hearing c.self.view_is c.self.invariant.0.hearing c.self.invariant.0.role c.copy-hearing.ensures c.tick.ensures in
+    heard_so c.self.inside c.give_up.new.self c.copy-hearing.result hearing c.self.view_is c.self.invariant.0.hearing c.self.invariant.0.role c.copy-hearing.ensures c.tick-set.ensures.ticked in
     let ranges : HasRanges f = subst (λ (p : Planning). HasRanges p.now) c.self.view_is c.self.invariant.0.ranges in
     let agreed_on : c.self.inside.agree.agreement ≡ f.agreement = ap (λ (p : Planning). p.now.agreement) c.self.view_is in
     let seen : c.ground-before.result ≡ agreeing_with f hearing.hearing c.self.inside.agree.agreement =
     c.ground-before.ensures ∙ ground_own f hearing.hearing c.self.inside.agree.agreement (lent c.own_view.result) (lent_view f c.own_view.result c.own_view.ensures.none c.own_view.ensures.view) in
-    let set : c.neighbours-set.result ≡ neighbours (after_ages f) = c.neighbours-set.ensures ∙ ap (λ (x : Adjacent). neighbours_of x.me x.role x.hearing.heard) heard in
+    let set : c.tick-set.result ≡ neighbours (after_ages f) = c.tick-set.ensures.set ∙ ap (λ (x : Adjacent). neighbours_of x.me x.role x.hearing.heard) heard in
     let own : c.copy.result.me ≡ f.me = ap (λ (x : Agreeing). x.me) c.copy.ensures ∙ c.self.invariant.0.agree ∙ ap (λ (p : Planning). p.now.me) c.self.view_is in
     let proposed : IsProposed (after_ages f) c.on_tick-agree.result.0 c.on_tick-agree.result.1 =
-    proposed_so f c.copy.result c.on_tick-agree.result.0 c.on_tick-agree.result.1 c.neighbours-set.result c.is_candidate-candidate.result own
+    proposed_so f c.copy.result c.on_tick-agree.result.0 c.on_tick-agree.result.1 c.tick-set.result c.is_candidate-candidate.result own
     (ap (λ (x : Agreeing). x.agreement) c.copy.ensures ∙ agreed_on) set
     (c.is_candidate-candidate.ensures ∙ candidate_so f c.ground-before.result hearing c.self.inside.agree.agreement seen heard)
     c.on_tick-agree.ensures.agree c.on_tick-agree.ensures.answer in
@@ -235,17 +235,17 @@ plan-requires-clause-ranges c =
 pub returns-clause-effects : goal.returns-clause-effects
 returns-clause-effects c =
     let f : Facts = c.give_up.new.self.now in
-    let hearing : Adjacent = c.tick.new.self in
+    let hearing : Adjacent = c.tick-set.new.self in
     let heard : hearing ≡ record { me = f.me; role = f.role; hearing = ticked f.me f.role f.hearing } =
-    heard_so c.self.inside c.give_up.new.self c.copy-hearing.result hearing c.self.view_is c.self.invariant.0.hearing c.self.invariant.0.role c.copy-hearing.ensures c.tick.ensures in
+    heard_so c.self.inside c.give_up.new.self c.copy-hearing.result hearing c.self.view_is c.self.invariant.0.hearing c.self.invariant.0.role c.copy-hearing.ensures c.tick-set.ensures.ticked in
     let ranges : HasRanges f = subst (λ (p : Planning). HasRanges p.now) c.self.view_is c.self.invariant.0.ranges in
     let agreed_on : c.self.inside.agree.agreement ≡ f.agreement = ap (λ (p : Planning). p.now.agreement) c.self.view_is in
     let seen : c.ground-before.result ≡ agreeing_with f hearing.hearing c.self.inside.agree.agreement =
     c.ground-before.ensures ∙ ground_own f hearing.hearing c.self.inside.agree.agreement (lent c.own_view.result) (lent_view f c.own_view.result c.own_view.ensures.none c.own_view.ensures.view) in
-    let set : c.neighbours-set.result ≡ neighbours (after_ages f) = c.neighbours-set.ensures ∙ ap (λ (x : Adjacent). neighbours_of x.me x.role x.hearing.heard) heard in
+    let set : c.tick-set.result ≡ neighbours (after_ages f) = c.tick-set.ensures.set ∙ ap (λ (x : Adjacent). neighbours_of x.me x.role x.hearing.heard) heard in
     let own : c.copy.result.me ≡ f.me = ap (λ (x : Agreeing). x.me) c.copy.ensures ∙ c.self.invariant.0.agree ∙ ap (λ (p : Planning). p.now.me) c.self.view_is in
     let proposed : IsProposed (after_ages f) c.on_tick-agree.result.0 c.on_tick-agree.result.1 =
-    proposed_so f c.copy.result c.on_tick-agree.result.0 c.on_tick-agree.result.1 c.neighbours-set.result c.is_candidate-candidate.result own
+    proposed_so f c.copy.result c.on_tick-agree.result.0 c.on_tick-agree.result.1 c.tick-set.result c.is_candidate-candidate.result own
     (ap (λ (x : Agreeing). x.agreement) c.copy.ensures ∙ agreed_on) set
     (c.is_candidate-candidate.ensures ∙ candidate_so f c.ground-before.result hearing c.self.inside.agree.agreement seen heard)
     c.on_tick-agree.ensures.agree c.on_tick-agree.ensures.answer in
@@ -279,17 +279,17 @@ returns-clause-effects c =
 pub returns-clause-planned : goal.returns-clause-planned
 returns-clause-planned c =
     let f : Facts = c.give_up.new.self.now in
-    let hearing : Adjacent = c.tick.new.self in
+    let hearing : Adjacent = c.tick-set.new.self in
     let heard : hearing ≡ record { me = f.me; role = f.role; hearing = ticked f.me f.role f.hearing } =
-    heard_so c.self.inside c.give_up.new.self c.copy-hearing.result hearing c.self.view_is c.self.invariant.0.hearing c.self.invariant.0.role c.copy-hearing.ensures c.tick.ensures in
+    heard_so c.self.inside c.give_up.new.self c.copy-hearing.result hearing c.self.view_is c.self.invariant.0.hearing c.self.invariant.0.role c.copy-hearing.ensures c.tick-set.ensures.ticked in
     let ranges : HasRanges f = subst (λ (p : Planning). HasRanges p.now) c.self.view_is c.self.invariant.0.ranges in
     let agreed_on : c.self.inside.agree.agreement ≡ f.agreement = ap (λ (p : Planning). p.now.agreement) c.self.view_is in
     let seen : c.ground-before.result ≡ agreeing_with f hearing.hearing c.self.inside.agree.agreement =
     c.ground-before.ensures ∙ ground_own f hearing.hearing c.self.inside.agree.agreement (lent c.own_view.result) (lent_view f c.own_view.result c.own_view.ensures.none c.own_view.ensures.view) in
-    let set : c.neighbours-set.result ≡ neighbours (after_ages f) = c.neighbours-set.ensures ∙ ap (λ (x : Adjacent). neighbours_of x.me x.role x.hearing.heard) heard in
+    let set : c.tick-set.result ≡ neighbours (after_ages f) = c.tick-set.ensures.set ∙ ap (λ (x : Adjacent). neighbours_of x.me x.role x.hearing.heard) heard in
     let own : c.copy.result.me ≡ f.me = ap (λ (x : Agreeing). x.me) c.copy.ensures ∙ c.self.invariant.0.agree ∙ ap (λ (p : Planning). p.now.me) c.self.view_is in
     let proposed : IsProposed (after_ages f) c.on_tick-agree.result.0 c.on_tick-agree.result.1 =
-    proposed_so f c.copy.result c.on_tick-agree.result.0 c.on_tick-agree.result.1 c.neighbours-set.result c.is_candidate-candidate.result own
+    proposed_so f c.copy.result c.on_tick-agree.result.0 c.on_tick-agree.result.1 c.tick-set.result c.is_candidate-candidate.result own
     (ap (λ (x : Agreeing). x.agreement) c.copy.ensures ∙ agreed_on) set
     (c.is_candidate-candidate.ensures ∙ candidate_so f c.ground-before.result hearing c.self.inside.agree.agreement seen heard)
     c.on_tick-agree.ensures.agree c.on_tick-agree.ensures.answer in
