@@ -1,5 +1,5 @@
 -- Lists of nodes and of their places.
-use Rattle.std.proofs.Common.{◌≡◌, ℕ, zero, suc, ◌-◌, ◌≤◌, List, [], ◌∷◌, length, map, set, drop, refl, sym, ap, ◌∙◌, subst, arith, sub-one}
+use Rattle.std.proofs.Common.{◌≡◌, ℕ, zero, suc, ◌-◌, ◌<◌, ◌≤◌, List, [], ◌∷◌, length, map, set, drop, refl, sym, ap, ◌∙◌, subst, arith, sub-one}
 use Rattle.std.specs.List.{insert, remove, slice_get}
 use Rattle.std.specs.declared.option.Option.{Option}
 use Rattle.std.proofs.lemmas.List.{nil_from_length}
@@ -11,6 +11,11 @@ use Rattle.sorted_chain.specs.Nodes.{before_of, IsLinked, pays}
 pub get_none : {X : Type 0} (xs : List X) → slice_get xs 0 ≡ None → xs ≡ []
 get_none [] e = refl
 get_none (x ∷ xs) e = cc
+
+pub item_at : {X : Type 0} (xs : List X) (i : ℕ) → i < length xs → (x : X) × (slice_get xs i ≡ Some x)
+item_at [] i within = absurd (omega (arith, within))
+item_at (x ∷ xs) zero within = (x, refl)
+item_at (x ∷ xs) (suc i) within = item_at xs i (omega (arith, within))
 
 module _ {X Y : Type 0} (f : X → Y) where
   pub map-insert : (xs : List X) (i : ℕ) (x : X) → i ≤ length xs → map f (insert xs i x) ≡ insert (map f xs) i (f x)

@@ -2,15 +2,16 @@
 use Rattle.std.proofs.Common.{◌≡◌, ℕ, zero, suc, ◌+◌, ◌<◌, List, [], ◌∷◌, length, get_or, slice_get, set, drop, map, Option, Some, None, IfSome, is_some, true, refl, sym, ap, subst, ◌∙◌, arith, add-one}
 use Rattle.std.specs.List.{insert}
 use Rattle.std.specs.FinMap.{find, put}
+use Rattle.std.specs.declared.cmp.Ordering.{Ordering}
 use Rattle.std.specs.declared.cmp.Ordering.TheVariants.{Less, Equal, Greater}
 use Rattle.std.proofs.lemmas.List.{length-map, map-set}
 use Rattle.std.proofs.lemmas.Option.{get_or_from_slice_get}
 use Rattle.sorted_chain.specs.declared.linked_list.Node.{Node}
 use Rattle.sorted_chain.specs.Chain.{key_cmp, has_key, IsAscending}
-use Rattle.sorted_chain.specs.Nodes.{pay, pays, entries, full, IsFull, HasPassed}
+use Rattle.sorted_chain.specs.Nodes.{pay, pays, entries, full, IsFull, HasPassed, IsBefore}
 use Rattle.sorted_chain.specs.Places.{IsHere, IsGap}
-use Rattle.sorted_chain.proofs.LinkLaws.{map-get, map-get_none, map-insert}
-use Rattle.sorted_chain.proofs.PlaceLaws.{stops_before, stops_at, goes_past, passes_all, find_here, put_here, put_gap}
+use Rattle.sorted_chain.proofs.LinkLaws.{item_at, map-get, map-get_none, map-insert}
+use Rattle.sorted_chain.proofs.PlaceLaws.{above_all, stops_at, passes_all, find_here, put_here, put_gap}
 
 module _ {V : Type 0} where
   entries-full : (es : List (List ℕ × V)) → entries (map full es) ≡ es
@@ -45,11 +46,6 @@ module _ {V : Type 0} where
   entry_past (e ∷ es) zero h = cc
   entry_past (e ∷ es) (suc i) h = entry_past es i h
 
-  some_at : (es : List (List ℕ × V)) (i : ℕ) → i < length es → (e : List ℕ × V) × (slice_get es i ≡ Some e)
-  some_at [] i within = absurd (omega arith)
-  some_at (e ∷ es) zero within = (e, refl)
-  some_at (e ∷ es) (suc i) within = some_at es i (omega (arith, within))
-
 module _ {V : Type 0} (ns : List (Node V)) (f : IsFull (pays ns)) where
   abbrev es : List (List ℕ × V)
   es = entries (pays ns)
@@ -64,18 +60,6 @@ module _ {V : Type 0} (ns : List (Node V)) (f : IsFull (pays ns)) where
     module _ (k : List ℕ) where
       key_as : key_cmp k entry_at.0.0 ≡ key_cmp k n.key
       key_as = ap (λ (m : List ℕ × Option V). key_cmp k m.0) entry_at.1.1
-
-      pub gap_at : IsAscending es → key_cmp k n.key ≡ Less → HasPassed k es i → IsGap k es i
-      gap_at h less = stops_before k es i entry_at.0 entry_at.1.0 h (key_as ∙ less)
-
-      pub here_at : key_cmp k n.key ≡ Equal → IsHere k es i
-      here_at equal = stops_at k es i entry_at.0 entry_at.1.0 (key_as ∙ equal)
-
-      pub passed_at : key_cmp k n.key ≡ Greater → HasPassed k es i → HasPassed k es (i + 1)
-      passed_at greater = goes_past k es i entry_at.0 entry_at.1.0 (key_as ∙ greater)
-
-      pub passed_all : IsAscending es → key_cmp k n.key ≡ Greater → HasPassed k es (i + 1)
-      passed_all h greater = passes_all k es i entry_at.0 entry_at.1.0 h (key_as ∙ greater)
 
       -- the value of the key's node
       pub found_at : IsAscending es → IsHere k es i → n.value ≡ find key_cmp k es
@@ -94,13 +78,30 @@ module _ {V : Type 0} (ns : List (Node V)) (f : IsFull (pays ns)) where
     pub no_blank : n.value ≡ None → ⊥
     no_blank blank = let value : Some entry_at.0.1 ≡ None = ap (λ (m : List ℕ × Option V). m.1) entry_at.1.1 ∙ blank in cc
 
+  -- how a key goes beside that of one node
+  module _ (k : List ℕ) (h : IsAscending es) (i : ℕ) (within : i < length es) (o : Ordering) (order : IfSome (slice_get ns i) (λ n. o ≡ key_cmp k n.key)) where
+    node : (n : Node V) × (slice_get ns i ≡ Some n)
+    node = item_at ns i (omega (arith, within, count))
+
+    order_as : (w : Ordering) → o ≡ w → key_cmp k (entry_at i node.0 node.1).0.0 ≡ w
+    order_as w is = key_as i node.0 node.1 k ∙ sym (subst (λ x. IfSome x (λ n. o ≡ key_cmp k n.key)) node.1 order) ∙ is
+
+    pub before_at : o ≡ Less → IsBefore k es i
+    before_at is = above_all k es i (entry_at i node.0 node.1).0 (entry_at i node.0 node.1).1.0 h (order_as Less is)
+
+    pub here_at : o ≡ Equal → IsHere k es i
+    here_at is = stops_at k es i (entry_at i node.0 node.1).0 (entry_at i node.0 node.1).1.0 (order_as Equal is)
+
+    pub passed_at : o ≡ Greater → HasPassed k es (i + 1)
+    passed_at is = passes_all k es i (entry_at i node.0 node.1).0 (entry_at i node.0 node.1).1.0 h (order_as Greater is)
+
   pub rest_past : (i : ℕ) → slice_get ns i ≡ None → drop i es ≡ []
   rest_past i past = drop_past es i (entry_past es i (ap (λ ms. slice_get ms i) (sym f) ∙ map-get_none pay ns i past))
 
 -- an entry has the key
 pub found : {V : Type 0} (k : List ℕ) (es : List (List ℕ × V)) (i : ℕ) → IsAscending es → IsHere k es i → has_key k es ≡ true
 found k es i h here =
-    let e = some_at es i here.within in
+    let e = item_at es i here.within in
     ap is_some (find_here k es i e.0 h here (sym (get_or_from_slice_get es i e.0 e.0 e.1)))
 
 module _ {V : Type 0} (k : List ℕ) (ns : List (List ℕ × Option V)) (f : IsFull ns) (i : ℕ) where
@@ -110,7 +111,7 @@ module _ {V : Type 0} (k : List ℕ) (ns : List (List ℕ × Option V)) (f : IsF
       → (r ≡ find key_cmp k (entries ns)) × (ms ≡ map full (put key_cmp k v (entries ns)))
   replaced v r ms h here p =
       let es : List (List ℕ × V) = entries ns in
-      let e : (x : List ℕ × V) × (slice_get es i ≡ Some x) = some_at es i here.within in
+      let e : (x : List ℕ × V) × (slice_get es i ≡ Some x) = item_at es i here.within in
       let at : slice_get ns i ≡ Some (full e.0) = ap (λ ms. slice_get ms i) f ∙ map-get full es i e.0 e.1 in
       let q : (r ≡ Some e.0.1) × (ms ≡ set ns i (e.0.0, Some v)) = subst (λ o. IfSome o (λ e. (r ≡ e.1) × (ms ≡ set ns i (e.0, Some v)))) at p in
       let read : e.0 ≡ get_or es i e.0 = sym (get_or_from_slice_get es i e.0 e.0 e.1) in (

@@ -12,7 +12,7 @@ use Rattle.std.proofs.lemmas.Cmp.{nat_list_cmp_total}
 use Rattle.std.proofs.lemmas.Bool.{cases_lt, false≢true}
 use Rattle.std.proofs.lemmas.Option.{get_or_from_slice_get, slice_get_within}
 use Rattle.sorted_chain.specs.Chain.{key_cmp, above, IsAscending}
-use Rattle.sorted_chain.specs.Nodes.{HasPassed}
+use Rattle.sorted_chain.specs.Nodes.{HasPassed, IsBefore}
 use Rattle.sorted_chain.specs.Places.{IsHere, IsGap}
 
 total : IsTotalOrder key_cmp
@@ -38,7 +38,7 @@ told : (b : Bool) → T b → b ≡ true
 told true h = refl
 told false h = absurd h
 
-flipped : (x y : List ℕ) (o : Ordering) → key_cmp x y ≡ o → key_cmp y x ≡ ordering_reverse o
+pub flipped : (x y : List ℕ) (o : Ordering) → key_cmp x y ≡ o → key_cmp y x ≡ ordering_reverse o
 flipped x y o h = total.antisymm y x ∙ ap ordering_reverse h
 
 module _ {V : Type 0} where
@@ -64,47 +64,32 @@ module _ {V : Type 0} where
   above_at k (x ∷ es) (suc i) zero d e h at less upto within = absurd (omega arith)
   above_at k (x ∷ es) (suc i) (suc j) d e h at less upto within = above_at k es i j d e (both _ _ h).other at less (omega (arith, upto)) (omega (arith, within))
 
--- a walk along entries that has come to a place, past keys below its own
-module _ {V : Type 0} (k : List ℕ) (es : List (List ℕ × V)) (i : ℕ) where
-  module _ (e : List ℕ × V) (at : slice_get es i ≡ Some e) where
-    pub stops_before : IsAscending es → key_cmp k e.0 ≡ Less → HasPassed k es i → IsGap k es i
-    stops_before h less passed =
-        let within : i < length es = slice_get_within es i e at in
-        record {
-          within = omega (arith, within);
-          below = passed;
-          above = λ j d upto inside. flipped k _ Less (above_at k es i j d e h at less upto inside);
-        }
+-- what an entry tells of those before and after it
+module _ {V : Type 0} (k : List ℕ) (es : List (List ℕ × V)) (i : ℕ) (e : List ℕ × V) (at : slice_get es i ≡ Some e) where
+  -- from an entry above the key on, all are above it
+  pub above_all : IsAscending es → key_cmp k e.0 ≡ Less → IsBefore k es i
+  above_all h less j d upto inside = flipped k _ Less (above_at k es i j d e h at less upto inside)
 
-    pub stops_at : key_cmp k e.0 ≡ Equal → IsHere k es i
-    stops_at equal = record {
-      within = slice_get_within es i e at;
-      same = λ d. ap (λ (y : List ℕ × V). key_cmp y.0 k) (get_or_from_slice_get es i e d at) ∙ flipped k _ Equal equal;
-    }
-
-    pub goes_past : key_cmp k e.0 ≡ Greater → HasPassed k es i → HasPassed k es (i + 1)
-    goes_past greater passed j d before inside =
-        ⊎_elim
-        (λ earlier. passed j d earlier inside)
-        (λ upto.
-        let last : j ≡ i = omega (arith, before, upto) in
-        ap (λ (n : ℕ). key_cmp (get_or es n d).0 k) last ∙ ap (λ (y : List ℕ × V). key_cmp y.0 k) (get_or_from_slice_get es i e d at) ∙ flipped k _ Greater greater)
-        (cases_lt j i)
-
-    -- past an entry that is below the key, all before it are
-    pub passes_all : IsAscending es → key_cmp k e.0 ≡ Greater → HasPassed k es (i + 1)
-    passes_all h greater =
-        goes_past greater (λ j d before inside.
-        let within : i < length es = slice_get_within es i e at in
-        let below : key_cmp (get_or es j d).0 e.0 ≡ Less = ap (λ (y : List ℕ × V). key_cmp (get_or es j d).0 y.0) (sym (get_or_from_slice_get es i e d at)) ∙ rises es j i d h before within in
-        total.trans (get_or es j d).0 e.0 k below (flipped k _ Greater greater))
-
-  pub stops_past : i ≡ length es → HasPassed k es i → IsGap k es i
-  stops_past end passed = record {
-    within = omega (arith, end);
-    below = passed;
-    above = λ j d upto inside. absurd (omega (arith, end, upto, inside));
+  pub stops_at : key_cmp k e.0 ≡ Equal → IsHere k es i
+  stops_at equal = record {
+    within = slice_get_within es i e at;
+    same = λ d. ap (λ (y : List ℕ × V). key_cmp y.0 k) (get_or_from_slice_get es i e d at) ∙ flipped k _ Equal equal;
   }
+
+  -- up to an entry below the key, all are below it
+  pub passes_all : IsAscending es → key_cmp k e.0 ≡ Greater → HasPassed k es (i + 1)
+  passes_all h greater j d before inside =
+      let within : i < length es = slice_get_within es i e at in
+      let below : key_cmp e.0 k ≡ Less = flipped k _ Greater greater in
+      let here : get_or es i d ≡ e = get_or_from_slice_get es i e d at in
+      ⊎_elim
+      (λ earlier.
+      let less : key_cmp (get_or es j d).0 e.0 ≡ Less = ap (λ (y : List ℕ × V). key_cmp (get_or es j d).0 y.0) (sym here) ∙ rises es j i d h earlier within in
+      total.trans (get_or es j d).0 e.0 k less below)
+      (λ upto.
+      let last : j ≡ i = omega (arith, before, upto) in
+      ap (λ (n : ℕ). key_cmp (get_or es n d).0 k) last ∙ ap (λ (y : List ℕ × V). key_cmp y.0 k) here ∙ below)
+      (cases_lt j i)
 
 module _ {V : Type 0} (k : List ℕ) where
   -- the entries before the place are below the key, those from it on above
@@ -135,12 +120,12 @@ module _ {V : Type 0} (k : List ℕ) where
   put_new v (e ∷ es) zero within b f = ap (λ o. by_order o ((k, v) ∷ e ∷ es) ((e.0, v) ∷ es) (e ∷ put key_cmp k v es)) (f zero e (omega arith) (omega arith))
   put_new v (e ∷ es) (suc i) within b f = ap (λ o. by_order o ((k, v) ∷ e ∷ es) ((e.0, v) ∷ es) (e ∷ put key_cmp k v es)) (b zero e (omega arith) (omega arith)) ∙ ap (λ fs. e ∷ fs) (put_new v es i (omega (arith, within)) (later e es i b) (later_from e es i f))
 
-  above_all : (es : List (List ℕ × V)) → From es zero → above (Some k) es ≡ es
-  above_all [] f = refl
-  above_all (e ∷ es) f = ap (λ o. cond (is_lt o) (e ∷ above (Some k) es) (above (Some k) es)) (f zero e (omega arith) (omega arith)) ∙ ap (λ fs. e ∷ fs) (above_all es (tail_from e es f))
+  above_each : (es : List (List ℕ × V)) → From es zero → above (Some k) es ≡ es
+  above_each [] f = refl
+  above_each (e ∷ es) f = ap (λ o. cond (is_lt o) (e ∷ above (Some k) es) (above (Some k) es)) (f zero e (omega arith) (omega arith)) ∙ ap (λ fs. e ∷ fs) (above_each es (tail_from e es f))
 
   above_from : (es : List (List ℕ × V)) (i : ℕ) → Before es i → From es i → above (Some k) es ≡ drop i es
-  above_from es zero b f = above_all es f
+  above_from es zero b f = above_each es f
   above_from [] (suc i) b f = refl
   above_from (e ∷ es) (suc i) b f = ap (λ o. cond (is_lt o) (e ∷ above (Some k) es) (above (Some k) es)) (b zero e (omega arith) (omega arith)) ∙ above_from es i (later e es i b) (later_from e es i f)
 
@@ -158,7 +143,7 @@ module _ {V : Type 0} (k : List ℕ) where
   -- the entry at the place isn't above the key
   above_past : (es : List (List ℕ × V)) (i : ℕ) → i < length es → ((d : List ℕ × V) → key_cmp k (get_or es i d).0 ≡ Equal) → Before es i → From es (suc i) → above (Some k) es ≡ drop (suc i) es
   above_past [] i within same b f = absurd (omega arith)
-  above_past (e ∷ es) zero within same b f = ap (λ o. cond (is_lt o) (e ∷ above (Some k) es) (above (Some k) es)) (same e) ∙ above_all es (later_from e es zero f)
+  above_past (e ∷ es) zero within same b f = ap (λ o. cond (is_lt o) (e ∷ above (Some k) es) (above (Some k) es)) (same e) ∙ above_each es (later_from e es zero f)
   above_past (e ∷ es) (suc i) within same b f = ap (λ o. cond (is_lt o) (e ∷ above (Some k) es) (above (Some k) es)) (b zero e (omega arith) (omega arith)) ∙ above_past es i (omega (arith, within)) same (later e es i b) (later_from e es (suc i) f)
 
   before_gap : (es : List (List ℕ × V)) (i : ℕ) → IsGap k es i → Before es i

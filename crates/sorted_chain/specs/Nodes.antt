@@ -1,8 +1,7 @@
 -- How the nodes of a list lie, and what they hold.
-use Rattle.std.specs.Prelude.{◌≡◌, ◌<◌, ◌≤◌, ℕ, IfSome, zero, suc, List, [], ◌∷◌, Option, Some, None, length, map, slice_get, slice_index_or}
-use Rattle.std.specs.declared.cmp.Ordering.TheVariants.{Less}
+use Rattle.std.specs.Prelude.{◌≡◌, ◌<◌, ◌≤◌, ℕ, zero, suc, List, [], ◌∷◌, Option, Some, None, length, map, slice_get, slice_index_or}
+use Rattle.std.specs.declared.cmp.Ordering.TheVariants.{Less, Greater}
 use Rattle.sorted_chain.specs.declared.boxes.Place.{Place}
-use Rattle.sorted_chain.specs.declared.linked_list.Here.{Here}
 use Rattle.sorted_chain.specs.declared.linked_list.Node.{Node}
 use Rattle.sorted_chain.specs.Chain.{key_cmp}
 use Rattle.sorted_chain.specs.Places.{IsHere, IsGap}
@@ -47,6 +46,12 @@ abbrev pub HasPassed : {V : Type 0} → List ℕ → List (List ℕ × V) → �
 HasPassed {V} k es n =
     (j : ℕ) (d : List ℕ × V) → j < n → j < length es → key_cmp (slice_index_or es j d).0 k ≡ Less
 
+-- the keys from this place on are above the key
+abbrev pub IsBefore : {V : Type 0} → List ℕ → List (List ℕ × V) → ℕ → Type 0
+IsBefore {V} k es n =
+    (j : ℕ) (d : List ℕ × V) → n ≤ j → j < length es
+    → key_cmp (slice_index_or es j d).0 k ≡ Greater
+
 -- the node of the key is the i-th and lies there
 pub record IsNodeOf {V : Type 0} (k : List ℕ) (ps : List Place) (ns : List (Node V)) (i : ℕ)
     (at : Place) : Type 0 where
@@ -57,17 +62,5 @@ pub record IsNodeOf {V : Type 0} (k : List ℕ) (ps : List Place) (ns : List (No
 pub record IsGapOf {V : Type 0} (k : List ℕ) (ps : List Place) (ns : List (Node V)) (i : ℕ)
     (before at : Option Place) : Type 0 where
   pub gap : IsGap k (entries (pays ns)) i
-  pub before_is : before ≡ before_of ps i
-  pub at_is : at ≡ slice_get ps i
-
--- if it says where a node lies, a node lies there
-abbrev pub LiesIn : List Place → Option Here → Type 0
-LiesIn ps here = IfSome here (λ h. slice_get ps h.index ≡ Some h.at)
-
--- the gap at the i-th node lies between the two places, and the keys before it are below the key
-pub record IsPast {V : Type 0} (k : List ℕ) (ps : List Place) (ns : List (Node V)) (i : ℕ)
-    (before at : Option Place) : Type 0 where
-  pub within : i ≤ length ns
-  pub passed : HasPassed k (entries (pays ns)) i
   pub before_is : before ≡ before_of ps i
   pub at_is : at ≡ slice_get ps i

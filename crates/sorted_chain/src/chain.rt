@@ -1,5 +1,5 @@
 //! The chain: entries in the order of their keys, and room for more.
-ghost use Rattle.std.specs.Prelude.{min, ◌≡◌, ◌+◌, ◌-◌, ◌≤◌, ◌<◌, ◌^◌, ◌↔◌, [], length, if◌then◌else◌, IsTrue, IfOk, IfErr, IfSome, IfNone, OnOk, OnErr, IsOk, MatchResult, Some, codes, slice_get};
+ghost use Rattle.std.specs.Prelude.{min, max, ◌≡◌, ◌+◌, ◌-◌, ◌≤◌, ◌<◌, ◌^◌, ◌↔◌, [], length, if◌then◌else◌, IsTrue, IfOk, IfErr, IfSome, IfNone, OnOk, OnErr, IsOk, MatchResult, Some, codes, slice_get, vec_capacity};
 ghost use Rattle.std.specs.Option.{option_copied, option_map};
 ghost use Rattle.std.specs.Box.{box_allocator};
 ghost use Rattle.std.specs.FinMap.{find, put as put_entry};
@@ -7,7 +7,8 @@ ghost use Rattle.sorted_chain.specs.Chain.{key_cmp, has_key, above, shown, IsAsc
 
 use crate::NoMemory;
 use crate::iter::Iter;
-use crate::linked_list::{Here, LinkedList, Node};
+use crate::linked_list::{LinkedList, Node};
+use crate::marks::Marks;
 use std::alloc::Global;
 use std::error::Error;
 use std::fmt;
@@ -20,16 +21,16 @@ const LIMIT: usize = 0x4000_0000_0000_0000;
 pub struct SortedChain<V> {
     alloc: Global,
     records: LinkedList<V>,
-    /// Where the entry lies that was put last, if it is still there: a look-up of a greater key
-    /// begins behind it, so that entries that are put in the order of their keys cost no walk.
-    last: Option<Here>,
+    /// A mark for each record, and room for one for each spare node.
+    marks: Marks,
     spares: LinkedList<V>,
 }
 
 impl<V> Model for SortedChain<V> {
-    ghost use Rattle.std.specs.Prelude.{◌≡◌, ◌+◌, ◌<◌, ◌^◌};
+    ghost use Rattle.std.specs.Prelude.{◌≡◌, ◌+◌, ◌<◌, ◌≤◌, ◌^◌, vec_capacity};
     ghost use Rattle.sorted_chain.specs.Chain.{Chain, chain_code, IsAscending};
-    ghost use Rattle.sorted_chain.specs.Nodes.{pays, entries, IsFull, LiesIn};
+    ghost use Rattle.sorted_chain.specs.Marks.{AreMarks};
+    ghost use Rattle.sorted_chain.specs.Nodes.{pays, entries, IsFull};
 
     ghost Value = { Chain V };
 
@@ -41,7 +42,8 @@ impl<V> Model for SortedChain<V> {
     ghost invariant = { λ c. IsFull (pays c.records.boxes.items)
         × IsAscending (entries (pays c.records.boxes.items)) × (c.records.boxes.alloc ≡ c.alloc)
         × (c.spares.boxes.alloc ≡ c.alloc) × (c.records.len + c.spares.len < 2 ^ 62)
-        × LiesIn c.records.boxes.places c.last };
+        × AreMarks c.records.boxes.places (pays c.records.boxes.items) c.marks.in_order.items
+        × (c.records.len + c.spares.len ≤ vec_capacity c.marks.in_order) };
 }
 
 impl<V> fmt::Debug for SortedChain<V> {
@@ -81,7 +83,7 @@ impl<V> SortedChain<V> {
         SortedChain {
             alloc,
             records: LinkedList::new(alloc),
-            last: None,
+            marks: Marks::new(alloc),
             spares: LinkedList::new(alloc),
         }
     }
@@ -105,7 +107,7 @@ impl<V> SortedChain<V> {
     pub fn find(&self, k: &[u8; 20]) -> Option<&V>
         ensures { option_copied result ≡ find key_cmp k.now self.now.items }
     {
-        match self.records.seek(k, self.last) {
+        match self.marks.seek(&self.records, k) {
             Ok(here) => self.records.node(here.index, here.at).value.as_ref(),
             Err(_) => None,
         }
@@ -123,7 +125,7 @@ impl<V> SortedChain<V> {
     pub fn iter_after(&self, k: Option<&[u8; 20]>) -> Iter<'_, V>
         ensures { result ≡ above (option_copied k.entry) self.now.items }
     {
-        let (index, at) = self.records.seek_above(k, self.last);
+        let (index, at) = self.marks.seek_above(&self.records, k);
         Iter {
             records: &self.records,
             index,
@@ -138,7 +140,7 @@ impl<V: Drop> SortedChain<V> {
         ensures items { self.new.items ≡ [] }
         ensures spare { self.new.spare ≡ self.old.spare }
     {
-        self.last = None;
+        self.marks.clear();
         shrink(&mut self.records, self.alloc, 0);
     }
 
@@ -149,6 +151,7 @@ impl<V: Drop> SortedChain<V> {
         ensures kept { OnOk result (self.old.spare ≤ self.new.spare) }
         ensures unchanged { OnErr result (self.new.spare ≡ self.old.spare) }
     {
+        self.marks.reserve(n)?;
         grow(&mut self.spares, self.alloc, self.records.len, n)
     }
 
@@ -166,12 +169,9 @@ impl<V: Drop> SortedChain<V> {
         ensures present { IsTrue (has_key k self.old.items) → IsOk result }
         ensures spared { 0 < self.old.spare → IsOk result }
     {
-        match self.records.seek(&k, self.last) {
-            Ok(here) => {
-                self.last = Some(here);
-                Ok(self.records.replace(here.index, here.at, v))
-            }
-            Err(gap) => match take_node(&mut self.spares, self.alloc, self.records.len) {
+        match self.marks.seek(&self.records, &k) {
+            Ok(here) => Ok(self.records.replace(here.index, here.at, v)),
+            Err(gap) => match take_node(&mut self.spares, &mut self.marks, self.alloc) {
                 None => Err(PutFault(v)),
                 Some(mut node) => {
                     let filled = Node {
@@ -180,7 +180,8 @@ impl<V: Drop> SortedChain<V> {
                         value: Some(v),
                     };
                     drop(Box::replace(&mut node, filled));
-                    self.last = Some(self.records.link(gap, node));
+                    let here = self.records.link(gap, node);
+                    self.marks.insert(here, &k);
                     Ok(None)
                 }
             },
@@ -194,9 +195,10 @@ impl<V: Drop> Drop for SortedChain<V> {
         let SortedChain {
             alloc,
             records,
-            last: _,
+            marks,
             mut spares,
         } = self;
+        drop(marks);
         shrink(&mut spares, alloc, 0);
         records.end();
         spares.end();
@@ -219,19 +221,30 @@ fn fresh<V: Drop>(alloc: Global, len: usize) -> Option<Box<Node<V>>>
     Box::new(alloc, blank).ok()
 }
 
-/// A spare node, or else a fresh one, for a chain with `len` entries.
-fn take_node<V: Drop>(spares: &mut LinkedList<V>, alloc: Global, len: usize) -> Option<Box<Node<V>>>
+/// A spare node, or else a fresh one, and room for its mark.
+fn take_node<V: Drop>(
+    spares: &mut LinkedList<V>,
+    marks: &mut Marks,
+    alloc: Global,
+) -> Option<Box<Node<V>>>
     requires alloc { alloc ≡ spares.old.boxes.alloc }
-    requires few { len + spares.old.len < 2 ^ 62 }
-    ensures some { IfSome result
-        (λ b. (box_allocator b ≡ alloc) × (len + spares.new.len + 1 < 2 ^ 62)) }
+    requires few { length marks.old.in_order.items + spares.old.len < 2 ^ 62 }
+    requires room { length marks.old.in_order.items + spares.old.len
+        ≤ vec_capacity marks.old.in_order }
+    ensures some { IfSome result (λ b. (box_allocator b ≡ alloc)
+        × (length marks.old.in_order.items + spares.new.len + 1 < 2 ^ 62)
+        × (length marks.old.in_order.items + spares.new.len + 1
+        ≤ vec_capacity marks.new.in_order)) }
     ensures spare { spares.new.len ≡ spares.old.len - 1 }
     ensures none { IfNone result (spares.old.len ≡ 0) }
     ensures alloc { spares.new.boxes.alloc ≡ spares.old.boxes.alloc }
+    ensures marks { marks.new.in_order.items ≡ marks.old.in_order.items }
+    ensures kept { vec_capacity marks.old.in_order ≤ vec_capacity marks.new.in_order }
 {
+    marks.reserve(1).ok()?;
     match spares.pop(alloc) {
         Some(node) => Some(node),
-        None => fresh(alloc, len),
+        None => fresh(alloc, marks.in_order.len()),
     }
 }
 
@@ -255,7 +268,7 @@ fn grow<V: Drop>(
 ) -> Result<(), NoMemory>
     requires alloc { alloc ≡ spares.old.boxes.alloc }
     requires few { others + spares.old.len < 2 ^ 62 }
-    ensures enough { OnOk result ((n ≤ spares.new.len) × (spares.old.len ≤ spares.new.len)) }
+    ensures enough { OnOk result (spares.new.len ≡ max n spares.old.len) }
     ensures unchanged { OnErr result (spares.new.len ≡ spares.old.len) }
     ensures few { others + spares.new.len < 2 ^ 62 }
     ensures alloc { spares.new.boxes.alloc ≡ spares.old.boxes.alloc }

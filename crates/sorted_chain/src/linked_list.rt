@@ -1,22 +1,20 @@
 //! A singly linked list of nodes.
-ghost use Rattle.std.specs.Prelude.{ℕ, ◌≡◌, ◌+◌, ◌-◌, ◌≤◌, ◌<◌, ◌^◌, List, [], ◌∷◌, length, drop, slice_get, slice_set, MatchOption, MatchResult, IfSome};
+ghost use Rattle.std.specs.Prelude.{ℕ, ◌≡◌, ◌+◌, ◌-◌, ◌≤◌, ◌<◌, ◌^◌, List, [], ◌∷◌, length, slice_get, slice_set, MatchOption, IfSome};
 ghost use Rattle.std.specs.List.{insert};
 ghost use Rattle.std.specs.Box.{box_allocator};
 ghost use Rattle.sorted_chain.specs.Nodes.{IsLinked};
 
 use crate::boxes::{Boxes, Place, RawBox};
-use crate::key::key_order;
 use std::alloc::Global;
-use std::cmp::Ordering;
 
-/// A key, where the next node lies, and the key's value. A spare node has no value.
+/// A key, its value, and where the next node lies. A spare node has no value.
 ///
-/// A look-up reads the first two of each node that it passes, so they lie side by side.
+/// A look-up reads the first two, so they lie side by side.
 #[derive(Drop)]
 pub struct Node<V> {
     pub(crate) key: [u8; 20],
-    pub(crate) next: Option<Place>,
     pub(crate) value: Option<V>,
+    pub(crate) next: Option<Place>,
 }
 
 /// The nodes, and where the first lies.
@@ -45,9 +43,7 @@ pub(crate) struct Gap {
 }
 
 impl<V> LinkedList<V> {
-    ghost use Rattle.std.specs.Option.{option_copied};
-    ghost use Rattle.sorted_chain.specs.Chain.{above, IsAscending};
-    ghost use Rattle.sorted_chain.specs.Nodes.{pays, before_of, entries, IsFull, IsNodeOf, IsGapOf, IsPast, LiesIn};
+    ghost use Rattle.sorted_chain.specs.Nodes.{pays, before_of};
 
     pub(crate) fn new(alloc: Global) -> LinkedList<V>
         ensures { (result.boxes.items ≡ []) × (result.boxes.alloc ≡ alloc) }
@@ -80,70 +76,8 @@ impl<V> LinkedList<V> {
         self.boxes.get(i, at)
     }
 
-    /// Looks for the node of a key: from the last one on where the key is above that node's, and
-    /// from the first on otherwise.
-    pub(crate) fn seek(&self, k: &[u8; 20], last: Option<Here>) -> Result<Here, Gap>
-        requires full { IsFull (pays self.now.boxes.items) }
-        requires ascending { IsAscending (entries (pays self.now.boxes.items)) }
-        requires last { LiesIn self.now.boxes.places last }
-        ensures { MatchResult result
-            (λ here. IsNodeOf k.now self.now.boxes.places self.now.boxes.items here.index here.at)
-            (λ gap.
-            IsGapOf k.now self.now.boxes.places self.now.boxes.items gap.index gap.before
-            gap.at) }
-    {
-        let Some(here) = last else {
-            return self.seek_from(k, self.front());
-        };
-        let node = self.node(here.index, here.at);
-        match key_order(k, &node.key) {
-            Ordering::Less => self.seek_from(k, self.front()),
-            Ordering::Equal => Ok(here),
-            Ordering::Greater => {
-                let behind = Gap {
-                    index: here.index + 1,
-                    before: Some(here.at),
-                    at: node.next,
-                };
-                self.seek_from(k, behind)
-            }
-        }
-    }
-
-    /// Looks for the node of a key from a gap on, before which all keys are below it.
-    fn seek_from(&self, k: &[u8; 20], from: Gap) -> Result<Here, Gap>
-        requires full { IsFull (pays self.now.boxes.items) }
-        requires ascending { IsAscending (entries (pays self.now.boxes.items)) }
-        requires from { IsPast k.now self.now.boxes.places self.now.boxes.items from.index
-            from.before from.at }
-        ensures { MatchResult result
-            (λ here. IsNodeOf k.now self.now.boxes.places self.now.boxes.items here.index here.at)
-            (λ gap.
-            IsGapOf k.now self.now.boxes.places self.now.boxes.items gap.index gap.before
-            gap.at) }
-    {
-        let Gap {
-            mut index,
-            mut before,
-            mut at,
-        } = from;
-        while let Some(place) = at {
-            let next = self.node(index, place);
-            match key_order(k, &next.key) {
-                Ordering::Less => return Err(Gap { index, before, at }),
-                Ordering::Equal => return Ok(Here { index, at: place }),
-                Ordering::Greater => {
-                    before = at;
-                    at = next.next;
-                    index += 1;
-                }
-            }
-        }
-        Err(Gap { index, before, at })
-    }
-
     /// The gap before the first node.
-    fn front(&self) -> Gap
+    fn first_gap(&self) -> Gap
         ensures index { result.index ≡ 0 }
         ensures before { result.before ≡ None }
         ensures at { result.at ≡ slice_get self.now.boxes.places 0 }
@@ -152,28 +86,6 @@ impl<V> LinkedList<V> {
             index: 0,
             before: None,
             at: self.head,
-        }
-    }
-
-    /// Where the first node lies, or the first above a key.
-    pub(crate) fn seek_above(
-        &self,
-        k: Option<&[u8; 20]>,
-        last: Option<Here>,
-    ) -> (usize, Option<Place>)
-        requires full { IsFull (pays self.now.boxes.items) }
-        requires ascending { IsAscending (entries (pays self.now.boxes.items)) }
-        requires last { LiesIn self.now.boxes.places last }
-        ensures rest { drop result.0 (entries (pays self.now.boxes.items))
-            ≡ above (option_copied k.entry) (entries (pays self.now.boxes.items)) }
-        ensures at { result.1 ≡ slice_get self.now.boxes.places result.0 }
-    {
-        let Some(k) = k else {
-            return (0, self.head);
-        };
-        match self.seek(k, last) {
-            Ok(here) => (here.index + 1, self.node(here.index, here.at).next),
-            Err(gap) => (gap.index, gap.at),
         }
     }
 
@@ -204,7 +116,9 @@ impl<V: Drop> LinkedList<V> {
         requires alloc { box_allocator node ≡ self.old.boxes.alloc }
         ensures items { pays self.new.boxes.items
             ≡ insert (pays self.old.boxes.items) gap.index (pay node.value) }
-        ensures here { slice_get self.new.boxes.places result.index ≡ Some result.at }
+        ensures places { self.new.boxes.places
+            ≡ insert self.old.boxes.places gap.index result.at }
+        ensures index { result.index ≡ gap.index }
         ensures len { self.new.len ≡ self.old.len + 1 }
         ensures alloc { self.new.boxes.alloc ≡ self.old.boxes.alloc }
     {
@@ -232,7 +146,7 @@ impl<V: Drop> LinkedList<V> {
         ensures len { self.new.len ≡ self.old.len + 1 }
         ensures alloc { self.new.boxes.alloc ≡ self.old.boxes.alloc }
     {
-        let first = self.front();
+        let first = self.first_gap();
         self.link(first, node);
     }
 

@@ -1,9 +1,13 @@
-use Rattle.std.proofs.Common.{◌≡◌, ◌∙◌, ◌-◌, sym, ap, subst, arith, is_some, slice_get, true, false, if◌then◌else◌}
+use Rattle.std.proofs.Common.{◌≡◌, ◌≤◌, ◌<◌, ◌∙◌, ◌-◌, length, Some, refl, sym, ap, subst, arith, is_some, true, false, if◌then◌else◌}
 use Rattle.std.specs.List.{insert}
 use Rattle.std.specs.FinMap.{find, put as put_entry}
 use Rattle.sorted_chain.specs.Chain.{key_cmp, has_key, IsAscending}
+use Rattle.sorted_chain.specs.Marks.{key_front}
 use Rattle.sorted_chain.specs.Nodes.{pays, pay, entries}
-use Rattle.sorted_chain.proofs.NodeLaws.{full_of, is_full_of, replaced, found, linked_in}
+use Rattle.sorted_chain.specs.declared.marks.Mark.{Mark}
+use Rattle.sorted_chain.proofs.LinkLaws.{len_pays}
+use Rattle.sorted_chain.proofs.MarkLaws.{marks_count, marks_kept, marks_linked}
+use Rattle.sorted_chain.proofs.NodeLaws.{count, full_of, is_full_of, replaced, found, linked_in}
 use Rattle.sorted_chain.proofs.PlaceLaws.{find_gap, put_ascends}
 use Rattle.sorted_chain.proofs.chain.SortedChain.put.Goals as goal
 
@@ -14,7 +18,9 @@ invariant_of-self g c =
     let v = c.args.v in
     let i = c.self.invariant in
     let made = (replaced k (pays b.items) i.0 c.in-Ok.here.index v c.replace.result (pays c.replace.new.self.boxes.items) i.1 c.in-Ok.ensures.here c.replace.ensures.items).1 in
-    (is_full_of _ _ made, subst IsAscending (sym (full_of _ _ made)) (put_ascends k v (entries (pays b.items)) i.1), c.replace.ensures.alloc ∙ i.2, i.3, omega (arith, c.replace.ensures.len, i.4), ap (λ ps. slice_get ps c.in-Ok.here.index) c.replace.ensures.places ∙ c.in-Ok.ensures.at_is)
+    let within : c.in-Ok.here.index < length (pays b.items) = omega (arith, c.in-Ok.ensures.here.within, count b.items i.0, len_pays b.items) in
+    let marks = marks_kept b.places (pays b.items) c.self.inside.marks.in_order.items i.5 c.in-Ok.here.index v c.replace.result c.replace.new.self.boxes.places (pays c.replace.new.self.boxes.items) within c.replace.ensures.places c.replace.ensures.items in
+    (is_full_of _ _ made, subst IsAscending (sym (full_of _ _ made)) (put_ascends k v (entries (pays b.items)) i.1), c.replace.ensures.alloc ∙ i.2, i.3, omega (arith, c.replace.ensures.len, i.4), marks, omega (arith, c.replace.ensures.len, i.6))
 
 pub invariant_of-self-in-Some : goal.invariant_of-self-in-Some
 invariant_of-self-in-Some g c =
@@ -23,8 +29,15 @@ invariant_of-self-in-Some g c =
     let v = c.args.v in
     let i = c.self.invariant in
     let gap = c.in-Err.gap in
-    let made = linked_in k (pays b.items) i.0 gap.index v (pays c.link.new.self.boxes.items) c.in-Err.ensures.gap (c.link.ensures.items ∙ ap (λ n. insert (pays b.items) gap.index (pay n)) c.replace-in-Some.ensures.after) in
-    (is_full_of _ _ made, subst IsAscending (sym (full_of _ _ made)) (put_ascends k v (entries (pays b.items)) i.1), c.link.ensures.alloc ∙ i.2, c.take_node.ensures.alloc ∙ i.3, omega (arith, c.link.ensures.len, c.in-Some.ensures.some), c.link.ensures.here)
+    let items = c.link-here.ensures.items ∙ ap (λ n. insert (pays b.items) gap.index (pay n)) c.replace-in-Some.ensures.after in
+    let made = linked_in k (pays b.items) i.0 gap.index v (pays c.link-here.new.self.boxes.items) c.in-Err.ensures.gap items in
+    let ms = c.self.inside.marks.in_order.items in
+    let m : Mark = record { front = key_front k; at = c.link-here.result.at } in
+    let counted : length ms ≡ length b.items = marks_count b.places b.items ms i.5 in
+    let within : gap.index ≤ length b.items = omega (arith, c.in-Err.ensures.gap.within, count b.items i.0) in
+    let inserted = c.insert.ensures.marks ∙ ap (λ os. insert os c.link-here.result.index m) c.take_node.ensures.marks ∙ ap (λ j. insert ms j m) c.link-here.ensures.index in
+    let marks = marks_linked b.places (pays b.items) ms i.5 gap.index m (k, Some v) c.link-here.new.self.boxes.places (pays c.link-here.new.self.boxes.items) c.insert.new.self.in_order.items (omega (arith, within, counted)) (omega (arith, within, len_pays b.items)) c.insert.ensures.key refl c.link-here.ensures.places items inserted in
+    (is_full_of _ _ made, subst IsAscending (sym (full_of _ _ made)) (put_ascends k v (entries (pays b.items)) i.1), c.link-here.ensures.alloc ∙ i.2, c.take_node.ensures.alloc ∙ i.3, omega (arith, counted, c.link-here.ensures.len, c.in-Some.ensures.some), marks, omega (arith, counted, c.link-here.ensures.len, c.in-Some.ensures.some, c.insert.ensures.room))
 
 pub returns-in-Ok-clause-items : goal.returns-in-Ok-clause-items
 returns-in-Ok-clause-items g c =
@@ -63,7 +76,7 @@ returns-in-Some-clause-items g c =
     let k = c.args.k in
     let v = c.args.v in
     let gap = c.in-Err.gap in
-    full_of _ _ (linked_in k (pays b.items) c.self.invariant.0 gap.index v (pays c.link.new.self.boxes.items) c.in-Err.ensures.gap (c.link.ensures.items ∙ ap (λ n. insert (pays b.items) gap.index (pay n)) c.replace-in-Some.ensures.after))
+    full_of _ _ (linked_in k (pays b.items) c.self.invariant.0 gap.index v (pays c.link-here.new.self.boxes.items) c.in-Err.ensures.gap (c.link-here.ensures.items ∙ ap (λ n. insert (pays b.items) gap.index (pay n)) c.replace-in-Some.ensures.after))
     ∙ ap (λ seen. put_entry key_cmp k v seen.items) c.self.view_is
 
 pub returns-in-Some-clause-replaced : goal.returns-in-Some-clause-replaced
