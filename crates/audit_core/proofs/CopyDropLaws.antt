@@ -29,7 +29,7 @@ use Rattle.audit_laws.proofs.Quiet.{members-other, fold-other}
 use Rattle.audit_laws.proofs.Steps.{shape_step}
 use Rattle.audit_laws.proofs.Tests.{differ, number_same, number_here}
 use Rattle.audit_core.specs.declared.judge.Judge.{Judge}
-use Rattle.audit_core.specs.declared.verdict.Law.TheVariants as law
+use Rattle.audit_laws.specs.declared.law.Law.TheVariants as law
 use Rattle.audit_core.specs.declared.verdict.Stop.{Stop}
 use Rattle.audit_core.specs.declared.verdict.Stop.TheVariants as stop
 use Rattle.audit_state.specs.declared.nodes.Node.{Node}

@@ -8,7 +8,7 @@ use Rattle.journal_readings.specs.Shape.{is_header, EntersFalling}
 use Rattle.audit_laws.specs.Fits.{FitsShape}
 use Rattle.audit_laws.proofs.Tests.{differ}
 use Rattle.audit_core.specs.declared.judge.Judge.{Judge}
-use Rattle.audit_core.specs.declared.verdict.Law.TheVariants as law
+use Rattle.audit_laws.specs.declared.law.Law.TheVariants as law
 use Rattle.audit_core.specs.Sees.{SeesFrame, SeesTried, SeesState, SeesJournal}
 use Rattle.audit_core.specs.Shapes.{fits_shape}
 use Rattle.audit_core.specs.Stored.{SeesStores}

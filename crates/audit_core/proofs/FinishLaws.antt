@@ -19,7 +19,7 @@ use Rattle.journal_readings.proofs.Fronts.{same_key_is}
 use Rattle.audit_laws.proofs.ShapeSteps.{same_key_itself}
 use Rattle.audit_laws.proofs.Tests.{differ, number_same, number_here}
 use Rattle.audit_core.specs.declared.judge.Judge.{Judge}
-use Rattle.audit_core.specs.declared.verdict.Law.TheVariants as law
+use Rattle.audit_laws.specs.declared.law.Law.TheVariants as law
 use Rattle.audit_core.specs.declared.verdict.Stop.{Stop}
 use Rattle.audit_core.specs.declared.verdict.Stop.TheVariants as stop
 use Rattle.audit_core.specs.Audits.{so_far}

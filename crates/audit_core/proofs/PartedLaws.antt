@@ -19,7 +19,7 @@ use Rattle.audit_laws.proofs.SettledSteps.{settled_more}
 use Rattle.audit_laws.proofs.Steps.{shape_step}
 use Rattle.audit_laws.proofs.Tests.{differ}
 use Rattle.audit_core.specs.declared.judge.Judge.{Judge}
-use Rattle.audit_core.specs.declared.verdict.Law.{Law}
+use Rattle.audit_laws.specs.declared.law.Law.{Law}
 use Rattle.audit_core.specs.declared.verdict.Stop.{Stop}
 use Rattle.audit_core.specs.declared.verdict.Stop.TheVariants as stop
 use Rattle.audit_state.specs.declared.views.View.{View}

@@ -27,7 +27,7 @@ use Rattle.audit_core.specs.Steps.{ChangesNode, HasClock, HasView, ChangesStamps
 use Rattle.audit_core.specs.Stored.{SeesStores, Knows}
 use Rattle.audit_core.specs.Folds.{KnowsView}
 use Rattle.audit_core.specs.Verdicts.{BreaksFirst, StopsRightly}
-use Rattle.audit_core.specs.declared.verdict.Law.TheVariants as law
+use Rattle.audit_laws.specs.declared.law.Law.TheVariants as law
 use Rattle.audit_core.specs.declared.verdict.Stop.{Stop}
 use Rattle.audit_core.specs.declared.verdict.Stop.TheVariants as stop
 use Rattle.audit_state.specs.declared.views.View.{View}

@@ -6,7 +6,7 @@ use Rattle.cluster_types.specs.declared.cluster_key.ClusterKey.{ClusterKey}
 use Rattle.cluster_types.specs.Partitions.{partition_of}
 use Rattle.audit_laws.proofs.Tests.{differ}
 use Rattle.audit_core.specs.declared.judge.Judge.{Judge}
-use Rattle.audit_core.specs.declared.verdict.Law.TheVariants as law
+use Rattle.audit_laws.specs.declared.law.Law.TheVariants as law
 use Rattle.audit_core.specs.declared.verdict.Stop.{Stop}
 use Rattle.audit_core.specs.declared.verdict.Stop.TheVariants as stop
 use Rattle.audit_state.specs.declared.views.View.{View}

@@ -20,7 +20,7 @@ use Rattle.journal_readings.proofs.AlongLaws.{no_some, some_same}
 use Rattle.journal_readings.proofs.Unwritten.{content-none, fold_of-none}
 use Rattle.audit_laws.proofs.Tests.{differ, number_same, number_here}
 use Rattle.audit_core.specs.declared.judge.Judge.{Judge}
-use Rattle.audit_core.specs.declared.verdict.Law.TheVariants as law
+use Rattle.audit_laws.specs.declared.law.Law.TheVariants as law
 use Rattle.audit_core.specs.declared.verdict.Stop.{Stop}
 use Rattle.audit_core.specs.declared.verdict.Stop.TheVariants as stop
 use Rattle.audit_state.specs.declared.copies.RecordChange.{RecordChange}

@@ -8,8 +8,8 @@ use Rattle.audit_laws.specs.Fits.{Fits, FitsShape}
 use Rattle.audit_laws.specs.Lawful.{Lawful}
 use Rattle.audit_laws.proofs.Places.{none_taken}
 use Rattle.audit_laws.proofs.Steps.{shape_step, map_step, loss_step, settled_step, read_step, lawful_step, lawful_fronts}
-use Rattle.audit_core.specs.declared.verdict.Law.{Law}
-use Rattle.audit_core.specs.declared.verdict.Law.TheVariants as law
+use Rattle.audit_laws.specs.declared.law.Law.{Law}
+use Rattle.audit_laws.specs.declared.law.Law.TheVariants as law
 use Rattle.audit_core.specs.declared.verdict.Stop.{Stop}
 use Rattle.audit_core.specs.declared.verdict.Stop.TheVariants as stop
 use Rattle.audit_core.specs.declared.verdict.Verdict.{Verdict}

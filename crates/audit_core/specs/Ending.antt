@@ -8,7 +8,7 @@ use Rattle.journal_readings.specs.Lines.{same_key, has_node, is_settled_line}
 use Rattle.journal_readings.specs.Settled.{is_settled, is_open_write}
 use Rattle.journal_readings.specs.Views.{master}
 use Rattle.audit_core.specs.declared.judge.Judge.{Judge}
-use Rattle.audit_core.specs.declared.verdict.Law.TheVariants as law
+use Rattle.audit_laws.specs.declared.law.Law.TheVariants as law
 use Rattle.audit_core.specs.declared.verdict.Stop.{Stop}
 use Rattle.audit_core.specs.declared.verdict.Stop.TheVariants as stop
 use Rattle.audit_core.specs.Audits.{so_far}

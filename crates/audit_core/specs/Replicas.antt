@@ -5,7 +5,7 @@ use Rattle.cluster_types.specs.declared.member.Member.{Member}
 use Rattle.cluster_types.specs.Members.{ids_of}
 use Rattle.journal_readings.specs.Lines.{has_node}
 use Rattle.audit_core.specs.declared.judge.Judge.{Judge}
-use Rattle.audit_core.specs.declared.verdict.Law.TheVariants as law
+use Rattle.audit_laws.specs.declared.law.Law.TheVariants as law
 use Rattle.audit_core.specs.declared.verdict.Stop.{Stop}
 use Rattle.audit_core.specs.declared.verdict.Stop.TheVariants as stop
 use Rattle.audit_core.specs.Covering.{SeesCovers}

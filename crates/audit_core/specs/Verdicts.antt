@@ -5,8 +5,8 @@ use Rattle.journal_readings.specs.Claims.{OneMap, NoLoss, SettledJoin, ReadJoin,
 use Rattle.journal_readings.specs.Shape.{Shape}
 use Rattle.audit_laws.specs.Fits.{FitsShape, LosesNothing, JoinsReplicas}
 use Rattle.audit_laws.specs.Lawful.{Lawful}
-use Rattle.audit_core.specs.declared.verdict.Law.{Law}
-use Rattle.audit_core.specs.declared.verdict.Law.TheVariants as law
+use Rattle.audit_laws.specs.declared.law.Law.{Law}
+use Rattle.audit_laws.specs.declared.law.Law.TheVariants as law
 use Rattle.audit_core.specs.declared.verdict.Stop.{Stop}
 use Rattle.audit_core.specs.declared.verdict.Stop.TheVariants as stop
 use Rattle.audit_core.specs.declared.verdict.Verdict.{Verdict}

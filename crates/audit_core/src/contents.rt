@@ -30,7 +30,8 @@ ghost use Rattle.audit_state.specs.Written.{WritesRecord};
 ghost use Rattle.audit_core.specs.Bringing.{AppliesWrite, BringsVersion, BringsHere, KeepsLines, SeesHeld, StoresVersion, RemovesRecord, WritesHere, MergesHere};
 
 use crate::judge::Judge;
-use crate::verdict::{Law, Stop, demand};
+use crate::verdict::{Stop, demand};
+use audit_laws::Law;
 use audit_state::{View, key_pair};
 use cluster_types::{ClusterKey, Digest, NoMemory, NodeId, PartitionId, partition_of};
 use conflict_order::Version;

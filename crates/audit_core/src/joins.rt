@@ -22,7 +22,8 @@ ghost use Rattle.audit_state.specs.Written.{written_of};
 ghost use Rattle.audit_state.specs.OpenWrites.{SettlesPartition, Suspects, Distrusts};
 
 use crate::judge::Judge;
-use crate::verdict::{Law, Stop, demand};
+use crate::verdict::{Stop, demand};
+use audit_laws::Law;
 use audit_state::{Cover, View, key_pair};
 use cluster_types::{ClusterKey, Member, Members, NoMemory, NodeId, PartitionId};
 

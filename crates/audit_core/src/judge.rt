@@ -15,7 +15,8 @@ ghost use Rattle.audit_core.specs.Steps.{KnowsNothing, ReadsHeader, DeclaresNode
 ghost use Rattle.audit_core.specs.Verdicts.{StopsRightly};
 
 use crate::shape::is_header;
-use crate::verdict::{Law, Stop, demand};
+use crate::verdict::{Stop, demand};
+use audit_laws::Law;
 use audit_state::{Cover, Entry, Node, Records, Stamps, Stores, Versions, View, key_pair};
 use cluster_types::{ClusterKey, Digest, MemberList, Members, NoMemory, NodeId, PartitionId};
 use conflict_order::{Policy, Version};

@@ -20,6 +20,7 @@ mod stamps;
 mod verdict;
 mod writes;
 
+pub use audit_laws::Law;
 pub use auditing::audit;
 pub use lines::{TextFault, lines_of};
-pub use verdict::{Law, Verdict};
+pub use verdict::Verdict;

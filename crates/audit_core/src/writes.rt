@@ -13,7 +13,8 @@ ghost use Rattle.audit_core.specs.Verdicts.{StopsRightly};
 ghost use Rattle.audit_state.specs.OpenWrites.{EndsWrite, IsToTry, OpensWrite, FinishesWrites};
 
 use crate::judge::Judge;
-use crate::verdict::{Law, Stop};
+use crate::verdict::Stop;
+use audit_laws::Law;
 use audit_state::{Doubts, key_pair};
 use cluster_types::{ClusterKey, NoMemory, NodeId, PartitionId};
 

@@ -5,4 +5,7 @@
 //! line fits (`specs/Fits.antt`). What the functions of this crate ensure are laws; a call does nothing.
 #![tactic(auto)]
 
+mod law;
 pub mod laws;
+
+pub use law::Law;
