@@ -8,10 +8,10 @@ use Rattle.audit_core.specs.declared.verdict.Verdict.TheVariants as verdict
 use Rattle.audit_core.specs.Transcripts.{IsTranscript, IsFirstFault}
 use Rattle.audit_core.specs.Verdicts.{IsVerdict}
 use Rattle.audit_core.proofs.Pieces.{faulty, one_transcript}
-use Rattle.cluster_top.specs.declared.status.Status.{Status}
-use Rattle.cluster_top.specs.declared.status.Status.TheVariants as status
-use Rattle.cluster_top.specs.Auditing.{AuditEnded, EndsAudit, EndsSource, EndsTranscript, EndsTranscriptBytes, HadTranscript, IsAuditDecided, Judged, Mistranscribed, status_of}
-use Rattle.cluster_top.specs.Streams.{Overlong, WroteFront, transcript_limit}
+use Rattle.replay_core.specs.declared.status.Status.{Status}
+use Rattle.replay_core.specs.declared.status.Status.TheVariants as status
+use Rattle.cluster_top.specs.Auditing.{AuditEnded, EndsAudit, EndsSource, EndsTranscript, EndsTranscriptBytes, HadTranscript, IsAuditDecided, Judged, Mistranscribed, status_of, transcript_limit}
+use Rattle.replay_core.specs.Streams.{Overlong, WroteFront}
 
 pub nothing_written : (old : Option (List ℕ)) (bytes : List ℕ) → WroteFront old old bytes
 nothing_written None bytes = tt

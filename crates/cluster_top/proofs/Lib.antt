@@ -1,13 +1,6 @@
-pub mod StreamLaws
-pub mod TextLaws
-pub mod CountLaws
-pub mod RunsOnce
-pub mod EmptyClaims
-pub mod GeneratingLaws
 pub mod NumberLaws
 pub mod WordWalks
 pub mod WordLaws
-pub mod PlayLaws
-pub mod Endings
+pub mod AskedReplays
 pub mod AuditLaws
 pub mod AuditWords

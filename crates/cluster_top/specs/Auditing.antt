@@ -7,12 +7,16 @@ use Rattle.audit_core.specs.declared.verdict.Verdict.TheVariants as verdict
 use Rattle.audit_core.specs.Transcripts.{IsTranscript, IsFirstFault}
 use Rattle.audit_core.specs.Verdicts.{FailsFirst, IsVerdict}
 use Rattle.audit_core.specs.VerdictTexts.{verdict_text}
-use Rattle.cluster_top.specs.declared.status.Status.{Status}
-use Rattle.cluster_top.specs.declared.status.Status.TheVariants as status
-use Rattle.cluster_top.specs.Outcome.{Unplayed}
-use Rattle.cluster_top.specs.Streams.{HadAll, Overlong, WroteBytes, WroteFront, transcript_limit}
+use Rattle.replay_core.specs.declared.status.Status.{Status}
+use Rattle.replay_core.specs.declared.status.Status.TheVariants as status
+use Rattle.replay_core.specs.Outcome.{Unplayed}
+use Rattle.replay_core.specs.Streams.{HadAll, Overlong, WroteBytes, WroteFront}
 
 -- ---- what was read
+
+-- the most bytes of a transcript that is audited
+abbrev pub transcript_limit : ℕ
+transcript_limit = 134217728
 
 -- the bytes are all that the source had left, and as many as a transcript may have
 pub record HadTranscript (had left : Option (List ℕ)) (bytes : List ℕ) : Type 0 where

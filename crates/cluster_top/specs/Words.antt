@@ -1,12 +1,14 @@
 -- The words after the program's name.
-use Rattle.std.specs.Prelude.{◌≡◌, ℕ, List, [], ◌∷◌, ◌++◌, Bool, false, true, Option, Some, None, IsTrue, codes}
+use Rattle.std.specs.Prelude.{◌≡◌, ◌⊎◌, ℕ, List, [], ◌∷◌, ◌++◌, Bool, false, true, Option, Some, None, IsTrue, codes}
 use Rattle.std.specs.Str.{bytes_eq}
 use Rattle.std.specs.Str.Parse.{digits_value}
 use Rattle.clap.specs.Simple.{App, new_app, new_rule, on_top, with_rule}
 use Rattle.clap.specs.Walk.{Rule}
 use Rattle.clap.specs.declared.builder.action.ArgAction.TheVariants.{Set, SetTrue}
 use Rattle.script_lang.specs.Values.{is_number}
-use Rattle.cluster_top.specs.declared.words.Words.{Words}
+use Rattle.replay_core.specs.declared.status.Status.{Status}
+use Rattle.replay_core.specs.declared.status.Status.TheVariants as status
+use Rattle.replay_core.specs.declared.words.Words.{Words}
 
 -- ---- the number
 
@@ -55,6 +57,11 @@ AskAudit ws = ws ≡ codes "--audit" ∷ []
 pub record AreBad (ws : List (List ℕ)) : Type 0 where
   pub no_replay : AskNoReplay ws
   pub no_audit : ¬ AskAudit ws
+
+-- how a run ends where the words are none that the program takes: so, or for want of the memory
+-- that reading them takes
+abbrev pub EndsBadWords : Status → Type 0
+EndsBadWords st = (st ≡ status.BadWords) ⊎ (st ≡ status.NoMemory)
 
 -- ---- how they are split
 

@@ -2,17 +2,14 @@
 ghost use Rattle.std.specs.Prelude.{◌≡◌, ◌≢◌, ℕ, List, Option, OnOk, IsErrOf, IfOk, IfErr};
 ghost use Rattle.byte_ends.specs.Faults.{Rose};
 ghost use Rattle.audit_core.specs.Transcripts.{IsTranscript};
+ghost use Rattle.replay_core.specs.Streams.{WroteBytes, WroteFront};
 ghost use Rattle.cluster_top.specs.Auditing.{AuditEnded, IsUnread, IsUnreadBytes, Judged, Transcribed, status_of, verdict_line};
-ghost use Rattle.cluster_top.specs.Streams.{WroteBytes, WroteFront};
 
-use crate::reading::{ReadFault, read_all};
-use crate::replay::{Outcome, unplayed};
-use crate::status::Status;
-use crate::writing::{WriteFault, write_all};
 use audit_core::{TextFault, Verdict, audit, lines_of};
 use byte_ends::{Sink, Source};
 use cluster_types::NoMemory;
 use journal_text::Journal;
+use replay_core::{Outcome, ReadFault, Status, WriteFault, read_all, unplayed, write_all};
 use std::alloc::Global;
 
 /// The most bytes of a transcript that is audited.

@@ -1,43 +1,18 @@
 //! The whole program, over the ends that it is given.
-ghost use Rattle.std.specs.Prelude.{◌≡◌, ◌≢◌, ◌<◌, ◌^◌, [], ℕ, List, Option, None, Some, Ok, length, map, string_bytes, IsSome};
+ghost use Rattle.std.specs.Prelude.{◌≡◌, [], map, string_bytes, IsSome};
 ghost use Rattle.byte_ends.specs.Faults.{Rose};
 ghost use Rattle.journal_readings.specs.CalmEnd.{CalmEnd};
 ghost use Rattle.journal_readings.specs.Claims.{NoLoss, ReadJoin, SettledJoin, EqualClasses, OneMap, KeysRise};
-ghost use Rattle.script_lang.specs.Grammar.{script_of};
-ghost use Rattle.script_lang.specs.Proper.{IsProper};
 ghost use Rattle.world.specs.Claims.{HasClaims};
+ghost use Rattle.replay_core.specs.Outcome.{CalmsAreInTime, ReplayEnded, IsDecided};
 ghost use Rattle.cluster_top.specs.Auditing.{AuditEnded, IsAuditDecided};
-ghost use Rattle.cluster_top.specs.Outcome.{CalmsAreInTime, ReplayEnded, HadScript, IsDecided, EndsBadWords, WritingEnded};
-ghost use Rattle.cluster_top.specs.Transcripts as transcripts;
-ghost use Rattle.cluster_top.specs.Words.{AreBad, AskAudit, AskNoReplay, Asks};
+ghost use Rattle.cluster_top.specs.Words.{AreBad, AskAudit, AskNoReplay, Asks, EndsBadWords};
 
 use crate::auditing::audit_source;
-use crate::generating::generated;
-use crate::play::play_script;
-use crate::reading::{ReadFault, read_all};
-use crate::status::Status;
-use crate::transcript::write_transcript;
-use crate::words::{Words, WordsFault, ask_for_audit, read_words};
-use crate::writing::WriteFault;
+use crate::words::{WordsFault, ask_for_audit, read_words};
 use byte_ends::{Sink, Source};
-use journal_text::Journal;
-use script_lang::{Script, ScriptFault, parse};
+use replay_core::{Outcome, Status, Words, replay, unplayed};
 use std::alloc::Global;
-use world::StepFault;
-
-/// The most bytes that a script has.
-const SCRIPT_LIMIT: usize = 16_777_216;
-
-/// How a run ended, and its journal.
-///
-/// The journal of a replay is the run's where all was played, that before the first event that
-/// doesn't fit where the run is too long, and empty otherwise. That of an audit is the one that was
-/// read, where the verdict on it was written, and empty otherwise.
-#[derive(Drop)]
-pub struct Outcome {
-    pub status: Status,
-    pub journal: Journal,
-}
 
 /// Replays the script that the source has left, and writes the transcript to the sink; or audits
 /// the transcript that it has left, and writes the verdict.
@@ -142,148 +117,5 @@ fn replay_asked<S: Source, K: Sink>(
         Err(WordsFault::Bad) => unplayed(alloc, Status::BadWords),
         Err(WordsFault::NoMemory) => unplayed(alloc, Status::NoMemory),
         Ok(words) => replay(alloc, words, source, out),
-    }
-}
-
-/// Nothing was played, and no transcript was judged.
-pub(crate) fn unplayed(alloc: Global, status: Status) -> Outcome
-    ensures status { result.status ≡ status }
-    ensures empty { result.journal.lines ≡ [] }
-    ensures claims { HasClaims result.journal.lines }
-    ensures calms { CalmsAreInTime result.journal.lines }
-{
-    Outcome {
-        status,
-        journal: Journal::new(alloc),
-    }
-}
-
-/// Replays what the words ask for.
-fn replay<S: Source, K: Sink>(alloc: Global, words: Words, source: &mut S, out: &mut K) -> Outcome
-    ensures ended { ReplayEnded words result.status result.journal.lines (S.left source.old)
-        (S.left source.new) (K.taken out.old) (K.taken out.new) }
-    ensures claims { HasClaims result.journal.lines }
-    ensures calms { CalmsAreInTime result.journal.lines }
-    ensures read_fault { result.status ≡ Status.ReadFault
-        → Rose (S.faults source.old) (S.faults source.new) }
-    ensures write_fault { result.status ≡ Status.WriteFault
-        → Rose (K.faults out.old) (K.faults out.new) }
-    ensures unread { IsSome words.generate → source.new ≡ source.old }
-{
-    match words.generate {
-        None => replay_source(alloc, words, source, out),
-        Some(number) => replay_generated(alloc, words, number, out),
-    }
-}
-
-/// Replays the script that the source has left.
-fn replay_source<S: Source, K: Sink>(
-    alloc: Global,
-    words: Words,
-    source: &mut S,
-    out: &mut K,
-) -> Outcome
-    requires { words.generate ≡ None }
-    ensures ended { ReplayEnded words result.status result.journal.lines (S.left source.old)
-        (S.left source.new) (K.taken out.old) (K.taken out.new) }
-    ensures claims { HasClaims result.journal.lines }
-    ensures calms { CalmsAreInTime result.journal.lines }
-    ensures read_fault { result.status ≡ Status.ReadFault
-        → Rose (S.faults source.old) (S.faults source.new) }
-    ensures write_fault { result.status ≡ Status.WriteFault
-        → Rose (K.faults out.old) (K.faults out.new) }
-{
-    match read_all(alloc, source, SCRIPT_LIMIT) {
-        Err(ReadFault::NoMemory) => unplayed(alloc, Status::NoMemory),
-        Err(ReadFault::Source) => unplayed(alloc, Status::ReadFault),
-        Err(ReadFault::TooLong) => unplayed(alloc, Status::ScriptTooLong),
-        Ok(bytes) => replay_bytes(alloc, words, bytes.as_slice(), out),
-    }
-}
-
-/// Replays the script that the number stands for.
-fn replay_generated<K: Sink>(alloc: Global, words: Words, number: u64, out: &mut K) -> Outcome
-    requires { words.generate ≡ Some number }
-    ensures ended { (had : Option (List ℕ))
-        → ReplayEnded words result.status result.journal.lines had had (K.taken out.old)
-        (K.taken out.new) }
-    ensures claims { HasClaims result.journal.lines }
-    ensures calms { CalmsAreInTime result.journal.lines }
-    ensures read_fault { result.status ≢ Status.ReadFault }
-    ensures write_fault { result.status ≡ Status.WriteFault
-        → Rose (K.faults out.old) (K.faults out.new) }
-{
-    match generated(alloc, number) {
-        Err(_) => unplayed(alloc, Status::NoMemory),
-        Ok(script) => replay_bytes(alloc, words, script.as_slice(), out),
-    }
-}
-
-/// Replays the script that the bytes are.
-fn replay_bytes<K: Sink>(alloc: Global, words: Words, bytes: &[u8], out: &mut K) -> Outcome
-    requires { length bytes.now < 2 ^ 60 }
-    ensures ended { (had left : Option (List ℕ)) → HadScript words.generate had left bytes.now
-        → ReplayEnded words result.status result.journal.lines had left (K.taken out.old)
-        (K.taken out.new) }
-    ensures claims { HasClaims result.journal.lines }
-    ensures calms { CalmsAreInTime result.journal.lines }
-    ensures read_fault { result.status ≢ Status.ReadFault }
-    ensures write_fault { result.status ≡ Status.WriteFault
-        → Rose (K.faults out.old) (K.faults out.new) }
-{
-    match parse(alloc, bytes) {
-        Err(ScriptFault::NoMemory) => unplayed(alloc, Status::NoMemory),
-        Err(ScriptFault::At { line, cause }) => unplayed(alloc, Status::BadScript { line, cause }),
-        Ok(script) => replay_script(alloc, words, &script, out),
-    }
-}
-
-/// Plays the script, and writes what the words ask for.
-fn replay_script<K: Sink>(alloc: Global, words: Words, script: &Script, out: &mut K) -> Outcome
-    requires { IsProper script.now }
-    ensures ended { (had left : Option (List ℕ)) (bytes : List ℕ)
-        → HadScript words.generate had left bytes → script_of bytes ≡ Ok script.now
-        → ReplayEnded words result.status result.journal.lines had left (K.taken out.old)
-        (K.taken out.new) }
-    ensures claims { HasClaims result.journal.lines }
-    ensures calms { CalmsAreInTime result.journal.lines }
-    ensures read_fault { result.status ≢ Status.ReadFault }
-    ensures write_fault { result.status ≡ Status.WriteFault
-        → Rose (K.faults out.old) (K.faults out.new) }
-{
-    let mut journal = Journal::new(alloc);
-    match play_script(alloc, script, &mut journal) {
-        Ok(()) => transcribe(alloc, words, journal, out),
-        Err(StepFault::NoMemory) => unplayed(alloc, Status::NoMemory),
-        Err(StepFault::RunTooLong) => Outcome {
-            status: Status::RunTooLong,
-            journal,
-        },
-    }
-}
-
-/// Writes what the words ask for of the journal.
-fn transcribe<K: Sink>(alloc: Global, words: Words, journal: Journal, out: &mut K) -> Outcome
-    requires claims { HasClaims journal.lines }
-    requires calms { CalmsAreInTime journal.lines }
-    ensures written { WritingEnded result.status (K.taken out.old) (K.taken out.new)
-        (transcripts.transcript words journal.lines) }
-    ensures kept { result.status ≢ Status.NoMemory → result.journal.lines ≡ journal.lines }
-    ensures empty { result.status ≡ Status.NoMemory → result.journal.lines ≡ [] }
-    ensures claims { HasClaims result.journal.lines }
-    ensures calms { CalmsAreInTime result.journal.lines }
-    ensures write_fault { result.status ≡ Status.WriteFault
-        → Rose (K.faults out.old) (K.faults out.new) }
-{
-    match write_transcript(alloc, words, &journal, out) {
-        Ok(()) => Outcome {
-            status: Status::Done,
-            journal,
-        },
-        Err(WriteFault::Sink) => Outcome {
-            status: Status::WriteFault,
-            journal,
-        },
-        Err(WriteFault::NoMemory) => unplayed(alloc, Status::NoMemory),
     }
 }

@@ -1,5 +1,6 @@
 use Rattle.std.proofs.Common.{Err, ap, inl, inr}
-use Rattle.cluster_top.proofs.Endings.{asked_ended, asked_number, decided, no_bad_words, refused_at_once}
+use Rattle.replay_core.proofs.Endings.{no_bad_words, refused_at_once}
+use Rattle.cluster_top.proofs.AskedReplays.{asked_decided, asked_ended, asked_number}
 use Rattle.cluster_top.proofs.replay.replay_asked.Goals as goal
 
 pub returns-in-Err-Bad-clause-ended : goal.returns-in-Err-Bad-clause-ended
@@ -40,6 +41,4 @@ returns-in-Ok-clause-unread g c = λ asked a s. c.replay.ensures.unread (asked_n
 
 pub returns-in-Ok-clause-decided : goal.returns-in-Ok-clause-decided
 returns-in-Ok-clause-decided g c = λ asked a p q.
-    decided asked _ _ (g.S.Source.left c.args.source.now) (g.S.Source.left c.replay.new.source) (g.K.Sink.taken c.args.out.now) (g.K.Sink.taken c.replay.new.out) _ _ _ _
-    (asked_ended _ c.in-Ok.words asked _ _ (g.S.Source.left c.args.source.now) (g.S.Source.left c.replay.new.source) (g.K.Sink.taken c.args.out.now) (g.K.Sink.taken c.replay.new.out) c.in-Ok.ensures.asked a c.replay.ensures.ended)
-    c.replay.ensures.read_fault c.replay.ensures.write_fault p q
+    asked_decided _ c.in-Ok.words asked _ (g.S.Source.left c.args.source.now) c.in-Ok.ensures.asked a (c.replay.ensures.decided p q)

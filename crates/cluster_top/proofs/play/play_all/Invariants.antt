@@ -1,6 +1,0 @@
-use Rattle.std.proofs.Common.{take}
-use Rattle.cluster_top.specs.Playing.{PlaysAllOn}
-use Rattle.cluster_top.proofs.play.play_all.Given as goal
-
-abbrev pub invariant-loop-command : goal.invariant-loop-command
-invariant-loop-command l = PlaysAllOn l.initial.world l.world (take l.command-index l.commands)
