@@ -144,8 +144,8 @@ fn places_of(states: &[u32; 16], count: usize, p: PartitionId) -> [u32; 16]
     ensures { take count result ≡ map (place_after p) (take count states.now) }
 {
     let mut places = [0; LIMIT];
-    // A fixed number of nodes is hashed side by side, which takes less time than three of them one
-    // after another.
+    // Of a loop whose rounds are known beforehand LLVM makes vector code, which hashes the nodes
+    // side by side.
     if count <= LANES {
         hash_places(&states[..LANES], p, &mut places[..LANES]);
     } else {
