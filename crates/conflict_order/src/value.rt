@@ -6,6 +6,7 @@ ghost use Rattle.std.specs.Cmp.Lexicographic.{slice_cmp, nat_list_eq_equiv, nat_
 ghost use Rattle.conflict_order.specs.ValueFault.{fault_text};
 ghost use Rattle.conflict_order.specs.declared.value.ValueFault.TheVariants.{NoMemory};
 
+use smallvec::SmallVec;
 use std::alloc::{AllocError, Global};
 use std::cmp::Ordering;
 use std::error::Error;
@@ -15,10 +16,13 @@ use std::marker::Model;
 /// The most bytes that a value has.
 pub const VALUE_LIMIT: usize = 128;
 
+/// How many bytes stand in the value itself, which then takes no memory of its own.
+const INLINE_BYTES: usize = 16;
+
 /// A value of 0 to 128 bytes, which compares by its bytes from the first on.
 #[derive(Debug, Drop)]
 pub struct ValueBytes {
-    bytes: Vec<u8>,
+    bytes: SmallVec<u8, INLINE_BYTES>,
 }
 
 impl Model for ValueBytes {
@@ -72,7 +76,7 @@ impl ValueBytes {
         if bytes.len() > VALUE_LIMIT {
             return Err(ValueFault::TooLong(bytes.len()));
         }
-        let bytes = Vec::from_slice(alloc, bytes)?;
+        let bytes = SmallVec::from_slice(alloc, bytes)?;
         Ok(ValueBytes { bytes })
     }
 
@@ -88,7 +92,7 @@ impl ValueBytes {
     pub fn copy(&self, alloc: Global) -> Result<ValueBytes, AllocError>
         ensures { IfOk result (λ v. v ≡ self.now) }
     {
-        let bytes = Vec::from_slice(alloc, self.bytes.as_slice())?;
+        let bytes = SmallVec::from_slice(alloc, self.bytes.as_slice())?;
         Ok(ValueBytes { bytes })
     }
 }

@@ -166,15 +166,19 @@ impl World {
             message,
             ..
         } = arriving;
-        let Message::MapTable(table) = &message else {
-            let lines = two_lines(alloc, line, Line::Stale { endpoint: CLIENT })?;
-            return self.pass_over(lines, landing, event);
-        };
-        let lines = two_lines(alloc, line, Line::Table { key: table.key })?;
-        self.ledger.tell_all(lines, event)?;
-        land(&mut self.net, landing);
-        self.client.refresh(table);
-        Ok(())
+        match message {
+            Message::MapTable(table) => {
+                let lines = two_lines(alloc, line, Line::Table { key: table.key })?;
+                self.ledger.tell_all(lines, event)?;
+                land(&mut self.net, landing);
+                self.client.refresh(&table);
+                Ok(())
+            }
+            _ => {
+                let lines = two_lines(alloc, line, Line::Stale { endpoint: CLIENT })?;
+                self.pass_over(lines, landing, event)
+            }
+        }
     }
 
     fn arrive_at_node(

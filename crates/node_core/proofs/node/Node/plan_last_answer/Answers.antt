@@ -15,11 +15,13 @@ use Rattle.node_steps.specs.declared.effects.Effects.{Effects}
 use Rattle.node_steps.specs.declared.resolving.Resolving.{Resolving}
 use Rattle.node_steps.specs.Counts.{HaveNumbers}
 use Rattle.node_core.specs.Nodes.{node_facts}
+use Rattle.node_steps.specs.Plans.{next_of}
 use Rattle.node_steps.specs.Ranges.{HasRanges, IsResolvingField}
 use Rattle.node_steps.specs.Resolvings.{due_outcome}
 use Rattle.node_steps.specs.Spelled.{then_effects, spelled}
 use Rattle.node_core.proofs.NodeLaws.{has_no_plan}
-use Rattle.node_core.proofs.OpeningRooms.{in_its_view, room_alone, room_and_step, step_planned}
+use Rattle.node_core.proofs.RoomLaws.{on_err_if}
+use Rattle.node_core.proofs.OpeningRooms.{facts_with_room, in_its_view, room_alone, room_and_step, step_planned}
 use Rattle.node_steps.proofs.OpeningLaws.{key_of_view, numbers_of}
 use Rattle.node_steps.proofs.ResolveLaws.{answer_due, answered_found, answered_one, resolved_after, resolved_fits, resolved_spelled, resolving_spelled, room_found, step_made}
 use Rattle.node_core.proofs.node.Node.plan_last_answer.Goals as goal
@@ -48,6 +50,15 @@ invariant_of-self c =
     let same : IsSame c.in-Some.view.value c.plan_outcome.new.view = subst (λ (v : Viewed). IsSame v c.plan_outcome.new.view) c.deref_mut.ensures.value c.in_err-outcome.ensures.same in
     room_alone c.self.inside c.in-Some.view (with_value c.in-Some.view c.plan_outcome.new.view) c.plan_outcome.new.store c.self.invariant.0
     (has_no_plan c.self.inside c.args.self.now c.self.view_is c.requires.unplanned) c.in-Some.is same c.in_err-outcome.ensures.kept
+
+pub returns-in_err-outcome-clause-err : goal.returns-in_err-outcome-clause-err
+returns-in_err-outcome-clause-err c =
+    let n = c.self.inside in
+    let v = c.in-Some.view in
+    let same : IsSame v.value c.plan_outcome.new.view = subst (λ (u : Viewed). IsSame u c.plan_outcome.new.view) c.deref_mut.ensures.value c.in_err-outcome.ensures.same in
+    let facts = facts_with_room n v (with_value v c.plan_outcome.new.view) c.plan_outcome.new.store n.planned c.in-Some.is same c.in_err-outcome.ensures.kept in
+    on_err_if c.from_residual-in_err-outcome.result _
+    (ap (λ (f : Facts). let p : Planning = record { now = f; next = next_of f n.planned } in p) facts ∙ c.self.view_is)
 
 pub invariant_of-self-2 : goal.invariant_of-self-2
 invariant_of-self-2 c =
