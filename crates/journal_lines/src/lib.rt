@@ -2,7 +2,9 @@
 #![tactic(auto)]
 
 mod line;
+mod message_bytes;
 mod refusal;
 
 pub use line::Line;
+pub use message_bytes::MessageBytes;
 pub use refusal::Refusal;

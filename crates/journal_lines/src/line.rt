@@ -1,8 +1,7 @@
 //! The lines of a journal.
+use crate::message_bytes::MessageBytes;
 use crate::refusal::Refusal;
-use cluster_types::{
-    Boxed, Bytes, ClusterKey, Digest, Groups, MemberList, Members, NodeId, PartitionId,
-};
+use cluster_types::{Boxed, ClusterKey, Digest, Groups, MemberList, Members, NodeId, PartitionId};
 use conflict_order::{Action, Policy, Version};
 use wire_messages::{ReplyBody, ScanRefusal};
 
@@ -102,7 +101,7 @@ pub enum Line {
         message: u64,
         from: u16,
         to: u16,
-        bytes: Bytes,
+        bytes: MessageBytes,
     },
     /// The message just sent isn't in flight, as too many are.
     Full {

@@ -16,7 +16,7 @@ mod writing;
 
 pub use fields::{Field, fields_of};
 pub use journal::{Journal, PushFault};
-pub use journal_lines::{Line, Refusal};
+pub use journal_lines::{Line, MessageBytes, Refusal};
 pub use line_copy::copy_line;
 pub use line_length::text_len;
 pub use line_list::LineList;

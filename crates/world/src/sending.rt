@@ -6,7 +6,7 @@ ghost use Rattle.world.specs.Sent.{IsInFlight, all_posted_in, landing_from, post
 ghost use Rattle.journal_lines.specs.declared.line.Line.TheVariants as journal_line;
 
 use cluster_types::NoMemory;
-use journal_text::{Line, LineList};
+use journal_text::{Line, LineList, MessageBytes};
 use net_script::{FLIGHT_LIMIT, Net};
 use node_core::SendList;
 use std::alloc::Global;
@@ -64,7 +64,7 @@ pub(crate) fn add_sent_lines(
             message,
             from,
             to: *to,
-            bytes: bytes.copy(alloc)?,
+            bytes: MessageBytes::from_slice(alloc, bytes.as_slice())?,
         };
         in_flight = add_sent_line(lines, line, message, in_flight)?;
         count += 1;

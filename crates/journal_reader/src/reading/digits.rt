@@ -5,18 +5,19 @@ ghost use Rattle.std.specs.Result.{result_ok};
 ghost use Rattle.hex.specs.Hex.{decode_of};
 ghost use Rattle.journal_reader.specs.Fields as grammar;
 
-use cluster_types::{Bytes, Digest, NoMemory};
+use cluster_types::{Digest, NoMemory};
 use conflict_order::{ValueBytes, ValueFault};
 use hex::{FromHex, FromHexError};
+use journal_lines::MessageBytes;
 use std::alloc::Global;
 
 /// Any number of bytes.
-pub fn bytes_of(alloc: Global, text: &[u8]) -> Result<Option<Bytes>, NoMemory>
+pub fn bytes_of(alloc: Global, text: &[u8]) -> Result<Option<MessageBytes>, NoMemory>
     ensures { IfOk result (λ bytes. bytes ≡ grammar.parsed_bytes text.now) }
 {
     match byte_vec_of(alloc, text)? {
         None => Ok(None),
-        Some(bytes) => Ok(Some(Bytes::from(bytes))),
+        Some(bytes) => Ok(Some(MessageBytes::from_slice(alloc, bytes.as_slice())?)),
     }
 }
 

@@ -15,8 +15,9 @@ use crate::reading::numbers::{
 use crate::reading::parts::Parts;
 use crate::reading::unread::Unread;
 use crate::reading::versions::{optional_of, version_of};
-use cluster_types::{Bytes, ClusterKey, Digest, MemberList, Members, NodeId, PartitionId};
+use cluster_types::{ClusterKey, Digest, MemberList, Members, NodeId, PartitionId};
 use conflict_order::{Action, Policy, Version};
+use journal_lines::MessageBytes;
 use std::alloc::Global;
 
 impl<'a> Parts<'a> {
@@ -159,7 +160,7 @@ impl<'a> Parts<'a> {
     }
 
     /// The bytes of a message.
-    pub fn bytes(&mut self, alloc: Global) -> Result<Bytes, Unread>
+    pub fn bytes(&mut self, alloc: Global) -> Result<MessageBytes, Unread>
         ensures { Takes result (first_field grammar.parsed_bytes self.old) self.new }
     {
         let text = self.take_first().ok_or(Unread::NoLine)?;

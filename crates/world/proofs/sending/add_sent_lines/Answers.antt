@@ -17,7 +17,7 @@ loop-to-preserved c =
           ap (λ (n : ℕ). c.add_sent_line.new.lines ++ posted_lines c.args.from (l.message + 1) n (drop (l.count + 1) sends)) c.in_ok-in_flight.ensures.in_flight
           ∙ lines_more c.args.from l.message l.in_flight sends l.count m l.lines c.add_sent_line.new.lines _ (sym c.in-Some.ensures)
           (c.in_ok-in_flight.ensures.lines
-          ∙ ap (λ (b : List ℕ). l.lines ++ line.Sent (l.message + 1) c.args.from m.0 b ∷ (if has_place l.in_flight then [] else line.Full (l.message + 1) ∷ [])) c.in_ok-copy.ensures)
+          ∙ ap (λ (b : List ℕ). l.lines ++ line.Sent (l.message + 1) c.args.from m.0 b ∷ (if has_place l.in_flight then [] else line.Full (l.message + 1) ∷ [])) (c.in_ok-from_slice.ensures ∙ c.as_slice.ensures))
           l.invariant.all;
       counted = omega (arith, l.invariant.counted);
       within = omega (arith, within);
