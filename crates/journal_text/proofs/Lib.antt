@@ -1,3 +1,4 @@
 pub mod DigitLaws
 pub mod Joins
 pub mod LengthLaws
+pub mod PieceLaws

@@ -10,6 +10,7 @@ mod lengths;
 mod line_copy;
 mod line_length;
 mod line_list;
+mod pieces;
 mod text_buffer;
 mod words;
 mod writing;

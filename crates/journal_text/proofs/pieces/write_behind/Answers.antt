@@ -2,7 +2,7 @@ use Rattle.std.proofs.Common.{◌≡◌, ◌+◌, ◌-◌, ◌≤◌, ◌<◌, �
 use Rattle.std.specs.Fmt.{decimal}
 use Rattle.std.proofs.lemmas.Fmt.{length-decimal-le}
 use Rattle.std.proofs.lemmas.List.{drop-set}
-use Rattle.journal_text.proofs.text_buffer.write_spaced.Goals as goal
+use Rattle.journal_text.proofs.pieces.write_behind.Goals as goal
 
 -- a number of 64 bits has twenty digits at most
 at_most : (n : ℕ) → n < 2 ^ 64 → length (decimal n) ≤ 20
@@ -26,4 +26,4 @@ returns-clause-written c =
     let from : ℕ = c.write_digits-at.result in
     let next : from - 1 + 1 ≡ from = omega (arith, at_most c.args.n c.ranges.n.fits, c.requires.room, c.write_digits-at.ensures.start) in
     let within : from - 1 < length new = omega (arith, at_most c.args.n c.ranges.n.fits, c.requires.room, c.requires.end, c.write_digits-at.ensures.start, c.write_digits-at.auto.buf) in
-    drop-set new (from - 1) 32 within ∙ ap (λ (i : ℕ). 32 ∷ drop i new) next ∙ ap (λ (xs : List ℕ). 32 ∷ xs) c.write_digits-at.ensures.written
+    drop-set new (from - 1) c.args.before within ∙ ap (λ (i : ℕ). c.args.before ∷ drop i new) next ∙ ap (λ (xs : List ℕ). c.args.before ∷ xs) c.write_digits-at.ensures.written
