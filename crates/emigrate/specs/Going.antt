@@ -1,5 +1,5 @@
 -- What a node hands on in a view, as a caller sees it.
-use Rattle.std.specs.Prelude.{◌≡◌, ◌≢◌, ℕ, zero, suc, ◌+◌, ◌<◌, Bool, List, [], ◌++◌, if◌then◌else◌, length, take, map, Option, Some, None, All, AllPairs, IsSome, slice_index}
+use Rattle.std.specs.Prelude.{◌≡◌, ◌≢◌, ◌==◌, ℕ, zero, suc, ◌+◌, ◌<◌, Bool, List, [], ◌++◌, if◌then◌else◌, length, take, map, Option, Some, None, All, AllPairs, IsSome, slice_index}
 use Rattle.std.specs.declared.cmp.Ordering.TheVariants.{Less}
 use Rattle.std.specs.Ordering.{nat_cmp}
 use Rattle.std.specs.Cmp.Lexicographic.{slice_cmp}
@@ -8,6 +8,7 @@ use Rattle.std.specs.List.{count_by, sum_by}
 use Rattle.cluster_types.specs.declared.cluster_key.ClusterKey.{ClusterKey}
 use Rattle.cluster_types.specs.declared.member.Member.{Member}
 use Rattle.cluster_types.specs.Partitions.{partition_count}
+use Rattle.cluster_types.specs.Rows.{bit}
 use Rattle.wire_messages.specs.declared.message.Batch.{Batch}
 use Rattle.node_rules.specs.Batches.{Target, Targets, batch_limit}
 use Rattle.node_rules.specs.Copies.{Content, is_of}
@@ -54,6 +55,11 @@ pub record AreHeld (content : Content) (targets : Targets) : Type 0 where
 -- how many digests of the partition are pending, at all targets together
 abbrev pub pending_count : Targets → ℕ → ℕ
 pending_count targets p = sum_by (λ t. count_by (is_of p) t.pending) targets
+
+-- the row has just the partitions whose number is 0
+pub record IsDoneRow (numbers : List ℕ) (row : List Bool) : Type 0 where
+  pub size : length row ≡ partition_count
+  pub each : (p : ℕ) → p < partition_count → bit row p ≡ (slice_index numbers p == 0)
 
 -- the numbers say so of each partition
 pub record AreCounts (targets : Targets) (numbers : List ℕ) : Type 0 where

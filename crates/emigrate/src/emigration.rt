@@ -11,6 +11,7 @@ ghost use Rattle.emigrate.specs.Stages.{out_in, pending_in};
 use crate::collect::outgoing_to;
 use crate::counts::Counts;
 use crate::outgoing::Outgoing;
+use crate::pending::Pending;
 use crate::permit::DropPermit;
 use crate::target::TargetStage;
 use cluster_types::{ClusterKey, MapView, Members, NoMemory, NodeId, PartitionId, Row4096};
@@ -35,7 +36,7 @@ pub enum AckStep {
 pub struct Emigration {
     key: ClusterKey,
     targets: Vec<Outgoing>,
-    pending: Counts,
+    pending: Pending,
 }
 
 impl Model for Emigration {
@@ -77,6 +78,7 @@ impl Emigration {
                 targets.push(outgoing)?;
             }
         }
+        let pending = Pending::of(alloc, pending)?;
         Ok(Emigration {
             key,
             targets,
@@ -155,9 +157,9 @@ impl Emigration {
     }
 
     /// The partitions of which nothing is pending.
-    pub fn done(&self) -> Row4096
+    pub fn done(&self) -> &Row4096
         ensures { (p : ℕ) → p < partition_count
-            → bit result p ≡ not (is_pending self.now.targets p) }
+            → bit result.now p ≡ not (is_pending self.now.targets p) }
     {
         self.pending.done()
     }

@@ -6,6 +6,7 @@ mod collect;
 mod counts;
 mod emigration;
 mod outgoing;
+mod pending;
 mod permit;
 mod target;
 

@@ -10,8 +10,8 @@ ghost use Rattle.emigrate.specs.Going.{AreRising, IsNext, batch_digests};
 ghost use Rattle.emigrate.specs.Stages.{out_in, pending_in, target_seen};
 ghost use Rattle.emigrate.specs.declared.target.TargetStage.TheVariants as stage;
 
-use crate::counts::Counts;
 use crate::emigration::AckStep;
+use crate::pending::Pending;
 use crate::target::{Finished, Sent, TargetStage, copy_of, new_batch, target_of};
 use cluster_types::{ClusterKey, Digest, NoMemory, NodeId};
 use record_store::RecordStore;
@@ -112,7 +112,7 @@ impl Outgoing {
     }
 
     /// Takes the acknowledgement of the batch of that number. Its digests are then counted no more.
-    pub(crate) fn acked(&mut self, number: u32, counts: &mut Counts) -> AckStep
+    pub(crate) fn acked(&mut self, number: u32, counts: &mut Pending) -> AckStep
         requires { (p : ℕ) → p < partition_count
             → count_by (is_of p) self.old.pending ≤ slice_index counts.old p }
         ensures step { result
@@ -161,7 +161,7 @@ fn sent(target: TargetStage, batch: Batch) -> TargetStage
 
 /// The target after the acknowledgement of the batch of that number, whose digests are then counted
 /// no more, and what became of it.
-fn acked(sent: Sent, number: u32, counts: &mut Counts) -> (TargetStage, AckStep)
+fn acked(sent: Sent, number: u32, counts: &mut Pending) -> (TargetStage, AckStep)
     requires { (p : ℕ) → p < partition_count
         → count_by (is_of p) sent.pending ≤ slice_index counts.old p }
     ensures target { (n b : ℕ)

@@ -527,7 +527,7 @@ fn done_of(emigration: &Emigration) -> Row4096
 {
     // So it is known to have a bit for each partition.
     let mut row = Row4096::new();
-    row.or(&emigration.done());
+    row.or(emigration.done());
     row
 }
 

@@ -61,8 +61,10 @@ invariant_of-result g c =
     let sent : List Member
     → Targets = λ ms. targets_of is_for versions (others_among c.args.me ms) in
     let all : c.loop-member.targets.items ≡ sent c.args.members.now =
-    c.loop-member.invariant.targets ∙ ap sent (all_members c.as_slice-member-items.result.now c.loop-member.member-index c.loop-member-test.false ∙ c.as_slice-member-items.ensures.same) in
-    (subst AreApart (sym all) (targets_apart is_for versions c.args.members.now c.args.me c.as_slice-member-items.ensures.valid), c.loop-member.invariant.counts)
+    c.loop-member.invariant.targets ∙ ap sent (all_members c.as_slice-member-items.result.now c.loop-member.member-index c.loop-member-test.false ∙ c.as_slice-member-items.ensures.same) in (
+      subst AreApart (sym all) (targets_apart is_for versions c.args.members.now c.args.me c.as_slice-member-items.ensures.valid),
+      subst (λ (ns : List ℕ). AreCounts c.loop-member.targets.items ns) (sym c.in_ok-pending-2.ensures) c.loop-member.invariant.counts,
+    )
 
 pub returns-clause-targets : goal.returns-clause-targets
 returns-clause-targets g c =

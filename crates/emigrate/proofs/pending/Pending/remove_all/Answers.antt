@@ -4,8 +4,8 @@ use Rattle.cluster_types.specs.Partitions.{partition_count}
 use Rattle.node_rules.specs.Copies.{is_of}
 use Rattle.emigrate.specs.Going.{batch_digests}
 use Rattle.emigrate.proofs.CountLaws.{digest_at, digest_within, no_item, one_less, some_left}
-use Rattle.emigrate.proofs.counts.Counts.remove_all.Goals.{in-Some, in_default}
-use Rattle.emigrate.proofs.counts.Counts.remove_all.Goals as goal
+use Rattle.emigrate.proofs.pending.Pending.remove_all.Goals.{in-Some, in_default}
+use Rattle.emigrate.proofs.pending.Pending.remove_all.Goals as goal
 
 pub remove-requires : goal.remove-requires
 remove-requires c =

@@ -2,7 +2,7 @@ use Rattle.std.proofs.Common.{◌≡◌, ◌<◌, ◌+◌, ℕ, count_by, slice_
 use Rattle.cluster_types.specs.Partitions.{partition_count}
 use Rattle.node_rules.specs.Copies.{is_of}
 use Rattle.emigrate.specs.Going.{batch_digests}
-use Rattle.emigrate.proofs.counts.Counts.remove_all.Given as goal
+use Rattle.emigrate.proofs.pending.Pending.remove_all.Given as goal
 
 abbrev pub invariant-loop-i : goal.invariant-loop-i
 invariant-loop-i l =
