@@ -22,14 +22,14 @@ fn status(rt: &HostRuntime) -> Status {
         Ok(words) => {
             let mut source = StdSource::new(rt.reader());
             let mut sink = StdSink::new(io::writer(rt));
-            let Outcome { status, journal } = run(
-                rt.alloc(),
-                words.as_slice(),
-                &mut source,
-                &mut sink,
-            );
-            // The process ends soon: the memory of the lines needn't be given back one by one.
+            let Outcome {
+                status,
+                journal,
+                remains,
+            } = run(rt.alloc(), words.as_slice(), &mut source, &mut sink);
+            // The process ends soon: the memory of lines and records needn't be given back.
             mem::forget(journal);
+            mem::forget(remains);
             status
         }
         Err(error) if error.kind() == ErrorKind::OutOfMemory => Status::NoMemory,

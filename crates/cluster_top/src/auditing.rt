@@ -87,6 +87,7 @@ fn tell<K: Sink>(alloc: Global, verdict: Verdict, journal: Journal, out: &mut K)
         Ok(()) => Outcome {
             status: ending_of(verdict),
             journal,
+            remains: None,
         },
         Err(WriteFault::Sink) => unplayed(alloc, Status::WriteFault),
         Err(WriteFault::NoMemory) => unplayed(alloc, Status::NoMemory),

@@ -8,7 +8,7 @@ ghost use Rattle.replay_core.specs.Outcome.{CalmsAreInTime, ReplayEnded, HadScri
 ghost use Rattle.replay_core.specs.Transcripts as transcripts;
 
 use crate::generating::generated;
-use crate::play::play_script;
+use crate::play::{Played, play_script};
 use crate::reading::{ReadFault, read_all};
 use crate::status::Status;
 use crate::transcript::write_transcript;
@@ -18,12 +18,12 @@ use byte_ends::{Sink, Source};
 use journal_text::Journal;
 use script_lang::{Script, ScriptFault, parse};
 use std::alloc::Global;
-use world::StepFault;
+use world::{Remains, StepFault};
 
 /// The most bytes that a script has.
 const SCRIPT_LIMIT: usize = 16_777_216;
 
-/// How a run ended, and its journal.
+/// How a run ended, its journal, and what else it left, which is memory alone.
 ///
 /// The journal of a replay is the run's where all was played, that before the first event that
 /// doesn't fit where the run is too long, and empty otherwise. That of an audit is the one that was
@@ -32,6 +32,7 @@ const SCRIPT_LIMIT: usize = 16_777_216;
 pub struct Outcome {
     pub status: Status,
     pub journal: Journal,
+    pub remains: Option<Remains>,
 }
 
 /// Replays the script that the source has left, and writes the transcript to the sink.
@@ -84,6 +85,7 @@ pub fn unplayed(alloc: Global, status: Status) -> Outcome
     Outcome {
         status,
         journal: Journal::new(alloc),
+        remains: None,
     }
 }
 
@@ -162,38 +164,43 @@ fn replay_script<K: Sink>(alloc: Global, words: Words, script: &Script, out: &mu
     ensures write_fault { result.status ≡ Status.WriteFault
         → Rose (K.faults out.old) (K.faults out.new) }
 {
-    let mut journal = Journal::new(alloc);
-    match play_script(alloc, script, &mut journal) {
-        Ok(()) => transcribe(alloc, words, journal, out),
+    let mut played = Played::nothing(alloc);
+    match play_script(alloc, script, &mut played) {
+        Ok(()) => transcribe(alloc, words, played, out),
         Err(StepFault::NoMemory) => unplayed(alloc, Status::NoMemory),
         Err(StepFault::RunTooLong) => Outcome {
             status: Status::RunTooLong,
-            journal,
+            journal: played.journal,
+            remains: played.remains,
         },
     }
 }
 
 /// Writes what the words ask for of the journal.
-fn transcribe<K: Sink>(alloc: Global, words: Words, journal: Journal, out: &mut K) -> Outcome
-    requires claims { HasClaims journal.lines }
-    requires calms { CalmsAreInTime journal.lines }
+fn transcribe<K: Sink>(alloc: Global, words: Words, played: Played, out: &mut K) -> Outcome
+    requires claims { HasClaims played.journal.lines }
+    requires calms { CalmsAreInTime played.journal.lines }
     ensures written { WritingEnded result.status (K.taken out.old) (K.taken out.new)
-        (transcripts.transcript words journal.lines) }
-    ensures kept { result.status ≢ Status.NoMemory → result.journal.lines ≡ journal.lines }
+        (transcripts.transcript words played.journal.lines) }
+    ensures kept { result.status ≢ Status.NoMemory
+        → result.journal.lines ≡ played.journal.lines }
     ensures empty { result.status ≡ Status.NoMemory → result.journal.lines ≡ [] }
     ensures claims { HasClaims result.journal.lines }
     ensures calms { CalmsAreInTime result.journal.lines }
     ensures write_fault { result.status ≡ Status.WriteFault
         → Rose (K.faults out.old) (K.faults out.new) }
 {
+    let Played { journal, remains } = played;
     match write_transcript(alloc, words, &journal, out) {
         Ok(()) => Outcome {
             status: Status::Done,
             journal,
+            remains,
         },
         Err(WriteFault::Sink) => Outcome {
             status: Status::WriteFault,
             journal,
+            remains,
         },
         Err(WriteFault::NoMemory) => unplayed(alloc, Status::NoMemory),
     }

@@ -26,9 +26,14 @@ fn status(rt: &HostRuntime) -> Status {
 fn replay_input(rt: &HostRuntime) -> Status {
     let mut source = StdSource::new(rt.reader());
     let mut sink = StdSink::new(io::writer(rt));
-    let Outcome { status, journal } = replay(rt.alloc(), WORDS, &mut source, &mut sink);
-    // The process ends soon: the memory of the lines needn't be given back one by one.
+    let Outcome {
+        status,
+        journal,
+        remains,
+    } = replay(rt.alloc(), WORDS, &mut source, &mut sink);
+    // The process ends soon: the memory of lines and records needn't be given back.
     mem::forget(journal);
+    mem::forget(remains);
     status
 }
 

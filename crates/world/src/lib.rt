@@ -16,6 +16,7 @@ mod lines;
 mod nodes;
 mod opening;
 mod order;
+mod parts;
 mod requested;
 mod sending;
 mod settings;
@@ -24,4 +25,5 @@ mod taking;
 mod world;
 
 pub use fault::StepFault;
+pub use parts::{Parts, Remains};
 pub use world::World;

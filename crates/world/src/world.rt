@@ -15,6 +15,7 @@ use crate::fault::StepFault;
 use crate::ledger::Ledger;
 use crate::opening::{clocks_at_0, declared_ids, declared_nodes, header_lines, undivided_net};
 use crate::order::rising;
+use crate::parts::{Parts, Remains};
 use crate::requested::{same_digest, same_value};
 use client_map::ClientMap;
 use cluster_rules::Event;
@@ -204,6 +205,25 @@ impl World {
     {
         let World { ledger, .. } = self;
         ledger.into_journal()
+    }
+
+    /// The journal, and all else that is left of the world.
+    pub fn into_parts(self) -> Parts
+        ensures lines { result.journal.lines ≡ run_lines self }
+        ensures within { IsWithin result.journal.lines }
+        ensures taken { Taken self.header self.steps }
+        ensures claims { HasClaims result.journal.lines }
+    {
+        let World {
+            nodes,
+            net,
+            client,
+            ledger,
+            ..
+        } = self;
+        let journal = ledger.into_journal();
+        let remains = Remains { nodes, net, client };
+        Parts { journal, remains }
     }
 
     /// The declared node of that id.

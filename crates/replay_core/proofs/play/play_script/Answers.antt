@@ -18,18 +18,18 @@ pub play_all-requires : goal.play_all-requires
 play_all-requires c = playable_at_first _ c.args.script.now _ c.in_ok-world.ensures.ok c.as_slice.ensures c.requires.proper
 
 pub returns-in-Ok-clause-run : goal.returns-in-Ok-clause-run
-returns-in-Ok-clause-run c = run_of c.args.script.now _ _ _ _ c.in_ok-world.ensures.ok c.as_slice.ensures c.in-Ok.ensures.played c.into_journal.ensures.lines
+returns-in-Ok-clause-run c = run_of c.args.script.now _ _ _ _ c.in_ok-world.ensures.ok c.as_slice.ensures c.in-Ok.ensures.played c.of.ensures.lines
 
 pub returns-in-Ok-clause-calms : goal.returns-in-Ok-clause-calms
-returns-in-Ok-clause-calms c = calms_within _ c.into_journal.ensures.within
+returns-in-Ok-clause-calms c = calms_within _ c.of.ensures.within
 
 pub returns-in-Err-RunTooLong-clause-cut : goal.returns-in-Err-RunTooLong-clause-cut
 returns-in-Err-RunTooLong-clause-cut c = λ stopped.
     cut_of c.args.script.now _ _ _ _ c.in_ok-world.ensures.ok c.as_slice.ensures
-    (c.in-Err-RunTooLong.ensures.too_long (ap Err c.in-Err-RunTooLong.field-0-is)) c.into_journal-in-Err-RunTooLong.ensures.lines
+    (c.in-Err-RunTooLong.ensures.too_long (ap Err c.in-Err-RunTooLong.field-0-is)) c.of-in-Err-RunTooLong.ensures.lines
 
 pub returns-in-Err-RunTooLong-clause-calms : goal.returns-in-Err-RunTooLong-clause-calms
-returns-in-Err-RunTooLong-clause-calms c = calms_within _ c.into_journal-in-Err-RunTooLong.ensures.within
+returns-in-Err-RunTooLong-clause-calms c = calms_within _ c.of-in-Err-RunTooLong.ensures.within
 
 pub returns-in-Err-NoMemory-clause-claims : goal.returns-in-Err-NoMemory-clause-claims
 returns-in-Err-NoMemory-clause-claims c = nothing_claimed _ c.requires.empty
