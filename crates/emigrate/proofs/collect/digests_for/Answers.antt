@@ -1,4 +1,4 @@
-use Rattle.std.proofs.Common.{◌≡◌, ℕ, Bool, List, filter, refl, sym, ap, subst, ◌∙◌, arith}
+use Rattle.std.proofs.Common.{rules, ◌≡◌, ℕ, Bool, List, filter, refl, sym, ap, subst, ◌∙◌, arith}
 use Rattle.std.specs.List.Sorted.{IsPermutation}
 use Rattle.cluster_types.specs.Partitions.{partition_count, partition_of}
 use Rattle.node_rules.specs.Copies.{digests}
@@ -27,3 +27,6 @@ returns-clause-rising g c =
     let sent : c.from_vec.result.items ≡ filter (λ d. test (partition_of d)) (digests versions) =
     c.from_vec.ensures.items ∙ sorted_are_sent versions test c.sort_unstable.new.self.items (sent_rise versions test) moved c.sort_unstable.ensures.sorted in
     subst AreRising (sym sent) (record { rising = sent_rise versions test })
+
+pub loop-number-preserved : goal.loop-number-preserved
+loop-number-preserved g c = search rules

@@ -1,4 +1,4 @@
-use Rattle.std.proofs.Common.{ℕ, List, map, take, ap, sym, ◌∷◌, [], ◌∙◌, ◌-◌, ◌+◌, ◌++◌}
+use Rattle.std.proofs.Common.{rules, ℕ, List, map, take, ap, sym, ◌∷◌, [], ◌∙◌, ◌-◌, ◌+◌, ◌++◌}
 use Rattle.conflict_order.specs.declared.version.Version.{Version}
 use Rattle.record_store.specs.Copies.{Entries}
 use Rattle.record_store.proofs.RowLaws.{taken_more}
@@ -17,3 +17,6 @@ loop-preserved c =
           ∙ sym (ap (λ (es : Entries). done ++ take (max - n) (map (λ e. e.0) es)) c.in-Some.ensures.steps)
           ∙ c.loop.invariant.taken;
     }
+
+pub loop-init : goal.loop-init
+loop-init c = search rules

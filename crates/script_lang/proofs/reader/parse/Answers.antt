@@ -1,4 +1,4 @@
-use Rattle.std.proofs.Common.{Ok, arith, sym, ap, ◌∙◌}
+use Rattle.std.proofs.Common.{rules, Ok, arith, sym, ap, ◌∙◌}
 use Rattle.std.proofs.lemmas.Result.{err_from_is_err_and}
 use Rattle.script_lang.proofs.Kept.{bytes_from_fits, read_is_kept}
 use Rattle.script_lang.proofs.Whole.{refused, last_refused, one_more, last_read, nothing_left, shorter}
@@ -42,3 +42,6 @@ returns-clause-proper c = (read_is_kept c.args.bytes.now c.finish.result (bytes_
 
 pub returns-clause-served : goal.returns-clause-served
 returns-clause-served c = (read_is_kept c.args.bytes.now c.finish.result (bytes_from_fits c.args.bytes.now c.type_inv.bytes) (returns-clause-ok c)).served
+
+pub loop-text-init : goal.loop-text-init
+loop-text-init c = search rules

@@ -1,4 +1,4 @@
-use Rattle.std.proofs.Common.{◌≡◌, ◌++◌, ℕ, List, not, filter, drop, sym, ap, subst, ◌∙◌}
+use Rattle.std.proofs.Common.{rules, ◌≡◌, ◌++◌, ℕ, List, not, filter, drop, sym, ap, subst, ◌∙◌}
 use Rattle.node_rules.specs.Batches.{is_among}
 use Rattle.emigrate.specs.Going.{Awaiting, batch_digests}
 use Rattle.emigrate.specs.Stages.{pending_after}
@@ -20,3 +20,6 @@ returns-clause-first c =
     subst (λ (s : Awaiting). s.pending ≡ batch_digests s.batch ++ pending_after c.after_ack.result) c.self.view_is
     (acked_first pending c.self.inside.batch c.self.invariant.1
     ∙ ap (λ (xs : List (List ℕ)). batch_digests c.self.inside.batch ++ xs) (sym (c.after_ack.ensures ∙ c.drop_first.ensures ∙ ap (λ (n : ℕ). drop n pending) c.len.ensures)))
+
+pub returns-clause-refused : goal.returns-clause-refused
+returns-clause-refused c = search rules

@@ -1,4 +1,4 @@
-use Rattle.std.proofs.Common.{sym, ◌∙◌, refl}
+use Rattle.std.proofs.Common.{rules, sym, ◌∙◌, refl}
 use Rattle.heartbeat.proofs.EntryLaws.{heard_aged, ticked_view}
 use Rattle.heartbeat.proofs.adjacency.Adjacency.tick.Goals as goal
 
@@ -12,3 +12,6 @@ pub returns-clause-ticked : goal.returns-clause-ticked
 returns-clause-ticked c =
     rw (sym c.self.view_is, c.age.ensures, c.quieter-self-inside.ensures, c.is_unchanged.ensures)
     (ticked_view c.self.inside.me c.self.inside.role c.self.inside.set c.self.inside.quiet c.self.inside.heard c.neighbours-set.result (c.neighbours-set.ensures ∙ rw c.age.ensures refl))
+
+pub returns-clause-set : goal.returns-clause-set
+returns-clause-set c = search rules

@@ -1,4 +1,4 @@
-use Rattle.std.proofs.Common.{◌≡◌, true, None, Some, sym, ap, ◌∙◌}
+use Rattle.std.proofs.Common.{rules, ◌≡◌, true, None, Some, sym, ap, ◌∙◌}
 use Rattle.std.proofs.lemmas.Bool.{and_left, and_right}
 use Rattle.node_rules.specs.Exchange.{Exchange, first_missing, members_of}
 use Rattle.node_rules.specs.Facts.{Facts}
@@ -48,3 +48,6 @@ returns-in-None-clause-refused c =
     let same : c.in-Some.view.now.exchange ≡ f.exchange = exchange_is f c.in-Some.view.now c.in-Some.ensures.view.viewed in
     refused_waiting f None up (sym c.in-Some.ensures.some)
     (ap (λ (x : Exchange). first_missing x.rows (members_of x.view)) (sym same) ∙ c.in-None.ensures.whole)
+
+pub returns-then-not-self-clause-refused : goal.returns-then-not-self-clause-refused
+returns-then-not-self-clause-refused c = search rules

@@ -1,4 +1,4 @@
-use Rattle.std.proofs.Common.{◌<◌, subst, sym, ◌∙◌}
+use Rattle.std.proofs.Common.{rules, ◌<◌, subst, sym, ◌∙◌}
 use Rattle.cluster_types.specs.Partitions.{partition_count}
 use Rattle.node_view.specs.Views.{facts_seen}
 use Rattle.node_view.proofs.SettleLaws.{may_settle_is, seen_inside}
@@ -13,3 +13,6 @@ settle-requires c =
     may_settle_is (facts_seen v) i c.in-Some.moving.now.map p c.map-entry.result c.busy_on-busy.result c.self.invariant (seen_inside i v c.self.view_is)
     (sym c.in-Some.ensures.moving.exchange) within c.map-entry.ensures c.busy_on-busy.ensures
     ∙ c.requires.due c.if-not-is_due.false
+
+pub returns-in-Some-clause-view : goal.returns-in-Some-clause-view
+returns-in-Some-clause-view c = search rules

@@ -1,4 +1,4 @@
-use Rattle.std.proofs.Common.{◌≡◌, is_some, slice_set, sym, ap, subst, ◌∙◌}
+use Rattle.std.proofs.Common.{rules, ◌≡◌, is_some, slice_set, sym, ap, subst, ◌∙◌}
 use Rattle.std.proofs.lemmas.Bool.{false≢true}
 use Rattle.std.specs.FinMap.{find, put, get, insert}
 use Rattle.record_store.specs.Store.{StoreWithRoom, UsesRoom}
@@ -54,3 +54,6 @@ returns-in_ok-put-in-Newer-clause-room c =
 
 pub returns-in-Kept-clause-joined : goal.returns-in-Kept-clause-joined
 returns-in-Kept-clause-joined c = joined_kept c.args.self.now.by c.args.self.now.versions c.args.d c.args.v (is_not_newer_of _ _ _ (sym c.would_join.ensures ∙ c.in-Kept.is))
+
+pub returns-in-Kept-clause-answer : goal.returns-in-Kept-clause-answer
+returns-in-Kept-clause-answer c = search rules

@@ -1,4 +1,4 @@
-use Rattle.std.proofs.Common.{◌+◌, ◌<◌, length, drop, sym, ap, ◌∙◌, arith}
+use Rattle.std.proofs.Common.{rules, ◌+◌, ◌<◌, length, drop, sym, ap, ◌∙◌, arith}
 use Rattle.std.proofs.lemmas.Option.{slice_get_within}
 use Rattle.sorted_chain.specs.Nodes.{pays, entries}
 use Rattle.sorted_chain.proofs.LinkLaws.{both_none}
@@ -41,3 +41,6 @@ returns-clause-goes g c =
       keeps = tt;
       rests = λ _. tt;
     }
+
+pub invariant_of-self : goal.invariant_of-self
+invariant_of-self g c = search rules

@@ -1,4 +1,4 @@
-use Rattle.std.proofs.Common.{◌≡◌, IfSome, sym, subst, arith}
+use Rattle.std.proofs.Common.{rules, ◌≡◌, IfSome, sym, subst, arith}
 use Rattle.sorted_chain.specs.Chain.{key_cmp}
 use Rattle.sorted_chain.proofs.FrontLaws.{unequal_fronts}
 use Rattle.sorted_chain.proofs.LinkLaws.{item_at}
@@ -14,3 +14,6 @@ returns-in_default g c =
     let m = c.mark-mark.result in
     subst (λ o. IfSome o (λ n. c.cmp.result ≡ key_cmp c.args.k.now n.key)) (sym n.1)
     (unequal_fronts c.args.k.now n.0.key c.args.front m.front c.cmp.result c.requires.key (key_at b.places b.items ms h c.args.i n.0 m n.1 c.mark-mark.ensures) c.requires.front (front_at b.places b.items ms h c.args.i n.0 m n.1 c.mark-mark.ensures) c.cmp.ensures c.in_default.not-Equal)
+
+pub returns-in-Equal : goal.returns-in-Equal
+returns-in-Equal g c = search rules

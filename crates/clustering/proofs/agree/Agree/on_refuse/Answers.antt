@@ -1,0 +1,5 @@
+use Rattle.std.proofs.Common.{rules}
+use Rattle.clustering.proofs.agree.Agree.on_refuse.Goals as goal
+
+pub returns-in-Proposing-clause-agree : goal.returns-in-Proposing-clause-agree
+returns-in-Proposing-clause-agree c = search rules

@@ -1,0 +1,5 @@
+use Rattle.std.proofs.Common.{rules}
+use Rattle.item_lists.proofs.copy_list.CopyListPartialEq.eq.Goals as goal
+
+pub returns : goal.returns
+returns g c = search rules

@@ -1,0 +1,5 @@
+use Rattle.std.proofs.Common.{rules}
+use Rattle.progress.proofs.told.Told.hear.Goals as goal
+
+pub returns : goal.returns
+returns c = search rules

@@ -1,0 +1,5 @@
+use Rattle.std.proofs.Common.{rules}
+use Rattle.record_store.proofs.store.RecordStore.new.Goals as goal
+
+pub returns : goal.returns
+returns c = search rules
