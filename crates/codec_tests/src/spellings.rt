@@ -122,6 +122,16 @@ fn row(alloc: Global, partitions: &[u16]) -> Result<Boxed<Row4096>, Fail> {
     Ok(Boxed::new(alloc, row)?)
 }
 
+/// The heartbeat of a node in no view that hears nobody.
+fn unheard() -> Result<Message, Fail> {
+    Ok(Message::Heartbeat {
+        view: ClusterKey::NONE,
+        promised: ClusterKey::NONE,
+        hears: NodeList::new(),
+        role: Role::PLAIN,
+    })
+}
+
 fn heartbeat(hears: &[NodeId], role: Role) -> Result<Message, Fail> {
     Ok(Message::Heartbeat {
         view: key(),
@@ -145,21 +155,18 @@ fn commit(alloc: Global, rows: &[(u16, u8, bool)]) -> Result<Message, Fail> {
     })
 }
 
+fn refuse() -> Result<Message, Fail> {
+    Ok(Message::Refuse {
+        refused: key(),
+        promised: next_key(),
+    })
+}
+
 #[test]
 fn messages_of_the_agreement(rt: HostRuntime) -> Result<(), Fail> {
     let alloc = rt.alloc();
-    let nothing = Message::Heartbeat {
-        view: ClusterKey::NONE,
-        promised: ClusterKey::NONE,
-        hears: NodeList::new(),
-        role: Role::PLAIN,
-    };
     let heard = [node(258)?, node(1)?];
-    let refuse = Message::Refuse {
-        refused: key(),
-        promised: next_key(),
-    };
-    has_bytes(&rt, alloc, Ok(nothing), &[&[1], &[0; 17]])?;
+    has_bytes(&rt, alloc, unheard(), &[&[1], &[0; 17]])?;
     has_bytes(
         &rt,
         alloc,
@@ -173,7 +180,7 @@ fn messages_of_the_agreement(rt: HostRuntime) -> Result<(), Fail> {
         &[&[2], KEY, &[2, 0, 2, 0, 1]],
     )?;
     has_bytes(&rt, alloc, Ok(Message::Accept { key: key() }), &[&[3], KEY])?;
-    has_bytes(&rt, alloc, Ok(refuse), &[&[4], KEY, NEXT])?;
+    has_bytes(&rt, alloc, refuse(), &[&[4], KEY, NEXT])?;
     has_bytes(
         &rt,
         alloc,
