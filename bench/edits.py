@@ -7,7 +7,7 @@ prints the seconds in all, those of the search for proofs (`session`), those of 
 and the goals that are left open.
 
 Where a goal is left that no proof file answers, the check goes over the function once more to offer files, which takes as
-long as many a proof. Of one edit of exchange that was tried, an answer to the goal that it breaks spared that.
+long as many a proof. docs/DECISIONS.md says what spares that.
 """
 import importlib.machinery
 import importlib.util
