@@ -90,7 +90,9 @@ impl Agree {
     pub fn see(&mut self, key: ClusterKey)
         ensures { self.new ≡ with_agreement self.old (seeing self.old.agreement key) }
     {
-        self.stage = self.stage.seeing(key);
+        if self.stage.keys().seen < key.round {
+            self.stage = self.stage.seeing(key);
+        }
     }
 
     /// A tick at which the neighbours, the node among them, are these, and the node is a candidate
