@@ -3,9 +3,18 @@ use Rattle.std.specs.Prelude.{Bool, ◌&&◌, ◌≢◌, ℕ, ◌+◌, ◌<◌, 
 use Rattle.cluster_types.specs.declared.member.Member.{Member}
 use Rattle.cluster_types.specs.ClusterKeys as keys
 use Rattle.cluster_types.specs.declared.member.Role.{Role}
+use Rattle.cluster_types.specs.Members.{plain_role}
 use Rattle.node_rules.specs.Hearing.{Heard, timeout}
 use Rattle.node_rules.specs.Tables.{Table, contains}
 use Rattle.heartbeat.specs.declared.entries.Entry.{Entry}
+
+-- what stands in the places beyond the last entry, so that equal entries are equal places
+abbrev pub unused_entry : Entry
+unused_entry = record {
+  node = 1;
+  age = 0;
+  beat = record { view = keys.none; promised = keys.none; hears = []; role = plain_role };
+}
 
 -- entries as a table: in rising order, each by what is kept of it
 abbrev pub table_by : {X : Type 0} → (Entry → ℕ × X) → List Entry → Table X

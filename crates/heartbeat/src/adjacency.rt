@@ -62,7 +62,7 @@ impl Adjacency {
         Adjacency {
             me: self.me,
             role: self.role,
-            heard: self.heard.copy(),
+            heard: self.heard,
             set: self.set,
             quiet: self.quiet,
         }

@@ -11,7 +11,7 @@ returns c =
     let es = take i.len i.places in
     let all : list_all still_heard es ≡ true =
     ap (list_all still_heard) (c.self.view_is ∙ sym c.as_slice.ensures.same) ∙ sym c.are_still_heard.ensures ∙ c.if-not-are_still_heard.false in
-    let size : length c.age_each.new.entries ≡ i.len = omega (arith, ap length c.age_each.ensures, length-map es one_older, length-take i.len i.places, c.self.invariant.0, c.self.invariant.1) in
+    let size : length c.age_each.new.entries ≡ i.len = omega (arith, ap length c.age_each.ensures, length-map es one_older, length-take i.len i.places, c.self.invariant.fits, c.self.invariant.size) in
     take_at c.age_each.new.entries _ i.len size
     ∙ c.age_each.ensures
     ∙ aged_each es all
