@@ -543,12 +543,12 @@ has_stepped old before p v u x after is same step = record {
 
 -- ---- a planned step
 
-pub stepping_from : (n : Inside) (left : Option Planned) (u : Option (Box View)) (s : held.StoreWithRoom) (p : ViewStep) → IsNode n → n.planned ≡ Some (planned.View p) → left ≡ None
-    → HasStepped n.view n.store p u s → Becomes (record n { view = u; store = s; planned = left }) (view.view_taken (node_facts n) p)
+pub stepping_from : (n : Inside) (left : Option Planned) (u : Option (Box View)) (s : held.StoreWithRoom) (p : Box ViewStep) → IsNode n → n.planned ≡ Some (planned.View p) → left ≡ None
+    → HasStepped n.view n.store p.value u s → Becomes (record n { view = u; store = s; planned = left }) (view.view_taken (node_facts n) p.value)
 stepping_from n left u s p h is none stepped =
     let from : IsPlannedFrom (node_facts n) (planned.View p) = h.1 (planned.View p) is in
-    subst (λ (o : Option Planned). Becomes (record n { view = u; store = s; planned = o }) (view.view_taken (node_facts n) p)) (sym none)
-    (stepping (record n { planned = None }) u s p (given_up n h.0).0 refl (has_view n from.fits.in_one) stepped from.ranges)
+    subst (λ (o : Option Planned). Becomes (record n { view = u; store = s; planned = o }) (view.view_taken (node_facts n) p.value)) (sym none)
+    (stepping (record n { planned = None }) u s p.value (given_up n h.0).0 refl (has_view n from.fits.in_one) stepped from.ranges)
 
 pub next_is : (n : Inside) (old : Planning) (p : Planned) → planning_of n ≡ old → n.planned ≡ Some p → old.next ≡ Some (taken (node_facts n) p)
 next_is n old p seen is = sym (ap (λ (x : Planning). x.next) seen) ∙ ap (λ (o : Option Planned). next_of (node_facts n) o) is

@@ -62,7 +62,7 @@ without_room v spare planned.Nothing h = tt
 without_room v spare (planned.Tick t) h = tt
 without_room v spare (planned.Agreed agree entered) h = tt
 without_room v spare (planned.Heard from beat) h = tt
-without_room v spare (planned.View s) h = view_without_room v spare s h
+without_room v spare (planned.View s) h = view_without_room v spare s.value h
 without_room v spare planned.Stopped h = tt
 
 abbrev pub IsNode : Inside → Type 0

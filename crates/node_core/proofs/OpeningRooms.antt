@@ -72,8 +72,8 @@ pub in_its_view : (n : Inside) (v : Box View) → PartsAgree n → n.view ≡ So
 in_its_view n v h e = subst (λ (x : Exchange). IsSome x.view) (exchange_is (node_facts n) v.value (in_view n v h e).viewed) (h.in_one v e)
 
 -- a step is planned for which there is room
-pub room_and_step : (n : Inside) (v w : Box View) (s : held.StoreWithRoom) (p : ViewStep) → PartsAgree n → n.view ≡ Some v → IsSame v.value w.value → HoldsTheSame n.store s
-    → FitsStep (node_facts n) p → HasRanges (plans.view_taken (node_facts n) p) → view_rooms.HasRoomIn w.value s.spare p → IsNode (with_room n s w (Some (planned.View p)))
+pub room_and_step : (n : Inside) (v w : Box View) (s : held.StoreWithRoom) (p : Box ViewStep) → PartsAgree n → n.view ≡ Some v → IsSame v.value w.value → HoldsTheSame n.store s
+    → FitsStep (node_facts n) p.value → HasRanges (plans.view_taken (node_facts n) p.value) → view_rooms.HasRoomIn w.value s.spare p.value → IsNode (with_room n s w (Some (planned.View p)))
 room_and_step n v w s p h e same holds fits ranges room =
     let m : Inside = with_room n s w (Some (planned.View p)) in
     let facts = facts_with_room n v w s (Some (planned.View p)) e same holds in
@@ -84,8 +84,8 @@ room_and_step n v w s p h e same holds fits ranges room =
           (some_for (λ (x : Box View). HasRoomForStep x.value s.spare (planned.View p)) w room),
     )
 
-pub step_planned : (n : Inside) (v w : Box View) (s : held.StoreWithRoom) (p : ViewStep) (f g : Facts) → n.view ≡ Some v → IsSame v.value w.value → HoldsTheSame n.store s
-    → node_facts n ≡ f → plans.view_taken f p ≡ g → planning_of (with_room n s w (Some (planned.View p))) ≡ planning f g
+pub step_planned : (n : Inside) (v w : Box View) (s : held.StoreWithRoom) (p : Box ViewStep) (f g : Facts) → n.view ≡ Some v → IsSame v.value w.value → HoldsTheSame n.store s
+    → node_facts n ≡ f → plans.view_taken f p.value ≡ g → planning_of (with_room n s w (Some (planned.View p))) ≡ planning f g
 step_planned n v w s p f g e same holds is taken =
     ap₂ planning (facts_with_room n v w s (Some (planned.View p)) e same holds ∙ is)
-    (ap (λ (x : Facts). plans.view_taken x p) (facts_with_room n v w s (Some (planned.View p)) e same holds ∙ is) ∙ taken)
+    (ap (λ (x : Facts). plans.view_taken x p.value) (facts_with_room n v w s (Some (planned.View p)) e same holds ∙ is) ∙ taken)

@@ -15,9 +15,7 @@ use Rattle.immigrate.specs.declared.merging.Merged.{Merged}
 use Rattle.node_view.specs.declared.view_step.ViewStep.TheVariants as step
 use Rattle.node_steps.specs.declared.effects.Effects.{Effects}
 use Rattle.node_core.specs.declared.node.Node.TheInside.{Inside}
-use Rattle.node_steps.specs.declared.planned.Planned.TheVariants as planned
 use Rattle.node_core.specs.Nodes.{planning_of, PartsAgree, node_facts}
-use Rattle.node_steps.specs.Plans.{taken}
 use Rattle.node_steps.specs.Spelled.{spelled, then_effects}
 use Rattle.std.specs.FinMap as finite
 use Rattle.conflict_order.specs.declared.version.Version.{Version}
@@ -25,6 +23,7 @@ use Rattle.conflict_order.specs.Order.{is_newer}
 use Rattle.journal_lines.specs.declared.line.Line.TheVariants as line
 use Rattle.node_rules.specs.Map.{list_master}
 use Rattle.node_view.specs.declared.view_step.Counted.{Counted}
+use Rattle.node_view.specs.Plans as view
 use Rattle.node_view.specs.Plans.{some_if}
 use Rattle.std.specs.Global.{Box}
 use Rattle.partition_lists.specs.Lists.{list}
@@ -51,7 +50,7 @@ batch_effects_due n seen from b newer is of_view e =
     ap (λ (p : Planning). told p.now.me newer) is ∙ ap (told seen.now.me) (newer_seen n seen b.records newer is e) ∙ ap spelled (sym (batch_told seen.now from b of_view))
 
 pub batch_is_after : (n : Inside) (seen : Planning) (from : ℕ) (b : Batch) (m : Merged) → planning_of n ≡ seen → in_view seen.now b.key ≡ true
-    → m.newer ≡ newer_records n.store.by n.store.versions b.records → taken seen.now (planned.View (step.Merged m)) ≡ after_message seen.now 0 from (message.Batch b)
+    → m.newer ≡ newer_records n.store.by n.store.versions b.records → view.view_taken seen.now (step.Merged m) ≡ after_message seen.now 0 from (message.Batch b)
 batch_is_after n seen from b m is of_view e =
     ap (λ (rs : List Record). record seen.now { store = store_merged_all seen.now.store (view_key seen.now) rs }) (newer_seen n seen b.records m.newer is e)
     ∙ sym (batch_after seen.now from b of_view)

@@ -29,10 +29,14 @@ impl Node {
         match planned {
             Planned::Nothing => {}
             Planned::Tick(tick) => self.take_tick(Box::into_inner(tick)),
-            Planned::Agreed { agree, entered } => self.take_agreed(agree, entered),
+            Planned::Agreed { agree, entered } => {
+                self.take_agreed(Box::into_inner(agree), entered)
+            }
             Planned::Heard { from, beat } => self.take_heard(from, &beat),
             Planned::Stopped => self.take_stop(),
-            Planned::View(step) => take_view_step(&mut self.view, &mut self.store, step),
+            Planned::View(step) => {
+                take_view_step(&mut self.view, &mut self.store, Box::into_inner(step))
+            }
         }
     }
 

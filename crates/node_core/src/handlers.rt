@@ -177,7 +177,7 @@ impl Node {
     {
         let endpoint = self.me.number();
         let out = Effects::of_line(alloc, Line::Spent { endpoint })?;
-        Ok(self.plan(out, Planned::View(step)))
+        self.plan_step(alloc, out, step)
     }
 
     /// Plans the step of a message without effects of its own. One that isn't awaited is spent.
@@ -197,11 +197,11 @@ impl Node {
             (self.new ≡ planning self.old.now (view.view_taken self.old.now step)) }
         ensures err { OnErr result (self.new ≡ self.old) }
     {
-        let endpoint = self.me.number();
-        if is_awaited {
-            return Ok(self.plan(Effects::new(alloc), Planned::View(step)));
+        if !is_awaited {
+            return self.spent(alloc, step);
         }
-        let out = Effects::of_line(alloc, Line::Spent { endpoint })?;
-        Ok(self.plan(out, Planned::View(step)))
+        // What the node knows keeps its ranges.
+        let _ = &self.me;
+        self.plan_step(alloc, Effects::new(alloc), step)
     }
 }

@@ -1,23 +1,25 @@
 //! A node.
-ghost use Rattle.std.specs.Prelude.{◌≡◌, nat_lt, IfOk};
+ghost use Rattle.std.specs.Prelude.{◌≡◌, nat_lt, IfOk, OnErr, OnOk};
 ghost use Rattle.conflict_order.specs.declared.policy.Policy.TheVariants.{Time};
 ghost use Rattle.cluster_types.specs.Members.{plain_role};
 ghost use Rattle.partition_lists.specs.Lists.{in_order};
 ghost use Rattle.node_rules.specs.Facts.{fresh};
 ghost use Rattle.node_rules.specs.Notes.{with_role};
 ghost use Rattle.node_rules.specs.Steps.{planning, unplanned};
-ghost use Rattle.node_steps.specs.Fits.{FitsPlanned};
+ghost use Rattle.node_steps.specs.Fits.{FitsPlanned, FitsView};
 ghost use Rattle.node_core.specs.Peers.{ArePeers, IsFactor};
 ghost use Rattle.node_steps.specs.Plans.{taken};
 ghost use Rattle.node_steps.specs.Ranges.{HasRanges};
 ghost use Rattle.node_steps.specs.Rooms.{NeedsNoRoom};
+ghost use Rattle.node_steps.specs.Viewing as viewing;
+ghost use Rattle.node_view.specs.Plans.{view_taken};
 
 use cluster_types::{ClusterKey, NoMemory, NodeId, NodeList, Role};
 use clustering::Agree;
 use conflict_order::Policy;
 use heartbeat::Adjacency;
 use node_steps::{Effects, Planned, id_fits, ids_fit};
-use node_view::{ListCache, View};
+use node_view::{ListCache, View, ViewStep};
 use record_store::RecordStore;
 use std::alloc::Global;
 use std::marker::Model;
@@ -126,6 +128,25 @@ impl Node {
     {
         self.planned = Some(planned);
         effects
+    }
+
+    /// Plans the step of the view that has these effects, and needs no room.
+    pub(crate) fn plan_step(
+        &mut self,
+        alloc: Global,
+        effects: Effects,
+        step: ViewStep,
+    ) -> Result<Effects, NoMemory>
+        requires fits { FitsView self.old.now step }
+        requires ranges { HasRanges (view_taken self.old.now step) }
+        requires room { viewing.NeedsNoRoom step }
+        ensures same { IfOk result (λ e. e ≡ effects) }
+        ensures planned { OnOk result
+            (self.new ≡ planning self.old.now (view_taken self.old.now step)) }
+        ensures err { OnErr result (self.new ≡ self.old) }
+    {
+        let step = Box::new(alloc, step)?;
+        Ok(self.plan(effects, Planned::View(step)))
     }
 }
 

@@ -100,6 +100,7 @@ impl Node {
             want,
             clock,
         )?;
+        let step = Box::new(alloc, step)?;
         self.planned = Some(Planned::View(step));
         Ok((Answered::Opened(transaction), out))
     }

@@ -24,9 +24,8 @@ use Rattle.node_rules.proofs.PartLaws.{batch_is}
 use Rattle.node_rules.specs.Tables.{only_if}
 use Rattle.immigrate.specs.declared.merging.Merged.{Merged}
 use Rattle.node_view.specs.declared.view_step.ViewStep.TheVariants as step
-use Rattle.node_steps.specs.declared.planned.Planned.TheVariants as planned
-use Rattle.node_steps.specs.Fits.{FitsPlanned}
-use Rattle.node_steps.specs.Plans.{taken}
+use Rattle.node_view.specs.Plans as view
+use Rattle.node_steps.specs.Fits.{FitsView}
 use Rattle.node_steps.specs.Ranges.{HasRanges}
 use Rattle.node_steps.proofs.AckLaws.{view_key_is}
 use Rattle.node_steps.proofs.StepRanges.{merged_ranges}
@@ -67,12 +66,12 @@ batch_after f from b of_view =
     batch_is f 0 from b
     ∙ ap (λ (v : Bool). (if v then record f { store = store_merged_all f.store (view_key f) (newer_records f.store.by f.store.content b.records) } else f)) of_view
 
-pub batch_fits : (f : Facts) (b : Batch) (m : Merged) → IsSome f.exchange.view → m.newer ≡ newer_records f.store.by f.store.content b.records → FitsPlanned f (planned.View (step.Merged m))
+pub batch_fits : (f : Facts) (b : Batch) (m : Merged) → IsSome f.exchange.view → m.newer ≡ newer_records f.store.by f.store.content b.records → FitsView f (step.Merged m)
 batch_fits f b m in_one e = record {
   step = record { newer = ap (newer_records f.store.by f.store.content) e ∙ newer_again f.store.by f.store.content b.records ∙ sym e };
   in_one = in_one;
 }
 
-pub batch_ranges : (f : Facts) (b : Batch) (m : Merged) → IsBatch b → m.newer ≡ newer_records f.store.by f.store.content b.records → HasRanges f → HasRanges (taken f (planned.View (step.Merged m)))
+pub batch_ranges : (f : Facts) (b : Batch) (m : Merged) → IsBatch b → m.newer ≡ newer_records f.store.by f.store.content b.records → HasRanges f → HasRanges (view.view_taken f (step.Merged m))
 batch_ranges f b m fit e h =
     subst (λ (rs : List Record). HasRanges (record f { store = store_merged_all f.store (view_key f) rs })) (sym e) (merged_ranges f (view_key f) b fit h)

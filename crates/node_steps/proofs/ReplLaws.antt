@@ -19,16 +19,15 @@ use Rattle.node_rules.specs.Notes.{write_counted_if, in_view}
 use Rattle.node_rules.specs.Steps.{after_message}
 use Rattle.node_rules.proofs.PartLaws.{repl_is}
 use Rattle.node_view.specs.declared.view_step.Counted.{Counted}
+use Rattle.node_view.specs.Plans as view
 use Rattle.node_view.specs.Plans.{replicated, some_if, with_count, with_newer}
-use Rattle.node_steps.specs.Plans.{taken}
 use Rattle.std.specs.Option.{ForSome}
 use Rattle.wire_messages.specs.Numbers.{IsNumber}
 use Rattle.wire_messages.specs.Versions.{IsDigest, IsVersion}
 use Rattle.node_rules.specs.Tables.{only_if}
 use Rattle.node_view.specs.declared.view_step.ViewStep.TheVariants as step
 use Rattle.node_steps.specs.declared.effects.Effects.{Effects}
-use Rattle.node_steps.specs.declared.planned.Planned.TheVariants as planned
-use Rattle.node_steps.specs.Fits.{FitsPlanned}
+use Rattle.node_steps.specs.Fits.{FitsView}
 use Rattle.node_steps.specs.Ranges.{HasRanges}
 use Rattle.node_steps.specs.Spelled.{then_effects, spelled, spelled_sends}
 use Rattle.node_steps.proofs.AckLaws.{view_key_is}
@@ -93,7 +92,7 @@ of_number P (Some y) false nth e h = λ x i. cc
 
 pub repl_fits : (f : Facts) (from nth : ℕ) (digest : List ℕ) (v : Version) (newer : Option Version) (counted : Option Counted) (b : Bool) → IsSome f.exchange.view → IsNumber nth
     → newer ≡ some_if (is_newer f.store.by v (finite.get f.store.content digest)) v → option_map (λ x. x.nth) counted ≡ some_if b nth
-    → FitsPlanned f (planned.View (step.Replicated (record { digest = digest; newer = newer; counted = counted })))
+    → FitsView f (step.Replicated (record { digest = digest; newer = newer; counted = counted }))
 repl_fits f from nth digest v newer counted b in_one number e c = record {
   step = record {
     newer = of_version (λ x. is_newer f.store.by x (finite.get f.store.content digest) ≡ true) newer (is_newer f.store.by v (finite.get f.store.content digest)) v e (λ h. h);
@@ -104,7 +103,7 @@ repl_fits f from nth digest v newer counted b in_one number e c = record {
 
 pub repl_ranges : (f : Facts) (nth : ℕ) (digest : List ℕ) (v : Version) (newer : Option Version) (counted : Option Counted) (a b : Bool) → IsNumber nth → IsDigest digest → IsVersion v
     → newer ≡ some_if a v → option_map (λ x. x.nth) counted ≡ some_if b nth → HasRanges f
-    → HasRanges (taken f (planned.View (step.Replicated (record { digest = digest; newer = newer; counted = counted }))))
+    → HasRanges (view.view_taken f (step.Replicated (record { digest = digest; newer = newer; counted = counted })))
 repl_ranges f nth digest v newer counted a b number d fit e c h =
     replicated_ranges f (record { digest = digest; newer = newer; counted = counted }) d (of_version IsVersion newer a v e (λ i. fit)) (of_number IsNumber counted b nth c number) h
 

@@ -63,9 +63,9 @@ pub record FitsView (f : Facts) (s : ViewStep) : Type 0 where
 -- the step was planned from these facts
 abbrev pub FitsPlanned : Facts → Planned → Type 0
 FitsPlanned f (planned.Tick t) = FitsTick f t.value
-FitsPlanned f (planned.Agreed agree entered) = FitsAgreed f agree entered
+FitsPlanned f (planned.Agreed agree entered) = FitsAgreed f agree.value entered
 FitsPlanned f (planned.Heard from beat) = FitsBeat f from
-FitsPlanned f (planned.View s) = FitsView f s
+FitsPlanned f (planned.View s) = FitsView f s.value
 FitsPlanned f _ = Unit {0}
 
 -- the view and the store that were before the step, and those after it

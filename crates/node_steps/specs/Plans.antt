@@ -72,12 +72,12 @@ abbrev pub taken : Facts → Planned → Facts
 taken f planned.Nothing = f
 taken f (planned.Tick t) = tick_taken f t.value
 taken f (planned.Agreed agree entered) =
-    agreed f agree.agreement (option_map (λ v. v.value) entered)
+    agreed f agree.value.agreement (option_map (λ v. v.value) entered)
 taken f (planned.Heard from beat) = record f {
   hearing = beat_heard f.hearing from beat;
   agreement = seeing f.agreement beat.promised;
 }
-taken f (planned.View s) = view.view_taken f s
+taken f (planned.View s) = view.view_taken f s.value
 taken f planned.Stopped = stopped f
 
 -- the facts after the step that is planned, where one is

@@ -5,16 +5,16 @@ use node_rules::Beat;
 use node_view::{Settling, View, ViewStep};
 use wire_messages::Batch;
 
-/// What a planned step changes, with all the memory that this takes.
+/// What a planned step changes, with all the memory that this takes. What is large is boxed, so that
+/// a step moves cheaply.
 #[derive(Drop)]
 pub enum Planned {
     /// Nothing changes.
     Nothing,
-    /// A tick. It is boxed so that the others move cheaply.
     Tick(Box<Ticked>),
     /// The agreement goes on.
     Agreed {
-        agree: Agree,
+        agree: Box<Agree>,
         entered: Option<Box<View>>,
     },
     /// A heartbeat is heard.
@@ -23,7 +23,7 @@ pub enum Planned {
         beat: Beat,
     },
     /// A step of the view.
-    View(ViewStep),
+    View(Box<ViewStep>),
     Stopped,
 }
 

@@ -65,7 +65,7 @@ impl Node {
         let (agree, vote) = self.agree.copy().on_propose(key, *members);
         let mut out = self.promise(alloc, agree.promised())?;
         out.send(alloc, from.number(), &message_of(vote))?;
-        Ok(self.plan_agreed(out, agree))
+        self.plan_agreed(alloc, out, agree)
     }
 
     /// The line of a promise, where the key isn't the one that was promised before.
@@ -99,7 +99,7 @@ impl Node {
         let (agree, step) = self.agree.copy().on_accept(from, key);
         match step {
             AcceptStep::Stale => self.stale(alloc),
-            AcceptStep::Waiting => Ok(self.plan_agreed(Effects::new(alloc), agree)),
+            AcceptStep::Waiting => self.plan_agreed(alloc, Effects::new(alloc), agree),
             AcceptStep::Enter { key, members } => self.lead(alloc, agree, key, members),
         }
     }
@@ -127,6 +127,7 @@ impl Node {
             (Some (view_at_entry self.old.now key members)))) }
         ensures err { OnErr result (self.new ≡ self.old) }
     {
+        let agree = Box::new(alloc, agree)?;
         let mut out = Effects::new(alloc);
         let view = self.plan_entering(alloc, key, &members, &mut out)?;
         tell_commit(alloc, key, &members, view.others().as_slice(), &mut out)?;
@@ -150,11 +151,11 @@ impl Node {
     {
         let (agree, step) = self.agree.copy().on_refuse(refused, promised);
         match step {
-            RefuseStep::Stopped => Ok(self.plan_agreed(Effects::new(alloc), agree)),
+            RefuseStep::Stopped => self.plan_agreed(alloc, Effects::new(alloc), agree),
             RefuseStep::Stale => {
                 let endpoint = self.me.number();
                 let out = Effects::of_line(alloc, Line::Stale { endpoint })?;
-                Ok(self.plan_agreed(out, agree))
+                self.plan_agreed(alloc, out, agree)
             }
         }
     }
@@ -178,6 +179,7 @@ impl Node {
         match step {
             CommitStep::Stale => self.stale(alloc),
             CommitStep::Enter { key, members } => {
+                let agree = Box::new(alloc, agree)?;
                 let mut out = Effects::new(alloc);
                 let view = self.plan_entering(alloc, key, &members, &mut out)?;
                 let entered = Some(view);
@@ -186,14 +188,21 @@ impl Node {
         }
     }
 
-    fn plan_agreed(&mut self, out: Effects, agree: Agree) -> Effects
+    fn plan_agreed(
+        &mut self,
+        alloc: Global,
+        out: Effects,
+        agree: Agree,
+    ) -> Result<Effects, NoMemory>
         requires agree_of { agree.me ≡ self.old.now.me }
         requires ranges { HasRanges (record self.old.now { agreement = agree.agreement }) }
-        ensures same { result ≡ out }
-        ensures planned { self.new
-            ≡ planning self.old.now (record self.old.now { agreement = agree.agreement }) }
+        ensures same { IfOk result (λ e. e ≡ out) }
+        ensures planned { OnOk result (self.new
+            ≡ planning self.old.now (record self.old.now { agreement = agree.agreement })) }
+        ensures err { OnErr result (self.new ≡ self.old) }
     {
+        let agree = Box::new(alloc, agree)?;
         let entered = None;
-        self.plan(out, Planned::Agreed { agree, entered })
+        Ok(self.plan(out, Planned::Agreed { agree, entered }))
     }
 }

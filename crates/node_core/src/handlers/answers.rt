@@ -124,12 +124,14 @@ impl Node {
             unreachable!()
         };
         let outcome = plan_outcome(alloc, &mut self.store, view, resolving, &mut out)?;
-        self.planned = Some(Planned::View(ViewStep::Resolved {
+        let step = ViewStep::Resolved {
             from,
             transaction,
             version,
             outcome,
-        }));
+        };
+        let step = Box::new(alloc, step)?;
+        self.planned = Some(Planned::View(step));
         Ok(out)
     }
 

@@ -35,7 +35,8 @@ impl Node {
         }
         let merged = plan_batch(alloc, &mut self.store, batch)?;
         let out = batch_effects(alloc, self.me, from, batch, &merged.newer)?;
-        self.planned = Some(Planned::View(ViewStep::Merged(merged)));
+        let step = Box::new(alloc, ViewStep::Merged(merged))?;
+        self.planned = Some(Planned::View(step));
         Ok(out)
     }
 

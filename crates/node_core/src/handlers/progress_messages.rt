@@ -11,7 +11,7 @@ ghost use Rattle.node_steps.specs.Spelled.{spelled};
 
 use crate::node::Node;
 use cluster_types::{Boxed, ClusterKey, NoMemory, NodeId, Row4096};
-use node_steps::{Effects, Planned, progress_effects};
+use node_steps::{Effects, progress_effects};
 use node_view::{Progressed, View, ViewStep};
 use std::alloc::Global;
 
@@ -52,6 +52,6 @@ impl Node {
             handed: Boxed::new(alloc, *handed)?,
             settled: Boxed::new(alloc, *settled)?,
         };
-        Ok(self.plan(out, Planned::View(ViewStep::Progressed(progressed))))
+        self.plan_step(alloc, out, ViewStep::Progressed(progressed))
     }
 }

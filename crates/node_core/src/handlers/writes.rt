@@ -50,11 +50,13 @@ impl Node {
         let newer = plan_merge(alloc, &mut self.store, digest, version)?;
         let mut out = merge_effects(alloc, self.me, key, digest, version, newer.is_some())?;
         acknowledge(alloc, from, key, transaction, &mut out)?;
-        self.planned = Some(Planned::View(ViewStep::Replicated(Replicated {
+        let replicated = Replicated {
             digest: *digest,
             newer,
             counted,
-        })));
+        };
+        let step = Box::new(alloc, ViewStep::Replicated(replicated))?;
+        self.planned = Some(Planned::View(step));
         Ok(out)
     }
 
@@ -109,7 +111,7 @@ impl Node {
         let node = self.me;
         if !is_last {
             let step = ViewStep::WriteAcked { from, transaction };
-            return Ok(self.plan(Effects::new(alloc), Planned::View(step)));
+            return self.plan_step(alloc, Effects::new(alloc), step);
         }
         let done = Line::Done {
             node,
@@ -117,6 +119,6 @@ impl Node {
             transaction,
         };
         let out = Effects::of_line(alloc, done)?;
-        Ok(self.plan(out, Planned::View(ViewStep::Done { transaction })))
+        self.plan_step(alloc, out, ViewStep::Done { transaction })
     }
 }

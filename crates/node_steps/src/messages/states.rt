@@ -76,12 +76,14 @@ pub fn plan_row(
     }
     let row = row.copy(alloc)?;
     if !view.is_last_missing(from) {
-        return Ok(Planned::View(ViewStep::Row { from, row }));
+        let step = Box::new(alloc, ViewStep::Row { from, row })?;
+        return Ok(Planned::View(step));
     }
     out.lines.push(Line::Exchanged {
         node: view.me(),
         key: view.key(),
     })?;
     let last = view.plan_last_row(alloc, store, from, row)?;
-    Ok(Planned::View(ViewStep::LastRow(last)))
+    let step = Box::new(alloc, ViewStep::LastRow(last))?;
+    Ok(Planned::View(step))
 }

@@ -1,6 +1,7 @@
 use Rattle.std.proofs.Common.{◌≡◌, Some, map, sym, ap, subst, ◌∙◌}
 use Rattle.wire_messages.specs.declared.message.Message.TheVariants as message
 use Rattle.wire_messages.specs.Spelling.{spelling}
+use Rattle.clustering.specs.Agreeing.{Agreeing}
 use Rattle.node_rules.specs.Agreement.{others_among}
 use Rattle.node_rules.specs.Effects.{lines_only}
 use Rattle.node_rules.specs.Entering.{entering}
@@ -18,13 +19,17 @@ use Rattle.node_core.proofs.node.Node.lead.Goals as goal
 
 pub plan-requires-clause-fits : goal.plan-requires-clause-fits
 plan-requires-clause-fits c =
-    subst (λ (p : Planning). FitsAgreed p.now c.args.agree (Some c.in_ok-view.view)) (sym c.in_ok-view.ensures.same)
-    (fits_entered c.args.self.now.now c.args.agree c.args.key c.args.members c.in_ok-view.view c.requires.agree_of c.in_ok-view.ensures.view)
+    let agree = c.in_ok-agree.agree.value in
+    subst (λ (p : Planning). FitsAgreed p.now agree (Some c.in_ok-view.view)) (sym c.in_ok-view.ensures.same)
+    (fits_entered c.args.self.now.now agree c.args.key c.args.members c.in_ok-view.view (ap (λ (a : Agreeing). a.me) c.in_ok-agree.ensures.ok ∙ c.requires.agree_of) c.in_ok-view.ensures.view)
 
 pub plan-requires-clause-ranges : goal.plan-requires-clause-ranges
 plan-requires-clause-ranges c =
-    subst (λ (p : Planning). HasRanges (agreed p.now c.args.agree.agreement (Some c.in_ok-view.view.value))) (sym c.in_ok-view.ensures.same)
-    (ranges_in_view c.args.self.now.now c.args.agree.agreement c.args.key c.args.members c.in_ok-view.view.value c.in_ok-view.ensures.view c.requires.key c.requires.ranges)
+    let f = c.args.self.now.now in
+    let a = c.in_ok-agree.agree.value.agreement in
+    let ranges : HasRanges (record f { agreement = a }) = subst (λ (x : Agreeing). HasRanges (record f { agreement = x.agreement })) (sym c.in_ok-agree.ensures.ok) c.requires.ranges in
+    subst (λ (p : Planning). HasRanges (agreed p.now a (Some c.in_ok-view.view.value))) (sym c.in_ok-view.ensures.same)
+    (ranges_in_view f a c.args.key c.args.members c.in_ok-view.view.value c.in_ok-view.ensures.view c.requires.key ranges)
 
 pub returns-clause-effects : goal.returns-clause-effects
 returns-clause-effects c =
@@ -47,5 +52,6 @@ returns-clause-planned c =
     let a = c.args.agree.agreement in
     let v = c.in_ok-view.view.value in
     c.plan.ensures.planned
+    ∙ ap (λ (x : Agreeing). planning c.plan_entering.new.self.now (agreed c.plan_entering.new.self.now x.agreement (Some v))) c.in_ok-agree.ensures.ok
     ∙ ap (λ (p : Planning). planning p.now (agreed p.now a (Some v))) c.in_ok-view.ensures.same
     ∙ ap (planning f) (agreed_alike f a (view_at_entry f c.args.key c.args.members) v c.in_ok-view.ensures.view.alike)

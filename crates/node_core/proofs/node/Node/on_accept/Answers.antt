@@ -7,6 +7,7 @@ use Rattle.node_rules.specs.Exchange.{is_member}
 use Rattle.node_rules.specs.Facts.{Facts}
 use Rattle.node_rules.specs.Steps.{Planning, planning}
 use Rattle.node_steps.specs.Ranges.{HasRanges}
+use Rattle.node_steps.specs.declared.effects.Effects.{Effects}
 use Rattle.node_steps.specs.Spelled.{spelled}
 use Rattle.node_core.proofs.HandlerLaws.{accept_enters, accept_stale, accept_waits, still}
 use Rattle.node_core.proofs.LeadLaws.{accepted_by_all, accepted_key, after_last_accept, after_stale_accept, after_waiting_accept, last_accept, stale_accept, waiting_accept}
@@ -44,7 +45,8 @@ returns-in-Waiting-clause-effects c =
     let p = c.args.self.now in
     let told = answer_is c.self.inside p c.copy.result c.on_accept-agree.result.1 (λ (a : Agreement). accept_of a c.args.from c.args.key) c.self.view_is c.copy.ensures c.on_accept-agree.ensures.answer in
     let waits = accept_waits _ _ _ _ (sym told ∙ c.in-Waiting.is) in
-    c.plan_agreed.ensures.same ∙ c.new.ensures ∙ ap spelled (sym (waiting_accept p.now c.args.from c.args.key waits.0 waits.1))
+    let told_so = c.new.ensures ∙ ap spelled (sym (waiting_accept p.now c.args.from c.args.key waits.0 waits.1)) in
+    subst (λ (e : Effects). IfOk c.plan_agreed.result (λ r. r ≡ e)) told_so c.plan_agreed.ensures.same
 
 pub returns-in-Waiting-clause-planned : goal.returns-in-Waiting-clause-planned
 returns-in-Waiting-clause-planned c =
@@ -53,8 +55,13 @@ returns-in-Waiting-clause-planned c =
     let is : c.on_accept-agree.result.0.agreement ≡ onward p.now.agreement = agreement_is c.self.inside p c.copy.result c.on_accept-agree.result.0 onward c.self.view_is c.copy.ensures c.on_accept-agree.ensures.agree in
     let told = answer_is c.self.inside p c.copy.result c.on_accept-agree.result.1 (λ (a : Agreement). accept_of a c.args.from c.args.key) c.self.view_is c.copy.ensures c.on_accept-agree.ensures.answer in
     let waits = accept_waits _ _ _ _ (sym told ∙ c.in-Waiting.is) in
-    c.plan_agreed.ensures.planned ∙ ap (λ (a : Agreement). planning p.now (record p.now { agreement = a })) is
-    ∙ ap (planning p.now) (sym (after_waiting_accept p.now c.args.from c.args.key waits.0 waits.1))
+    let after = ap (λ (a : Agreement). planning p.now (record p.now { agreement = a })) is
+    ∙ ap (planning p.now) (sym (after_waiting_accept p.now c.args.from c.args.key waits.0 waits.1)) in
+    subst (λ (q : Planning). OnOk c.plan_agreed.result (c.plan_agreed.new.self ≡ q)) after c.plan_agreed.ensures.planned
+
+pub returns-in-Waiting-clause-err : goal.returns-in-Waiting-clause-err
+returns-in-Waiting-clause-err c =
+    subst (λ (q : Planning). OnErr c.plan_agreed.result (c.plan_agreed.new.self ≡ q)) (still c.args.self.now c.requires.unplanned) c.plan_agreed.ensures.err
 
 pub lead-requires-clause-member : goal.lead-requires-clause-member
 lead-requires-clause-member c =

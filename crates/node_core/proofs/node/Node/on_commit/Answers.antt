@@ -64,10 +64,11 @@ pub plan-requires-clause-fits : goal.plan-requires-clause-fits
 plan-requires-clause-fits c =
     let p = c.args.self.now in
     let me : c.copy.result.me ≡ p.now.me = ap (λ (a : Agreeing). a.me) c.copy.ensures ∙ c.self.invariant.0.agree ∙ ap (λ (q : Planning). q.now.me) c.self.view_is in
-    let own : c.on_commit-agree.result.0.me ≡ p.now.me = ap (λ (a : Agreeing). a.me) c.on_commit-agree.ensures.agree ∙ me in
+    let agree = c.in_ok-agree-in-Enter.agree.value in
+    let own : agree.me ≡ p.now.me = ap (λ (a : Agreeing). a.me) (c.in_ok-agree-in-Enter.ensures.ok ∙ c.on_commit-agree.ensures.agree) ∙ me in
     let view = c.in_ok-view-in-Enter.view in
-    subst (λ (q : Planning). FitsAgreed q.now c.on_commit-agree.result.0 (Some view)) (sym c.in_ok-view-in-Enter.ensures.same)
-    (fits_entered p.now c.on_commit-agree.result.0 c.in-Enter.key c.in-Enter.members view own c.in_ok-view-in-Enter.ensures.view)
+    subst (λ (q : Planning). FitsAgreed q.now agree (Some view)) (sym c.in_ok-view-in-Enter.ensures.same)
+    (fits_entered p.now agree c.in-Enter.key c.in-Enter.members view own c.in_ok-view-in-Enter.ensures.view)
 
 pub plan-requires-clause-ranges : goal.plan-requires-clause-ranges
 plan-requires-clause-ranges c =
@@ -76,9 +77,9 @@ plan-requires-clause-ranges c =
     let ms = c.args.members.now in
     let told = answer_is c.self.inside p c.copy.result c.on_commit-agree.result.1 (λ (a : Agreement). commit_of c.copy.result.me a key ms) c.self.view_is c.copy.ensures c.on_commit-agree.ensures.answer in
     let h = commit_enters _ key ms c.in-Enter.key c.in-Enter.members (sym told ∙ c.in-Enter.is) in
-    let now = c.on_commit-agree.result.0.agreement in
+    let now = c.in_ok-agree-in-Enter.agree.value.agreement in
     let onward : Agreement → Agreement = λ (a : Agreement). committing c.copy.result.me a key ms in
-    let is : now ≡ onward p.now.agreement = agreement_is c.self.inside p c.copy.result c.on_commit-agree.result.0 onward c.self.view_is c.copy.ensures c.on_commit-agree.ensures.agree in
+    let is : now ≡ onward p.now.agreement = ap (λ (a : Agreeing). a.agreement) c.in_ok-agree-in-Enter.ensures.ok ∙ agreement_is c.self.inside p c.copy.result c.on_commit-agree.result.0 onward c.self.view_is c.copy.ensures c.on_commit-agree.ensures.agree in
     let ranges : HasRanges (record p.now { agreement = now }) =
     ranges_after c.self.inside p now onward c.self.view_is c.self.invariant.0.ranges is (committed_keys p.now.me p.now.agreement key (may_enter c.copy.result.me p.now.agreement key ms)) in
     let view = c.in_ok-view-in-Enter.view in
@@ -108,10 +109,11 @@ returns-in_ok-view-in-Enter-clause-planned c =
     let me : c.copy.result.me ≡ p.now.me = ap (λ (a : Agreeing). a.me) c.copy.ensures ∙ c.self.invariant.0.agree ∙ ap (λ (q : Planning). q.now.me) c.self.view_is in
     let h = commit_enters _ key ms c.in-Enter.key c.in-Enter.members (sym told ∙ c.in-Enter.is) in
     let may : may_enter p.now.me p.now.agreement key ms ≡ true = ap (λ (n : ℕ). may_enter n p.now.agreement key ms) (sym me) ∙ h.may in
-    let now = c.on_commit-agree.result.0.agreement in
+    let now = c.in_ok-agree-in-Enter.agree.value.agreement in
     let onward : Agreement → Agreement = λ (a : Agreement). committing c.copy.result.me a key ms in
     let is : now ≡ committing p.now.me p.now.agreement key ms =
-    agreement_is c.self.inside p c.copy.result c.on_commit-agree.result.0 onward c.self.view_is c.copy.ensures c.on_commit-agree.ensures.agree
+    ap (λ (a : Agreeing). a.agreement) c.in_ok-agree-in-Enter.ensures.ok
+    ∙ agreement_is c.self.inside p c.copy.result c.on_commit-agree.result.0 onward c.self.view_is c.copy.ensures c.on_commit-agree.ensures.agree
     ∙ ap (λ (n : ℕ). committing n p.now.agreement key ms) me in
     let view = c.in_ok-view-in-Enter.view.value in
     c.plan.ensures.planned

@@ -13,14 +13,18 @@ use Rattle.node_rules.specs.Map.{list_master}
 use Rattle.node_rules.specs.Notes.{in_view}
 use Rattle.node_rules.specs.Steps.{Planning, planning}
 use Rattle.node_view.specs.declared.view.View.{View}
+use Rattle.node_view.specs.declared.view_step.ViewStep.{ViewStep}
 use Rattle.node_view.specs.declared.view_step.ViewStep.TheVariants as step
+use Rattle.node_view.specs.Plans as view
 use Rattle.node_view.specs.Plans.{some_if}
-use Rattle.node_view.specs.Rooms.{HasRoomToCount}
+use Rattle.node_view.specs.Rooms.{HasRoomIn, HasRoomToCount}
 use Rattle.node_view.specs.Views.{IsSame, Viewed}
 use Rattle.node_steps.specs.declared.effects.Effects.{Effects}
 use Rattle.node_steps.specs.declared.planned.Planned.{Planned}
 use Rattle.node_steps.specs.declared.planned.Planned.TheVariants as planned
 use Rattle.node_core.specs.Nodes.{node_facts}
+use Rattle.node_steps.specs.Fits.{FitsView}
+use Rattle.node_steps.specs.Ranges.{HasRanges}
 use Rattle.node_steps.specs.Rooms.{HasRoomForStep}
 use Rattle.node_steps.specs.Spelled.{then_effects, spelled}
 use Rattle.node_core.proofs.HandlerLaws.{in_one, still}
@@ -101,6 +105,24 @@ returns-in_err-acknowledge-clause-err c =
     on_err_if c.from_residual-in_err-acknowledge.result _
     (seen_still n (Some w) c.plan_merge.new.store c.args.self.now c.self.view_is (more_in_both n v w c.plan_merge.new.store c.in-Some.is same c.plan_merge.ensures.kept) ∙ still c.args.self.now c.requires.unplanned)
 
+pub invariant_of-self-in_err-step : goal.invariant_of-self-in_err-step
+invariant_of-self-in_err-step c =
+    let n = c.self.inside in
+    let v = c.in-Some.view in
+    let w : Box View = with_value v c.plan_count.new.self in
+    let same : IsSame v.value w.value = subst (λ (x : Viewed). IsSame x c.plan_count.new.self) c.deref_mut.ensures.value c.plan_count.ensures.same in
+    node_roomier_still n (Some w) c.plan_merge.new.store c.self.invariant.0 (has_no_plan n c.args.self.now c.self.view_is c.requires.unplanned)
+    (more_in_both n v w c.plan_merge.new.store c.in-Some.is same c.plan_merge.ensures.kept)
+
+pub returns-in_err-step-clause-err : goal.returns-in_err-step-clause-err
+returns-in_err-step-clause-err c =
+    let n = c.self.inside in
+    let v = c.in-Some.view in
+    let w : Box View = with_value v c.plan_count.new.self in
+    let same : IsSame v.value w.value = subst (λ (x : Viewed). IsSame x c.plan_count.new.self) c.deref_mut.ensures.value c.plan_count.ensures.same in
+    on_err_if c.from_residual-in_err-step.result _
+    (seen_still n (Some w) c.plan_merge.new.store c.args.self.now c.self.view_is (more_in_both n v w c.plan_merge.new.store c.in-Some.is same c.plan_merge.ensures.kept) ∙ still c.args.self.now c.requires.unplanned)
+
 pub invariant_of-self-2 : goal.invariant_of-self-2
 invariant_of-self-2 c =
     let n = c.self.inside in
@@ -114,16 +136,18 @@ invariant_of-self-2 c =
     let newer = c.in_ok-newer.newer in
     let counted = c.in_ok-counted.counted in
     let sent : Bool = c.args.from == list_master (list_at f (partition_of digest)) in
-    let p : Planned = planned.View (step.Replicated (record { digest = digest; newer = newer; counted = counted })) in
+    let p : Planned = planned.View c.in_ok-step.step in
+    let made : step.Replicated (record { digest = digest; newer = newer; counted = counted }) ≡ c.in_ok-step.step.value = sym c.in_ok-step.ensures.ok in
     let of_view : in_view c.args.self.now.now c.args.key ≡ true = sym c.view_of.ensures.some ∙ c.if-is_none.ensures in
     let inside_one : IsSome f.exchange.view = subst (λ (q : Planning). IsSome q.now.exchange.view) (sym c.self.view_is) (in_one c.args.self.now.now c.args.key of_view) in
     let counts = count_seen n v c.deref_mut.result.now c.partition_of.result (partition_of digest) c.args.from c.args.nth counted c.self.invariant.0 c.in-Some.is c.deref_mut.ensures.value c.partition_of.ensures c.in_ok-counted.ensures.counted in
     let room : ForSome counted (HasRoomToCount w.value.room (partition_of digest)) =
     subst (λ (q : ℕ). ForSome counted (HasRoomToCount w.value.room q)) c.partition_of.ensures c.in_ok-counted.ensures.room in
     node_roomier_planned n (Some w) s p c.self.invariant.0 (more_in_both n v w s c.in-Some.is same c.plan_merge.ensures.kept)
-    (repl_fits f c.args.from c.args.nth digest version newer counted sent inside_one c.requires.proper.2 c.in_ok-newer.ensures.newer counts)
-    (repl_ranges f c.args.nth digest version newer counted (is_newer f.store.by version (finite.get f.store.content digest)) sent c.requires.proper.2 c.requires.proper.3 c.requires.proper.4 c.in_ok-newer.ensures.newer counts c.self.invariant.0.ranges)
-    (planned_for (λ (x : Box View). HasRoomForStep x.value s.spare p) w (c.in_ok-newer.ensures.room, room))
+    (subst (FitsView f) made (repl_fits f c.args.from c.args.nth digest version newer counted sent inside_one c.requires.proper.2 c.in_ok-newer.ensures.newer counts))
+    (subst (λ (t : ViewStep). HasRanges (view.view_taken f t)) made
+    (repl_ranges f c.args.nth digest version newer counted (is_newer f.store.by version (finite.get f.store.content digest)) sent c.requires.proper.2 c.requires.proper.3 c.requires.proper.4 c.in_ok-newer.ensures.newer counts c.self.invariant.0.ranges))
+    (planned_for (λ (x : Box View). HasRoomForStep x.value s.spare p) w (subst (HasRoomIn w.value s.spare) made (c.in_ok-newer.ensures.room, room)))
 
 pub returns-clause-effects : goal.returns-clause-effects
 returns-clause-effects c =
@@ -144,10 +168,11 @@ returns-clause-planned c =
     let digest = c.args.digest.now in
     let newer = c.in_ok-newer.newer in
     let counted = c.in_ok-counted.counted in
-    let p : Planned = planned.View (step.Replicated (record { digest = digest; newer = newer; counted = counted })) in
+    let p : Planned = planned.View c.in_ok-step.step in
     let of_view : in_view seen.now c.args.key ≡ true = sym c.view_of.ensures.some ∙ c.if-is_none.ensures in
     let counts = count_seen n v c.deref_mut.result.now c.partition_of.result (partition_of digest) c.args.from c.args.nth counted c.self.invariant.0 c.in-Some.is c.deref_mut.ensures.value c.partition_of.ensures c.in_ok-counted.ensures.counted in
     seen_planned n (Some w) s p seen c.self.view_is (more_in_both n v w s c.in-Some.is same c.plan_merge.ensures.kept)
+    ∙ ap (λ (t : ViewStep). planning seen.now (view.view_taken seen.now t)) c.in_ok-step.ensures.ok
     ∙ ap (planning seen.now)
     (sym (repl_after seen.now c.args.from c.args.key c.args.transaction c.args.nth digest c.args.version.now newer counted of_view
     (version_seen n seen digest c.args.version.now newer c.self.view_is c.in_ok-newer.ensures.newer)

@@ -10,15 +10,18 @@ use Rattle.node_rules.specs.Transactions.{transaction_on}
 use Rattle.node_view.specs.declared.view_step.ViewStep.{ViewStep}
 use Rattle.node_view.specs.Fits.{FitsStep}
 use Rattle.node_view.specs.Plans as plans
+use Rattle.node_view.specs.Rooms.{HasRoomIn}
 use Rattle.node_view.specs.Views.{IsNodeInView, IsSame, Viewed}
 use Rattle.node_steps.specs.Counts.{HaveNumbers}
 use Rattle.node_core.specs.Nodes.{node_facts}
+use Rattle.node_steps.specs.Plans.{next_of}
 use Rattle.node_steps.specs.Ranges.{HasRanges}
 use Rattle.node_steps.specs.Resolvings.{due_opening, opened_step}
 use Rattle.node_steps.specs.Spelled.{spelled}
 use Rattle.node_core.proofs.NodeLaws.{has_no_plan, in_no_view}
 use Rattle.node_steps.proofs.RangeLaws.{option_version}
-use Rattle.node_core.proofs.OpeningRooms.{in_its_view, room_alone, room_and_step, step_planned}
+use Rattle.node_core.proofs.RoomLaws.{on_err_if}
+use Rattle.node_core.proofs.OpeningRooms.{facts_with_room, in_its_view, room_alone, room_and_step, step_planned}
 use Rattle.node_steps.proofs.OpeningLaws.{is_accepted, key_of_view, numbers_of, opened_after, opened_fits, opened_spelled, opening_due}
 use Rattle.node_core.proofs.node.Node.open_transaction.Goals as goal
 
@@ -55,6 +58,21 @@ invariant_of-self c =
     room_alone c.self.inside c.in-Some.view (with_value c.in-Some.view c.plan_opened.new.view) c.plan_opened.new.store c.self.invariant.0
     (has_no_plan c.self.inside c.args.self.now c.self.view_is c.requires.unplanned) c.in-Some.is same c.in_err-transaction.ensures.kept
 
+pub invariant_of-self-in_err-step : goal.invariant_of-self-in_err-step
+invariant_of-self-in_err-step c =
+    let same : IsSame c.in-Some.view.value c.plan_opened.new.view = subst (λ (v : Viewed). IsSame v c.plan_opened.new.view) c.deref_mut.ensures.value c.in_ok-transaction.ensures.same in
+    room_alone c.self.inside c.in-Some.view (with_value c.in-Some.view c.plan_opened.new.view) c.plan_opened.new.store c.self.invariant.0
+    (has_no_plan c.self.inside c.args.self.now c.self.view_is c.requires.unplanned) c.in-Some.is same c.in_ok-transaction.ensures.kept
+
+pub returns-in_err-step-clause-err : goal.returns-in_err-step-clause-err
+returns-in_err-step-clause-err c =
+    let n = c.self.inside in
+    let v = c.in-Some.view in
+    let same : IsSame v.value c.plan_opened.new.view = subst (λ (u : Viewed). IsSame u c.plan_opened.new.view) c.deref_mut.ensures.value c.in_ok-transaction.ensures.same in
+    let facts = facts_with_room n v (with_value v c.plan_opened.new.view) c.plan_opened.new.store n.planned c.in-Some.is same c.in_ok-transaction.ensures.kept in
+    on_err_if c.from_residual-in_err-step.result _
+    (ap (λ (f : Facts). let p : Planning = record { now = f; next = next_of f n.planned } in p) facts ∙ c.self.view_is)
+
 pub invariant_of-self-2 : goal.invariant_of-self-2
 invariant_of-self-2 c =
     let n = c.self.inside in
@@ -64,15 +82,16 @@ invariant_of-self-2 c =
     let node : IsNodeInView f v n.store = c.self.invariant.0.view c.in-Some.view c.in-Some.is in
     let numbers : HaveNumbers f = subst HaveNumbers now c.requires.counts in
     let same : IsSame v c.plan_opened.new.view = subst (λ (w : Viewed). IsSame w c.plan_opened.new.view) c.deref_mut.ensures.value c.in_ok-transaction.ensures.same in
-    let step : opened_step f v c.args.clock c.args.digest c.args.want ≡ c.in_ok-transaction.step =
+    let step : opened_step f v c.args.clock c.args.digest c.args.want ≡ c.in_ok-step.step.value =
     ap (λ (w : Viewed). opened_step f w c.args.clock c.args.digest c.args.want) (sym c.deref_mut.ensures.value)
-    ∙ sym (c.in_ok-transaction.ensures.step f (subst (λ (w : Viewed). IsNodeInView f w n.store) (sym c.deref_mut.ensures.value) node)) in
+    ∙ sym (c.in_ok-transaction.ensures.step f (subst (λ (w : Viewed). IsNodeInView f w n.store) (sym c.deref_mut.ensures.value) node))
+    ∙ sym c.in_ok-step.ensures.ok in
     let held = option_version (finite.get n.store.versions c.args.digest) (c.self.invariant.0.ranges.store.versions c.args.digest) in
-    room_and_step n c.in-Some.view (with_value c.in-Some.view c.plan_opened.new.view) c.plan_opened.new.store c.in_ok-transaction.step c.self.invariant.0
+    room_and_step n c.in-Some.view (with_value c.in-Some.view c.plan_opened.new.view) c.plan_opened.new.store c.in_ok-step.step c.self.invariant.0
     c.in-Some.is same c.in_ok-transaction.ensures.kept
     (subst (λ (p : ViewStep). FitsStep f p) step (opened_fits f v c.args.clock c.args.digest c.args.want node.view.viewed numbers (subst (λ (g : Facts). transaction_on g.transactions c.args.digest ≡ None) now (is_accepted c.args.self.now.now c.args.digest c.requires.accepted).free)))
     (subst (λ (p : ViewStep). HasRanges (plans.view_taken f p)) step (opened_spelled f v c.args.clock c.args.digest c.args.want numbers c.ranges.clock.fits c.are_spelled.ensures.digest c.are_spelled.ensures.want held c.self.invariant.0.ranges))
-    c.in_ok-transaction.ensures.room
+    (subst (HasRoomIn c.plan_opened.new.view c.plan_opened.new.store.spare) (sym c.in_ok-step.ensures.ok) c.in_ok-transaction.ensures.room)
 
 pub returns-clause-effects : goal.returns-clause-effects
 returns-clause-effects c =
@@ -92,12 +111,13 @@ returns-clause-planned c =
     let now : c.args.self.now.now ≡ f = sym (ap (λ (p : Planning). p.now) c.self.view_is) in
     let node : IsNodeInView f v n.store = c.self.invariant.0.view c.in-Some.view c.in-Some.is in
     let same : IsSame v c.plan_opened.new.view = subst (λ (w : Viewed). IsSame w c.plan_opened.new.view) c.deref_mut.ensures.value c.in_ok-transaction.ensures.same in
-    let step : c.in_ok-transaction.step ≡ opened_step f v c.args.clock c.args.digest c.args.want =
-    c.in_ok-transaction.ensures.step f (subst (λ (w : Viewed). IsNodeInView f w n.store) (sym c.deref_mut.ensures.value) node)
+    let step : c.in_ok-step.step.value ≡ opened_step f v c.args.clock c.args.digest c.args.want =
+    c.in_ok-step.ensures.ok
+    ∙ c.in_ok-transaction.ensures.step f (subst (λ (w : Viewed). IsNodeInView f w n.store) (sym c.deref_mut.ensures.value) node)
     ∙ ap (λ (w : Viewed). opened_step f w c.args.clock c.args.digest c.args.want) c.deref_mut.ensures.value in
     let accepted = subst (λ (g : Facts). request_refusal g (list_at g (partition_of c.args.digest)) c.args.digest ≡ None) now c.requires.accepted in
-    let taken : plans.view_taken f c.in_ok-transaction.step ≡ after_request f c.args.clock c.args.digest c.args.want =
+    let taken : plans.view_taken f c.in_ok-step.step.value ≡ after_request f c.args.clock c.args.digest c.args.want =
     ap (plans.view_taken f) step ∙ opened_after f v c.args.clock c.args.digest c.args.want node.view.viewed accepted in
-    step_planned n c.in-Some.view (with_value c.in-Some.view c.plan_opened.new.view) c.plan_opened.new.store c.in_ok-transaction.step c.args.self.now.now
+    step_planned n c.in-Some.view (with_value c.in-Some.view c.plan_opened.new.view) c.plan_opened.new.store c.in_ok-step.step c.args.self.now.now
     (after_request c.args.self.now.now c.args.clock c.args.digest c.args.want) c.in-Some.is same c.in_ok-transaction.ensures.kept (sym now)
-    (subst (λ (g : Facts). plans.view_taken g c.in_ok-transaction.step ≡ after_request g c.args.clock c.args.digest c.args.want) (sym now) taken)
+    (subst (λ (g : Facts). plans.view_taken g c.in_ok-step.step.value ≡ after_request g c.args.clock c.args.digest c.args.want) (sym now) taken)

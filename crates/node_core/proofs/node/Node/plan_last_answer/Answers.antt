@@ -7,9 +7,9 @@ use Rattle.node_rules.specs.Notes.{answer_came}
 use Rattle.node_rules.specs.Steps.{Planning}
 use Rattle.node_rules.specs.Transactions.{transaction}
 use Rattle.node_view.specs.declared.view_step.ViewStep.{ViewStep}
-use Rattle.node_view.specs.declared.view_step.ViewStep.TheVariants as step
 use Rattle.node_view.specs.Fits.{FitsStep}
 use Rattle.node_view.specs.Plans as plans
+use Rattle.node_view.specs.Rooms.{HasRoomIn}
 use Rattle.node_view.specs.Views.{IsInView, IsNodeInView, IsSame, Viewed}
 use Rattle.node_steps.specs.declared.effects.Effects.{Effects}
 use Rattle.node_steps.specs.declared.resolving.Resolving.{Resolving}
@@ -60,6 +60,21 @@ returns-in_err-outcome-clause-err c =
     on_err_if c.from_residual-in_err-outcome.result _
     (ap (λ (f : Facts). let p : Planning = record { now = f; next = next_of f n.planned } in p) facts ∙ c.self.view_is)
 
+pub invariant_of-self-in_err-step : goal.invariant_of-self-in_err-step
+invariant_of-self-in_err-step c =
+    let same : IsSame c.in-Some.view.value c.plan_outcome.new.view = subst (λ (v : Viewed). IsSame v c.plan_outcome.new.view) c.deref_mut.ensures.value c.in_ok-outcome.ensures.same in
+    room_alone c.self.inside c.in-Some.view (with_value c.in-Some.view c.plan_outcome.new.view) c.plan_outcome.new.store c.self.invariant.0
+    (has_no_plan c.self.inside c.args.self.now c.self.view_is c.requires.unplanned) c.in-Some.is same c.in_ok-outcome.ensures.kept
+
+pub returns-in_err-step-clause-err : goal.returns-in_err-step-clause-err
+returns-in_err-step-clause-err c =
+    let n = c.self.inside in
+    let v = c.in-Some.view in
+    let same : IsSame v.value c.plan_outcome.new.view = subst (λ (u : Viewed). IsSame u c.plan_outcome.new.view) c.deref_mut.ensures.value c.in_ok-outcome.ensures.same in
+    let facts = facts_with_room n v (with_value v c.plan_outcome.new.view) c.plan_outcome.new.store n.planned c.in-Some.is same c.in_ok-outcome.ensures.kept in
+    on_err_if c.from_residual-in_err-step.result _
+    (ap (λ (f : Facts). let p : Planning = record { now = f; next = next_of f n.planned } in p) facts ∙ c.self.view_is)
+
 pub invariant_of-self-2 : goal.invariant_of-self-2
 invariant_of-self-2 c =
     let n = c.self.inside in
@@ -74,16 +89,16 @@ invariant_of-self-2 c =
     let one = answered_one f c.args.from c.args.transaction c.requires.last in
     let is = answered_found f.transactions c.args.transaction c.args.clock f.store.by v one.0 c.in_ok-resolving.resolving one.1.found c.in_ok-resolving.ensures in
     let made = sym (step_made u c.deref_mut.result.now c.args.clock c.args.from c.args.transaction f.store.by v c.in_ok-version.version one.0 c.in_ok-resolving.resolving o
-    c.in_ok-version.ensures c.deref_mut.ensures.value is c.in_ok-outcome.ensures.outcome) in
-    let p : ViewStep = step.Resolved c.args.from c.args.transaction c.in_ok-version.version o in
+    c.in_ok-version.ensures c.deref_mut.ensures.value is c.in_ok-outcome.ensures.outcome) ∙ sym c.in_ok-step.ensures.ok in
+    let p : ViewStep = c.in_ok-step.step.value in
     let fits : FitsStep f p = subst (FitsStep f) made (resolved_fits f u c.args.clock c.args.from c.args.transaction v one.0 viewed one.1 c.requires.counts) in
     let spelled_after : HasRanges (plans.view_taken f p) =
     subst (λ (q : ViewStep). HasRanges (plans.view_taken f q)) made
     (resolved_spelled f u c.args.clock c.args.from c.args.transaction v one.0 one.1 c.requires.counts c.requires.answer c.ranges.clock.fits ranges) in
-    room_and_step n c.in-Some.view (with_value c.in-Some.view c.plan_outcome.new.view) c.plan_outcome.new.store p c.self.invariant.0 c.in-Some.is same c.in_ok-outcome.ensures.kept
+    room_and_step n c.in-Some.view (with_value c.in-Some.view c.plan_outcome.new.view) c.plan_outcome.new.store c.in_ok-step.step c.self.invariant.0 c.in-Some.is same c.in_ok-outcome.ensures.kept
     (subst (λ (g : Facts). FitsStep g p) now fits) (subst (λ (g : Facts). HasRanges (plans.view_taken g p)) now spelled_after)
-    (room_found f u c.plan_outcome.new.view c.plan_outcome.new.store.spare c.args.from c.args.transaction one.0 c.in_ok-resolving.resolving.digest o viewed same one.1
-    (ap (λ (r : Resolving). r.digest) is) c.in_ok-outcome.ensures.room)
+    (subst (HasRoomIn c.plan_outcome.new.view c.plan_outcome.new.store.spare) (sym c.in_ok-step.ensures.ok) (room_found f u c.plan_outcome.new.view c.plan_outcome.new.store.spare c.args.from c.args.transaction one.0 c.in_ok-resolving.resolving.digest o viewed same one.1
+    (ap (λ (r : Resolving). r.digest) is) c.in_ok-outcome.ensures.room))
 
 pub returns-clause-effects : goal.returns-clause-effects
 returns-clause-effects c =
@@ -112,9 +127,9 @@ returns-clause-planned c =
     let same : IsSame u c.plan_outcome.new.view = subst (λ (w : Viewed). IsSame w c.plan_outcome.new.view) c.deref_mut.ensures.value c.in_ok-outcome.ensures.same in
     let one = answered_one f c.args.from c.args.transaction c.requires.last in
     let is = answered_found f.transactions c.args.transaction c.args.clock f.store.by v one.0 c.in_ok-resolving.resolving one.1.found c.in_ok-resolving.ensures in
-    let made = step_made u c.deref_mut.result.now c.args.clock c.args.from c.args.transaction f.store.by v c.in_ok-version.version one.0 c.in_ok-resolving.resolving o
+    let made = c.in_ok-step.ensures.ok ∙ step_made u c.deref_mut.result.now c.args.clock c.args.from c.args.transaction f.store.by v c.in_ok-version.version one.0 c.in_ok-resolving.resolving o
     c.in_ok-version.ensures c.deref_mut.ensures.value is c.in_ok-outcome.ensures.outcome in
-    let p : ViewStep = step.Resolved c.args.from c.args.transaction c.in_ok-version.version o in
+    let p : ViewStep = c.in_ok-step.step.value in
     let after : Facts = resolved_with (answer_came f c.args.from c.args.transaction v true) c.args.clock c.args.from v (transaction f.transactions c.args.transaction) in
     let taken : plans.view_taken f p ≡ after = ap (plans.view_taken f) made ∙ resolved_after f u c.args.clock c.args.from c.args.transaction v one.0 viewed one.1 in
-    step_planned n c.in-Some.view (with_value c.in-Some.view c.plan_outcome.new.view) c.plan_outcome.new.store p f after c.in-Some.is same c.in_ok-outcome.ensures.kept (sym now) taken
+    step_planned n c.in-Some.view (with_value c.in-Some.view c.plan_outcome.new.view) c.plan_outcome.new.store c.in_ok-step.step f after c.in-Some.is same c.in_ok-outcome.ensures.kept (sym now) taken

@@ -1,4 +1,4 @@
-use Rattle.std.proofs.Common.{◌≡◌, ℕ, true, false, [], ◌∷◌, ◌++◌, List, ap, ap₂, sym, ◌∙◌}
+use Rattle.std.proofs.Common.{◌≡◌, ℕ, true, false, [], ◌∷◌, ◌++◌, List, ap, ap₂, subst, sym, ◌∙◌}
 use Rattle.cluster_types.specs.declared.cluster_key.ClusterKey.{ClusterKey}
 use Rattle.journal_lines.specs.declared.line.Line.{Line}
 use Rattle.journal_lines.specs.declared.line.Line.TheVariants as line
@@ -7,7 +7,8 @@ use Rattle.node_rules.specs.Exchange.{Exchange, first_missing, members_of}
 use Rattle.node_rules.specs.Facts.{view_key}
 use Rattle.node_rules.specs.Map.{lacks}
 use Rattle.node_rules.specs.Notes.{exchanged}
-use Rattle.node_view.specs.Plans.{facts_with_row}
+use Rattle.node_view.specs.Fits.{FitsStep}
+use Rattle.node_view.specs.Plans.{facts_with_row, view_taken}
 use Rattle.node_view.specs.Views.{viewed_key}
 use Rattle.node_steps.specs.declared.effects.Effects.{Effects}
 use Rattle.node_steps.specs.Viewing.{finishes_with}
@@ -44,7 +45,7 @@ returns-then-not-is_last_missing-clause-planned c = λ f h.
     let from = c.args.from in
     let lacking : lacks v.exchange.rows from ≡ true = ap (λ (x : Exchange). lacks x.rows from) (sym c.in-Some.ensures.exchange) ∙ sym c.lacks.ensures ∙ c.if-not-lacks.false in
     let more = is_more v from c.args.row.now c.is_last_missing.result c.is_last_missing.ensures lacking c.if-not-is_last_missing.true in
-    ap (facts_with_row f from) c.in_ok-row.ensures ∙ after_more f v from c.args.row.now h.view.viewed (more_goes_on v from c.args.row.now more)
+    ap (view_taken f) c.in_ok-step.ensures.ok ∙ ap (facts_with_row f from) c.in_ok-row.ensures ∙ after_more f v from c.args.row.now h.view.viewed (more_goes_on v from c.args.row.now more)
 
 pub returns-then-not-is_last_missing-clause-fits : goal.returns-then-not-is_last_missing-clause-fits
 returns-then-not-is_last_missing-clause-fits c = λ f h some.
@@ -52,7 +53,7 @@ returns-then-not-is_last_missing-clause-fits c = λ f h some.
     let from = c.args.from in
     let lacking : lacks v.exchange.rows from ≡ true = ap (λ (x : Exchange). lacks x.rows from) (sym c.in-Some.ensures.exchange) ∙ sym c.lacks.ensures ∙ c.if-not-lacks.false in
     let more = is_more v from c.in_ok-row.row c.is_last_missing.result c.is_last_missing.ensures lacking c.if-not-is_last_missing.true in
-    record { step = more_fits f v from c.in_ok-row.row h.view.viewed c.requires.member more; in_one = some }
+    record { step = subst (FitsStep f) (sym c.in_ok-step.ensures.ok) (more_fits f v from c.in_ok-row.row h.view.viewed c.requires.member more); in_one = some }
 
 pub is_last_missing-requires : goal.is_last_missing-requires
 is_last_missing-requires c = other_from c.args.view.now c.args.from c.requires.member
@@ -84,7 +85,7 @@ returns-clause-planned c = λ f h.
     let from = c.args.from in
     let lacking : lacks v.exchange.rows from ≡ true = ap (λ (x : Exchange). lacks x.rows from) (sym c.in-Some.ensures.exchange) ∙ sym c.lacks.ensures ∙ c.if-not-lacks.false in
     let last = is_last v from c.args.row.now c.is_last_missing.result c.is_last_missing.ensures lacking c.if-not-is_last_missing.false (not_true v.exchange.exchanged c.in-Some.ensures.some) in
-    ap₂ (λ (n : ℕ) (r : Row). exchanged (facts_with_row f n r) (view_key f)) c.in_ok-last.ensures.row.0 (c.in_ok-last.ensures.row.1 ∙ c.in_ok-row.ensures)
+    ap (view_taken f) c.in_ok-step-2.ensures.ok ∙ ap₂ (λ (n : ℕ) (r : Row). exchanged (facts_with_row f n r) (view_key f)) c.in_ok-last.ensures.row.0 (c.in_ok-last.ensures.row.1 ∙ c.in_ok-row.ensures)
     ∙ after_last f v from c.args.row.now h.view.viewed (last_finishes v from c.args.row.now last)
 
 pub returns-clause-fits : goal.returns-clause-fits
@@ -94,6 +95,7 @@ returns-clause-fits c = λ f h some.
     let lacking : lacks v.exchange.rows from ≡ true = ap (λ (x : Exchange). lacks x.rows from) (sym c.in-Some.ensures.exchange) ∙ sym c.lacks.ensures ∙ c.if-not-lacks.false in
     let last = is_last v from c.in_ok-row.row c.is_last_missing.result c.is_last_missing.ensures lacking c.if-not-is_last_missing.false (not_true v.exchange.exchanged c.in-Some.ensures.some) in
     record {
-      step = last_fits f v c.args.store.now from c.in_ok-row.row c.in_ok-last.last h c.requires.member c.in_ok-last.ensures.row.0 c.in_ok-last.ensures.row.1 c.in_ok-last.ensures.served c.in_ok-last.ensures.key c.in_ok-last.ensures.targets last;
+      step = subst (FitsStep f) (sym c.in_ok-step-2.ensures.ok)
+          (last_fits f v c.args.store.now from c.in_ok-row.row c.in_ok-last.last h c.requires.member c.in_ok-last.ensures.row.0 c.in_ok-last.ensures.row.1 c.in_ok-last.ensures.served c.in_ok-last.ensures.key c.in_ok-last.ensures.targets last);
       in_one = some;
     }
