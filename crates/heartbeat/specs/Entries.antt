@@ -8,7 +8,7 @@ use Rattle.node_rules.specs.Hearing.{Heard, timeout}
 use Rattle.node_rules.specs.Tables.{Table, contains}
 use Rattle.heartbeat.specs.declared.entries.Entry.{Entry}
 
--- what stands in the places beyond the last entry, so that equal entries are equal places
+-- what stands in the places beyond the last entry, so that a list of entries is one value of sixteen places
 abbrev pub unused_entry : Entry
 unused_entry = record {
   node = 1;

@@ -26,7 +26,6 @@ use Rattle.node_rules.specs.Exchange.{Exchange, first_missing, is_member, member
 use Rattle.node_rules.specs.Facts.{Facts, members_of_view, view_key}
 use Rattle.node_rules.specs.Map.{lacks}
 use Rattle.node_rules.specs.Effects.{lines_only, sends_only, lines_and_sends, nothing, to_one}
-use Rattle.node_rules.specs.Messages as due
 use Rattle.node_rules.specs.Messages.{due_progress, due_state, finishes}
 use Rattle.node_rules.specs.Notes.{in_view, progress_came, row_came, own_targets}
 use Rattle.node_rules.specs.Standing.{knows_all_settled, others}

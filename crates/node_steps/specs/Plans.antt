@@ -1,5 +1,5 @@
 -- What a planned step makes of the facts.
-use Rattle.std.specs.Prelude.{ℕ, Bool, true, if◌then◌else◌, List, [], Option, Some, None, option_map}
+use Rattle.std.specs.Prelude.{ℕ, Bool, true, if◌then◌else◌, List, Option, Some, None, option_map}
 use Rattle.wire_messages.specs.declared.message.Batch.{Batch}
 use Rattle.node_rules.specs.Agreement.{Agreement, seeing}
 use Rattle.node_rules.specs.ByParts.{exchanged_if, sending_all}

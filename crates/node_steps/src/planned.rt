@@ -11,6 +11,7 @@ use wire_messages::Batch;
 pub enum Planned {
     /// Nothing changes.
     Nothing,
+    /// A tick.
     Tick(Box<Ticked>),
     /// The agreement goes on.
     Agreed {
@@ -24,6 +25,7 @@ pub enum Planned {
     },
     /// A step of the view.
     View(Box<ViewStep>),
+    /// The node stops.
     Stopped,
 }
 

@@ -1,12 +1,14 @@
-use Rattle.std.proofs.Common.{◌≡◌, None, ap, subst, sym, ◌∙◌}
+use Rattle.std.proofs.Common.{◌≡◌, None, Some, ap, subst, sym, ◌∙◌}
 use Rattle.std.specs.Box.{with_value}
 use Rattle.std.specs.FinMap as finite
+use Rattle.std.specs.Global.{Box}
 use Rattle.std.specs.Prelude.{IsSome}
 use Rattle.cluster_types.specs.Partitions.{partition_of}
 use Rattle.node_rules.specs.Facts.{Facts, list_at}
 use Rattle.node_rules.specs.Requests.{request_refusal}
 use Rattle.node_rules.specs.Steps.{Planning, after_request}
 use Rattle.node_rules.specs.Transactions.{transaction_on}
+use Rattle.node_view.specs.declared.view.View.{View}
 use Rattle.node_view.specs.declared.view_step.ViewStep.{ViewStep}
 use Rattle.node_view.specs.Fits.{FitsStep}
 use Rattle.node_view.specs.Plans as plans
@@ -14,14 +16,13 @@ use Rattle.node_view.specs.Rooms.{HasRoomIn}
 use Rattle.node_view.specs.Views.{IsNodeInView, IsSame, Viewed}
 use Rattle.node_steps.specs.Counts.{HaveNumbers}
 use Rattle.node_core.specs.Nodes.{node_facts}
-use Rattle.node_steps.specs.Plans.{next_of}
 use Rattle.node_steps.specs.Ranges.{HasRanges}
 use Rattle.node_steps.specs.Resolvings.{due_opening, opened_step}
 use Rattle.node_steps.specs.Spelled.{spelled}
 use Rattle.node_core.proofs.NodeLaws.{has_no_plan, in_no_view}
 use Rattle.node_steps.proofs.RangeLaws.{option_version}
-use Rattle.node_core.proofs.RoomLaws.{on_err_if}
-use Rattle.node_core.proofs.OpeningRooms.{facts_with_room, in_its_view, room_alone, room_and_step, step_planned}
+use Rattle.node_core.proofs.RoomLaws.{more_in_both, on_err_if, seen_still}
+use Rattle.node_core.proofs.OpeningRooms.{in_its_view, room_alone, room_and_step, step_planned}
 use Rattle.node_steps.proofs.OpeningLaws.{is_accepted, key_of_view, numbers_of, opened_after, opened_fits, opened_spelled, opening_due}
 use Rattle.node_core.proofs.node.Node.open_transaction.Goals as goal
 
@@ -69,9 +70,9 @@ returns-in_err-step-clause-err c =
     let n = c.self.inside in
     let v = c.in-Some.view in
     let same : IsSame v.value c.plan_opened.new.view = subst (λ (u : Viewed). IsSame u c.plan_opened.new.view) c.deref_mut.ensures.value c.in_ok-transaction.ensures.same in
-    let facts = facts_with_room n v (with_value v c.plan_opened.new.view) c.plan_opened.new.store n.planned c.in-Some.is same c.in_ok-transaction.ensures.kept in
+    let w : Box View = with_value v c.plan_opened.new.view in
     on_err_if c.from_residual-in_err-step.result _
-    (ap (λ (f : Facts). let p : Planning = record { now = f; next = next_of f n.planned } in p) facts ∙ c.self.view_is)
+    (seen_still n (Some w) c.plan_opened.new.store c.args.self.now c.self.view_is (more_in_both n v w c.plan_opened.new.store c.in-Some.is same c.in_ok-transaction.ensures.kept))
 
 pub invariant_of-self-2 : goal.invariant_of-self-2
 invariant_of-self-2 c =

@@ -1,11 +1,13 @@
-use Rattle.std.proofs.Common.{◌≡◌, true, ap, subst, sym, ◌∙◌}
+use Rattle.std.proofs.Common.{◌≡◌, true, Some, ap, subst, sym, ◌∙◌}
 use Rattle.std.specs.Box.{with_value}
+use Rattle.std.specs.Global.{Box}
 use Rattle.std.specs.Option.{option_copied}
 use Rattle.node_rules.specs.ByParts.{resolved_with}
 use Rattle.node_rules.specs.Facts.{Facts}
 use Rattle.node_rules.specs.Notes.{answer_came}
 use Rattle.node_rules.specs.Steps.{Planning}
 use Rattle.node_rules.specs.Transactions.{transaction}
+use Rattle.node_view.specs.declared.view.View.{View}
 use Rattle.node_view.specs.declared.view_step.ViewStep.{ViewStep}
 use Rattle.node_view.specs.Fits.{FitsStep}
 use Rattle.node_view.specs.Plans as plans
@@ -15,13 +17,12 @@ use Rattle.node_steps.specs.declared.effects.Effects.{Effects}
 use Rattle.node_steps.specs.declared.resolving.Resolving.{Resolving}
 use Rattle.node_steps.specs.Counts.{HaveNumbers}
 use Rattle.node_core.specs.Nodes.{node_facts}
-use Rattle.node_steps.specs.Plans.{next_of}
 use Rattle.node_steps.specs.Ranges.{HasRanges, IsResolvingField}
 use Rattle.node_steps.specs.Resolvings.{due_outcome}
 use Rattle.node_steps.specs.Spelled.{then_effects, spelled}
 use Rattle.node_core.proofs.NodeLaws.{has_no_plan}
-use Rattle.node_core.proofs.RoomLaws.{on_err_if}
-use Rattle.node_core.proofs.OpeningRooms.{facts_with_room, in_its_view, room_alone, room_and_step, step_planned}
+use Rattle.node_core.proofs.RoomLaws.{more_in_both, on_err_if, seen_still}
+use Rattle.node_core.proofs.OpeningRooms.{in_its_view, room_alone, room_and_step, step_planned}
 use Rattle.node_steps.proofs.OpeningLaws.{key_of_view, numbers_of}
 use Rattle.node_steps.proofs.ResolveLaws.{answer_due, answered_found, answered_one, resolved_after, resolved_fits, resolved_spelled, resolving_spelled, room_found, step_made}
 use Rattle.node_core.proofs.node.Node.plan_last_answer.Goals as goal
@@ -56,9 +57,9 @@ returns-in_err-outcome-clause-err c =
     let n = c.self.inside in
     let v = c.in-Some.view in
     let same : IsSame v.value c.plan_outcome.new.view = subst (λ (u : Viewed). IsSame u c.plan_outcome.new.view) c.deref_mut.ensures.value c.in_err-outcome.ensures.same in
-    let facts = facts_with_room n v (with_value v c.plan_outcome.new.view) c.plan_outcome.new.store n.planned c.in-Some.is same c.in_err-outcome.ensures.kept in
+    let w : Box View = with_value v c.plan_outcome.new.view in
     on_err_if c.from_residual-in_err-outcome.result _
-    (ap (λ (f : Facts). let p : Planning = record { now = f; next = next_of f n.planned } in p) facts ∙ c.self.view_is)
+    (seen_still n (Some w) c.plan_outcome.new.store c.args.self.now c.self.view_is (more_in_both n v w c.plan_outcome.new.store c.in-Some.is same c.in_err-outcome.ensures.kept))
 
 pub invariant_of-self-in_err-step : goal.invariant_of-self-in_err-step
 invariant_of-self-in_err-step c =
@@ -71,9 +72,9 @@ returns-in_err-step-clause-err c =
     let n = c.self.inside in
     let v = c.in-Some.view in
     let same : IsSame v.value c.plan_outcome.new.view = subst (λ (u : Viewed). IsSame u c.plan_outcome.new.view) c.deref_mut.ensures.value c.in_ok-outcome.ensures.same in
-    let facts = facts_with_room n v (with_value v c.plan_outcome.new.view) c.plan_outcome.new.store n.planned c.in-Some.is same c.in_ok-outcome.ensures.kept in
+    let w : Box View = with_value v c.plan_outcome.new.view in
     on_err_if c.from_residual-in_err-step.result _
-    (ap (λ (f : Facts). let p : Planning = record { now = f; next = next_of f n.planned } in p) facts ∙ c.self.view_is)
+    (seen_still n (Some w) c.plan_outcome.new.store c.args.self.now c.self.view_is (more_in_both n v w c.plan_outcome.new.store c.in-Some.is same c.in_ok-outcome.ensures.kept))
 
 pub invariant_of-self-2 : goal.invariant_of-self-2
 invariant_of-self-2 c =
