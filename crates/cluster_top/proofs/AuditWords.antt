@@ -2,7 +2,7 @@
 use Rattle.std.proofs.Common.{◌≡◌, ℕ, List, [], ◌∷◌, length, map, Bool, get_or, sym, ap, ◌∙◌, arith, IsTrue}
 use Rattle.std.specs.Prelude.{codes}
 use Rattle.std.proofs.lemmas.Slice.Eq.{bytes_eq-Decides}
-use Rattle.replay_core.specs.declared.words.Words.{Words}
+use Rattle.cluster_top.specs.declared.words.Words.{Words}
 use Rattle.cluster_top.specs.Words.{Asks, nothing, summary, generate, generate_of, AskAudit, is_audit}
 
 abbrev third : List ℕ → ℕ

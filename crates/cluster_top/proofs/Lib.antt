@@ -1,6 +1,8 @@
 pub mod NumberLaws
 pub mod WordWalks
 pub mod WordLaws
-pub mod AskedReplays
+pub mod CountLaws
+pub mod GeneratingLaws
+pub mod WordReplays
 pub mod AuditLaws
 pub mod AuditWords

@@ -23,7 +23,7 @@ use Rattle.clap.proofs.CutLemmas.{Lacks}
 use Rattle.clap.proofs.LexerLemmas.{name_and_value-at, name_and_value-without}
 use Rattle.clap.proofs.WalkLemmas.{find_row}
 use Rattle.script_lang.specs.Values.{is_digit}
-use Rattle.replay_core.specs.declared.words.Words.{Words}
+use Rattle.cluster_top.specs.declared.words.Words.{Words}
 use Rattle.cluster_top.specs.declared.words.WordsFault.{WordsFault}
 use Rattle.cluster_top.specs.declared.words.WordsFault.TheVariants as fault
 use Rattle.cluster_top.specs.Words.{Asks, nothing, summary, generate, generate_of, AreNumber, IsNoNumber, SpellsNumber, replay_options, is_dashes}

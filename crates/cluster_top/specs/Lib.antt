@@ -1,2 +1,5 @@
 pub mod Words
+pub mod Generating
+pub mod Transcripts
+pub mod Replays
 pub mod Auditing

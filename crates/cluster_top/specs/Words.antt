@@ -8,7 +8,7 @@ use Rattle.clap.specs.declared.builder.action.ArgAction.TheVariants.{Set, SetTru
 use Rattle.script_lang.specs.Values.{is_number}
 use Rattle.replay_core.specs.declared.status.Status.{Status}
 use Rattle.replay_core.specs.declared.status.Status.TheVariants as status
-use Rattle.replay_core.specs.declared.words.Words.{Words}
+use Rattle.cluster_top.specs.declared.words.Words.{Words}
 
 -- ---- the number
 

@@ -4,14 +4,16 @@ ghost use Rattle.byte_ends.specs.Faults.{Rose};
 ghost use Rattle.journal_readings.specs.CalmEnd.{CalmEnd};
 ghost use Rattle.journal_readings.specs.Claims.{NoLoss, ReadJoin, SettledJoin, EqualClasses, OneMap, KeysRise};
 ghost use Rattle.world.specs.Claims.{HasClaims};
-ghost use Rattle.replay_core.specs.Outcome.{CalmsAreInTime, ReplayEnded, IsDecided};
+ghost use Rattle.replay_core.specs.Outcome.{CalmsAreInTime};
 ghost use Rattle.cluster_top.specs.Auditing.{AuditEnded, IsAuditDecided};
+ghost use Rattle.cluster_top.specs.Replays.{IsDecided, ReplayEnded};
 ghost use Rattle.cluster_top.specs.Words.{AreBad, AskAudit, AskNoReplay, Asks, EndsBadWords};
 
 use crate::auditing::audit_source;
-use crate::words::{WordsFault, ask_for_audit, read_words};
+use crate::word_replay::replay_by;
+use crate::words::{Words, WordsFault, ask_for_audit, read_words};
 use byte_ends::{Sink, Source};
-use replay_core::{Outcome, Status, Words, replay, unplayed};
+use replay_core::{Outcome, Status, unplayed};
 use std::alloc::Global;
 
 /// Replays the script that the source has left, and writes the transcript to the sink; or audits
@@ -116,6 +118,6 @@ fn replay_asked<S: Source, K: Sink>(
     match read_words(alloc, words) {
         Err(WordsFault::Bad) => unplayed(alloc, Status::BadWords),
         Err(WordsFault::NoMemory) => unplayed(alloc, Status::NoMemory),
-        Ok(words) => replay(alloc, words, source, out),
+        Ok(words) => replay_by(alloc, words, source, out),
     }
 }

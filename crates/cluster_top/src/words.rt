@@ -7,8 +7,16 @@ ghost use Rattle.cluster_top.specs.Words.{Asks, AskAudit, AskNoReplay, AreNumber
 
 use clap::error::ErrorKind;
 use clap::{Arg, ArgAction, ArgMatches, Command, Error};
-use replay_core::Words;
 use std::alloc::{AllocError, Global};
+
+/// What is to be replayed, and what is to be written of it.
+#[derive(Clone, Copy, Debug, PartialEq, Eq)]
+pub struct Words {
+    /// Whether the summary follows the transcript.
+    pub summary: bool,
+    /// The number of the generated script that is replayed in place of the source's.
+    pub generate: Option<u64>,
+}
 
 /// Why words aren't read.
 #[derive(Clone, Copy, Debug, PartialEq, Eq)]

@@ -1,32 +1,24 @@
 -- How a run ended says what decides it, and what holds of its journal.
-use Rattle.std.proofs.Common.{◌≡◌, ◌≢◌, ℕ, ◌<◌, ◌≤◌, inl, inr, nat_lt, Bool, true, false, List, [], ◌++◌, length, Option, Some, None, IfSome, Result, Ok, Err, refl, sym, ap, subst, arith, length-append}
+use Rattle.std.proofs.Common.{◌≡◌, ◌≢◌, ◌⊎◌, ℕ, ◌<◌, ◌≤◌, inl, inr, nat_lt, Bool, true, false, List, [], ◌++◌, length, Option, Some, None, Result, Ok, Err, refl, sym, ap, subst, arith, length-append}
 use Rattle.std.proofs.lemmas.Bool.Decides.{nat_tests}
-use Rattle.std.proofs.lemmas.Grind.{flat_map-append}
 use Rattle.byte_ends.specs.Faults.{Rose}
 use Rattle.cluster_types.specs.Partitions.{partition_count}
 use Rattle.journal_lines.specs.declared.line.Line.{Line}
 use Rattle.journal_text.specs.Journals.{IsWithin}
-use Rattle.journal_text.specs.Text.{text, line_text}
+use Rattle.journal_text.specs.Text.{text}
 use Rattle.script_lang.specs.declared.fault.Cause.{Cause}
 use Rattle.script_lang.specs.declared.script.Script.{Script}
 use Rattle.script_lang.specs.Grammar.{Fault, script_of}
-use Rattle.script_lang.specs.Proper.{IsProper}
 use Rattle.cluster_rules.specs.Opening.{header_lines}
 use Rattle.cluster_rules.specs.Steps.{all_lines}
-use Rattle.cluster_rules.specs.Runs.{Run}
 use Rattle.replay_core.specs.declared.status.Status.{Status}
 use Rattle.replay_core.specs.declared.status.Status.TheVariants as status
-use Rattle.replay_core.specs.declared.words.Words.{Words}
-use Rattle.replay_core.specs.Generating.{generated}
-use Rattle.replay_core.specs.Outcome.{ReplayEnded, EndsBy, EndsBytes, EndsScript, FitsWhole, HadScript, IsCut, IsDecided, WritingEnded, Misread, Outgrown, Replayed}
-use Rattle.replay_core.specs.Streams.{HadAll, Overlong, script_limit}
-use Rattle.replay_core.specs.Transcripts.{transcript}
+use Rattle.replay_core.specs.Outcome.{Ended, EndsBySource, EndsBytes, EndsScript, FitsWhole, HadScript, HadTooMuch, IsCut, IsSourceDecided, Misread, Outgrown, Replayed, SourceEnded, WritingEnded}
+use Rattle.replay_core.specs.Streams.{HadAll, script_limit}
 use Rattle.replay_core.proofs.RunsOnce.{BeginsWith, run_begins}
+use Rattle.replay_core.proofs.TextLaws.{text_append}
 
 -- ---- a run that is cut doesn't fit
-
-text_append : (xs ys : List Line) → text (xs ++ ys) ≡ text xs ++ text ys
-text_append xs ys = flat_map-append line_text xs ys
 
 -- what is within the limits begins with lines that are
 begins_within : (xs ys : List Line) → IsWithin (xs ++ ys) → IsWithin xs
@@ -56,107 +48,70 @@ ends_beyond bytes true e longer = refl
 ends_beyond bytes false e longer = absurd (grind (arith, nat_tests))
 
 -- the script that was read decides
-by_script : (g : Option ℕ) (had left : Option (List ℕ)) (bytes : List ℕ) (st : Status) → HadScript g had left bytes → EndsScript (script_of bytes) st → EndsBy g had st
-by_script (Some n) had left bytes st h e = subst (λ (bs : List ℕ). EndsScript (script_of bs) st) h.0 e
-by_script None None left bytes st h e = tt
-by_script None (Some all) left bytes st h e =
+pub by_source : (had left : Option (List ℕ)) (bytes : List ℕ) (st : Status) → HadScript had left bytes → EndsScript (script_of bytes) st → EndsBySource had st
+by_source None left bytes st h e = tt
+by_source (Some all) left bytes st h e =
     subst (λ (bs : List ℕ). EndsBytes (nat_lt script_limit (length bs)) bs st) (sym h.0.0) (ends_within bytes st _ refl h.1 e)
 
-done : (words : Words) (had left : Option (List ℕ)) (j : List Line) → Replayed words had left j → EndsBy words.generate had status.Done
-done words had left j r =
-    by_script words.generate had left r.bytes status.Done r.read (ends_script r.bytes (Ok r.script) status.Done r.parsed (record { journal = j; played = r.played; within = r.within }))
+pub beyond_source : (had left : Option (List ℕ)) → HadTooMuch had left → EndsBySource had status.ScriptTooLong
+beyond_source None left o = tt
+beyond_source (Some bytes) left o = ends_beyond bytes _ refl o.longer
 
-outgrown : (words : Words) (had left : Option (List ℕ)) (j : List Line) → Outgrown words had left j → EndsBy words.generate had status.RunTooLong
-outgrown words had left j o =
-    by_script words.generate had left o.bytes status.RunTooLong o.read (ends_script o.bytes (Ok o.script) status.RunTooLong o.parsed (cut_passes o.script j o.cut))
+done : (IsScript : List ℕ → Type 0) (E : Status → Type 0) (j : List Line)
+    → ((bytes : List ℕ) (st : Status) → IsScript bytes → EndsScript (script_of bytes) st → E st) → Replayed IsScript j → E status.Done
+done IsScript E j script r =
+    script r.bytes status.Done r.read (ends_script r.bytes (Ok r.script) status.Done r.parsed (record { journal = j; played = r.played; within = r.within }))
 
-bad : (words : Words) (had left : Option (List ℕ)) (line : ℕ) (cause : _) → Misread words had left line cause → EndsBy words.generate had (status.BadScript line cause)
-bad words had left line cause m =
-    by_script words.generate had left m.bytes (status.BadScript line cause) m.read (ends_script m.bytes (Err (record { line = line; cause = cause })) (status.BadScript line cause) m.bad refl)
+outgrown : (IsScript : List ℕ → Type 0) (E : Status → Type 0) (j : List Line)
+    → ((bytes : List ℕ) (st : Status) → IsScript bytes → EndsScript (script_of bytes) st → E st) → Outgrown IsScript j → E status.RunTooLong
+outgrown IsScript E j script o =
+    script o.bytes status.RunTooLong o.read (ends_script o.bytes (Ok o.script) status.RunTooLong o.parsed (cut_passes o.script j o.cut))
 
-too_long : (g : Option ℕ) (had left : Option (List ℕ)) → IfSome had (λ bytes. Overlong script_limit bytes left) → g ≡ None → EndsBy g had status.ScriptTooLong
-too_long None None left o e = tt
-too_long None (Some bytes) left o e = ends_beyond bytes _ refl o.longer
-too_long (Some n) had left o e = absurd (no e)
-  where
-    no : Some n ≡ None → ⊥
-    no i = cc
+bad : (IsScript : List ℕ → Type 0) (E : Status → Type 0) (line : ℕ) (cause : Cause)
+    → ((bytes : List ℕ) (st : Status) → IsScript bytes → EndsScript (script_of bytes) st → E st) → Misread IsScript line cause → E (status.BadScript line cause)
+bad IsScript E line cause script m =
+    script m.bytes (status.BadScript line cause) m.read (ends_script m.bytes (Err (record { line = line; cause = cause })) (status.BadScript line cause) m.bad refl)
 
-pub decided : (words : Words) (st : Status) (j : List Line) (had left old new : Option (List ℕ)) (a b c d : ℕ) → ReplayEnded words st j had left old new
-    → (st ≡ status.ReadFault → Rose a b) → (st ≡ status.WriteFault → Rose c d) → ¬ Rose a b → ¬ Rose c d → IsDecided words had st
-decided words status.Done j had left old new a b c d e r k p q = inl (done words had left j e.0)
-decided words status.NoMemory j had left old new a b c d e r k p q = inr refl
-decided words status.BadWords j had left old new a b c d e r k p q = absurd e
-decided words (status.BadScript line cause) j had left old new a b c d e r k p q = inl (bad words had left line cause e.1)
-decided words status.ReadFault j had left old new a b c d e r k p q = absurd (p (r refl))
-decided words status.WriteFault j had left old new a b c d e r k p q = absurd (q (k refl))
-decided words status.ScriptTooLong j had left old new a b c d e r k p q = inl (too_long words.generate had left e.1 e.2)
-decided words status.RunTooLong j had left old new a b c d e r k p q = inl (outgrown words had left j e.1)
-decided words status.TranscriptTooLong j had left old new a b c d e r k p q = absurd e
-decided words (status.BadTranscript line) j had left old new a b c d e r k p q = absurd e
-decided words (status.Refuted law line) j had left old new a b c d e r k p q = absurd e
+-- by what the script decides, and what one does that is too long
+pub decides : (IsScript : List ℕ → Type 0) (IsTooLong : Type 0) (transcript : List Line → List ℕ) (E : Status → Type 0) (st : Status) (j : List Line) (old new : Option (List ℕ)) (a b c d : ℕ)
+    → ((bytes : List ℕ) (st : Status) → IsScript bytes → EndsScript (script_of bytes) st → E st) → (IsTooLong → E status.ScriptTooLong) → Ended IsScript IsTooLong transcript st j old new
+    → (st ≡ status.ReadFault → Rose a b) → (st ≡ status.WriteFault → Rose c d) → ¬ Rose a b → ¬ Rose c d → E st ⊎ (st ≡ status.NoMemory)
+decides IsScript IsTooLong transcript E status.Done j old new a b c d script long e r k p q = inl (done IsScript E j script e.0)
+decides IsScript IsTooLong transcript E status.NoMemory j old new a b c d script long e r k p q = inr refl
+decides IsScript IsTooLong transcript E status.BadWords j old new a b c d script long e r k p q = absurd e
+decides IsScript IsTooLong transcript E (status.BadScript line cause) j old new a b c d script long e r k p q = inl (bad IsScript E line cause script e.1)
+decides IsScript IsTooLong transcript E status.ReadFault j old new a b c d script long e r k p q = absurd (p (r refl))
+decides IsScript IsTooLong transcript E status.WriteFault j old new a b c d script long e r k p q = absurd (q (k refl))
+decides IsScript IsTooLong transcript E status.ScriptTooLong j old new a b c d script long e r k p q = inl (long e.1)
+decides IsScript IsTooLong transcript E status.RunTooLong j old new a b c d script long e r k p q = inl (outgrown IsScript E j script e.1)
+decides IsScript IsTooLong transcript E status.TranscriptTooLong j old new a b c d script long e r k p q = absurd e
+decides IsScript IsTooLong transcript E (status.BadTranscript line) j old new a b c d script long e r k p q = absurd e
+decides IsScript IsTooLong transcript E (status.Refuted law line) j old new a b c d script long e r k p q = absurd e
+
+pub source_decides : (st : Status) (j : List Line) (had left old new : Option (List ℕ)) (a b c d : ℕ) → SourceEnded st j had left old new
+    → (st ≡ status.ReadFault → Rose a b) → (st ≡ status.WriteFault → Rose c d) → ¬ Rose a b → ¬ Rose c d → IsSourceDecided had st
+source_decides st j had left old new a b c d e r k p q =
+    decides (HadScript had left) (HadTooMuch had left) text (EndsBySource had) st j old new a b c d (by_source had left) (beyond_source had left) e r k p q
 
 -- ---- how a run ended
 
-pub refused_at_once : (words : Words) (st : Status) (j : List Line) (had left old : Option (List ℕ)) → st ≡ status.NoMemory → j ≡ [] → ReplayEnded words st j had left old old
-refused_at_once words st j had left old s e = subst (λ (x : Status). ReplayEnded words x j had left old old) (sym s) (e, inl refl)
-
-pub read_failed : (words : Words) (st : Status) (j : List Line) (had left old : Option (List ℕ)) → st ≡ status.ReadFault → j ≡ [] → ReplayEnded words st j had left old old
-read_failed words st j had left old s e = subst (λ (x : Status). ReplayEnded words x j had left old old) (sym s) (record { empty = e; unwritten = refl })
-
-pub was_overlong : (words : Words) (st : Status) (j : List Line) (had left old : Option (List ℕ)) → words.generate ≡ None → st ≡ status.ScriptTooLong → j ≡ [] → IfSome had (λ bytes. Overlong script_limit bytes left)
-    → ReplayEnded words st j had left old old
-was_overlong words st j had left old none s e long =
-    subst (λ (x : Status). ReplayEnded words x j had left old old) (sym s) (record { empty = e; unwritten = refl }, long, none)
-
-pub was_bad : (words : Words) (st : Status) (j : List Line) (had left old : Option (List ℕ)) (bytes : List ℕ) (line : ℕ) (cause : Cause) → st ≡ status.BadScript line cause → j ≡ []
-    → script_of bytes ≡ Err (record { line = line; cause = cause }) → HadScript words.generate had left bytes → ReplayEnded words st j had left old old
-was_bad words st j had left old bytes line cause s e bad read =
-    subst (λ (x : Status). ReplayEnded words x j had left old old) (sym s) (record { empty = e; unwritten = refl }, record { bytes = bytes; read = read; bad = bad })
-
-pub was_cut : (words : Words) (script : Script) (j : List Line) (had left old : Option (List ℕ)) (bytes : List ℕ) → IsCut script j → IsWithin j → IsProper script
-    → HadScript words.generate had left bytes → script_of bytes ≡ Ok script → ReplayEnded words status.RunTooLong j had left old old
-was_cut words script j had left old bytes cut within proper read parsed =
-    (refl, record { bytes = bytes; script = script; read = read; parsed = parsed; proper = proper; cut = cut; within = within })
-
-pub was_written : (words : Words) (script : Script) (st : Status) (j kept : List Line) (had left old new : Option (List ℕ)) (bytes : List ℕ) → Run script j → IsWithin j → IsProper script
-    → WritingEnded st old new (transcript words j) → (st ≢ status.NoMemory → kept ≡ j) → (st ≡ status.NoMemory → kept ≡ [])
-    → HadScript words.generate had left bytes → script_of bytes ≡ Ok script → ReplayEnded words st kept had left old new
-was_written words script status.Done j kept had left old new bytes played within proper w same none read parsed =
-    subst (λ (x : List Line). ReplayEnded words status.Done x had left old new) (sym (same (λ e. cc)))
-    (record { bytes = bytes; script = script; read = read; parsed = parsed; proper = proper; played = played; within = within }, w)
-was_written words script status.NoMemory j kept had left old new bytes played within proper w same none read parsed = (
-  none refl,
-  inr (record {
-    journal = j;
-    replayed = record { bytes = bytes; script = script; read = read; parsed = parsed; proper = proper; played = played; within = within };
-    front = w;
-  }),
-)
-was_written words script status.WriteFault j kept had left old new bytes played within proper w same none read parsed =
-    subst (λ (x : List Line). ReplayEnded words status.WriteFault x had left old new) (sym (same (λ e. cc)))
-    (record { bytes = bytes; script = script; read = read; parsed = parsed; proper = proper; played = played; within = within }, w)
-was_written words script status.BadWords j kept had left old new bytes played within proper w same none read parsed = absurd w
-was_written words script (status.BadScript line cause) j kept had left old new bytes played within proper w same none read parsed = absurd w
-was_written words script status.ReadFault j kept had left old new bytes played within proper w same none read parsed = absurd w
-was_written words script status.ScriptTooLong j kept had left old new bytes played within proper w same none read parsed = absurd w
-was_written words script status.RunTooLong j kept had left old new bytes played within proper w same none read parsed = absurd w
-was_written words script status.TranscriptTooLong j kept had left old new bytes played within proper w same none read parsed = absurd w
-was_written words script (status.BadTranscript line) j kept had left old new bytes played within proper w same none read parsed = absurd w
-was_written words script (status.Refuted law line) j kept had left old new bytes played within proper w same none read parsed = absurd w
-
-pub no_read_fault : (st : Status) (old new : Option (List ℕ)) (bytes : List ℕ) → WritingEnded st old new bytes → st ≡ status.ReadFault → ⊥
-no_read_fault st old new bytes w e = subst (λ (x : Status). WritingEnded x old new bytes) e w
-
-pub no_bad_words : (words : Words) (st : Status) (j : List Line) (had left old new : Option (List ℕ)) → ReplayEnded words st j had left old new → st ≡ status.BadWords → ⊥
-no_bad_words words st j had left old new h e = subst (λ (x : Status). ReplayEnded words x j had left old new) e h
+pub was_written : (IsScript : List ℕ → Type 0) (IsTooLong : Type 0) (transcript : List Line → List ℕ) (st : Status) (j kept : List Line) (old new : Option (List ℕ)) → Replayed IsScript j
+    → WritingEnded st old new (transcript j) → (st ≢ status.NoMemory → kept ≡ j) → (st ≡ status.NoMemory → kept ≡ []) → Ended IsScript IsTooLong transcript st kept old new
+was_written IsScript IsTooLong transcript status.Done j kept old new r w same none =
+    subst (λ (x : List Line). Ended IsScript IsTooLong transcript status.Done x old new) (sym (same (λ e. cc))) (r, w)
+was_written IsScript IsTooLong transcript status.NoMemory j kept old new r w same none = (none refl, inr (record { journal = j; replayed = r; front = w }))
+was_written IsScript IsTooLong transcript status.WriteFault j kept old new r w same none =
+    subst (λ (x : List Line). Ended IsScript IsTooLong transcript status.WriteFault x old new) (sym (same (λ e. cc))) (r, w)
+was_written IsScript IsTooLong transcript status.BadWords j kept old new r w same none = absurd w
+was_written IsScript IsTooLong transcript (status.BadScript line cause) j kept old new r w same none = absurd w
+was_written IsScript IsTooLong transcript status.ReadFault j kept old new r w same none = absurd w
+was_written IsScript IsTooLong transcript status.ScriptTooLong j kept old new r w same none = absurd w
+was_written IsScript IsTooLong transcript status.RunTooLong j kept old new r w same none = absurd w
+was_written IsScript IsTooLong transcript status.TranscriptTooLong j kept old new r w same none = absurd w
+was_written IsScript IsTooLong transcript (status.BadTranscript line) j kept old new r w same none = absurd w
+was_written IsScript IsTooLong transcript (status.Refuted law line) j kept old new r w same none = absurd w
 
 -- ---- where the script came from
 
-pub from_source : (words : Words) (had left : Option (List ℕ)) (bytes piece : List ℕ) → words.generate ≡ None → HadAll had left bytes → length bytes ≤ script_limit → piece ≡ bytes
-    → HadScript words.generate had left piece
-from_source words had left bytes piece none all fits same =
-    subst (λ (b : List ℕ). HadScript words.generate had left b) (sym same) (subst (λ (g : Option ℕ). HadScript g had left bytes) (sym none) (all, fits))
-
-pub from_number : (words : Words) (n : ℕ) (had : Option (List ℕ)) (bytes : List ℕ) → words.generate ≡ Some n → bytes ≡ generated n → HadScript words.generate had had bytes
-from_number words n had bytes some is = subst (λ (g : Option ℕ). HadScript g had had bytes) (sym some) (is, refl)
+pub from_source : (had left : Option (List ℕ)) (bytes piece : List ℕ) → HadAll had left bytes → length bytes ≤ script_limit → piece ≡ bytes → HadScript had left piece
+from_source had left bytes piece all fits same = subst (λ (b : List ℕ). HadScript had left b) (sym same) (all, fits)

@@ -1,8 +1,6 @@
 pub mod StreamLaws
 pub mod TextLaws
-pub mod CountLaws
 pub mod RunsOnce
 pub mod EmptyClaims
-pub mod GeneratingLaws
 pub mod PlayLaws
 pub mod Endings

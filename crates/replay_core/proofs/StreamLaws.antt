@@ -121,3 +121,16 @@ front_of_both (Some t) mid new first second a h =
       whole = append_assoc first q.front q.rest ∙ ap (λ y. first ++ y) q.whole;
       now = q.now ∙ ap Some (append_assoc t first q.front);
     }
+
+pub bytes_of_both : (old mid new : Option (List ℕ)) (first second : List ℕ) → WroteBytes old mid first → WroteBytes mid new second → WroteBytes old new (first ++ second)
+bytes_of_both None mid new first second a h = tt
+bytes_of_both (Some t) mid new first second a h = subst (λ m. WroteBytes m new second) a h ∙ ap Some (append_assoc t first second)
+
+pub front_of_first : (old new : Option (List ℕ)) (first second : List ℕ) → WroteFront old new first → WroteFront old new (first ++ second)
+front_of_first None new first second h = tt
+front_of_first (Some t) new first second h = record {
+  front = h.front;
+  rest = h.rest ++ second;
+  whole = sym (append_assoc h.front h.rest second) ∙ ap (λ y. y ++ second) h.whole;
+  now = h.now;
+}

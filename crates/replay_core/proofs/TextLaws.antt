@@ -1,14 +1,14 @@
 -- A journal's text, written line by line behind a buffer.
 use Rattle.std.proofs.Common.{◌≡◌, ℕ, ◌+◌, ◌<◌, List, [], ◌∷◌, ◌++◌, length, take, drop, Option, refl, sym, ap, subst, ◌∙◌, append_assoc, zero, suc, get_or}
+use Rattle.std.proofs.lemmas.Grind.{flat_map-append}
 use Rattle.std.proofs.lemmas.List.{take_more, append-nil}
 use Rattle.journal_lines.specs.declared.line.Line.{Line}
 use Rattle.journal_text.specs.Text.{text, line_text}
 use Rattle.replay_core.specs.Streams.{WroteFront}
 use Rattle.replay_core.proofs.StreamLaws.{Buffered, buffered_more, buffered_front, front_written}
 
-text_append : (xs ys : List Line) → text (xs ++ ys) ≡ text xs ++ text ys
-text_append [] ys = refl
-text_append (x ∷ xs) ys = ap (λ t. line_text x ++ t) (text_append xs ys) ∙ sym (append_assoc (line_text x) (text xs) (text ys))
+pub text_append : (xs ys : List Line) → text (xs ++ ys) ≡ text xs ++ text ys
+text_append xs ys = flat_map-append line_text xs ys
 
 text_split : (i : ℕ) (ls : List Line) → text (take i ls) ++ text (drop i ls) ≡ text ls
 text_split zero ls = refl

@@ -1,11 +1,12 @@
 -- How a run ends that replays a script.
-use Rattle.std.specs.Prelude.{◌≡◌, ℕ, ◌≤◌, nat_lt, ◌⊎◌, Bool, true, false, List, [], ◌++◌, length, Option, Some, None, IfSome, Result, Ok, Err}
+use Rattle.std.specs.Prelude.{◌≡◌, ℕ, ◌≤◌, nat_lt, ◌⊎◌, Bool, true, false, List, [], ◌++◌, length, Option, IfSome, Result, Ok, Err}
 use Rattle.script_lang.specs.declared.fault.Cause.{Cause}
 use Rattle.script_lang.specs.declared.script.Script.{Script}
 use Rattle.script_lang.specs.Grammar.{Fault, script_of}
 use Rattle.script_lang.specs.Proper.{IsProper}
 use Rattle.journal_lines.specs.declared.line.Line.{Line}
 use Rattle.journal_text.specs.Journals.{IsWithin}
+use Rattle.journal_text.specs.Text.{text}
 use Rattle.cluster_rules.specs.Begun.{BegunRun}
 use Rattle.cluster_rules.specs.FrontRuns.{FrontRun}
 use Rattle.cluster_rules.specs.Opening.{header_lines}
@@ -13,28 +14,28 @@ use Rattle.cluster_rules.specs.Runs.{Run}
 use Rattle.calm_laws.specs.Claims.{CalmsInTime}
 use Rattle.replay_core.specs.declared.status.Status.{Status}
 use Rattle.replay_core.specs.declared.status.Status.TheVariants as status
-use Rattle.replay_core.specs.declared.words.Words.{Words}
-use Rattle.replay_core.specs.Generating.{generated}
-use Rattle.replay_core.specs.Streams.{Overlong, WroteBytes, WroteFront, script_limit}
-use Rattle.replay_core.specs.Transcripts.{transcript}
+use Rattle.replay_core.specs.declared.writing.WriteFault.{WriteFault}
+use Rattle.replay_core.specs.declared.writing.WriteFault.TheVariants as writing
+use Rattle.replay_core.specs.Streams.{HadAll, Overlong, WroteBytes, WroteFront, script_limit}
 
 -- ---- where the script comes from
 
--- the bytes are those of the script that is replayed: the generated one, of which the source gives
--- nothing, or all that the source had left
-abbrev pub HadScript : Option ℕ → Option (List ℕ) → Option (List ℕ) → List ℕ → Type 0
-HadScript (Some n) had left bytes = (bytes ≡ generated n) × (left ≡ had)
-HadScript None had left bytes =
-    IfSome had (λ all. (all ≡ bytes) × (left ≡ Some [])) × (length bytes ≤ script_limit)
+-- the bytes are all that the source had left, and as many as a script may have
+abbrev pub HadScript : Option (List ℕ) → Option (List ℕ) → List ℕ → Type 0
+HadScript had left bytes = HadAll had left bytes × (length bytes ≤ script_limit)
+
+-- the source gave a byte more than a script may have
+abbrev pub HadTooMuch : Option (List ℕ) → Option (List ℕ) → Type 0
+HadTooMuch had left = IfSome had (λ bytes. Overlong script_limit bytes left)
 
 -- ---- what was played
+-- `IsScript` says of bytes that they are those of the script that is replayed.
 
 -- the script was read whole, and this is its run, which fits in a journal
-pub record Replayed (words : Words) (had left : Option (List ℕ)) (journal : List Line)
-    : Type 0 where
+pub record Replayed (IsScript : List ℕ → Type 0) (journal : List Line) : Type 0 where
   pub bytes : List ℕ
   pub script : Script
-  pub read : HadScript words.generate had left bytes
+  pub read : IsScript bytes
   pub parsed : script_of bytes ≡ Ok script
   pub proper : IsProper script
   pub played : Run script journal
@@ -57,21 +58,19 @@ abbrev pub IsCut : Script → List Line → Type 0
 IsCut script journal = StopsAtOnce script journal ⊎ StopsBefore script journal
 
 -- the script was read whole, and its run doesn't fit in a journal
-pub record Outgrown (words : Words) (had left : Option (List ℕ)) (journal : List Line)
-    : Type 0 where
+pub record Outgrown (IsScript : List ℕ → Type 0) (journal : List Line) : Type 0 where
   pub bytes : List ℕ
   pub script : Script
-  pub read : HadScript words.generate had left bytes
+  pub read : IsScript bytes
   pub parsed : script_of bytes ≡ Ok script
   pub proper : IsProper script
   pub cut : IsCut script journal
   pub within : IsWithin journal
 
 -- the bytes were read whole, and are no script
-pub record Misread (words : Words) (had left : Option (List ℕ)) (line : ℕ) (cause : Cause)
-    : Type 0 where
+pub record Misread (IsScript : List ℕ → Type 0) (line : ℕ) (cause : Cause) : Type 0 where
   pub bytes : List ℕ
-  pub read : HadScript words.generate had left bytes
+  pub read : IsScript bytes
   pub bad : script_of bytes ≡ Err (record { line = line; cause = cause })
 
 -- nothing was played, and nothing written
@@ -80,38 +79,46 @@ pub record Unplayed (journal : List Line) (old new : Option (List ℕ)) : Type 0
   pub unwritten : new ≡ old
 
 -- the sink took a front of what is written of the script's run, which fits in a journal
-pub record BrokeOff (words : Words) (had left old new : Option (List ℕ)) : Type 0 where
+pub record BrokeOff (IsScript : List ℕ → Type 0) (transcript : List Line → List ℕ)
+    (old new : Option (List ℕ)) : Type 0 where
   pub journal : List Line
-  pub replayed : Replayed words had left journal
-  pub front : WroteFront old new (transcript words journal)
+  pub replayed : Replayed IsScript journal
+  pub front : WroteFront old new (transcript journal)
 
 -- it took nothing, or such a front: so nothing of what is no script, nor of a run that doesn't fit
-abbrev pub CutOff : Words → Option (List ℕ) → Option (List ℕ) → Option (List ℕ) → Option (List ℕ)
-    → Type 0
-CutOff words had left old new = (new ≡ old) ⊎ BrokeOff words had left old new
+abbrev pub CutOff : (List ℕ → Type 0) → (List Line → List ℕ) → Option (List ℕ)
+    → Option (List ℕ) → Type 0
+CutOff IsScript transcript old new = (new ≡ old) ⊎ BrokeOff IsScript transcript old new
 
--- what each status says where the words ask for such a replay: of the journal, of what the source
--- had left and has left now, and of what the sink had taken and has taken now
-abbrev pub ReplayEnded : Words → Status → List Line → Option (List ℕ) → Option (List ℕ)
+-- what each status says of a replay, by which bytes its script is, what too long a script shows of
+-- the source, and what is written of a journal: of the journal, and of what the sink had taken and
+-- has taken now
+abbrev pub Ended : (List ℕ → Type 0) → Type 0 → (List Line → List ℕ) → Status → List Line
     → Option (List ℕ) → Option (List ℕ) → Type 0
-ReplayEnded words status.Done journal had left old new =
-    Replayed words had left journal × WroteBytes old new (transcript words journal)
-ReplayEnded words status.NoMemory journal had left old new =
-    (journal ≡ []) × CutOff words had left old new
-ReplayEnded words status.BadWords journal had left old new = ⊥
-ReplayEnded words (status.BadScript line cause) journal had left old new =
-    Unplayed journal old new × Misread words had left line cause
-ReplayEnded words status.ReadFault journal had left old new = Unplayed journal old new
-ReplayEnded words status.WriteFault journal had left old new =
-    Replayed words had left journal × WroteFront old new (transcript words journal)
-ReplayEnded words status.ScriptTooLong journal had left old new =
-    Unplayed journal old new × IfSome had (λ bytes. Overlong script_limit bytes left)
-    × (words.generate ≡ None)
-ReplayEnded words status.RunTooLong journal had left old new =
-    (new ≡ old) × Outgrown words had left journal
-ReplayEnded words status.TranscriptTooLong journal had left old new = ⊥
-ReplayEnded words (status.BadTranscript line) journal had left old new = ⊥
-ReplayEnded words (status.Refuted law line) journal had left old new = ⊥
+Ended IsScript IsTooLong transcript status.Done journal old new =
+    Replayed IsScript journal × WroteBytes old new (transcript journal)
+Ended IsScript IsTooLong transcript status.NoMemory journal old new =
+    (journal ≡ []) × CutOff IsScript transcript old new
+Ended IsScript IsTooLong transcript status.BadWords journal old new = ⊥
+Ended IsScript IsTooLong transcript (status.BadScript line cause) journal old new =
+    Unplayed journal old new × Misread IsScript line cause
+Ended IsScript IsTooLong transcript status.ReadFault journal old new = Unplayed journal old new
+Ended IsScript IsTooLong transcript status.WriteFault journal old new =
+    Replayed IsScript journal × WroteFront old new (transcript journal)
+Ended IsScript IsTooLong transcript status.ScriptTooLong journal old new =
+    Unplayed journal old new × IsTooLong
+Ended IsScript IsTooLong transcript status.RunTooLong journal old new =
+    (new ≡ old) × Outgrown IsScript journal
+Ended IsScript IsTooLong transcript status.TranscriptTooLong journal old new = ⊥
+Ended IsScript IsTooLong transcript (status.BadTranscript line) journal old new = ⊥
+Ended IsScript IsTooLong transcript (status.Refuted law line) journal old new = ⊥
+
+-- what each status says where the script is what a source had left, and the journal's text is
+-- written: also of what the source had left and has left now
+abbrev pub SourceEnded : Status → List Line → Option (List ℕ) → Option (List ℕ)
+    → Option (List ℕ) → Option (List ℕ) → Type 0
+SourceEnded st journal had left old new =
+    Ended (HadScript had left) (HadTooMuch had left) text st journal old new
 
 -- wherever the run of a proper script that has this journal begins rounds of calm, they are in time
 abbrev pub CalmsAreInTime : List Line → Type 0
@@ -119,6 +126,21 @@ CalmsAreInTime journal = (script : Script) → IsProper script → (r : FrontRun
     → CalmsInTime script.header r.taken
 
 -- ---- on the way
+
+-- what each status says of the play of the script that the bytes are, of which nothing was written
+abbrev pub PlayEnded : List ℕ → Status → List Line → Type 0
+PlayEnded bytes status.Done journal = Replayed (λ it. it ≡ bytes) journal
+PlayEnded bytes status.NoMemory journal = journal ≡ []
+PlayEnded bytes (status.BadScript line cause) journal =
+    (journal ≡ []) × Misread (λ it. it ≡ bytes) line cause
+PlayEnded bytes status.RunTooLong journal = Outgrown (λ it. it ≡ bytes) journal
+PlayEnded bytes _ journal = ⊥
+
+-- how a run ends of which all was played, and whose writing ended so
+abbrev pub status_after_writing : Result (Unit {0}) WriteFault → Status
+status_after_writing (Ok done) = status.Done
+status_after_writing (Err writing.NoMemory) = status.NoMemory
+status_after_writing (Err writing.Sink) = status.WriteFault
 
 -- what was written of a text where that ended so: nothing else can have come between
 abbrev pub WritingEnded : Status → Option (List ℕ) → Option (List ℕ) → List ℕ → Type 0
@@ -151,11 +173,11 @@ abbrev pub EndsBytes : Bool → List ℕ → Status → Type 0
 EndsBytes true bytes st = st ≡ status.ScriptTooLong
 EndsBytes false bytes st = EndsScript (script_of bytes) st
 
--- by the script that is generated, or by what the source has left, where it tells that
-abbrev pub EndsBy : Option ℕ → Option (List ℕ) → Status → Type 0
-EndsBy (Some n) had st = EndsScript (script_of (generated n)) st
-EndsBy None had st = IfSome had (λ bytes. EndsBytes (nat_lt script_limit (length bytes)) bytes st)
+-- by what the source has left, where it tells that
+abbrev pub EndsBySource : Option (List ℕ) → Status → Type 0
+EndsBySource had st =
+    IfSome had (λ bytes. EndsBytes (nat_lt script_limit (length bytes)) bytes st)
 
 -- how a run ends where neither end has a fault: so, or memory was refused
-abbrev pub IsDecided : Words → Option (List ℕ) → Status → Type 0
-IsDecided words had st = EndsBy words.generate had st ⊎ (st ≡ status.NoMemory)
+abbrev pub IsSourceDecided : Option (List ℕ) → Status → Type 0
+IsSourceDecided had st = EndsBySource had st ⊎ (st ≡ status.NoMemory)

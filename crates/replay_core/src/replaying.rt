@@ -1,19 +1,16 @@
 //! The replay of a script, from the source to the sink.
-ghost use Rattle.std.specs.Prelude.{◌≡◌, ◌≢◌, ◌<◌, ◌^◌, [], ℕ, List, Option, None, Some, Ok, length, IsSome};
+ghost use Rattle.std.specs.Prelude.{◌≡◌, ◌≢◌, ◌<◌, ◌≤◌, ◌^◌, [], ℕ, List, Option, Ok, length};
 ghost use Rattle.byte_ends.specs.Faults.{Rose};
+ghost use Rattle.journal_text.specs.Text as texts;
 ghost use Rattle.script_lang.specs.Grammar.{script_of};
 ghost use Rattle.script_lang.specs.Proper.{IsProper};
 ghost use Rattle.world.specs.Claims.{HasClaims};
-ghost use Rattle.replay_core.specs.Outcome.{CalmsAreInTime, ReplayEnded, HadScript, IsDecided, WritingEnded};
-ghost use Rattle.replay_core.specs.Transcripts as transcripts;
+ghost use Rattle.replay_core.specs.Outcome.{CalmsAreInTime, HadScript, IsSourceDecided, PlayEnded, SourceEnded, WritingEnded, status_after_writing};
 
-use crate::generating::generated;
 use crate::play::{Played, play_script};
 use crate::reading::{ReadFault, read_all};
 use crate::status::Status;
-use crate::transcript::write_transcript;
-use crate::words::Words;
-use crate::writing::WriteFault;
+use crate::writing::{WriteFault, write_lines};
 use byte_ends::{Sink, Source};
 use journal_text::Journal;
 use script_lang::{Script, ScriptFault, parse};
@@ -35,19 +32,11 @@ pub struct Outcome {
     pub remains: Option<Remains>,
 }
 
-/// Replays the script that the source has left, and writes the transcript to the sink.
-///
-/// Where the words have a number, the script is the generated one of that number, nothing is pulled
-/// from the source, and the summary alone is written. Otherwise the summary follows the transcript
-/// where the words ask for it. The status is never `BadWords`, nor one of an audit.
-pub fn replay<S: Source, K: Sink>(
-    alloc: Global,
-    words: Words,
-    source: &mut S,
-    out: &mut K,
-) -> Outcome
+/// Replays the script that the source has left, and writes the journal's text to the sink. The
+/// status is never `BadWords`, nor one of an audit.
+pub fn replay<S: Source, K: Sink>(alloc: Global, source: &mut S, out: &mut K) -> Outcome
     // What each status says of the journal, the source and the sink.
-    ensures ended { ReplayEnded words result.status result.journal.lines (S.left source.old)
+    ensures ended { SourceEnded result.status result.journal.lines (S.left source.old)
         (S.left source.new) (K.taken out.old) (K.taken out.new) }
 
     // What holds of the journal, however the run ended.
@@ -59,19 +48,52 @@ pub fn replay<S: Source, K: Sink>(
         → Rose (S.faults source.old) (S.faults source.new) }
     ensures write_fault { result.status ≡ Status.WriteFault
         → Rose (K.faults out.old) (K.faults out.new) }
+    ensures never_falls { K.faults out.old ≤ K.faults out.new }
 
-    // Nothing is pulled where a number stands for the script.
-    ensures unread { IsSome words.generate → source.new ≡ source.old }
-
-    // Without a fault of either end, the words and the bytes decide how the run ends, unless memory
-    // is refused.
+    // Without a fault of either end, the bytes decide how the run ends, unless memory is refused.
     ensures decided { ¬ Rose (S.faults source.old) (S.faults source.new)
         → ¬ Rose (K.faults out.old) (K.faults out.new)
-        → IsDecided words (S.left source.old) result.status }
+        → IsSourceDecided (S.left source.old) result.status }
 {
-    match words.generate {
-        None => replay_source(alloc, words, source, out),
-        Some(number) => replay_generated(alloc, words, number, out),
+    match read_all(alloc, source, SCRIPT_LIMIT) {
+        Err(ReadFault::NoMemory) => unplayed(alloc, Status::NoMemory),
+        Err(ReadFault::Source) => unplayed(alloc, Status::ReadFault),
+        Err(ReadFault::TooLong) => unplayed(alloc, Status::ScriptTooLong),
+        Ok(bytes) => replay_bytes(alloc, bytes.as_slice(), out),
+    }
+}
+
+impl Outcome {
+    /// How a run ends of which all was played, and whose writing ended so. For want of memory its
+    /// journal is given up.
+    pub fn after_writing(self, alloc: Global, writing: Result<(), WriteFault>) -> Outcome
+        requires claims { HasClaims self.journal.lines }
+        requires calms { CalmsAreInTime self.journal.lines }
+        ensures status { result.status ≡ status_after_writing writing }
+        ensures kept { result.status ≢ Status.NoMemory
+            → result.journal.lines ≡ self.journal.lines }
+        ensures empty { result.status ≡ Status.NoMemory → result.journal.lines ≡ [] }
+        ensures claims { HasClaims result.journal.lines }
+        ensures calms { CalmsAreInTime result.journal.lines }
+    {
+        let Outcome {
+            journal,
+            remains,
+            ..
+        } = self;
+        match writing {
+            Ok(()) => Outcome {
+                status: Status::Done,
+                journal,
+                remains,
+            },
+            Err(WriteFault::Sink) => Outcome {
+                status: Status::WriteFault,
+                journal,
+                remains,
+            },
+            Err(WriteFault::NoMemory) => unplayed(alloc, Status::NoMemory),
+        }
     }
 }
 
@@ -89,84 +111,55 @@ pub fn unplayed(alloc: Global, status: Status) -> Outcome
     }
 }
 
-/// Replays the script that the source has left.
-fn replay_source<S: Source, K: Sink>(
-    alloc: Global,
-    words: Words,
-    source: &mut S,
-    out: &mut K,
-) -> Outcome
-    requires { words.generate ≡ None }
-    ensures ended { ReplayEnded words result.status result.journal.lines (S.left source.old)
-        (S.left source.new) (K.taken out.old) (K.taken out.new) }
-    ensures claims { HasClaims result.journal.lines }
-    ensures calms { CalmsAreInTime result.journal.lines }
-    ensures read_fault { result.status ≡ Status.ReadFault
-        → Rose (S.faults source.old) (S.faults source.new) }
-    ensures write_fault { result.status ≡ Status.WriteFault
-        → Rose (K.faults out.old) (K.faults out.new) }
-{
-    match read_all(alloc, source, SCRIPT_LIMIT) {
-        Err(ReadFault::NoMemory) => unplayed(alloc, Status::NoMemory),
-        Err(ReadFault::Source) => unplayed(alloc, Status::ReadFault),
-        Err(ReadFault::TooLong) => unplayed(alloc, Status::ScriptTooLong),
-        Ok(bytes) => replay_bytes(alloc, words, bytes.as_slice(), out),
-    }
-}
-
-/// Replays the script that the number stands for.
-fn replay_generated<K: Sink>(alloc: Global, words: Words, number: u64, out: &mut K) -> Outcome
-    requires { words.generate ≡ Some number }
-    ensures ended { (had : Option (List ℕ))
-        → ReplayEnded words result.status result.journal.lines had had (K.taken out.old)
-        (K.taken out.new) }
-    ensures claims { HasClaims result.journal.lines }
-    ensures calms { CalmsAreInTime result.journal.lines }
-    ensures read_fault { result.status ≢ Status.ReadFault }
-    ensures write_fault { result.status ≡ Status.WriteFault
-        → Rose (K.faults out.old) (K.faults out.new) }
-{
-    match generated(alloc, number) {
-        Err(_) => unplayed(alloc, Status::NoMemory),
-        Ok(script) => replay_bytes(alloc, words, script.as_slice(), out),
-    }
-}
-
 /// Replays the script that the bytes are.
-fn replay_bytes<K: Sink>(alloc: Global, words: Words, bytes: &[u8], out: &mut K) -> Outcome
+fn replay_bytes<K: Sink>(alloc: Global, bytes: &[u8], out: &mut K) -> Outcome
     requires { length bytes.now < 2 ^ 60 }
-    ensures ended { (had left : Option (List ℕ)) → HadScript words.generate had left bytes.now
-        → ReplayEnded words result.status result.journal.lines had left (K.taken out.old)
+    ensures ended { (had left : Option (List ℕ)) → HadScript had left bytes.now
+        → SourceEnded result.status result.journal.lines had left (K.taken out.old)
         (K.taken out.new) }
     ensures claims { HasClaims result.journal.lines }
     ensures calms { CalmsAreInTime result.journal.lines }
     ensures read_fault { result.status ≢ Status.ReadFault }
     ensures write_fault { result.status ≡ Status.WriteFault
         → Rose (K.faults out.old) (K.faults out.new) }
+    ensures never_falls { K.faults out.old ≤ K.faults out.new }
+{
+    let played = play_bytes(alloc, bytes);
+    match played.status {
+        Status::Done => transcribe(alloc, played, out),
+        _ => played,
+    }
+}
+
+/// Plays the script that the bytes are, and writes nothing. The status is `Done` where all was
+/// played, `BadScript` where the bytes are no script, `RunTooLong` or `NoMemory`.
+pub fn play_bytes(alloc: Global, bytes: &[u8]) -> Outcome
+    requires { length bytes.now < 2 ^ 60 }
+    ensures ended { PlayEnded bytes.now result.status result.journal.lines }
+    ensures claims { HasClaims result.journal.lines }
+    ensures calms { CalmsAreInTime result.journal.lines }
 {
     match parse(alloc, bytes) {
         Err(ScriptFault::NoMemory) => unplayed(alloc, Status::NoMemory),
         Err(ScriptFault::At { line, cause }) => unplayed(alloc, Status::BadScript { line, cause }),
-        Ok(script) => replay_script(alloc, words, &script, out),
+        Ok(script) => play_whole(alloc, &script),
     }
 }
 
-/// Plays the script, and writes what the words ask for.
-fn replay_script<K: Sink>(alloc: Global, words: Words, script: &Script, out: &mut K) -> Outcome
+fn play_whole(alloc: Global, script: &Script) -> Outcome
     requires { IsProper script.now }
-    ensures ended { (had left : Option (List ℕ)) (bytes : List ℕ)
-        → HadScript words.generate had left bytes → script_of bytes ≡ Ok script.now
-        → ReplayEnded words result.status result.journal.lines had left (K.taken out.old)
-        (K.taken out.new) }
+    ensures ended { (bytes : List ℕ) → script_of bytes ≡ Ok script.now
+        → PlayEnded bytes result.status result.journal.lines }
     ensures claims { HasClaims result.journal.lines }
     ensures calms { CalmsAreInTime result.journal.lines }
-    ensures read_fault { result.status ≢ Status.ReadFault }
-    ensures write_fault { result.status ≡ Status.WriteFault
-        → Rose (K.faults out.old) (K.faults out.new) }
 {
     let mut played = Played::nothing(alloc);
     match play_script(alloc, script, &mut played) {
-        Ok(()) => transcribe(alloc, words, played, out),
+        Ok(()) => Outcome {
+            status: Status::Done,
+            journal: played.journal,
+            remains: played.remains,
+        },
         Err(StepFault::NoMemory) => unplayed(alloc, Status::NoMemory),
         Err(StepFault::RunTooLong) => Outcome {
             status: Status::RunTooLong,
@@ -176,12 +169,12 @@ fn replay_script<K: Sink>(alloc: Global, words: Words, script: &Script, out: &mu
     }
 }
 
-/// Writes what the words ask for of the journal.
-fn transcribe<K: Sink>(alloc: Global, words: Words, played: Played, out: &mut K) -> Outcome
+/// Writes the text of the journal that was played.
+fn transcribe<K: Sink>(alloc: Global, played: Outcome, out: &mut K) -> Outcome
     requires claims { HasClaims played.journal.lines }
     requires calms { CalmsAreInTime played.journal.lines }
     ensures written { WritingEnded result.status (K.taken out.old) (K.taken out.new)
-        (transcripts.transcript words played.journal.lines) }
+        (texts.text played.journal.lines) }
     ensures kept { result.status ≢ Status.NoMemory
         → result.journal.lines ≡ played.journal.lines }
     ensures empty { result.status ≡ Status.NoMemory → result.journal.lines ≡ [] }
@@ -189,19 +182,8 @@ fn transcribe<K: Sink>(alloc: Global, words: Words, played: Played, out: &mut K)
     ensures calms { CalmsAreInTime result.journal.lines }
     ensures write_fault { result.status ≡ Status.WriteFault
         → Rose (K.faults out.old) (K.faults out.new) }
+    ensures never_falls { K.faults out.old ≤ K.faults out.new }
 {
-    let Played { journal, remains } = played;
-    match write_transcript(alloc, words, &journal, out) {
-        Ok(()) => Outcome {
-            status: Status::Done,
-            journal,
-            remains,
-        },
-        Err(WriteFault::Sink) => Outcome {
-            status: Status::WriteFault,
-            journal,
-            remains,
-        },
-        Err(WriteFault::NoMemory) => unplayed(alloc, Status::NoMemory),
-    }
+    let writing = write_lines(alloc, played.journal.as_slice(), out);
+    played.after_writing(alloc, writing)
 }

@@ -3,16 +3,10 @@
 #![tactic(auto)]
 
 use byte_ends::{StdSink, StdSource};
-use replay_core::{Outcome, Status, Words, code, fault_text, replay};
+use replay_core::{Outcome, Status, code, fault_text, replay};
 use std::io::{ErrorKind, Write};
 use std::process::ExitCode;
 use std::{env, io, mem};
-
-/// The transcript is written without its summary, and the script isn't generated.
-const WORDS: Words = Words {
-    summary: false,
-    generate: None,
-};
 
 /// Replays over the standard streams, unless a word stands after the program's name.
 fn status(rt: &HostRuntime) -> Status {
@@ -30,7 +24,7 @@ fn replay_input(rt: &HostRuntime) -> Status {
         status,
         journal,
         remains,
-    } = replay(rt.alloc(), WORDS, &mut source, &mut sink);
+    } = replay(rt.alloc(), &mut source, &mut sink);
     // The process ends soon: the memory of lines and records needn't be given back.
     mem::forget(journal);
     mem::forget(remains);

@@ -1,0 +1,18 @@
+use Rattle.cluster_top.proofs.WordReplays.{not_reached, summed}
+use Rattle.cluster_top.proofs.word_replay.replay_and_summarize.Goals as goal
+
+pub returns-in-Done-clause-ended : goal.returns-in-Done-clause-ended
+returns-in-Done-clause-ended g c = λ words s n.
+    summed words _ _ _ _ (g.S.Source.left c.args.source.now) (g.S.Source.left c.replay-replayed.new.source) (g.K.Sink.taken c.args.out.now) (g.K.Sink.taken c.replay-replayed.new.out)
+    (g.K.Sink.taken c.summarize.new.out) s n c.in-Done.is c.replay-replayed.ensures.ended c.summarize.ensures.written c.summarize.ensures.kept c.summarize.ensures.empty
+
+pub returns-in_default : goal.returns-in_default
+returns-in_default g c = record {
+  ended = λ words s n.
+      not_reached words _ _ (g.S.Source.left c.args.source.now) (g.S.Source.left c.replay-replayed.new.source) (g.K.Sink.taken c.args.out.now) (g.K.Sink.taken c.replay-replayed.new.out)
+      s n c.in_default.not-Done c.replay-replayed.ensures.ended;
+  claims = c.replay-replayed.ensures.claims;
+  calms = c.replay-replayed.ensures.calms;
+  read_fault = c.replay-replayed.ensures.read_fault;
+  write_fault = c.replay-replayed.ensures.write_fault;
+}
