@@ -1,0 +1,1 @@
+"""What .ci/edits is made of."""
