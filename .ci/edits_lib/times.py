@@ -87,7 +87,7 @@ class Times:
 def read(text, tried):
     """The seconds of the edits and of the seeds, by their names, of what `lines` gave: an edit that was tried twice took both."""
     edits, seeds = {}, {}
-    for crate, number, seconds in map(str.split, text.splitlines()):
+    for crate, number, seconds in re.findall(rf"^(\S+) ({SEED}|[0-9]+) ([0-9]+)$", text, re.M):
         names = sorted(f"{it.name}.edit" for it in tried if it.crate == crate)
         if number == SEED:
             seeds[crate] = max(seeds.get(crate, 0), int(seconds))
