@@ -135,18 +135,17 @@ def spans_of(text: bytes) -> List[Tuple[int, int]]:
     return [found.span() for found in re.finditer(rb"[^ \t]+", text)]
 
 
-def lines_of(script: bytes, count: int) -> List[bytes]:
-    """The first lines, without what ends them."""
-    parts = script.split(b"\n", count)
-    lines = [part[:-1] if part.endswith(b"\r") else part for part in parts[:-1]]
-    return (lines + parts[-1:])[:count]
+def without_return(part: bytes) -> bytes:
+    """The line, of which this part of the script is ended by a line feed."""
+    return part[:-1] if part.endswith(b"\r") else part
 
 
-def before_of(lines: List[bytes]) -> Before:
+def before_of(parts: List[bytes]) -> Before:
     """What these lines, none of them bad, say of the next one."""
     version, nodes = 1, {}
     version_line = settled_line = command_line = None
-    for number, text in enumerate(lines, 1):
+    for number, part in enumerate(parts, 1):
+        text = without_return(part)
         words = [text[begin:end].decode(errors="replace") for begin, end in spans_of(text)[:2]]
         if not words or words[0].startswith(";"):
             continue
@@ -353,10 +352,13 @@ CAUSES = {
 
 def found_in(script: bytes, number: int, cause: str) -> Optional[Tuple[Line, Found]]:
     """The bad line and what of it is at fault, where the script has a line of that number with a field."""
-    lines = lines_of(script, number)
-    if len(lines) < number or not spans_of(lines[-1]):
+    parts = script.split(b"\n", number)
+    if len(parts) < number:
         return None
-    line = Line(lines[-1], spans_of(lines[-1]), before_of(lines[:-1]))
+    text = without_return(parts[number - 1]) if len(parts) > number else parts[number - 1]
+    if not spans_of(text):
+        return None
+    line = Line(text, spans_of(text), before_of(parts[: number - 1]))
     return line, CAUSES.get(cause, lambda line: line.at(0))(line)
 
 

@@ -1,0 +1,134 @@
+#!/usr/bin/env python3
+"""usage: .ci/first_afternoon.py     walks a fresh clone as somebody new would, without a proved program
+
+./replay answers a first script by a program that it compiles without proof, and each call behind that is to start at
+once. What each call answers is checked, and that each but the first two takes less than a second; the first answer's time
+is only told, since machines differ.
+"""
+import json
+import os
+import pathlib
+import subprocess
+import sys
+import tempfile
+import time
+from typing import Callable, Dict, List, NamedTuple, Tuple
+
+ROOT = pathlib.Path(__file__).resolve().parent.parent
+MOST_SECONDS = 1.0
+NODES = range(1, 6)
+WRITES_A_STOP = 20
+UNPROVED = "isn't proved"
+
+
+class Call(NamedTuple):
+    """What is called, how it is to end, what it is to write, and a part of what is to stand on standard error."""
+
+    name: str
+    words: List[str]
+    status: int
+    is_right: Callable[[bytes], bool]
+    errors: List[str] = []
+    script: bytes = b""
+
+
+def copy_tree(to: pathlib.Path) -> None:
+    """What git has of the tree, as it stands now."""
+    files = subprocess.run(["git", "ls-files", "-z"], cwd=ROOT, capture_output=True, check=True).stdout
+    subprocess.run(["xargs", "-0", "cp", "--parents", "-t", str(to)], cwd=ROOT, input=files, check=True)
+
+
+def rolling_restart() -> str:
+    """Five nodes are stopped and started one after the other, with twenty writes by the client while each is down."""
+    lines = ["factor 2", *[f"node {node}" for node in NODES], "calm"]
+    for node in NODES:
+        lines += [f"stop {node}", "calm", f"ask {node % len(NODES) + 1}", "flow", "flow"]
+        for number in range(WRITES_A_STOP):
+            lines += [f"cput users/{node}-{number} value-{number}", "round"]
+        lines += [f"start {node}", "calm"]
+    return "".join(f"{line}\n" for line in lines)
+
+
+def call(replay: pathlib.Path, words: List[str], script: bytes, settings: Dict[str, str]) -> Tuple[float, subprocess.CompletedProcess]:
+    began = time.monotonic()
+    done = subprocess.run([replay, *words], input=script, capture_output=True, env=settings)
+    return time.monotonic() - began, done
+
+
+def is_summary(count: int) -> Callable[[bytes], bool]:
+    """Whether the last line is a summary of five nodes, and so many writes at least."""
+
+    def judge(written: bytes) -> bool:
+        said = json.loads(written.splitlines()[-1])
+        return said["nodes"] == len(NODES) and said["applied"] >= count
+
+    return judge
+
+
+def nothing(written: bytes) -> bool:
+    return not written
+
+
+def calls(room: pathlib.Path) -> List[Call]:
+    """The calls that each start at once, in order: the audit reads what the one before wrote."""
+    restart, transcript = room / "restart.script", room / "restart.transcript"
+    restart.write_text(rolling_restart())
+
+    def keep(written: bytes) -> bool:
+        transcript.write_bytes(written)
+        return written.count(b"\napply ") >= len(NODES) * WRITES_A_STOP and written.splitlines()[-1].startswith(b"calm ")
+
+    bad = b"node 1\nnode 2\nquiesce 1\n"
+    shown = ["line 3: UnknownWord\n    quiesce 1\n    ^^^^^^^\n", "make `script 2` the first line"]
+    (room / "bad.script").write_bytes(bad)
+    return [
+        Call("a rolling restart with 100 writes", [str(restart)], 0, keep, [UNPROVED]),
+        Call("--summary", ["--summary", str(restart)], 0, is_summary(100), [UNPROVED]),
+        Call("--audit", ["--audit", str(transcript)], 0, lambda written: written == b"holds\n", [UNPROVED]),
+        Call("--generate 7", ["--generate", "7"], 0, is_summary(1), [UNPROVED]),
+        Call("a word that isn't one", ["--sumary"], 2, nothing, ["--sumary", "usage: "]),
+        Call("a bad line", [], 3, nothing, shown, bad),
+        Call("a bad line of a file", [str(room / "bad.script")], 3, nothing, shown),
+        Call("a file that isn't there", [str(room / "none.script")], 66, nothing, ["none.script: "]),
+        Call("--help", ["--help"], 0, lambda written: written.startswith(b"usage: ")),
+        Call("--version", ["--version"], 0, lambda written: b"\nprogram compiled without proof" in written),
+    ]
+
+
+def judge(what: Call, seconds: float, done: subprocess.CompletedProcess) -> bool:
+    errors = done.stderr.decode(errors="replace")
+    is_right = done.returncode == what.status and what.is_right(done.stdout) and all(it in errors for it in what.errors)
+    print(f"first afternoon: {what.name}: {seconds:.2f} s{'' if is_right else ', and the answer is WRONG'}", flush=True)
+    if not is_right:
+        print(f"status {done.returncode}, {len(done.stdout)} bytes, and on standard error:\n{errors[-2000:]}")
+    return is_right
+
+
+def walk(room: pathlib.Path) -> List[str]:
+    """What went wrong."""
+    clone = room / "clone"
+    clone.mkdir()
+    copy_tree(clone)
+    replay, settings = clone / "replay", {**os.environ, "XDG_CACHE_HOME": str(room / "cache")}
+    first = ROOT / "examples/first"
+    begins = [
+        Call("the first answer", [], 0, lambda it: it == first.with_suffix(".transcript").read_bytes(), [UNPROVED], first.with_suffix(".script").read_bytes()),
+        Call("the first call with a word, once the whole program is compiled", ["--generate=1"], 0, is_summary(1), [UNPROVED]),
+    ]
+    failed = [it.name for it in begins if not judge(it, *call(replay, it.words, it.script, settings))]
+    for it in calls(room):
+        seconds, done = call(replay, it.words, it.script, settings)
+        if not judge(it, seconds, done) or seconds > MOST_SECONDS:
+            failed.append(it.name)
+    return failed
+
+
+def main() -> None:
+    with tempfile.TemporaryDirectory(prefix="first-afternoon-") as room:
+        failed = walk(pathlib.Path(room))
+    print(f"first afternoon: {'all calls answer as they are to' if not failed else 'WRONG or late: ' + ', '.join(failed)}")
+    sys.exit(bool(failed))
+
+
+if __name__ == "__main__":
+    main()
