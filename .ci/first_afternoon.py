@@ -5,6 +5,8 @@
 once. What each call answers is checked, and that each but the first two takes less than a second; the first answer's time
 is only told, since machines differ.
 """
+from __future__ import annotations
+
 import json
 import os
 import pathlib
@@ -12,7 +14,7 @@ import subprocess
 import sys
 import tempfile
 import time
-from typing import Callable, Dict, List, NamedTuple, Tuple
+from typing import Callable, NamedTuple
 
 ROOT = pathlib.Path(__file__).resolve().parent.parent
 MOST_SECONDS = 1.0
@@ -25,10 +27,10 @@ class Call(NamedTuple):
     """What is called, how it is to end, what it is to write, and a part of what is to stand on standard error."""
 
     name: str
-    words: List[str]
+    words: list[str]
     status: int
     is_right: Callable[[bytes], bool]
-    errors: List[str] = []
+    errors: list[str] = []
     script: bytes = b""
 
 
@@ -49,7 +51,7 @@ def rolling_restart() -> str:
     return "".join(f"{line}\n" for line in lines)
 
 
-def call(replay: pathlib.Path, words: List[str], script: bytes, settings: Dict[str, str]) -> Tuple[float, subprocess.CompletedProcess]:
+def call(replay: pathlib.Path, words: list[str], script: bytes, settings: dict[str, str]) -> tuple[float, subprocess.CompletedProcess]:
     began = time.monotonic()
     done = subprocess.run([replay, *words], input=script, capture_output=True, env=settings)
     return time.monotonic() - began, done
@@ -69,7 +71,7 @@ def nothing(written: bytes) -> bool:
     return not written
 
 
-def calls(room: pathlib.Path) -> List[Call]:
+def calls(room: pathlib.Path) -> list[Call]:
     """The calls that each start at once, in order: the audit reads what the one before wrote."""
     restart, transcript = room / "restart.script", room / "restart.transcript"
     restart.write_text(rolling_restart())
@@ -104,7 +106,7 @@ def judge(what: Call, seconds: float, done: subprocess.CompletedProcess) -> bool
     return is_right
 
 
-def walk(room: pathlib.Path) -> List[str]:
+def walk(room: pathlib.Path) -> list[str]:
     """What went wrong."""
     clone = room / "clone"
     clone.mkdir()
@@ -116,6 +118,8 @@ def walk(room: pathlib.Path) -> List[str]:
         Call("the first call with a word, once the whole program is compiled", ["--generate=1"], 0, is_summary(1), [UNPROVED]),
     ]
     failed = [it.name for it in begins if not judge(it, *call(replay, it.words, it.script, settings))]
+    if failed:
+        return failed
     for it in calls(room):
         seconds, done = call(replay, it.words, it.script, settings)
         if not judge(it, seconds, done) or seconds > MOST_SECONDS:

@@ -4,10 +4,12 @@
 Each row has a script with one bad line. The program is to refuse it for that line and cause; the mark is to stand under
 the text that the row names; the hint is to be the row's; and the program is to play the mended script. Each hint has a row.
 """
+from __future__ import annotations
+
 import pathlib
 import subprocess
 import sys
-from typing import List, NamedTuple, Tuple
+from typing import NamedTuple
 
 sys.dont_write_bytecode = True
 sys.path.insert(0, str(pathlib.Path(__file__).resolve().parent.parent / "tools"))
@@ -78,7 +80,7 @@ ROWS = [
 ]
 
 
-def play(program: str, script: bytes) -> Tuple[int, bytes]:
+def play(program: str, script: bytes) -> tuple[int, bytes]:
     done = subprocess.run([program], input=script, stdout=subprocess.DEVNULL, stderr=subprocess.PIPE)
     return done.returncode, done.stderr
 
@@ -110,7 +112,7 @@ def check_bytes(program: str) -> bool:
 
 def main() -> None:
     program = sys.argv[1]
-    failed: List[str] = [f"{row.hint}: {row.bad}" for row in ROWS if not check_row(program, row)]
+    failed: list[str] = [f"{row.hint}: {row.bad}" for row in ROWS if not check_row(program, row)]
     failed += [] if check_bytes(program) else ["utf8"]
     failed += [f"no row for {hint}" for hint in set(explain_fault.HINTS) - {row.hint for row in ROWS} - {"utf8"}]
     failed += [f"no cause {cause}" for cause in set(explain_fault.CAUSES) - {row.cause for row in ROWS} - {"BadUtf8"}]

@@ -3,9 +3,11 @@
 The program says `line L: CAUSE` of the first bad line. `explanation` shows that line with a mark under the field at
 fault, and a hint where one is sure. The forms and causes are those of docs/FORMATS.md.
 """
+from __future__ import annotations
+
 import difflib
 import re
-from typing import Callable, Dict, List, NamedTuple, Optional, Tuple
+from typing import Callable, NamedTuple
 
 # The fields of each word, as docs/FORMATS.md names them; NEW is a node that isn't declared yet, and R? may be left out.
 FORMS = {
@@ -88,50 +90,50 @@ class Found(NamedTuple):
 
     begin: int
     end: int
-    hint: Optional[str] = None
-    named: Dict[str, object] = {}
+    hint: str | None = None
+    named: dict[str, object] = {}
 
 
 class Before(NamedTuple):
     """What the lines before a line say of it."""
 
     version: int
-    nodes: Dict[int, int]
-    version_line: Optional[int]
-    settled_line: Optional[int]
-    command_line: Optional[int]
+    nodes: dict[int, int]
+    version_line: int | None
+    settled_line: int | None
+    command_line: int | None
 
 
 class Line(NamedTuple):
     """A line, its fields as where they begin and end, and what stands before."""
 
     text: bytes
-    spans: List[Tuple[int, int]]
+    spans: list[tuple[int, int]]
     before: Before
 
     def field(self, index: int) -> str:
         begin, end = self.spans[index]
         return self.text[begin:end].decode(errors="replace")
 
-    def fields(self) -> List[str]:
+    def fields(self) -> list[str]:
         return [self.field(index) for index in range(len(self.spans))]
 
-    def at(self, index: int, hint: Optional[str] = None, **named: object) -> Found:
+    def at(self, index: int, hint: str | None = None, **named: object) -> Found:
         return Found(*self.spans[index], hint, named)
 
-    def behind(self, hint: Optional[str], **named: object) -> Found:
+    def behind(self, hint: str | None, **named: object) -> Found:
         """The place behind the last field."""
         end = self.spans[-1][1] + 1
         return Found(end, end + 1, hint, named)
 
-    def form(self) -> List[str]:
+    def form(self) -> list[str]:
         """The names of the fields behind the word, in the version in force."""
         word = self.field(0)
         added = ADDED_FORMS.get(word) if self.before.version == 2 else None
         return (added or FORMS.get(word, "")).split()
 
 
-def spans_of(text: bytes) -> List[Tuple[int, int]]:
+def spans_of(text: bytes) -> list[tuple[int, int]]:
     return [found.span() for found in re.finditer(rb"[^ \t]+", text)]
 
 
@@ -140,7 +142,7 @@ def without_return(part: bytes) -> bytes:
     return part[:-1] if part.endswith(b"\r") else part
 
 
-def before_of(parts: List[bytes]) -> Before:
+def before_of(parts: list[bytes]) -> Before:
     """What these lines, none of them bad, say of the next one."""
     version, nodes = 1, {}
     version_line = settled_line = command_line = None
@@ -161,12 +163,12 @@ def before_of(parts: List[bytes]) -> Before:
     return Before(version, nodes, version_line, settled_line, command_line)
 
 
-def spelled(form: List[str], word: str) -> str:
+def spelled(form: list[str], word: str) -> str:
     names = {"NEW": "N", "R?": "[R]"}
     return " ".join([word, *[names.get(name, name) for name in form]])
 
 
-def number_of(text: str) -> Optional[int]:
+def number_of(text: str) -> int | None:
     """The number that a field is, if it is one."""
     if not re.fullmatch("[0-9]{1,20}", text) or int(text) >= 1 << 64:
         return None
@@ -178,7 +180,7 @@ def is_in_range(name: str, text: str) -> bool:
     return number is not None and LEAST.get(name, 0) <= number <= GREATEST.get(name, number)
 
 
-def named_fields(line: Line) -> List[Tuple[int, str]]:
+def named_fields(line: Line) -> list[tuple[int, str]]:
     """Each field behind the word, and its name in the form; of `groups` each is a node but the bars."""
     count = len(line.spans)
     if line.field(0) == "groups":
@@ -186,7 +188,7 @@ def named_fields(line: Line) -> List[Tuple[int, str]]:
     return list(zip(range(1, count), line.form()))
 
 
-def first_of(line: Line, is_bad: Callable[[str, str], bool]) -> Optional[Tuple[int, str]]:
+def first_of(line: Line, is_bad: Callable[[str, str], bool]) -> tuple[int, str] | None:
     """The first field that is bad, by its name and its text."""
     return next((it for it in named_fields(line) if is_bad(it[1], line.field(it[0]))), None)
 
@@ -350,7 +352,7 @@ CAUSES = {
 }
 
 
-def found_in(script: bytes, number: int, cause: str) -> Optional[Tuple[Line, Found]]:
+def found_in(script: bytes, number: int, cause: str) -> tuple[Line, Found] | None:
     """The bad line and what of it is at fault, where the script has a line of that number with a field."""
     parts = script.split(b"\n", number)
     if len(parts) < number:
@@ -362,7 +364,7 @@ def found_in(script: bytes, number: int, cause: str) -> Optional[Tuple[Line, Fou
     return line, CAUSES.get(cause, lambda line: line.at(0))(line)
 
 
-def hint_of(found: Found) -> Optional[str]:
+def hint_of(found: Found) -> str | None:
     return HINTS[found.hint].format(**found.named) if found.hint else None
 
 
@@ -372,7 +374,7 @@ def printable(part: bytes) -> str:
     return "".join(character if character.isprintable() else "." for character in text)
 
 
-def shown(line: Line, found: Found, width: int = 100) -> List[str]:
+def shown(line: Line, found: Found, width: int = 100) -> list[str]:
     """The line, or what stands around the fault where it is long, and the marks under that."""
     before, marked = printable(line.text[: found.begin]), printable(line.text[found.begin : found.end]) or " "
     before += " " * (found.begin - len(line.text))
@@ -382,7 +384,7 @@ def shown(line: Line, found: Found, width: int = 100) -> List[str]:
     return [f"    {whole.rstrip()}", f"    {marks}"]
 
 
-def explanation(script: bytes, number: int, cause: str) -> List[str]:
+def explanation(script: bytes, number: int, cause: str) -> list[str]:
     """What is to be shown behind `line NUMBER: CAUSE`."""
     found = found_in(script, number, cause)
     if found is None:
