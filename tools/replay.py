@@ -1,0 +1,195 @@
+"""usage: ./replay [--summary] [FILE]     plays the script in FILE, or on standard input, and writes its transcript
+       ./replay --audit [FILE]       says whether a transcript keeps the laws
+       ./replay --generate NUMBER    plays the script that the number stands for, and writes its summary
+       ./replay --build              proves and builds the program
+       ./replay --version            says which program of which sources is started
+       ./replay --help               shows this
+
+--summary writes a line of JSON behind the transcript: how many lines and nodes it has, and how many lines apply, merge,
+drop, settle and send. Where no proved program of these sources is built, they are compiled without proof, once.
+
+The exit status is the program's: 0 where all was played and written, 1 no memory, 2 bad words, 3 a bad line of the
+script, 4 and 5 a fault of reading or writing, 6 to 8 a script, run or transcript that is too long, 9 no transcript, and
+10 a transcript that breaks a law. 66 says that FILE can't be read, and 125 that there is no program to start.
+"""
+from __future__ import annotations
+
+import os
+import sys
+
+TOOLS = os.path.dirname(os.path.realpath(__file__))
+ROOT = os.path.dirname(TOOLS)
+sys.path.insert(0, TOOLS)
+import kept_programs
+
+BAD_WORDS = 2
+BAD_SCRIPT = 3
+NO_INPUT = 66
+NO_ANSWER = 125
+# The program takes no script beyond this.
+SCRIPT_LIMIT = 16_777_216
+# The command's own words, each of which stands alone.
+ALONE = ("--build", "--version", "--help", "-h")
+
+
+class Refused(Exception):
+    """Words that aren't taken."""
+
+
+class Asked:
+    """What the words ask for: the program's own words, and the file that it is to read."""
+
+    def __init__(self) -> None:
+        self.words: list[str] = []
+        self.file: str | None = None
+
+    @property
+    def reads_script(self) -> bool:
+        return not any(word.startswith(("--audit", "--generate")) for word in self.words)
+
+    def take(self, word: str, more: list[str]) -> None:
+        """Takes a word, and for --generate also the next one."""
+        name, equals, number = word.partition("=")
+        if any(it.startswith(name) for it in self.words) and name.startswith("--"):
+            raise Refused(f"{name} stands twice")
+        if word in ("--summary", "--audit"):
+            self.words.append(word)
+        elif name == "--generate":
+            number = number if equals else more.pop(0) if more else ""
+            if not (number.isascii() and number.isdigit() and len(number) <= 20 and int(number) < 1 << 64):
+                raise Refused("--generate takes a number of at most 20 digits, below 2^64")
+            self.words.append(f"--generate={number}")
+        elif word.startswith("-"):
+            raise Refused(f"{word} is no word of it")
+        elif self.file is not None:
+            raise Refused(f"{word} is one FILE too many")
+        else:
+            self.file = word
+
+
+def say(text: str) -> None:
+    print(f"replay: {text}", file=sys.stderr, flush=True)
+
+
+def stop(status: int, text: str) -> None:
+    say(text)
+    raise SystemExit(status)
+
+
+def usage() -> str:
+    return __doc__.partition("\n\n")[0]
+
+
+def read_words(words: list[str]) -> Asked:
+    asked, left = Asked(), list(words)
+    while left:
+        word = left.pop(0)
+        if word in ALONE:
+            raise Refused(f"{word} stands alone")
+        asked.take(word, left)
+    if "--audit" in asked.words and len(asked.words) > 1:
+        raise Refused("--audit stands alone, or with a FILE")
+    if asked.file is not None and not asked.reads_script and "--audit" not in asked.words:
+        raise Refused("--generate takes no FILE")
+    return asked
+
+
+def version() -> str:
+    """Which program is started, of which sources, and by which kit it was made."""
+    return f"commit {commit()}\nprogram {program_now()}\nkit {kept_programs.kit_of(kept_programs.find_rt())}"
+
+
+def commit() -> str:
+    """The commit of the sources, where git has them."""
+    import subprocess
+
+    git = ["git", "-C", ROOT]
+    how = {"stdin": subprocess.DEVNULL, "stdout": subprocess.PIPE, "stderr": subprocess.DEVNULL, "text": True}
+    try:
+        head = subprocess.run([*git, "rev-parse", "--short", "HEAD"], **how).stdout.strip()
+        changed = head and subprocess.run([*git, "status", "--porcelain", "--untracked-files=no"], **how).stdout.strip()
+    except OSError:
+        head = changed = ""
+    return f"{head or kept_programs.UNKNOWN}{', with changes' if changed else ''}"
+
+
+def program_now() -> str:
+    kept = current_program(True)
+    if kept is None:
+        return "none is built of these sources"
+    kind = "proved" if isinstance(kept, kept_programs.Proved) else "compiled without proof"
+    record = kept.known()
+    return f"{kind}, with {record.kit if record else kept_programs.UNKNOWN}"
+
+
+def current_program(is_light: bool) -> kept_programs.Kept | None:
+    """The program of the sources as they stand: the proved one, or else one that was compiled without proof; where the
+    lighter one serves, that too."""
+    crates = [kept_programs.WHOLE, kept_programs.LIGHT] if is_light else [kept_programs.WHOLE]
+    places = [kept_programs.Proved(ROOT)]
+    places += [kept_programs.Unproved(ROOT, folder, crate) for crate in crates for folder in kept_programs.folders_for(ROOT)]
+    return next((kept for kept in places if kept.is_current()), None)
+
+
+def program_to_start(is_light: bool) -> str:
+    """The path of the current program, which is compiled without proof where there is none."""
+    kept = current_program(is_light) or compile_program(is_light)
+    if not isinstance(kept, kept_programs.Proved):
+        say("this program isn't proved, but compiled of the sources as they are; ./replay --build proves and builds it")
+    return kept.program
+
+
+def compile_program(is_light: bool) -> kept_programs.Kept:
+    import compile_kept
+
+    try:
+        return (compile_kept.compiled_light if is_light else compile_kept.compiled_whole)(ROOT, say)
+    except compile_kept.NotCompiled as why:
+        stop(NO_ANSWER, f"no program of these sources is built, and none was compiled: {why}")
+
+
+def open_file(path: str) -> None:
+    """Has standard input read the file."""
+    try:
+        opened = os.open(path, os.O_RDONLY)
+        os.read(opened, 0)
+    except OSError as error:
+        stop(NO_INPUT, f"{path}: {error.strerror}")
+    os.dup2(opened, 0)
+
+
+def start(asked: Asked) -> None:
+    """Starts the program in the place of this one, or, where it reads a script, beside it, to say more of a bad line."""
+    import play_script
+
+    program = program_to_start(not asked.words)
+    if not asked.reads_script:
+        play_script.become(program, asked.words)
+    raise SystemExit(play_script.play(program, asked.words, SCRIPT_LIMIT, BAD_SCRIPT))
+
+
+def main(words: list[str]) -> None:
+    if words in (["--help"], ["-h"]):
+        print(__doc__, end="")
+    elif words == ["--version"]:
+        print(version())
+    elif words == ["--build"]:
+        import build_proved
+
+        raise SystemExit(build_proved.build(ROOT, say))
+    else:
+        asked = read_words(words)
+        if asked.file is not None:
+            open_file(asked.file)
+        start(asked)
+
+
+if __name__ == "__main__":
+    try:
+        main(sys.argv[1:])
+    except Refused as why:
+        say(str(why))
+        print(usage(), file=sys.stderr)
+        raise SystemExit(BAD_WORDS)
+    except KeyboardInterrupt:
+        raise SystemExit(130)
