@@ -2,10 +2,13 @@
 tests, so that crates are proved side by side. The program is then put in its place, with a record of what was proved."""
 from __future__ import annotations
 
+import contextlib
 import os
 import pathlib
 import shutil
+import signal
 import subprocess
+import sys
 import tempfile
 import threading
 import time
@@ -16,8 +19,11 @@ import sources
 
 # What of a crate `rt ci` reads and writes that isn't needed here: what it makes, and the edits that it must refuse.
 LEFT_OUT = ("out", "must-fail", "edits")
-# What a processor proves in a minute, of lines of code, definitions and proofs.
-LINES_A_MINUTE = 2000
+# How many lines of code a processor proves in a minute, with what is said and proved of them, and what a check of a crate
+# takes besides, in lines.
+LINES_A_MINUTE = 500
+LINES_A_CHECK = 200
+# What a check takes of memory, at most.
 BYTES_A_CRATE = 4_000_000_000
 Say = Callable[[str], None]
 
@@ -27,6 +33,10 @@ def build(root: str, say: Say) -> int:
     if kept_programs.find_rt() is None:
         say("the Rattle kit's command rt, which is to prove and build the program, isn't here")
         return 125
+    if kept_programs.Proved(root).is_current():
+        say(f"the program of these sources is proved and built; without crates/{kept_programs.WHOLE}/out it is proved anew")
+        return 0
+    signal.signal(signal.SIGTERM, lambda number, _: sys.exit(128 + number))
     with tempfile.TemporaryDirectory(prefix="replay-build-") as room:
         return build_in(root, f"{room}/copy", say)
 
@@ -42,7 +52,7 @@ def build_in(root: str, copy: str, say: Say) -> int:
     log = pathlib.Path(place.program).with_name("replay.log")
     log.parent.mkdir(exist_ok=True)
     if not prove(copy, lanes, log, progress):
-        print(*log.read_text(errors="replace").splitlines()[-20:], sep="\n", file=os.sys.stderr)
+        print(*log.read_text(errors="replace").splitlines()[-20:], sep="\n", file=sys.stderr)
         say(f"the program isn't proved and built; {log} has all that rt said")
         return 1
     put_program(f"{copy}/crates/{kept_programs.PROGRAM}/out/{kept_programs.PROGRAM}", place.program)
@@ -69,19 +79,19 @@ def lanes_here() -> int:
 
 
 def lines_of(copy: str, name: str) -> int:
-    files = sources.files_of(copy, [name], sources.PROVED)
-    return sum(pathlib.Path(file.path).read_bytes().count(b"\n") for file in files)
+    files = sources.files_of(copy, [name], sources.COMPILED)
+    return LINES_A_CHECK + sum(pathlib.Path(file.path).read_bytes().count(b"\n") for file in files)
 
 
 def usual_minutes(copy: str, names: list[str], lanes: int) -> int:
-    """What so many lines usually take: the longest chain of crates that stand on one another, or what all of them take side
-    by side, whichever is more."""
+    """What so many lines usually take: the longest chain of crates that stand on one another, or all of them side by side,
+    whichever is more."""
     crates = sources.crates_of(copy)
     lines = {name: lines_of(copy, name) for name in names}
     chain: dict[str, int] = {}
     for name in names:
         chain[name] = lines[name] + max((chain[used] for used in crates[name] if used in chain), default=0)
-    return -(-max(sum(lines.values()) // lanes, max(chain.values())) // LINES_A_MINUTE)
+    return -(-max(sum(lines.values()) // lanes, *chain.values()) // LINES_A_MINUTE)
 
 
 class Progress:
@@ -119,20 +129,27 @@ def prove(copy: str, lanes: int, log: pathlib.Path, progress: Progress) -> bool:
     watcher.start()
     try:
         with log.open("w", encoding="utf-8") as written, rt_ci(copy, lanes) as rt:
-            for line in rt.stdout:
-                written.write(line)
-                progress.take(line)
-        return rt.returncode == 0 and line.endswith(" 0 failed\n") and len(progress.proved) == len(progress.names)
+            last = ""
+            for last in rt.stdout:
+                written.write(last)
+                progress.take(last)
+        return rt.returncode == 0 and last.endswith(" 0 failed\n") and len(progress.proved) == len(progress.names)
     finally:
         ended.set()
         watcher.join()
 
 
-def rt_ci(copy: str, lanes: int) -> subprocess.Popen:
+@contextlib.contextmanager
+def rt_ci(copy: str, lanes: int) -> Iterator[subprocess.Popen]:
+    """Runs rt ci in the folder, and ends it if this program is ended."""
     settings = {**os.environ, "RT_JOBS": os.environ.get("RT_JOBS", str(lanes))}
-    settings.pop("CI", None)
     how = {"stdin": subprocess.DEVNULL, "stdout": subprocess.PIPE, "stderr": subprocess.STDOUT}
-    return subprocess.Popen(["rt", "ci"], cwd=copy, env=settings, text=True, errors="replace", **how)
+    with subprocess.Popen(["rt", "ci"], cwd=copy, env=settings, text=True, errors="replace", **how) as rt:
+        try:
+            yield rt
+        except BaseException:
+            rt.terminate()
+            raise
 
 
 def put_program(made: str, place: str) -> None:

@@ -60,7 +60,10 @@ def copy_sources(root: str, to: str, names: Sequence[str], parts: Sequence[str])
 
 
 def compile_place(place: Unproved) -> None:
-    """Compiles a copy of the sources as they stand, so that what is edited meanwhile is met by the next call."""
+    """Compiles a copy of the sources as they stand, so that what is edited meanwhile is met by the next call. It leaves
+    nothing behind when it is told to end."""
+    for number in (signal.SIGTERM, signal.SIGHUP):
+        signal.signal(number, lambda number, _: sys.exit(128 + number))
     command, state = find_rt(), place.state()
     kit, mark = kit_of(command), mark_of(command)
     with tempfile.TemporaryDirectory(prefix="replay-sources-") as copy:
@@ -104,9 +107,8 @@ def begin_whole(root: str, folder: str) -> None:
 
 
 def main() -> None:
-    """Compiles in the background: behind what is waited for, and leaving nothing when it is ended."""
+    """Compiles in the background, behind what is waited for."""
     os.nice(5)
-    signal.signal(signal.SIGTERM, lambda number, _: sys.exit(128 + number))
     try:
         compiled_whole(os.path.realpath(sys.argv[1]), print)
     except NotCompiled as why:
