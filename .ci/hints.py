@@ -2,7 +2,8 @@
 """usage: .ci/hints.py PROGRAM     checks what ./replay shows of bad lines (tools/explain_fault.py)
 
 Each row has a script with one bad line. The program is to refuse it for that line and cause; the mark is to stand under
-the text that the row names; the hint is to be the row's; and the program is to play the mended script. Each hint has a row.
+the text that the row names; the hint is to be the row's; and the program is to play the mended script. Each hint has a
+row.
 """
 from __future__ import annotations
 

@@ -1,10 +1,12 @@
-"""Proves and builds the program: `rt ci` on a copy of the crates that it is made of, without edits and other crates'
-tests, so that crates are proved side by side. The program is then put in its place, with a record of what was proved."""
+"""Proves and builds the program: `rt ci` on a copy of the crates that it is made of, without edits, so that crates are
+proved side by side. The program is then put in its place, with a record of what was proved.
+"""
 from __future__ import annotations
 
 import contextlib
 import os
 import pathlib
+import re
 import shutil
 import signal
 import subprocess
@@ -19,12 +21,14 @@ import sources
 
 # What of a crate `rt ci` reads and writes that isn't needed here: what it makes, and the edits that it must refuse.
 LEFT_OUT = ("out", "must-fail", "edits")
-# How many lines of code a processor proves in a minute, with what is said and proved of them, and what a check of a crate
-# takes besides, in lines.
+# How many lines of code a processor proves in a minute, with what is said and proved of them, and what a check of a
+# crate takes besides, in lines.
 LINES_A_MINUTE = 500
 LINES_A_CHECK = 200
 # What a check takes of memory, at most.
 BYTES_A_CRATE = 4_000_000_000
+# What rt says of a crate that it has proved, now or in an earlier run on this machine.
+PROVED = re.compile(r"rt: (\w+) (?:proved$|is kept: )")
 Say = Callable[[str], None]
 
 
@@ -34,7 +38,7 @@ def build(root: str, say: Say) -> int:
         say("the Rattle kit's command rt, which is to prove and build the program, isn't here")
         return 125
     if kept_programs.Proved(root).is_current():
-        say(f"the program of these sources is proved and built; without crates/{kept_programs.WHOLE}/out it is proved anew")
+        say(f"the program of these sources is built and proved; without crates/{kept_programs.WHOLE}/out it is anew")
         return 0
     signal.signal(signal.SIGTERM, lambda number, _: sys.exit(128 + number))
     with tempfile.TemporaryDirectory(prefix="replay-build-") as room:
@@ -64,7 +68,8 @@ def build_in(root: str, copy: str, say: Say) -> int:
 def copy_crates(root: str, copy: str, names: list[str]) -> None:
     """Copies the crates, and what crates.txt and HANDLES say of them, to a folder that is the top of a repository."""
     for name in names:
-        shutil.copytree(f"{root}/crates/{name}", f"{copy}/crates/{name}", ignore=shutil.ignore_patterns(*LEFT_OUT), symlinks=True)
+        left_out = shutil.ignore_patterns(*LEFT_OUT)
+        shutil.copytree(f"{root}/crates/{name}", f"{copy}/crates/{name}", ignore=left_out, symlinks=True)
     pathlib.Path(copy, "crates.txt").write_text(sources.lines_of_crates(root, names), encoding="utf-8")
     shutil.copy(f"{root}/HANDLES", copy)
     os.mkdir(f"{copy}/.git")
@@ -84,8 +89,8 @@ def lines_of(copy: str, name: str) -> int:
 
 
 def usual_minutes(copy: str, names: list[str], lanes: int) -> int:
-    """What so many lines usually take: the longest chain of crates that stand on one another, or all of them side by side,
-    whichever is more."""
+    """What so many lines usually take: the longest chain of crates that stand on one another, or all of them side by
+    side, whichever is more."""
     crates = sources.crates_of(copy)
     lines = {name: lines_of(copy, name) for name in names}
     chain: dict[str, int] = {}
@@ -107,14 +112,15 @@ class Progress:
 
     def tell(self, what: str) -> None:
         self.said = time.monotonic()
-        self.say(f"{what}: {len(self.proved)} of {len(self.names)} crates, {self.minutes()} min so far, usually {self.usual} in all")
+        so_far = f"{len(self.proved)} of {len(self.names)} crates, {self.minutes()} min so far"
+        self.say(f"{what}: {so_far}, usually {self.usual} in all")
 
     def take(self, line: str) -> None:
         """Takes a line of rt."""
-        words = line.split()
-        if words[:1] == ["rt:"] and words[2:3] in (["proved"], ["is"]) and words[1] in self.names and words[1] not in self.proved:
-            self.proved.append(words[1])
-            self.tell(f"{words[1]} is proved")
+        found = PROVED.match(line)
+        if found and found[1] in self.names and found[1] not in self.proved:
+            self.proved.append(found[1])
+            self.tell(f"{found[1]} is proved")
 
     def watch(self, ended: threading.Event) -> None:
         while not ended.wait(5):

@@ -36,7 +36,8 @@ OTHER_WORDS = {
 }
 COMMENT_MARKS = ("#", "//", "--", "%")
 RANGES = {
-    "V": "the version is 1 or 2", "N": "a node is a number from 1 to 65535", "NEW": "a node is a number from 1 to 65535",
+    "V": "the version is 1 or 2", "N": "a node is a number from 1 to 65535",
+    "NEW": "a node is a number from 1 to 65535",
     "R?": "a rack is a number from 0 to 255", "P": "a partition is a number from 0 to 4095",
     "FROM": "a partition is a number from 0 to 4095", "TO": "a partition is a number from 0 to 4095",
     "F": "the factor is a number from 1 to 4",
@@ -75,7 +76,7 @@ HINTS = {
     "undeclared": "node {node} isn't declared: a line `node {node}` in the header declares it",
     "declared before": "node {node} is declared in line {line} already",
     "too many nodes": "a script declares at most 16 nodes",
-    "digest": "behind `#` stand forty hexadecimal digits, and here are {count} bytes; a key by name has no `#` in front",
+    "digest": "behind `#` stand forty hexadecimal digits, and here are {count}; a key by name has no `#` in front",
     "digest digits": "behind `#` stand forty hexadecimal digits, and `{found}` is none",
     "long value": "a value has at most 128 bytes, and this one has {count}",
     "twice in groups": "node {node} stands twice: each declared node stands once",
@@ -321,7 +322,7 @@ def too_long_value(line: Line) -> Found:
 
 
 def bad_groups(line: Line) -> Found:
-    """As the program reads them: the first node that stands twice or bar without a group before, else what is left out."""
+    """As the program reads them: the first node that stands twice, or bar without a group, else what is left out."""
     seen, group = [], 0
     for index in range(1, len(line.spans)):
         text = line.field(index)

@@ -16,8 +16,8 @@ IGNORED = (signal.SIGPIPE, signal.SIGXFSZ)
 
 
 class Script:
-    """What standard input has: read where it is a file, else taken whole first, up to a byte past the limit, and given to
-    the program as a file."""
+    """What standard input has: read where it is a file, else taken whole first, up to a byte past the limit, and given
+    to the program as a file."""
 
     def __init__(self, limit: int):
         self.limit = limit
@@ -63,8 +63,8 @@ def file_of(held: bytes) -> int:
 def run(program: str, words: list[str]) -> tuple[int, bytes]:
     """Runs the program to its end; gives how it ended, and its standard error, which is passed on too."""
     read_end, write_end = os.pipe()
-    spawned = [(os.POSIX_SPAWN_DUP2, write_end, 2)]
-    process = os.posix_spawn(program, [program, *words], os.environ, file_actions=spawned, setsigdef=PASSED_ON + IGNORED)
+    how = {"file_actions": [(os.POSIX_SPAWN_DUP2, write_end, 2)], "setsigdef": PASSED_ON + IGNORED}
+    process = os.posix_spawn(program, [program, *words], os.environ, **how)
     os.close(write_end)
     for number in PASSED_ON:
         signal.signal(number, lambda number, _: pass_on(process, number))

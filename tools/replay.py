@@ -50,7 +50,7 @@ class Asked:
     def take(self, word: str, more: list[str]) -> None:
         """Takes a word, and for --generate also the next one."""
         name, equals, number = word.partition("=")
-        if any(it.startswith(name) for it in self.words) and name.startswith("--"):
+        if name in [taken.partition("=")[0] for taken in self.words]:
             raise Refused(f"{name} stands twice")
         if word in ("--summary", "--audit"):
             self.words.append(word)
@@ -127,7 +127,8 @@ def current_program(is_light: bool) -> kept_programs.Kept | None:
     lighter one serves, that too."""
     crates = [kept_programs.WHOLE, kept_programs.LIGHT] if is_light else [kept_programs.WHOLE]
     places = [kept_programs.Proved(ROOT)]
-    places += [kept_programs.Unproved(ROOT, folder, crate) for crate in crates for folder in kept_programs.folders_for(ROOT)]
+    for crate in crates:
+        places += [kept_programs.Unproved(ROOT, folder, crate) for folder in kept_programs.folders_for(ROOT)]
     return next((kept for kept in places if kept.is_current()), None)
 
 
@@ -159,7 +160,7 @@ def open_file(path: str) -> None:
 
 
 def start(asked: Asked) -> None:
-    """Starts the program in the place of this one, or, where it reads a script, beside it, to say more of a bad line."""
+    """Starts the program in the place of this one, or where it reads a script beside it, to say more of a bad line."""
     import play_script
 
     program = program_to_start(not asked.words)

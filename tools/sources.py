@@ -40,7 +40,8 @@ def lines_of_crates(root: str, names: list[str]) -> str:
     """What crates.txt says of these crates."""
     with open(f"{root}/crates.txt", encoding="utf-8") as text:
         lines = [line.partition("#")[0].strip() for line in text]
-    return "".join(f"{line}\n" for line in lines if line.split(":")[0].split()[:1] and line.split(":")[0].split()[0] in names)
+    heads = [line.partition(":")[0].split()[:1] for line in lines]
+    return "".join(f"{line}\n" for line, head in zip(lines, heads) if head and head[0] in names)
 
 
 def files_below(folder: str) -> list[os.DirEntry]:
