@@ -87,7 +87,8 @@ def is_summary(count: int) -> Callable[[bytes], bool]:
 
 def is_answered(what: Call, done: Done) -> bool:
     ended, errors = done.ended, done.ended.stderr.decode(errors="replace")
-    is_right = ended.returncode == what.status and what.is_right(ended.stdout) and all(it in errors for it in what.errors)
+    is_told = all(it in errors for it in what.errors)
+    is_right = ended.returncode == what.status and what.is_right(ended.stdout) and is_told
     print(f"first afternoon: {what.name}: {done.seconds:.2f} s, of a processor {done.used:.2f} s", flush=True)
     if not is_right:
         print(f"WRONG: status {ended.returncode}, {len(ended.stdout)} bytes, and on standard error:\n{errors[-2000:]}")

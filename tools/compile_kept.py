@@ -70,9 +70,9 @@ def compile_place(place: Unproved) -> None:
     with tempfile.TemporaryDirectory(prefix="replay-sources-") as copy:
         copy_sources(place.root, copy, place.names, sources.COMPILED)
         digest = place.with_compilers(sources.digest_of(copy, place.names, sources.COMPILED))
-        examples = pathlib.Path(place.root, "examples")
+        made, examples = pathlib.Path(place.program), pathlib.Path(place.root, "examples")
         try:
-            compile_program(pathlib.Path(copy), place.crate, pathlib.Path(place.program), OPTIMISED[place.crate], examples)
+            compile_program(pathlib.Path(copy), place.crate, made, OPTIMISED[place.crate], examples)
         except NotCompiled as why:
             raise NotCompiled(str(why).replace(copy, place.root)) from None
     place.note(digest=digest, kit=kit, command=mark, state=state)
