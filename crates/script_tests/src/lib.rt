@@ -1,5 +1,0 @@
-//! Scripts read by the public calls of `script_lang`.
-#![tactic(auto)]
-
-#[cfg(test)]
-mod tests;
