@@ -1,17 +1,28 @@
-"""Samples what the runs of rt below a folder take of the processors, until they have ended, and prints it by crate.
+"""usage: gate.py [--markdown] FOLDER
 
-Each second it looks at every check and build that rt has started on a crate, and takes the time of its process, of
-those below it and of those that these have waited for. What a process takes after its last sample is missed.
+Samples what the gate of a repository takes of the processors, until it has ended, and prints it by crate: of its proof,
+its tests and its edits; then of each other step of .ci/run, and the longest chain of crates of which each stands on the one
+before it. --markdown prints the tables of bench/README.md.
+
+Each second it looks at every check and build that rt has started on a crate, and at every step, and takes the time of its
+process, of those below it and of those that these have waited for. What a process takes after its last sample is missed.
 """
+import datetime
 import os
+import pathlib
 import signal
+import subprocess
 import sys
 import time
 
 TICKS = os.sysconf("SC_CLK_TCK")
 # What of a crate is at work.
 WORKS = ("proof", "tests", "edits")
-# So many samples without an rt, and the gate has ended.
+# The row of their sums.
+CRATES = "all crates"
+# What .ci/run starts beside rt ci, by how it is called.
+STEPS = (".ci/edits", "tests/run", "bench/audit.sh", "bench/hostile.sh")
+# So many samples without any of these, and the gate has ended.
 PAUSE = 10
 
 
@@ -28,9 +39,15 @@ class Process:
         # a number is given again, but not at the same time
         self.key = pid, fields[19]
 
-    def is_rt(self, folder):
-        is_below = os.path.commonpath([folder, self.folder]) == folder
-        return is_below and any(os.path.basename(it) == "rt" for it in self.words[:2])
+    def is_below(self, folder):
+        return os.path.commonpath([folder, self.folder]) == folder
+
+    def is_rt(self):
+        return any(os.path.basename(it) == "rt" for it in self.words[:2])
+
+    def step(self):
+        """The step of .ci/run that it is, or None."""
+        return next((it for it in STEPS if self.words[1:2] and self.words[1].endswith(it)), None)
 
     def work(self):
         """The crate that it checks or builds, and what of it; or None."""
@@ -56,7 +73,11 @@ class Sample:
             self.children.setdefault(process.parent, []).append(int(pid))
 
     def runs(self, folder):
-        return [pid for pid, it in self.processes.items() if it.is_rt(folder)]
+        """The processes of rt below the folder."""
+        return [pid for pid, it in self.processes.items() if it.is_rt() and it.is_below(folder)]
+
+    def steps(self, folder):
+        return [pid for pid, it in self.processes.items() if it.step() and it.is_below(folder)]
 
     def seconds(self, pid):
         below = self.children.get(pid, [])
@@ -74,53 +95,135 @@ class Sample:
 class Measure:
     def __init__(self, folder):
         self.folder = folder
-        # by process, its work and the seconds it has taken; by crate, those in which it was at work
-        self.taken, self.busy = {}, {}
-        self.began = self.ended = None
-        # the samples since the last one with an rt
-        self.idle = 0
+        # by process, the name of its row, what of it is at work, and the seconds that it has taken
+        self.taken = {}
+        # by row, the seconds in which it was at work
+        self.busy = {}
+        # whether any work was seen, and the samples since
+        self.has_begun, self.idle = False, 0
 
-    def add(self, sample, now, gap):
-        runs = sample.runs(self.folder)
-        pids = [pid for run in runs for pid in sample.works(run)]
-        for pid in pids:
-            process = sample.processes[pid]
-            self.taken[process.key] = process.work(), sample.seconds(pid)
-        for crate in {sample.processes[pid].work()[0] for pid in pids}:
-            self.busy[crate] = self.busy.get(crate, 0) + gap
+    def add(self, sample, gap):
+        runs, steps = sample.runs(self.folder), sample.steps(self.folder)
+        found = {pid: sample.processes[pid].work() for run in runs for pid in sample.works(run)}
+        found |= {pid: (sample.processes[pid].step(), None) for pid in steps}
+        for pid, (name, work) in found.items():
+            self.taken[sample.processes[pid].key] = name, work, sample.seconds(pid)
+        names = {name for name, _ in found.values()}
+        for name in names | {CRATES} if names - set(STEPS) else names:
+            self.busy[name] = self.busy.get(name, 0) + gap
         self.idle += 1
-        if runs:
-            self.began, self.ended, self.idle = self.began or now, now, 0
+        if runs or steps:
+            self.has_begun, self.idle = True, 0
 
     def has_ended(self):
-        return self.ended is not None and self.idle == PAUSE
+        return self.has_begun and self.idle >= PAUSE
 
-    def show(self):
-        sums = {}
-        for (crate, work), seconds in self.taken.values():
-            sums.setdefault(crate, dict.fromkeys(WORKS, 0))[work] += seconds
-        rows = [(name, [*it.values(), sum(it.values())], self.busy[name]) for name, it in sums.items()]
-        rows.sort(key=lambda row: -row[1][-1])
-        columns = zip(*(seconds for _, seconds, _ in rows)) if rows else [[0]] * (len(WORKS) + 1)
-        clock = self.ended - self.began if self.began else 0
-        rows.append(("sum", [sum(it) for it in columns], clock))
-        print(f"{'minutes of a processor':24}" + "".join(f"{it:>8}" for it in (*WORKS, "all", "clock")))
-        for name, seconds, clock in rows:
-            print(f"{name:24}" + "".join(f"{it / 60:8.1f}" for it in (*seconds, clock)))
+    def minutes(self, name, work):
+        """Those of a processor that this work of the row has taken; all of its work where that is None."""
+        return sum(it for of, what, it in self.taken.values() if of == name and work in (None, what)) / 60
+
+    def rows(self):
+        """By name the minutes of each work, of all of it and by the clock, the most first."""
+        names = {name for name, _, _ in self.taken.values() if name not in STEPS}
+        found = {name: [self.minutes(name, it) for it in (*WORKS, None)] + [self.busy[name] / 60] for name in names}
+        return dict(sorted(found.items(), key=lambda row: -row[1][len(WORKS)]))
+
+    def steps(self):
+        return {name: (self.minutes(name, None), self.busy[name] / 60) for name in STEPS if name in self.busy}
+
+    def sums(self):
+        """The columns of all crates in one."""
+        works = [sum(self.minutes(name, it) for name in self.rows()) for it in (*WORKS, None)]
+        return [*works, self.busy.get(CRATES, 0) / 60]
+
+
+def uses_of(folder):
+    """The crates that crates.txt lists, each with those of them that it names."""
+    lines = [it.partition("#")[0].partition(":") for it in (pathlib.Path(folder) / "crates.txt").read_text().splitlines()]
+    named = {head.split()[0]: uses.split() for head, colon, uses in lines if colon}
+    return {name: [it for it in uses if it in named] for name, uses in named.items()}
+
+
+def longest_chain(minutes, uses):
+    """The crates, lowest first and each used by the next, whose minutes have the greatest sum."""
+    chains = {}
+
+    def chain(name):
+        if name not in chains:
+            below = max(map(chain, uses[name]), key=total, default=[])
+            chains[name] = [*below, name]
+        return chains[name]
+
+    def total(names):
+        return sum(minutes.get(it, 0) for it in names)
+
+    return max(map(chain, uses), key=total, default=[])
+
+
+def kit():
+    return subprocess.run(["rt", "version"], stdout=subprocess.PIPE, text=True).stdout.strip()
+
+
+class Plain:
+    """A table in columns of spaces."""
+
+    def head(self, first, columns):
+        print(f"{first:24}" + "".join(f"{it:>8}" for it in columns))
+
+    def row(self, first, numbers):
+        print(f"{first:24}" + "".join(f"{it:8.1f}" for it in numbers))
+
+    def end(self):
+        print()
+
+
+class Markdown:
+    def head(self, first, columns):
+        print(f"| {first} | " + " | ".join(columns) + " |")
+        print("|---|" + "---:|" * len(columns))
+
+    def row(self, first, numbers):
+        print(f"| {first} | " + " | ".join(f"{it:.1f}" for it in numbers) + " |")
+
+    end = Plain.end
+
+
+def show(measure, table):
+    rows, steps = measure.rows(), measure.steps()
+    print(f"{kit()}; {len(os.sched_getaffinity(0))} processors; {datetime.date.today()}\n")
+    table.head("minutes of a processor", [*WORKS, "all", "clock"])
+    for name, numbers in rows.items():
+        table.row(name, numbers)
+    table.row(CRATES, measure.sums())
+    table.end()
+    if steps:
+        table.head("step of the gate", ["all", "clock"])
+        for name, numbers in steps.items():
+            table.row(name, numbers)
+        table.end()
+    proofs = {name: numbers[0] for name, numbers in rows.items()}
+    passed = 0
+    table.head("longest chain", ["proof", "so far"])
+    for name in longest_chain(proofs, uses_of(measure.folder)):
+        passed += proofs.get(name, 0)
+        table.row(name, [proofs.get(name, 0), passed])
 
 
 def main():
-    measure = Measure(os.path.realpath(sys.argv[1]))
+    words = sys.argv[1:]
+    table = Markdown() if words[:1] == ["--markdown"] else Plain()
+    measure = Measure(os.path.realpath(words[-1]))
     for it in (signal.SIGINT, signal.SIGTERM):
         signal.signal(it, lambda *_: sys.exit())
     last = now = time.monotonic()
     try:
         while not measure.has_ended():
-            measure.add(Sample(), now, now - last)
+            measure.add(Sample(), now - last)
             time.sleep(1)
             last, now = now, time.monotonic()
     finally:
-        measure.show()
+        show(measure, table)
 
 
-main()
+if __name__ == "__main__":
+    main()

@@ -1,12 +1,18 @@
 #!/usr/bin/env bash
-# usage: bench/gate.sh                     runs the gate from nothing, on a clone of HEAD, and measures it
-#        bench/gate.sh --sample [FOLDER]   measures the gate that runs, or is to start, in FOLDER or here
-# Prints the minutes of a processor and those by the clock that each crate took, the most first, and their sum. The
-# second way ends ten seconds after the last rt there, or by an interrupt.
+# usage: bench/gate.sh [--markdown]                     runs the gate from nothing, on a clone of HEAD, and measures it
+#        bench/gate.sh [--markdown] --sample [FOLDER]   measures the gate that runs, or is to start, in FOLDER or here
+# Prints the minutes of a processor and those by the clock that each crate took, the most first, and their sum; what each
+# other step of the gate took; and the longest chain of proofs. --markdown prints them as bench/README.md has them. The
+# second way ends ten seconds after the last work there, or by an interrupt.
 set -um
 here="$(cd "$(dirname "${BASH_SOURCE[0]}")" && pwd)"
+form=()
+if [ "${1:-}" = --markdown ]; then
+    form=(--markdown)
+    shift
+fi
 if [ "${1:-}" = --sample ]; then
-    exec python3 "$here/gate.py" "${2:-.}"
+    exec python3 "$here/gate.py" "${form[@]}" "${2:-.}"
 fi
 folder="$(mktemp -d)"
 gate=""
@@ -17,7 +23,7 @@ git clone -q "$here/.." "$folder/gate" && cd "$folder/gate" || exit 1
     { time .ci/run >"$folder/said" 2>&1; } 2>"$folder/time"
 ) &
 gate=$!
-python3 "$here/gate.py" . &
+python3 "$here/gate.py" "${form[@]}" . &
 sampler=$!
 wait "$gate"
 status=$?
