@@ -1,15 +1,17 @@
 #!/usr/bin/env bash
 # usage: bench/hostile.sh [PROGRAM [OTHER]]
 # How the program ends where something fails: memory, reads and writes that are refused, each call in turn; ends that are
-# full, closed or no file; cut messages; odd bytes; scripts at and past each limit. Prints a line of figures for each.
-# What isn't as docs/RULES.md says is told on standard error, its script is kept, and the exit status is 1. OTHER is
-# another program of the same rules, whose answers are then compared. bench/refuse.c makes calls fail.
+# full, closed or no file; cut messages; odd bytes; scripts at and past each limit; and what it leaves to the system. Prints
+# a line of figures for each, which passes where all was as docs/RULES.md says. What isn't is told on standard error, its
+# script is kept, and the exit status is 1. The last line is 'N passed, M failed'. OTHER is another program of the same
+# rules, whose answers are then compared. bench/refuse.c makes calls fail.
 set -u
 export LC_ALL=C
 here="$(cd "$(dirname "${BASH_SOURCE[0]}")" && pwd)"
 program="${1:-$here/../crates/cluster_main/out/cluster_main}"
 other="${2:-}"
 [ -x "$program" ] || [ $# -gt 0 ] || "$here/../replay" --build
+[ -x "$program" ] || { echo "bench/hostile.sh: there is no program $program" >&2 && exit 2; }
 
 # No run takes so many seconds of a processor.
 ulimit -t 120
@@ -20,6 +22,9 @@ whole="$folder/whole"
 out="$folder/out"
 said="$folder/said"
 deviations=0
+told=0
+passed=0
+failed=0
 trap '[ "$deviations" -gt 0 ] || rm -rf "$folder"' EXIT
 
 # ---- a run, and how it ended
@@ -57,6 +62,13 @@ deviates() { # WHAT
 
 check() { # WHAT TEST..
     "${@:2}" || deviates "$1"
+}
+
+# Tells what was tried, which passes where nothing has deviated since the last line.
+tell() { # WORDS..
+    echo "$*"
+    if [ "$deviations" = "$told" ]; then passed=$((passed + 1)); else failed=$((failed + 1)); fi
+    told=$deviations
 }
 
 # Plays the script with all that it needs, and keeps what it writes.
@@ -182,9 +194,15 @@ refuse_each() { # WHAT TEST MOST CALL SETTING..
         [ "$status" = 0 ] || [ ! -s "$out" ] || fronts=$((fronts + 1))
     done
     [ "$tried" -gt 0 ] || deviates "$what: no call was counted"
-    printf '%s: %d of %d tried;' "$what" "$tried" "$(<"$folder/count")"
-    for number in "${!ends[@]}"; do printf ' %d ended with %d,' "${ends[$number]}" "$number"; done
-    printf ' %d behind a front of the transcript\n' "$fronts"
+    tell "$what: $tried of $(<"$folder/count") tried;$(ends_of ends) $fronts behind a front of the transcript"
+}
+
+ends_of() { # TABLE: how many ended with each status, the least first
+    local -n by_status="$1"
+    local number
+    for number in $(printf '%s\n' "${!by_status[@]}" | sort -n); do
+        printf ' %d ended with %d,' "${by_status[$number]}" "$number"
+    done
 }
 
 refuse_memory() { # WHAT MOST
@@ -206,7 +224,7 @@ refuse_ends() {
     for call in read write; do
         play REFUSE_CALL="$call" REFUSE_PIECE=1 REFUSE_COUNT="$folder/count" LD_PRELOAD="$folder/refuse.so"
         check "a $call of one byte at a time" is_played
-        echo "a $call of one byte at a time: played, by $(<"$folder/count") calls"
+        tell "a $call of one byte at a time: played, by $(<"$folder/count") calls"
     done
     usual >"$script"
     play_whole "five nodes"
@@ -214,7 +232,7 @@ refuse_ends() {
     repeat 3 'tick 1' >"$script"
     play REFUSE_CALL=say REFUSE_FIRST=1 REFUSE_LASTING=1 LD_PRELOAD="$folder/refuse.so"
     check "a write to standard error" is_refused 3 ""
-    echo "a write to standard error: the status is still the script's, 3"
+    tell "a write to standard error: the status is still the script's, 3"
 }
 
 refuse_calls() {
@@ -283,7 +301,7 @@ odd_ends() {
     "$program" <"$script" 2>"$said" | dd bs=1 of="$out" 2>/dev/null
     status="${PIPESTATUS[0]}"
     check "a pipe that is read byte by byte" is_played
-    echo "a full disk, a file of 100 blocks, a closed pipe, a closed output: each ended with 5; a pipe that is read byte by" \
+    tell "a full disk, a file of 100 blocks, a closed pipe, a closed output: each ended with 5; a pipe that is read byte by" \
         "byte: all $(wc -c <"$whole") bytes"
 
     "$program" <"$folder" >"$out" 2>"$said"
@@ -296,7 +314,7 @@ odd_ends() {
     play_to /dev/full
     : >"$whole"
     check "an empty script and a full disk" is_played
-    echo "a directory and a closed input: each ended with 4; an empty script and a full disk: 0, as nothing is to be written"
+    tell "a directory and a closed input: each ended with 4; an empty script and a full disk: 0, as nothing is to be written"
 }
 
 # ---- odd words
@@ -314,7 +332,7 @@ odd_words() {
     "$program" --generate 7 <"$folder" >"$out" 2>"$said"
     status=$?
     check "a generated script, and a directory as input" is_played
-    echo "odd words: each ended with 2; a generated script, and a directory as input: played, as nothing is read"
+    tell "odd words: each ended with 2; a generated script, and a directory as input: played, as nothing is read"
 }
 
 # ---- odd bytes
@@ -384,7 +402,7 @@ odd_bytes() {
         fi
         [ -z "$other" ] || as_the_other || deviates "odd bytes $number, beside the other program"
     done
-    echo "65,536 odd bytes, a hundred times: $refused refused at their first bad line with nothing written," \
+    tell "65,536 odd bytes, a hundred times: $refused refused at their first bad line with nothing written," \
         "$((100 - refused)) played"
 }
 
@@ -481,7 +499,7 @@ cut_to_each_length() { # KIND
 cut_messages() {
     local kind lengths=0
     for kind in $(seq 18); do cut_to_each_length "$kind"; done
-    echo "messages of each kind that is sent, 1 to 18, cut to each of their $lengths shorter lengths: short, and else as if lost"
+    tell "messages of each kind that is sent, 1 to 18, cut to each of their $lengths shorter lengths: short, and else as if lost"
 }
 
 # ---- limits
@@ -503,7 +521,7 @@ script_limit() {
     echo >>"$script"
     play
     check "16,777,217 bytes" is_refused 6 "script too long"
-    echo "16,777,216 bytes of script: played; one more: ended with 6"
+    tell "16,777,216 bytes of script: played; one more: ended with 6"
 }
 
 line_limit() {
@@ -513,7 +531,7 @@ line_limit() {
     echo 'hash a' >>"$script"
     play
     check "2,000,001 lines" is_refused 7 "run too long"
-    echo "2,000,000 lines of a journal: played; one more: ended with 7"
+    tell "2,000,000 lines of a journal: played; one more: ended with 7"
 }
 
 # Lines of so many bytes of script and of transcript.
@@ -537,7 +555,7 @@ text_limit() {
     { cat "$folder/tables" && filled "$((limit - written + 1))"; } >"$script"
     play
     check "$limit bytes of text and one" is_refused 7 "run too long"
-    echo "536,870,912 bytes of text: played; one more: ended with 7"
+    tell "536,870,912 bytes of text: played; one more: ended with 7"
 }
 
 flight_limit() {
@@ -549,7 +567,7 @@ flight_limit() {
     check "262,145 messages in flight" has_lines 262146 "sent "
     check "262,145 messages in flight" has_lines 1 "full "
     check "262,145 messages in flight" has_lines 1 'full 262145$'
-    echo "262,144 messages in flight: kept; one more: lost at once; and kept again where one has left"
+    tell "262,144 messages in flight: kept; one more: lost at once; and kept again where one has left"
 }
 
 small_limits() {
@@ -560,7 +578,7 @@ small_limits() {
     echo 'node 17' >>"$script"
     play
     check "17 nodes" is_refused 3 "line 17: TooManyNodes"
-    echo "16 nodes: played; one more: ended with 3"
+    tell "16 nodes: played; one more: ended with 3"
 
     local value
     value="$(printf '%0128d' 0)"
@@ -570,7 +588,7 @@ small_limits() {
     printf 'node 1\nput 1 #%s %s0\n' "$zeros" "$value" >"$script"
     play
     check "a value of 129 bytes" is_refused 3 "line 2: TooLongValue"
-    echo "a value of 128 bytes: applied; one more: ended with 3"
+    tell "a value of 128 bytes: applied; one more: ended with 3"
 }
 
 limits() {
@@ -607,5 +625,6 @@ odd_bytes
 cut_messages
 limits
 watched
-echo "$deviations deviations, $SECONDS s"
-[ "$deviations" = 0 ]
+echo "bench/hostile.sh: $deviations deviations, $SECONDS s"
+echo "$passed passed, $failed failed"
+[ "$failed" = 0 ]
