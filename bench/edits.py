@@ -1,5 +1,5 @@
 #!/usr/bin/env python3
-"""usage: bench/edits.py CRATE [WORD..]: what the must-fail edits of a crate take, by stages of their checks.
+"""usage: bench/edits.py CRATE [WORD..]: what the edits of a crate take, by stages of their checks.
 
 It is run at the top of a clone in which the crates below are built. The crate is proved once, and each edit whose name has
 one of the words (each one without words) is then tried over what that proof kept, as the gate tries them. Of each it
@@ -7,7 +7,7 @@ prints the seconds in all, those of the search for proofs (`session`), those of 
 and the goals that are left open.
 
 Where a goal is left that no proof file answers, the check goes over the function once more to offer files, which takes as
-long as many a proof. docs/DECISIONS.md says what spares that.
+long as many a proof. CONTRIBUTING.md says what spares that.
 """
 import importlib.machinery
 import importlib.util
@@ -65,11 +65,11 @@ def main():
     with tempfile.TemporaryDirectory(prefix="edits-") as room:
         os.mkdir(f"{room}/kept")
         try_with(kit, crate, {}, "without an edit, from nothing", room)
-        for edit in kit.edits_of(crate)[0]:
-            name = pathlib.Path(edit).stem
+        for edit in sorted(pathlib.Path(crate.folder).glob("*edits/*.edit")):
+            name = edit.stem
             if len(sys.argv) > 2 and not any(word in name for word in sys.argv[2:]):
                 continue
-            texts, why = kit.read_edit(edit, crate.folder)
+            texts, why = kit.read_edit(str(edit), crate.folder)
             if why:
                 print(f"{name}: {why}")
             else:
