@@ -75,7 +75,45 @@ def call(replay: pathlib.Path, what: Call, settings: dict[str, str]) -> Done:
 def is_summary(count: int) -> Callable[[bytes], bool]:
     """Whether the last line is a summary of five nodes, and so many writes at least."""
 
-    def first_calls() -> list[Call]:
+    def judge(written: bytes) -> bool:
+        said = json.loads(written.splitlines()[-1])
+        return said["nodes"] == len(NODES) and said["applied"] >= count
+
+    return judge
+
+
+def nothing(written: bytes) -> bool:
+    return not written
+
+
+def calls(room: pathlib.Path) -> list[Call]:
+    """The calls that each start at once, in order: the audit reads what the one before wrote."""
+    restart, transcript = room / "restart.script", room / "restart.transcript"
+    restart.write_text(rolling_restart())
+
+    def keep(written: bytes) -> bool:
+        transcript.write_bytes(written)
+        is_calm = written.splitlines()[-1].startswith(b"calm ")
+        return is_calm and written.count(b"\napply ") >= len(NODES) * WRITES_A_STOP
+
+    bad = b"node 1\nnode 2\nquiesce 1\n"
+    shown = ["line 3: UnknownWord\n    quiesce 1\n    ^^^^^^^\n", "make `script 2` the first line"]
+    (room / "bad.script").write_bytes(bad)
+    return [
+        Call("a rolling restart with 100 writes", [str(restart)], 0, keep, [UNPROVED]),
+        Call("--summary", ["--summary", str(restart)], 0, is_summary(100), [UNPROVED]),
+        Call("--audit", ["--audit", str(transcript)], 0, lambda written: written == b"holds\n", [UNPROVED]),
+        Call("--generate 7", ["--generate", "7"], 0, is_summary(1), [UNPROVED]),
+        Call("a word that isn't one", ["--sumary"], 2, nothing, ["--sumary", "usage: "]),
+        Call("a bad line", [], 3, nothing, shown, bad),
+        Call("a bad line of a file", [str(room / "bad.script")], 3, nothing, shown),
+        Call("a file that isn't there", [str(room / "none.script")], 66, nothing, ["none.script: "]),
+        Call("--help", ["--help"], 0, lambda written: written.startswith(b"usage: ")),
+        Call("--version", ["--version"], 0, lambda written: b"\nprogram compiled without proof" in written),
+    ]
+
+
+def first_calls() -> list[Call]:
     """The calls that wait for a program: the lighter one, and the whole one."""
     script, transcript = (ROOT / f"examples/first.{kind}" for kind in ("script", "transcript"))
     wanted = transcript.read_bytes()
