@@ -13,6 +13,8 @@ SHARE, LEAST = 20, 10
 SECONDS_A_LINE = 0.03
 # What the check of one edit takes of the check of its crate from nothing, likewise.
 OF_SEED = 0.3
+# What a run says of the edits, and whether it is of those of definitions.
+KINDS = {"edits:": False, "definition edits:": True}
 
 
 class Costs:
@@ -50,14 +52,15 @@ class State:
         refusal = self.record.refusals.get(edit.label)
         return refusal is not None and refusal.digest == self.digests.of(edit)
 
-    def summary(self):
-        """How many stand by record and how many are stale, those of definitions apart."""
-        return "; ".join(f"{words} {self.counts(kind)}" for kind, words in ((False, "edits:"), (True, "definition edits:")))
+    def summary(self, tried=None):
+        """How many of the edits were tried, stand by record and are stale, those of definitions apart."""
+        return "; ".join(f"{words} {self.counts(kind, tried)}" for words, kind in KINDS.items())
 
-    def counts(self, of_definitions):
-        those = [it for it in self.edits if it.is_of_definition == of_definitions]
+    def counts(self, kind, tried):
+        those = [it for it in self.edits if it.is_of_definition == kind]
         standing = sum(map(self.stands, those))
-        return f"{standing} stand by record, {len(those) - standing} are stale"
+        begin = "" if tried is None else f"{sum(it.is_of_definition == kind for it in tried)} tried, "
+        return f"{begin}{standing} stand by record, {len(those) - standing} are stale"
 
 
 def last_commit(tree):
@@ -75,7 +78,8 @@ def changed_last(tree):
 
 
 def turning_share(standing, commit):
-    """Of the edits that stand by record those whose turn it is: side by side in their order, as each crate costs a seed."""
+    """Of the edits that stand by record those whose turn it is: side by side in their order, as each crate costs a
+    seed."""
     ordered = sorted(standing, key=lambda it: it.label)
     count = min(len(ordered), max(LEAST, math.ceil(len(ordered) / SHARE)))
     begin = int(commit, 16) % len(ordered) if ordered else 0
@@ -83,7 +87,7 @@ def turning_share(standing, commit):
 
 
 def within(stale, taken, costs, seconds):
-    """The stale edits, in their order, that fit in the seconds beside those taken, and the first in any case."""
+    """The stale edits, in their order, that fit in the seconds beside those taken; the first one in any case."""
     chosen, seeded = [], {it.crate for it in taken}
     left = seconds - costs.all(taken)
     for edit in stale:
@@ -96,7 +100,8 @@ def within(stale, taken, costs, seconds):
 
 
 def by_need(state, minutes):
-    """The share whose turn it is, and the stale edits that fit beside it in the minutes, those first whose crates changed last."""
+    """The share whose turn it is, and the stale edits that fit beside it in the minutes: those first whose crates changed
+    last."""
     ranks = {name: at for at, name in enumerate(changed_last(state.tree))}
     standing, stale = [], []
     for edit in state.edits:

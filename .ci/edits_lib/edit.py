@@ -5,7 +5,7 @@ import re
 
 from edits_lib.tree import NAME, Fault
 
-# Where the edits of a crate stand: those of its sources, and those that show that a definition of specs/ matters to a law.
+# Where the edits of a crate stand: those of its sources, and those of definitions, which show what matters to a law.
 FOLDERS = ("edits", "definition-edits")
 # Where rt looks for the edits that it tries.
 TRIED = "must-fail"
@@ -69,7 +69,7 @@ def pairs(text):
                 raise Fault("a 'new:' line stands before any 'file:' or 'old:' line")
             yield file, old, line.removeprefix("new:").removeprefix(" ")
             old = ""
-        elif line.strip():
+        elif line.strip() and not line.startswith(("#", "--", "//")):
             raise Fault(f"a line of it isn't read: {line.strip()[:60]}")
 
 

@@ -60,8 +60,7 @@ class Judgement:
         self.faults += [f"edits of {it}: rt said nothing of {crates.count(it)} of them" for it in dict.fromkeys(crates)]
 
     def summary(self):
-        of_definitions = sum(it.is_of_definition for it in self.tried)
-        return f"edits: {len(self.tried) - of_definitions} tried, {self.state.counts(False)}; definition edits: {of_definitions} tried, {self.state.counts(True)}"
+        return self.state.summary(self.tried)
 
 
 def tried_at(tree, edit):

@@ -1,7 +1,7 @@
 """The record: which edits were refused for what they mean, over which texts, and which goal each left open.
 
-A line of an edit is `edit CRATE/NAME DIGEST SECONDS GOAL`, and `seed CRATE SECONDS` says what the first check of a crate
-takes, over which its edits are tried; both are seconds of a processor.
+A line of an edit is `edit CRATE/NAME DIGEST SECONDS GOAL`; `seed CRATE SECONDS` says what the first check of a crate
+takes, over which its edits are tried. Both are seconds of a processor.
 """
 import dataclasses
 import hashlib
@@ -12,7 +12,10 @@ from edits_lib.edit import edits_of
 from edits_lib.tree import NAME
 
 PLACE = ".ci/edits.record"
-LINE = re.compile(rf"edit (?P<edit>{NAME}/{NAME}) (?P<digest>[0-9a-f]{{32}}) (?P<seconds>[0-9]+) (?P<goal>\S.*)|seed (?P<crate>{NAME}) (?P<first>[0-9]+)")
+LINE = re.compile(
+    rf"edit (?P<edit>{NAME}/{NAME}) (?P<digest>[0-9a-f]{{32}}) (?P<seconds>[0-9]+) (?P<goal>\S.*)"
+    rf"|seed (?P<crate>{NAME}) (?P<first>[0-9]+)"
+)
 
 
 @dataclasses.dataclass(frozen=True)

@@ -1,8 +1,8 @@
-"""What each try of an edit takes of the processors, as seen beside it. Started by itself, it looks at what runs below its
-parent until it is told to end, and prints for each crate and number of an edit the seconds.
+"""What each try of an edit takes of the processors, as seen beside it. Started by itself, it looks at what runs below
+its parent until it is told to end, and prints a line `CRATE NUMBER SECONDS` for each try.
 
-rt tries an edit by a check of a copy of its crate, in a folder whose name begins with rt-edit-, over what a first check has
-proved: that is in a folder `seed`, and a copy of it, whose name is the edit's number in must-fail/, is the edit's own.
+rt tries an edit by a check of a copy of its crate, in a folder whose name begins with rt-edit-, over what a first check
+has proved: that is in a folder `seed`, and a copy of it is the edit's own, called by the edit's number in must-fail/.
 """
 import os
 import pathlib
@@ -85,7 +85,8 @@ class Times:
 
 
 def read(text, tried):
-    """The seconds of the edits and of the seeds, by their names, of what `lines` gave: an edit that was tried twice took both."""
+    """The seconds of the edits, by their labels, and of the seeds, by their crates, in lines that were printed here. An
+    edit that was tried twice took both."""
     edits, seeds = {}, {}
     for crate, number, seconds in re.findall(rf"^(\S+) ({SEED}|[0-9]+) ([0-9]+)$", text, re.M):
         names = sorted(f"{it.name}.edit" for it in tried if it.crate == crate)

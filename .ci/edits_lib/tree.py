@@ -55,7 +55,8 @@ class Tree:
     def git(self, *words):
         """What git says, in lines; nothing where this is no repository of git."""
         try:
-            ran = subprocess.run(["git", *words], cwd=self.root, stdout=subprocess.PIPE, stderr=subprocess.DEVNULL, encoding="utf-8")
+            how = {"cwd": self.root, "stdout": subprocess.PIPE, "stderr": subprocess.DEVNULL, "encoding": "utf-8"}
+            ran = subprocess.run(["git", *words], **how)
         except OSError:
             return []
         return [] if ran.returncode else ran.stdout.splitlines()
