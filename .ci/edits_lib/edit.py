@@ -28,14 +28,13 @@ class Edit:
         return self.path.parent.name == "definition-edits"
 
     def files(self):
-        return [line.removeprefix("file: ").strip() for line in self.text.splitlines() if line.startswith("file: ")]
+        return [value.strip() for word, value in lines_of(self.text) if word == "file"]
 
     def fault(self):
         """Why the edit can't be tried, or stands in the wrong folder; None where it can."""
-        names_specs = any(it.startswith("specs/") for it in self.files())
-        if names_specs != self.is_of_definition:
-            return f"an edit of a file of specs/ stands in {FOLDERS[1]}/, and no other does"
         try:
+            if any(it.startswith("specs/") for it in self.files()) != self.is_of_definition:
+                return f"an edit of a file of specs/ stands in {FOLDERS[1]}/, and no other does"
             texts, changed = {}, False
             for file, old, new in pairs(self.text):
                 if file not in texts:
@@ -56,21 +55,29 @@ class Edit:
         return path.read_text(encoding="utf-8")
 
 
+def lines_of(text):
+    """The word at the beginning of each line of an edit, and what stands behind it."""
+    for line in text.splitlines():
+        found = re.match(r"(file|old): (.*)|(new):(?: (.*))?$", line)
+        if found:
+            yield found[1] or found[3], found[2] or found[4] or ""
+        elif line.strip() and not line.startswith(("#", "--", "//")):
+            raise Fault(f"a line of it isn't read: {line.strip()[:60]}")
+
+
 def pairs(text):
     """The file, the text and what it becomes, of each pair of lines of an edit."""
     file, old = "", ""
-    for line in text.splitlines():
-        if line.startswith("file: "):
-            file = line.removeprefix("file: ").strip()
-        elif line.startswith("old: "):
-            old = line.removeprefix("old: ")
-        elif line.startswith("new:"):
-            if not file or not old:
-                raise Fault("a 'new:' line stands before any 'file:' or 'old:' line")
-            yield file, old, line.removeprefix("new:").removeprefix(" ")
+    for word, value in lines_of(text):
+        if word == "file":
+            file = value.strip()
+        elif word == "old":
+            old = value
+        elif not file or not old:
+            raise Fault("a 'new:' line stands before any 'file:' or 'old:' line")
+        else:
+            yield file, old, value
             old = ""
-        elif line.strip() and not line.startswith(("#", "--", "//")):
-            raise Fault(f"a line of it isn't read: {line.strip()[:60]}")
 
 
 def edits_of(crate):

@@ -89,11 +89,11 @@ def read(text, tried):
     edit that was tried twice took both."""
     edits, seeds = {}, {}
     for crate, number, seconds in re.findall(rf"^(\S+) ({SEED}|[0-9]+) ([0-9]+)$", text, re.M):
-        names = sorted(f"{it.name}.edit" for it in tried if it.crate == crate)
+        edits_there = sorted((it for it in tried if it.crate == crate), key=lambda it: f"{it.name}.edit")
         if number == SEED:
             seeds[crate] = max(seeds.get(crate, 0), int(seconds))
-        elif int(number) < len(names):
-            label = f"{crate}/{names[int(number)].removesuffix('.edit')}"
+        elif int(number) < len(edits_there):
+            label = edits_there[int(number)].label
             edits[label] = edits.get(label, 0) + int(seconds)
     return edits, seeds
 

@@ -50,10 +50,13 @@ def verdict(said):
 
 def goal_in(told):
     """The goal that stood open by the line, without the numbers of its place; None where the line tells of none."""
-    if found := AT_SOURCE.match(told):
+    found = AT_SOURCE.match(told)
+    if found:
         called = CALLED.search(found["goal"])
-        return f"{found['file']} {called[1] if called else re.split(r' ?[(:;]', found['goal'])[0]}"
-    if found := AT_PROOF.match(told):
+        name = called[1] if called else re.split(r" ?[(:;]", found["goal"])[0]
+        return f"{found['file']} {name}"
+    found = AT_PROOF.match(told)
+    if found:
         why = found["why"]
         is_open = any(why.startswith(it) or len(told) >= 160 and it.startswith(why) for it in LEFT_OPEN)
         return f"{found['file']} {found['goal']}" if is_open else None
