@@ -20,10 +20,8 @@ TICKS = os.sysconf("SC_CLK_TCK")
 WORKS = ("proof", "tests", "edits")
 # The row of their sums.
 CRATES = "all crates"
-# What .ci/run starts beside rt ci, by how it is called.
-STEPS = (".ci/edits", "tests/run", "bench/audit.sh", "bench/hostile.sh")
-# So many samples without any of these, and the gate has ended.
-PAUSE = 10
+# So many samples without any work, and the gate has ended.
+PAUSE = 60
 
 
 class Process:
@@ -45,9 +43,16 @@ class Process:
     def is_rt(self):
         return any(os.path.basename(it) == "rt" for it in self.words[:2])
 
+    def is_gate(self):
+        return any(it.endswith(".ci/run") for it in self.words[:2])
+
     def step(self):
-        """The step of .ci/run that it is, or None."""
-        return next((it for it in STEPS if self.words[1:2] and self.words[1].endswith(it)), None)
+        """How it is called, where it runs a file of the repository; or None."""
+        file = "".join(self.words[1:2])
+        path = pathlib.Path(self.folder, file)
+        if file.startswith("/") or not path.is_file() or not os.access(path, os.X_OK):
+            return None
+        return " ".join([file, *(it for it in self.words[2:] if it.startswith("--"))])
 
     def work(self):
         """The crate that it checks or builds, and what of it; or None."""
@@ -77,7 +82,10 @@ class Sample:
         return [pid for pid, it in self.processes.items() if it.is_rt() and it.is_below(folder)]
 
     def steps(self, folder):
-        return [pid for pid, it in self.processes.items() if it.step() and it.is_below(folder)]
+        """What .ci/run below the folder has started beside rt, by process."""
+        gates = {pid for pid, it in self.processes.items() if it.is_gate() and it.is_below(folder)}
+        begun = {pid: it for pid, it in self.processes.items() if it.parent in gates and pid not in gates}
+        return {pid: it.step() for pid, it in begun.items() if it.step() and not it.is_rt()}
 
     def seconds(self, pid):
         below = self.children.get(pid, [])
@@ -95,7 +103,7 @@ class Sample:
 class Measure:
     def __init__(self, folder):
         self.folder = folder
-        # by process, the name of its row, what of it is at work, and the seconds that it has taken
+        # by process, the name of its row, what of the crate is at work or None for a step, and the seconds that it has taken
         self.taken = {}
         # by row, the seconds in which it was at work
         self.busy = {}
@@ -105,11 +113,13 @@ class Measure:
     def add(self, sample, gap):
         runs, steps = sample.runs(self.folder), sample.steps(self.folder)
         found = {pid: sample.processes[pid].work() for run in runs for pid in sample.works(run)}
-        found |= {pid: (sample.processes[pid].step(), None) for pid in steps}
+        found |= {pid: (step, None) for pid, step in steps.items()}
         for pid, (name, work) in found.items():
             self.taken[sample.processes[pid].key] = name, work, sample.seconds(pid)
         names = {name for name, _ in found.values()}
-        for name in names | {CRATES} if names - set(STEPS) else names:
+        if any(work for _, work in found.values()):
+            names.add(CRATES)
+        for name in names:
             self.busy[name] = self.busy.get(name, 0) + gap
         self.idle += 1
         if runs or steps:
@@ -124,12 +134,14 @@ class Measure:
 
     def rows(self):
         """By name the minutes of each work, of all of it and by the clock, the most first."""
-        names = {name for name, _, _ in self.taken.values() if name not in STEPS}
+        names = {name for name, work, _ in self.taken.values() if work}
         found = {name: [self.minutes(name, it) for it in (*WORKS, None)] + [self.busy[name] / 60] for name in names}
         return dict(sorted(found.items(), key=lambda row: -row[1][len(WORKS)]))
 
     def steps(self):
-        return {name: (self.minutes(name, None), self.busy[name] / 60) for name in STEPS if name in self.busy}
+        """By name, in the order of .ci/run, the minutes of a processor and those by the clock."""
+        names = dict.fromkeys(name for name, work, _ in self.taken.values() if not work)
+        return {name: (self.minutes(name, None), self.busy[name] / 60) for name in names}
 
     def sums(self):
         """The columns of all crates in one."""

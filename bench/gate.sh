@@ -3,7 +3,7 @@
 #        bench/gate.sh [--markdown] --sample [FOLDER]   measures the gate that runs, or is to start, in FOLDER or here
 # Prints the minutes of a processor and those by the clock that each crate took, the most first, and their sum; what each
 # other step of the gate took; and the longest chain of proofs. --markdown prints them as bench/README.md has them. The
-# second way ends ten seconds after the last work there, or by an interrupt.
+# second way ends a minute after the last work there, or by an interrupt.
 set -um
 here="$(cd "$(dirname "${BASH_SOURCE[0]}")" && pwd)"
 form=()
