@@ -22,8 +22,14 @@ const GONE: &[u8] = &[0, 0, 0, 0, 0, 0, 0, 5, 0, 0, 0, 6, 0];
 
 const THREE: &[u8] = &[0, 0, 0, 3];
 
+/// Whether a message of so many bytes is cut to this length: to each below 2,000, and of a longer one
+/// to the last 32 and to each 59th between them. One of these is behind the last id of a table.
+fn is_tried(length: usize, whole: usize) -> bool {
+    length < 2000 || length + 32 >= whole || length % 59 == 0
+}
+
 /// The bytes of the fields are those of the message: they are read as it, and it is written as they
-/// are. Cut anywhere they are too short, and with one byte more too long.
+/// are. Cut they are too short, and with one byte more too long.
 fn has_bytes(
     rt: &impl Abort,
     alloc: Global,
@@ -38,11 +44,13 @@ fn has_bytes(
     assert_eq!(rt; encode(alloc, &read)?.as_slice(), bytes.as_slice());
 
     for length in 0..bytes.len() {
-        let fault = fault_of(alloc, &bytes[..length])?;
-        assert!(rt;
-            matches!(fault, Some(DecodeFault::Short)),
-            "{shown} cut to {length}"
-        );
+        if is_tried(length, bytes.len()) {
+            let fault = fault_of(alloc, &bytes[..length])?;
+            assert!(rt;
+                matches!(fault, Some(DecodeFault::Short)),
+                "{shown} cut to {length}"
+            );
+        }
     }
     bytes.push(0)?;
     let fault = fault_of(alloc, &bytes)?;

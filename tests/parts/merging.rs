@@ -17,7 +17,12 @@ fn version(alloc: Global, generation: u32, value: &[u8]) -> Result<Version, Valu
 }
 
 /// A batch of one record, of the key 2.2 and with that number.
-fn batch_of(alloc: Global, number: u32, digest: Digest, version: Version) -> Result<Batch, NoMemory> {
+fn batch_of(
+    alloc: Global,
+    number: u32,
+    digest: Digest,
+    version: Version,
+) -> Result<Batch, NoMemory> {
     let mut records = Records::new(alloc);
     records.push((digest, version))?;
     let key = ClusterKey {

@@ -3,41 +3,11 @@ use super::two_sides::{AT_REST, TWO_SIDES, joined};
 use byte_ends::{MemSink, MemSource};
 use cluster_top::{Status, run};
 use std::alloc::Global;
-use std::fmt::Write;
+use std::process::Abort;
 use std::test::Fail;
 
 /// More than any of these runs writes.
 const ROOM: usize = 1_000_000;
-
-/// Four nodes of which one is apart.
-const APART: &str = "factor 1
-node 1
-node 2
-node 3
-node 4
-groups 1 2 3 | 4
-calm
-ask 1
-flow
-flow
-";
-
-/// They meet, and one of them is started again.
-const JOINED: &str = "round
-groups 1 2 3 4
-round
-round
-round
-round
-round
-round
-round
-round
-stop 2
-round
-start 2
-calm
-";
 
 /// They come to rest and show their stores, and a client reads.
 const AFTERWARDS: &str = "flow
@@ -124,41 +94,10 @@ fn in_flight(
     }
 }
 
-/// One message of each kind, in the order of the kinds.
-fn messages() -> [Flying; 15] {
-    [
-        in_flight(0, "tick 1\n", 7, (1, 2), 18),
-        in_flight(4, "tick 1\ntick 2\n", 17, (2, 1), 14),
-        in_flight(4, ACCEPTED, 18, (1, 2), 9),
-        in_flight(4, REFUSED, 45, (1, 2), 17),
-        in_flight(4, COMMITTED, 19, (2, 1), 14),
-        in_flight(4, ENTERED, 21, (1, 2), 27),
-        in_flight(6, "tick 1\n", 27, (1, 2), 49),
-        in_flight(6, "tick 1\ndeliver 27\n", 29, (2, 1), 13),
-        in_flight(6, "tick 1\n", 28, (1, 2), 1546),
-        in_flight(6, APPLIED, 28, (2, 1), 52),
-        in_flight(6, REPLICATED, 29, (1, 2), 13),
-        in_flight(6, ASKED, 26, (2, 1), 33),
-        in_flight(6, ANSWERED, 27, (1, 2), 29),
-        in_flight(0, "ask 1\n", 7, (0, 1), 1),
-        in_flight(6, "ask 1\nflow\n", 27, (1, 0), 8713),
-    ]
-}
-
-/// The four nodes take 256 writes, meet, and show what they hold.
-fn four_nodes(alloc: Global) -> Result<String, Fail> {
-    let mut script = String::from_str(alloc, APART)?;
-    for key in 0..256 {
-        writeln!(script, "cput s/{key} v")?;
-    }
-    script.push_str(JOINED)?;
-    for key in 0..256 {
-        writeln!(
-            script,
-            "show 1 s/{key}\nshow 2 s/{key}\nshow 3 s/{key}\nshow 4 s/{key}"
-        )?;
-    }
-    Ok(script)
+/// One node sends a client its table a dozen times, 17,426 digits each.
+fn tables(alloc: Global) -> Result<String, Fail> {
+    let asks = "ask 1\n".repeat(alloc, 12)?;
+    Ok(format!(in alloc; "node 1\ncalm\n{asks}flow\n")?)
 }
 
 /// How a run ends whose pull and whose push of these numbers fail, and what it wrote. The source
@@ -205,10 +144,10 @@ fn failing_pushes(alloc: Global, script: &str, text: &[u8]) -> Result<u64, Fail>
 
 #[test]
 fn each_push_that_fails_leaves_a_front_of_the_transcript(rt: HostRuntime) -> Result<(), Fail> {
-    let script = four_nodes(rt.alloc())?;
+    let script = tables(rt.alloc())?;
     let (status, text) = ended(rt.alloc(), script.as_str(), 0, 0)?;
     assert_eq!(rt; status, Status::Done);
-    assert!(rt; text.len() > 65_536);
+    assert!(rt; text.len() > 200_000);
     let pushes = failing_pushes(rt.alloc(), script.as_str(), text.as_slice())?;
     assert!(rt; pushes > 1);
     Ok(())
@@ -235,8 +174,8 @@ fn cut_to(alloc: Global, message: &Flying, length: usize) -> Result<String, Fail
     transcript_of(alloc, message, command.as_str())
 }
 
-/// The transcript where the message is lost, with the lines of a cut that is too short in place of the loss.
-fn lost_as_cut(alloc: Global, message: &Flying, length: usize) -> Result<String, Fail> {
+/// What is written where it is lost, before and after the line that says so.
+fn lost(alloc: Global, message: &Flying) -> Result<(String, String), Fail> {
     let command = format!(in alloc; "lose {}\n", message.number)?;
     let line = format!(in alloc; "lost {}\n", message.number)?;
     let transcript = transcript_of(alloc, message, command.as_str())?;
@@ -244,21 +183,24 @@ fn lost_as_cut(alloc: Global, message: &Flying, length: usize) -> Result<String,
         .as_str()
         .split_once(line.as_str())
         .ok_or("it isn't in flight")?;
-    let (from, to) = message.ends;
-    Ok(format!(in alloc;
-        "{before}cut {} {from} {to} {length}\nshort {to}\n{after}",
-        message.number
-    )?)
+    Ok((
+        String::from_str(alloc, before)?,
+        String::from_str(alloc, after)?,
+    ))
 }
 
-#[test]
-fn a_message_that_is_cut_changes_no_more_than_one_that_is_lost(
-    rt: HostRuntime,
-) -> Result<(), Fail> {
-    for message in messages() {
+/// Cut to none, to half and to all but one of its bytes, each message changes no more than one that is
+/// lost: the lines of a cut that is too short stand in the place of the loss. Cut to all, it isn't short.
+fn is_lost_where_cut(rt: &impl Abort, alloc: Global, messages: &[Flying]) -> Result<(), Fail> {
+    for message in messages {
+        let (before, after) = lost(alloc, message)?;
+        let (from, to) = message.ends;
         for length in [0, message.length / 2, message.length.saturating_sub(1)] {
-            let text = cut_to(rt.alloc(), &message, length)?;
-            let wanted = lost_as_cut(rt.alloc(), &message, length)?;
+            let text = cut_to(alloc, message, length)?;
+            let wanted = format!(in alloc;
+                "{before}cut {} {from} {to} {length}\nshort {to}\n{after}",
+                message.number
+            )?;
             assert_eq!(rt;
                 text.as_str(),
                 wanted.as_str(),
@@ -266,8 +208,72 @@ fn a_message_that_is_cut_changes_no_more_than_one_that_is_lost(
                 message.length
             );
         }
-        let whole = cut_to(rt.alloc(), &message, message.length)?;
+        let whole = cut_to(alloc, message, message.length)?;
         assert!(rt; !whole.as_str().contains("short"), "all {}", message.length);
     }
     Ok(())
+}
+
+#[test]
+fn a_cut_heartbeat_or_proposal_is_lost(rt: HostRuntime) -> Result<(), Fail> {
+    let messages = [
+        in_flight(0, "tick 1\n", 7, (1, 2), 18),
+        in_flight(4, "tick 1\ntick 2\n", 17, (2, 1), 14),
+        in_flight(4, ACCEPTED, 18, (1, 2), 9),
+    ];
+    is_lost_where_cut(&rt, rt.alloc(), &messages)
+}
+
+#[test]
+fn a_cut_refusal_or_commit_is_lost(rt: HostRuntime) -> Result<(), Fail> {
+    let messages = [
+        in_flight(4, REFUSED, 45, (1, 2), 17),
+        in_flight(4, COMMITTED, 19, (2, 1), 14),
+    ];
+    is_lost_where_cut(&rt, rt.alloc(), &messages)
+}
+
+#[test]
+fn a_cut_state_or_batch_is_lost(rt: HostRuntime) -> Result<(), Fail> {
+    let messages = [
+        in_flight(4, ENTERED, 21, (1, 2), 27),
+        in_flight(6, "tick 1\n", 27, (1, 2), 49),
+    ];
+    is_lost_where_cut(&rt, rt.alloc(), &messages)
+}
+
+#[test]
+fn a_cut_acknowledgement_of_a_batch_or_progress_is_lost(rt: HostRuntime) -> Result<(), Fail> {
+    let messages = [
+        in_flight(6, "tick 1\ndeliver 27\n", 29, (2, 1), 13),
+        in_flight(6, "tick 1\n", 28, (1, 2), 1546),
+    ];
+    is_lost_where_cut(&rt, rt.alloc(), &messages)
+}
+
+#[test]
+fn a_cut_write_or_acknowledgement_is_lost(rt: HostRuntime) -> Result<(), Fail> {
+    let messages = [
+        in_flight(6, APPLIED, 28, (2, 1), 52),
+        in_flight(6, REPLICATED, 29, (1, 2), 13),
+    ];
+    is_lost_where_cut(&rt, rt.alloc(), &messages)
+}
+
+#[test]
+fn a_cut_ask_or_answer_is_lost(rt: HostRuntime) -> Result<(), Fail> {
+    let messages = [
+        in_flight(6, ASKED, 26, (2, 1), 33),
+        in_flight(6, ANSWERED, 27, (1, 2), 29),
+    ];
+    is_lost_where_cut(&rt, rt.alloc(), &messages)
+}
+
+#[test]
+fn a_cut_ask_for_the_table_or_table_is_lost(rt: HostRuntime) -> Result<(), Fail> {
+    let messages = [
+        in_flight(0, "ask 1\n", 7, (0, 1), 1),
+        in_flight(6, "ask 1\nflow\n", 27, (1, 0), 8713),
+    ];
+    is_lost_where_cut(&rt, rt.alloc(), &messages)
 }

@@ -199,29 +199,6 @@ fn a_byte_past_the_limit_is_too_long(rt: HostRuntime) -> Result<(), Fail> {
     Ok(())
 }
 
-/// One node and so many lines that show a digest.
-fn digests(alloc: Global, count: usize) -> Result<Vec<u8>, Fail> {
-    let mut script = Vec::from_slice(alloc, b"node 1\n")?;
-    for _ in 0..count {
-        script.extend_from_slice(b"hash a\n")?;
-    }
-    Ok(script)
-}
-
-#[test]
-fn two_million_lines_are_written_and_no_line_more(rt: HostRuntime) -> Result<(), Fail> {
-    let alloc = rt.alloc();
-    for (count, status) in [(1_999_999, Status::Done), (2_000_000, Status::RunTooLong)] {
-        let script = digests(alloc, count)?;
-        let mut source = SureSource::new(alloc, script.as_slice())?;
-        let mut sink = SureSink::new();
-        let outcome = run(alloc, &[], &mut source, &mut sink);
-        assert_eq!(rt; outcome.status, status);
-        assert_eq!(rt; outcome.journal.lines(), 2_000_000);
-    }
-    Ok(())
-}
-
 #[test]
 fn words_that_it_does_not_take_are_refused(rt: HostRuntime) -> Result<(), Fail> {
     for words in [
