@@ -8,6 +8,7 @@ use Rattle.audit_core.specs.declared.verdict.Verdict.TheVariants as verdict
 use Rattle.audit_core.specs.Transcripts.{IsTranscript, IsFirstFault}
 use Rattle.audit_core.specs.Verdicts.{IsVerdict}
 use Rattle.audit_core.proofs.Pieces.{faulty, one_transcript}
+use Rattle.replay_core.proofs.StreamLaws.{all_few}
 use Rattle.replay_core.specs.declared.status.Status.{Status}
 use Rattle.replay_core.specs.declared.status.Status.TheVariants as status
 use Rattle.cluster_top.specs.Auditing.{AuditEnded, EndsAudit, EndsSource, EndsTranscript, EndsTranscriptBytes, HadTranscript, IsAuditDecided, Judged, Mistranscribed, status_of, transcript_limit}
@@ -21,6 +22,15 @@ nothing_written (Some t) bytes = record {
   whole = refl;
   now = ap Some (sym (append-nil t));
 }
+
+-- memory was refused for the line that tells the verdict
+pub refused_verdict : (st : Status) (j judged : List Line) (found : Verdict) (had left old new : Option (List ℕ))
+    → st ≡ status.NoMemory → j ≡ [] → new ≡ old → Judged had left judged found → AuditEnded st j had left old new
+refused_verdict st j judged found had left old new is none same h =
+    subst (λ (x : Status). AuditEnded x j had left old new) (sym is) (
+      record { empty = none; unwritten = same },
+      all_few transcript_limit had left h.transcribed.bytes h.transcribed.all.read h.transcribed.all.fits,
+    )
 
 -- ---- what decides
 

@@ -10,7 +10,7 @@ use Rattle.audit_core.specs.VerdictTexts.{verdict_text}
 use Rattle.replay_core.specs.declared.status.Status.{Status}
 use Rattle.replay_core.specs.declared.status.Status.TheVariants as status
 use Rattle.replay_core.specs.Outcome.{Unplayed}
-use Rattle.replay_core.specs.Streams.{HadAll, Overlong, WroteBytes, WroteFront}
+use Rattle.replay_core.specs.Streams.{GaveAtMost, HadAll, Overlong, WroteBytes, WroteFront}
 
 -- ---- what was read
 
@@ -22,6 +22,10 @@ transcript_limit = 134217728
 pub record HadTranscript (had left : Option (List ℕ)) (bytes : List ℕ) : Type 0 where
   pub read : HadAll had left bytes
   pub fits : length bytes ≤ transcript_limit
+
+-- the source gave no more bytes than a transcript may have
+abbrev pub HadNoMore : Option (List ℕ) → Option (List ℕ) → Type 0
+HadNoMore had left = GaveAtMost transcript_limit had left
 
 -- the source was read to its end, and had the journal's transcript left and nothing else
 pub record Transcribed (had left : Option (List ℕ)) (journal : List Line) : Type 0 where
@@ -72,10 +76,12 @@ pub record BrokenOff (journal : List Line) (had left old new : Option (List ℕ)
 abbrev pub AuditEnded : Status → List Line → Option (List ℕ) → Option (List ℕ) → Option (List ℕ)
     → Option (List ℕ) → Type 0
 AuditEnded status.Done journal had left old new = Told journal verdict.Holds had left old new
-AuditEnded status.NoMemory journal had left old new = Unplayed journal old new
+AuditEnded status.NoMemory journal had left old new =
+    Unplayed journal old new × HadNoMore had left
 AuditEnded status.BadWords journal had left old new = ⊥
 AuditEnded (status.BadScript line cause) journal had left old new = ⊥
-AuditEnded status.ReadFault journal had left old new = Unplayed journal old new
+AuditEnded status.ReadFault journal had left old new =
+    Unplayed journal old new × HadNoMore had left
 AuditEnded status.WriteFault journal had left old new = BrokenOff journal had left old new
 AuditEnded status.ScriptTooLong journal had left old new = ⊥
 AuditEnded status.RunTooLong journal had left old new = ⊥
@@ -96,8 +102,8 @@ IsUnreadBytes bytes _ = ⊥
 
 -- why no journal was read of the source
 abbrev pub IsUnread : Status → Option (List ℕ) → Option (List ℕ) → Type 0
-IsUnread status.NoMemory had left = Unit {0}
-IsUnread status.ReadFault had left = Unit {0}
+IsUnread status.NoMemory had left = HadNoMore had left
+IsUnread status.ReadFault had left = HadNoMore had left
 IsUnread status.TranscriptTooLong had left =
     IfSome had (λ bytes. Overlong transcript_limit bytes left)
 IsUnread (status.BadTranscript line) had left = Mistranscribed had left line

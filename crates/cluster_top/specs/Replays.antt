@@ -4,7 +4,7 @@ use Rattle.script_lang.specs.Grammar.{script_of}
 use Rattle.journal_lines.specs.declared.line.Line.{Line}
 use Rattle.replay_core.specs.declared.status.Status.{Status}
 use Rattle.replay_core.specs.declared.status.Status.TheVariants as status
-use Rattle.replay_core.specs.Outcome.{Ended, EndsBySource, EndsScript, HadScript, HadTooMuch}
+use Rattle.replay_core.specs.Outcome.{Ended, EndsBySource, EndsScript, HadNoMore, HadScript, HadTooMuch}
 use Rattle.cluster_top.specs.declared.words.Words.{Words}
 use Rattle.cluster_top.specs.Generating.{generated}
 use Rattle.cluster_top.specs.Transcripts.{transcript}
@@ -20,13 +20,18 @@ abbrev pub HadTooMuchBy : Option ℕ → Option (List ℕ) → Option (List ℕ)
 HadTooMuchBy (Some n) had left = ⊥
 HadTooMuchBy None had left = HadTooMuch had left
 
+-- the source gave no more bytes than a script may have, and none where the script is a generated one
+abbrev pub HadNoMoreBy : Option ℕ → Option (List ℕ) → Option (List ℕ) → Type 0
+HadNoMoreBy (Some n) had left = left ≡ had
+HadNoMoreBy None had left = HadNoMore had left
+
 -- what each status says where the words ask for such a replay: of the journal, of what the source
 -- had left and has left now, and of what the sink had taken and has taken now
 abbrev pub ReplayEnded : Words → Status → List Line → Option (List ℕ) → Option (List ℕ)
     → Option (List ℕ) → Option (List ℕ) → Type 0
 ReplayEnded words st journal had left old new =
     Ended (HadScriptBy words.generate had left) (HadTooMuchBy words.generate had left)
-    (transcript words) st journal old new
+    (HadNoMoreBy words.generate had left) (transcript words) st journal old new
 
 -- ---- what decides the status
 

@@ -2,6 +2,7 @@
 ghost use Rattle.std.specs.Prelude.{◌≡◌, ◌≢◌, ℕ, List, Option, OnOk, IsErrOf, IfOk, IfErr};
 ghost use Rattle.byte_ends.specs.Faults.{Rose};
 ghost use Rattle.audit_core.specs.Transcripts.{IsTranscript};
+ghost use Rattle.replay_core.specs.Outcome.{PushesNothing};
 ghost use Rattle.replay_core.specs.Streams.{WroteBytes, WroteFront};
 ghost use Rattle.cluster_top.specs.Auditing.{AuditEnded, IsUnread, IsUnreadBytes, Judged, Transcribed, status_of, verdict_line};
 
@@ -23,6 +24,7 @@ pub fn audit_source<S: Source, K: Sink>(alloc: Global, source: &mut S, out: &mut
         → Rose (S.faults source.old) (S.faults source.new) }
     ensures write_fault { result.status ≡ Status.WriteFault
         → Rose (K.faults out.old) (K.faults out.new) }
+    ensures unpushed { PushesNothing result.status → out.new ≡ out.old }
 {
     match read_journal(alloc, source) {
         Err(status) => unplayed(alloc, status),
@@ -67,6 +69,7 @@ fn audit_journal<K: Sink>(alloc: Global, journal: Journal, out: &mut K) -> Outco
     ensures read_fault { result.status ≢ Status.ReadFault }
     ensures write_fault { result.status ≡ Status.WriteFault
         → Rose (K.faults out.old) (K.faults out.new) }
+    ensures unpushed { PushesNothing result.status → out.new ≡ out.old }
 {
     match audit(alloc, &journal) {
         Err(NoMemory) => unplayed(alloc, Status::NoMemory),
@@ -82,6 +85,7 @@ fn tell<K: Sink>(alloc: Global, verdict: Verdict, journal: Journal, out: &mut K)
     ensures read_fault { result.status ≢ Status.ReadFault }
     ensures write_fault { result.status ≡ Status.WriteFault
         → Rose (K.faults out.old) (K.faults out.new) }
+    ensures unpushed { PushesNothing result.status → out.new ≡ out.old }
 {
     match write_verdict(alloc, verdict, out) {
         Ok(()) => Outcome {

@@ -1,10 +1,10 @@
 //! The whole program, over the ends that it is given.
-ghost use Rattle.std.specs.Prelude.{◌≡◌, [], map, string_bytes, IsSome};
+ghost use Rattle.std.specs.Prelude.{◌≡◌, ◌≢◌, [], map, string_bytes, IsSome};
 ghost use Rattle.byte_ends.specs.Faults.{Rose};
 ghost use Rattle.journal_readings.specs.CalmEnd.{CalmEnd};
 ghost use Rattle.journal_readings.specs.Claims.{NoLoss, ReadJoin, SettledJoin, EqualClasses, OneMap, KeysRise};
 ghost use Rattle.world.specs.Claims.{HasClaims};
-ghost use Rattle.replay_core.specs.Outcome.{CalmsAreInTime};
+ghost use Rattle.replay_core.specs.Outcome.{CalmsAreInTime, PushesNothing};
 ghost use Rattle.cluster_top.specs.Auditing.{AuditEnded, IsAuditDecided};
 ghost use Rattle.cluster_top.specs.Replays.{IsDecided, ReplayEnded};
 ghost use Rattle.cluster_top.specs.Words.{AreBad, AskAudit, AskNoReplay, Asks, EndsBadWords};
@@ -64,9 +64,12 @@ pub fn run<S: Source, K: Sink>(
     ensures write_fault { result.status ≡ Status.WriteFault
         → Rose (K.faults out.old) (K.faults out.new) }
 
-    // Nothing is pulled where a number stands for the script.
+    // Nothing is pushed where there is nothing to write, and nothing pulled where a number stands for
+    // the script: then no reading fails.
+    ensures unpushed { PushesNothing result.status → out.new ≡ out.old }
     ensures unread { (asked : Words) → Asks (map string_bytes words.now) asked
-        → IsSome asked.generate → source.new ≡ source.old }
+        → IsSome asked.generate
+        → (source.new ≡ source.old) × (result.status ≢ Status.ReadFault) }
 
     // Without a fault of either end, the words and the bytes decide how the run ends, unless memory
     // is refused.
@@ -108,8 +111,10 @@ fn replay_asked<S: Source, K: Sink>(
         → Rose (S.faults source.old) (S.faults source.new) }
     ensures write_fault { result.status ≡ Status.WriteFault
         → Rose (K.faults out.old) (K.faults out.new) }
+    ensures unpushed { PushesNothing result.status → out.new ≡ out.old }
     ensures unread { (asked : Words) → Asks (map string_bytes words.now) asked
-        → IsSome asked.generate → source.new ≡ source.old }
+        → IsSome asked.generate
+        → (source.new ≡ source.old) × (result.status ≢ Status.ReadFault) }
     ensures decided { (asked : Words) → Asks (map string_bytes words.now) asked
         → ¬ Rose (S.faults source.old) (S.faults source.new)
         → ¬ Rose (K.faults out.old) (K.faults out.new)

@@ -2,7 +2,7 @@
 ghost use Rattle.std.specs.Prelude.{◌≡◌, ◌≢◌, ◌<◌, ◌^◌, ℕ, List, Option, None, Some, IsSome, length, true};
 ghost use Rattle.byte_ends.specs.Faults.{Rose};
 ghost use Rattle.world.specs.Claims.{HasClaims};
-ghost use Rattle.replay_core.specs.Outcome.{CalmsAreInTime};
+ghost use Rattle.replay_core.specs.Outcome.{CalmsAreInTime, PushesNothing};
 ghost use Rattle.cluster_top.specs.Generating as script_text;
 ghost use Rattle.cluster_top.specs.Replays.{IsDecided, ReplayEnded};
 
@@ -31,7 +31,9 @@ pub fn replay_by<S: Source, K: Sink>(
         → Rose (S.faults source.old) (S.faults source.new) }
     ensures write_fault { result.status ≡ Status.WriteFault
         → Rose (K.faults out.old) (K.faults out.new) }
-    ensures unread { IsSome words.generate → source.new ≡ source.old }
+    ensures unpushed { PushesNothing result.status → out.new ≡ out.old }
+    ensures unread { IsSome words.generate
+        → (source.new ≡ source.old) × (result.status ≢ Status.ReadFault) }
     ensures decided { ¬ Rose (S.faults source.old) (S.faults source.new)
         → ¬ Rose (K.faults out.old) (K.faults out.new)
         → IsDecided words (S.left source.old) result.status }
@@ -54,6 +56,7 @@ fn replay_and_summarize<S: Source, K: Sink>(alloc: Global, source: &mut S, out: 
         → Rose (S.faults source.old) (S.faults source.new) }
     ensures write_fault { result.status ≡ Status.WriteFault
         → Rose (K.faults out.old) (K.faults out.new) }
+    ensures unpushed { PushesNothing result.status → out.new ≡ out.old }
 {
     let replayed = replay(alloc, source, out);
     match replayed.status {
@@ -72,6 +75,7 @@ fn replay_number<K: Sink>(alloc: Global, number: u64, out: &mut K) -> Outcome
     ensures read_fault { result.status ≢ Status.ReadFault }
     ensures write_fault { result.status ≡ Status.WriteFault
         → Rose (K.faults out.old) (K.faults out.new) }
+    ensures unpushed { PushesNothing result.status → out.new ≡ out.old }
 {
     match generated(alloc, number) {
         Err(_) => unplayed(alloc, Status::NoMemory),
@@ -91,6 +95,7 @@ fn play_and_summarize<K: Sink>(alloc: Global, bytes: &[u8], out: &mut K) -> Outc
     ensures read_fault { result.status ≢ Status.ReadFault }
     ensures write_fault { result.status ≡ Status.WriteFault
         → Rose (K.faults out.old) (K.faults out.new) }
+    ensures unpushed { PushesNothing result.status → out.new ≡ out.old }
 {
     let played = play_bytes(alloc, bytes);
     match played.status {

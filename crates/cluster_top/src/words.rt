@@ -1,5 +1,5 @@
 //! The words after the program's name.
-ghost use Rattle.std.specs.Prelude.{◌≡◌, ◌↔◌, ℕ, map, codes, string_bytes, IfOk, IfErr, IfSome, IsErrOf, IsNone, IsTrue};
+ghost use Rattle.std.specs.Prelude.{◌≡◌, ◌≢◌, ◌↔◌, ℕ, map, codes, string_bytes, Err, IfOk, IfErr, IfSome, IsErrOf, IsNone, IsTrue};
 ghost use Rattle.std.specs.List.{list_all, list_any};
 ghost use Rattle.clap.specs.Words.{app_of, first_value, found_of, kind_of};
 ghost use Rattle.script_lang.specs.Values.{is_digit};
@@ -115,6 +115,7 @@ fn number_given(matches: &ArgMatches<'_>) -> Result<Option<u64>, WordsFault>
     ensures ok { IfOk result (AreNumber (first_value (found_of matches.now) (codes "generate"))) }
     ensures err { IfErr result
         (λ _. IsNoNumber (first_value (found_of matches.now) (codes "generate"))) }
+    ensures only { result ≢ Err WordsFault.NoMemory }
 {
     match matches.get_str("generate") {
         None => Ok(None),

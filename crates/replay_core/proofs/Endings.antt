@@ -13,8 +13,9 @@ use Rattle.cluster_rules.specs.Opening.{header_lines}
 use Rattle.cluster_rules.specs.Steps.{all_lines}
 use Rattle.replay_core.specs.declared.status.Status.{Status}
 use Rattle.replay_core.specs.declared.status.Status.TheVariants as status
-use Rattle.replay_core.specs.Outcome.{Ended, EndsBySource, EndsBytes, EndsScript, FitsWhole, HadScript, HadTooMuch, IsCut, IsSourceDecided, Misread, Outgrown, Replayed, SourceEnded, WritingEnded}
+use Rattle.replay_core.specs.Outcome.{Ended, EndsBySource, EndsBytes, EndsScript, FitsWhole, HadNoMore, HadScript, HadTooMuch, IsCut, IsSourceDecided, Misread, Outgrown, PlayEnded, PushesNothing, Replayed, SourceEnded, WritingEnded}
 use Rattle.replay_core.specs.Streams.{HadAll, script_limit}
+use Rattle.replay_core.proofs.StreamLaws.{all_few}
 use Rattle.replay_core.proofs.RunsOnce.{BeginsWith, run_begins}
 use Rattle.replay_core.proofs.TextLaws.{text_append}
 
@@ -73,45 +74,107 @@ bad IsScript E line cause script m =
     script m.bytes (status.BadScript line cause) m.read (ends_script m.bytes (Err (record { line = line; cause = cause })) (status.BadScript line cause) m.bad refl)
 
 -- by what the script decides, and what one does that is too long
-pub decides : (IsScript : List ℕ → Type 0) (IsTooLong : Type 0) (transcript : List Line → List ℕ) (E : Status → Type 0) (st : Status) (j : List Line) (old new : Option (List ℕ)) (a b c d : ℕ)
-    → ((bytes : List ℕ) (st : Status) → IsScript bytes → EndsScript (script_of bytes) st → E st) → (IsTooLong → E status.ScriptTooLong) → Ended IsScript IsTooLong transcript st j old new
+pub decides : (IsScript : List ℕ → Type 0) (IsTooLong IsShort : Type 0) (transcript : List Line → List ℕ) (E : Status → Type 0) (st : Status) (j : List Line) (old new : Option (List ℕ)) (a b c d : ℕ)
+    → ((bytes : List ℕ) (st : Status) → IsScript bytes → EndsScript (script_of bytes) st → E st) → (IsTooLong → E status.ScriptTooLong) → Ended IsScript IsTooLong IsShort transcript st j old new
     → (st ≡ status.ReadFault → Rose a b) → (st ≡ status.WriteFault → Rose c d) → ¬ Rose a b → ¬ Rose c d → E st ⊎ (st ≡ status.NoMemory)
-decides IsScript IsTooLong transcript E status.Done j old new a b c d script long e r k p q = inl (done IsScript E j script e.0)
-decides IsScript IsTooLong transcript E status.NoMemory j old new a b c d script long e r k p q = inr refl
-decides IsScript IsTooLong transcript E status.BadWords j old new a b c d script long e r k p q = absurd e
-decides IsScript IsTooLong transcript E (status.BadScript line cause) j old new a b c d script long e r k p q = inl (bad IsScript E line cause script e.1)
-decides IsScript IsTooLong transcript E status.ReadFault j old new a b c d script long e r k p q = absurd (p (r refl))
-decides IsScript IsTooLong transcript E status.WriteFault j old new a b c d script long e r k p q = absurd (q (k refl))
-decides IsScript IsTooLong transcript E status.ScriptTooLong j old new a b c d script long e r k p q = inl (long e.1)
-decides IsScript IsTooLong transcript E status.RunTooLong j old new a b c d script long e r k p q = inl (outgrown IsScript E j script e.1)
-decides IsScript IsTooLong transcript E status.TranscriptTooLong j old new a b c d script long e r k p q = absurd e
-decides IsScript IsTooLong transcript E (status.BadTranscript line) j old new a b c d script long e r k p q = absurd e
-decides IsScript IsTooLong transcript E (status.Refuted law line) j old new a b c d script long e r k p q = absurd e
+decides IsScript IsTooLong IsShort transcript E status.Done j old new a b c d script long e r k p q = inl (done IsScript E j script e.0)
+decides IsScript IsTooLong IsShort transcript E status.NoMemory j old new a b c d script long e r k p q = inr refl
+decides IsScript IsTooLong IsShort transcript E status.BadWords j old new a b c d script long e r k p q = absurd e
+decides IsScript IsTooLong IsShort transcript E (status.BadScript line cause) j old new a b c d script long e r k p q = inl (bad IsScript E line cause script e.1)
+decides IsScript IsTooLong IsShort transcript E status.ReadFault j old new a b c d script long e r k p q = absurd (p (r refl))
+decides IsScript IsTooLong IsShort transcript E status.WriteFault j old new a b c d script long e r k p q = absurd (q (k refl))
+decides IsScript IsTooLong IsShort transcript E status.ScriptTooLong j old new a b c d script long e r k p q = inl (long e.1)
+decides IsScript IsTooLong IsShort transcript E status.RunTooLong j old new a b c d script long e r k p q = inl (outgrown IsScript E j script e.1)
+decides IsScript IsTooLong IsShort transcript E status.TranscriptTooLong j old new a b c d script long e r k p q = absurd e
+decides IsScript IsTooLong IsShort transcript E (status.BadTranscript line) j old new a b c d script long e r k p q = absurd e
+decides IsScript IsTooLong IsShort transcript E (status.Refuted law line) j old new a b c d script long e r k p q = absurd e
 
 pub source_decides : (st : Status) (j : List Line) (had left old new : Option (List ℕ)) (a b c d : ℕ) → SourceEnded st j had left old new
     → (st ≡ status.ReadFault → Rose a b) → (st ≡ status.WriteFault → Rose c d) → ¬ Rose a b → ¬ Rose c d → IsSourceDecided had st
 source_decides st j had left old new a b c d e r k p q =
-    decides (HadScript had left) (HadTooMuch had left) text (EndsBySource had) st j old new a b c d (by_source had left) (beyond_source had left) e r k p q
+    decides (HadScript had left) (HadTooMuch had left) (HadNoMore had left) text (EndsBySource had) st j old new a b c d (by_source had left) (beyond_source had left) e r k p q
 
 -- ---- how a run ended
 
-pub was_written : (IsScript : List ℕ → Type 0) (IsTooLong : Type 0) (transcript : List Line → List ℕ) (st : Status) (j kept : List Line) (old new : Option (List ℕ)) → Replayed IsScript j
-    → WritingEnded st old new (transcript j) → (st ≢ status.NoMemory → kept ≡ j) → (st ≡ status.NoMemory → kept ≡ []) → Ended IsScript IsTooLong transcript st kept old new
-was_written IsScript IsTooLong transcript status.Done j kept old new r w same none =
-    subst (λ (x : List Line). Ended IsScript IsTooLong transcript status.Done x old new) (sym (same (λ e. cc))) (r, w)
-was_written IsScript IsTooLong transcript status.NoMemory j kept old new r w same none = (none refl, inr (record { journal = j; replayed = r; front = w }))
-was_written IsScript IsTooLong transcript status.WriteFault j kept old new r w same none =
-    subst (λ (x : List Line). Ended IsScript IsTooLong transcript status.WriteFault x old new) (sym (same (λ e. cc))) (r, w)
-was_written IsScript IsTooLong transcript status.BadWords j kept old new r w same none = absurd w
-was_written IsScript IsTooLong transcript (status.BadScript line cause) j kept old new r w same none = absurd w
-was_written IsScript IsTooLong transcript status.ReadFault j kept old new r w same none = absurd w
-was_written IsScript IsTooLong transcript status.ScriptTooLong j kept old new r w same none = absurd w
-was_written IsScript IsTooLong transcript status.RunTooLong j kept old new r w same none = absurd w
-was_written IsScript IsTooLong transcript status.TranscriptTooLong j kept old new r w same none = absurd w
-was_written IsScript IsTooLong transcript (status.BadTranscript line) j kept old new r w same none = absurd w
-was_written IsScript IsTooLong transcript (status.Refuted law line) j kept old new r w same none = absurd w
+pub was_written : (IsScript : List ℕ → Type 0) (IsTooLong IsShort : Type 0) (transcript : List Line → List ℕ) (st : Status) (j kept : List Line) (old new : Option (List ℕ)) → IsShort → Replayed IsScript j
+    → WritingEnded st old new (transcript j) → (st ≢ status.NoMemory → kept ≡ j) → (st ≡ status.NoMemory → kept ≡ []) → Ended IsScript IsTooLong IsShort transcript st kept old new
+was_written IsScript IsTooLong IsShort transcript status.Done j kept old new short r w same none =
+    subst (λ (x : List Line). Ended IsScript IsTooLong IsShort transcript status.Done x old new) (sym (same (λ e. cc))) (r, w)
+was_written IsScript IsTooLong IsShort transcript status.NoMemory j kept old new short r w same none = (none refl, short, inr (record { journal = j; replayed = r; front = w }))
+was_written IsScript IsTooLong IsShort transcript status.WriteFault j kept old new short r w same none =
+    subst (λ (x : List Line). Ended IsScript IsTooLong IsShort transcript status.WriteFault x old new) (sym (same (λ e. cc))) (r, w)
+was_written IsScript IsTooLong IsShort transcript status.BadWords j kept old new short r w same none = absurd w
+was_written IsScript IsTooLong IsShort transcript (status.BadScript line cause) j kept old new short r w same none = absurd w
+was_written IsScript IsTooLong IsShort transcript status.ReadFault j kept old new short r w same none = absurd w
+was_written IsScript IsTooLong IsShort transcript status.ScriptTooLong j kept old new short r w same none = absurd w
+was_written IsScript IsTooLong IsShort transcript status.RunTooLong j kept old new short r w same none = absurd w
+was_written IsScript IsTooLong IsShort transcript status.TranscriptTooLong j kept old new short r w same none = absurd w
+was_written IsScript IsTooLong IsShort transcript (status.BadTranscript line) j kept old new short r w same none = absurd w
+was_written IsScript IsTooLong IsShort transcript (status.Refuted law line) j kept old new short r w same none = absurd w
+
+-- writing pushes something, or tries to
+pub writing_pushes : (st : Status) (old new : Option (List ℕ)) (bytes : List ℕ) → WritingEnded st old new bytes → PushesNothing st → ⊥
+writing_pushes status.Done old new bytes w none = none
+writing_pushes status.NoMemory old new bytes w none = none
+writing_pushes status.WriteFault old new bytes w none = none
+writing_pushes status.BadWords old new bytes w none = w
+writing_pushes (status.BadScript line cause) old new bytes w none = w
+writing_pushes status.ReadFault old new bytes w none = w
+writing_pushes status.ScriptTooLong old new bytes w none = w
+writing_pushes status.RunTooLong old new bytes w none = w
+writing_pushes status.TranscriptTooLong old new bytes w none = w
+writing_pushes (status.BadTranscript line) old new bytes w none = w
+writing_pushes (status.Refuted law line) old new bytes w none = w
 
 -- ---- where the script came from
 
 pub from_source : (had left : Option (List ℕ)) (bytes piece : List ℕ) → HadAll had left bytes → length bytes ≤ script_limit → piece ≡ bytes → HadScript had left piece
 from_source had left bytes piece all fits same = subst (λ (b : List ℕ). HadScript had left b) (sym same) (all, fits)
+
+pub short_script : (had left : Option (List ℕ)) (bytes : List ℕ) → HadScript had left bytes → HadNoMore had left
+short_script had left bytes h = all_few script_limit had left bytes h.0 h.1
+
+-- the script that was played, of whose run nothing was written, is that of `IsScript`
+pub ended_unwritten : (IsScript : List ℕ → Type 0) (IsTooLong IsShort : Type 0) (transcript : List Line → List ℕ) (bytes : List ℕ) (st : Status) (j : List Line) (old : Option (List ℕ)) → IsScript bytes
+    → IsShort → st ≢ status.Done → PlayEnded bytes st j → Ended IsScript IsTooLong IsShort transcript st j old old
+ended_unwritten IsScript IsTooLong IsShort transcript bytes status.Done j old is short other e = absurd (other refl)
+ended_unwritten IsScript IsTooLong IsShort transcript bytes status.NoMemory j old is short other e = (e, short, inl refl)
+ended_unwritten IsScript IsTooLong IsShort transcript bytes (status.BadScript line cause) j old is short other e =
+    (record { empty = e.0; unwritten = refl }, record { bytes = bytes; read = is; bad = subst (λ (b : List ℕ). script_of b ≡ Err (record { line = line; cause = cause })) e.1.read e.1.bad })
+ended_unwritten IsScript IsTooLong IsShort transcript bytes status.RunTooLong j old is short other e =
+    (refl, record { bytes = bytes; script = e.script; read = is; parsed = subst (λ (b : List ℕ). script_of b ≡ Ok e.script) e.read e.parsed; proper = e.proper; cut = e.cut; within = e.within })
+ended_unwritten IsScript IsTooLong IsShort transcript bytes status.BadWords j old is short other e = absurd e
+ended_unwritten IsScript IsTooLong IsShort transcript bytes status.ReadFault j old is short other e = absurd e
+ended_unwritten IsScript IsTooLong IsShort transcript bytes status.WriteFault j old is short other e = absurd e
+ended_unwritten IsScript IsTooLong IsShort transcript bytes status.ScriptTooLong j old is short other e = absurd e
+ended_unwritten IsScript IsTooLong IsShort transcript bytes status.TranscriptTooLong j old is short other e = absurd e
+ended_unwritten IsScript IsTooLong IsShort transcript bytes (status.BadTranscript line) j old is short other e = absurd e
+ended_unwritten IsScript IsTooLong IsShort transcript bytes (status.Refuted law line) j old is short other e = absurd e
+
+-- and so is the one that was played whole
+replayed_as : (IsScript : List ℕ → Type 0) (bytes : List ℕ) (j : List Line) → IsScript bytes → Replayed (λ it. it ≡ bytes) j → Replayed IsScript j
+replayed_as IsScript bytes j is r = record {
+  bytes = bytes;
+  script = r.script;
+  read = is;
+  parsed = subst (λ (b : List ℕ). script_of b ≡ Ok r.script) r.read r.parsed;
+  proper = r.proper;
+  played = r.played;
+  within = r.within;
+}
+
+whole_play : (bytes : List ℕ) (st : Status) (j : List Line) → st ≡ status.Done → PlayEnded bytes st j → Replayed (λ it. it ≡ bytes) j
+whole_play bytes st j is e = subst (λ (x : Status). PlayEnded bytes x j) is e
+
+-- what is written of its run says how it ends
+pub ended_written : (IsScript : List ℕ → Type 0) (IsTooLong IsShort : Type 0) (transcript : List Line → List ℕ) (bytes : List ℕ) (was st : Status) (j kept : List Line) (old new : Option (List ℕ))
+    → IsScript bytes → IsShort → was ≡ status.Done → PlayEnded bytes was j → WritingEnded st old new (transcript j) → (st ≢ status.NoMemory → kept ≡ j) → (st ≡ status.NoMemory → kept ≡ [])
+    → Ended IsScript IsTooLong IsShort transcript st kept old new
+ended_written IsScript IsTooLong IsShort transcript bytes was st j kept old new is short done e w same none =
+    was_written IsScript IsTooLong IsShort transcript st j kept old new short (replayed_as IsScript bytes j is (whole_play bytes was j done e)) w same none
+
+-- nothing was read of the script, or not all
+pub ended_unread : (IsScript : List ℕ → Type 0) (IsTooLong IsShort : Type 0) (transcript : List Line → List ℕ) (st : Status) (j : List Line) (old : Option (List ℕ)) → st ≡ status.NoMemory → j ≡ []
+    → IsShort → Ended IsScript IsTooLong IsShort transcript st j old old
+ended_unread IsScript IsTooLong IsShort transcript st j old is none short =
+    subst (λ (x : Status). Ended IsScript IsTooLong IsShort transcript x j old old) (sym is) (none, short, inl refl)

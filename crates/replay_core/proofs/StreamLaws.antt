@@ -1,13 +1,14 @@
 -- What a source gave and a sink took, piece by piece.
-use Rattle.std.proofs.Common.{◌≡◌, ℕ, ◌+◌, ◌-◌, ◌<◌, ◌≤◌, List, [], ◌∷◌, ◌++◌, length, take, drop, Option, Some, None, refl, sym, ap, subst, ◌∙◌, arith, append_assoc, length-append, IfSome, zero, suc}
+use Rattle.std.proofs.Common.{◌≡◌, ℕ, ◌+◌, ◌-◌, ◌<◌, ◌≤◌, List, [], ◌∷◌, ◌++◌, length, take, drop, Option, Some, None, refl, sym, ap, subst, ◌∙◌, arith, append_assoc, length-append, IfSome, length-take, zero, suc}
 use Rattle.std.specs.List.{slice_range}
 use Rattle.std.proofs.lemmas.List.{take-append-drop, append-nil}
 use Rattle.std.proofs.Math.Seq.{take-add}
 use Rattle.byte_ends.specs.declared.sink.Pushed.TheVariants.{Took, Failed}
 use Rattle.byte_ends.specs.declared.source.Pulled.TheVariants.{Got, End}
+use Rattle.byte_ends.specs.declared.source.Pulled.TheVariants as pulled
 use Rattle.byte_ends.specs.Source.{Pulls}
 use Rattle.byte_ends.specs.Sink.{Pushes}
-use Rattle.replay_core.specs.Streams.{Gave, HadAll, Overlong, WroteBytes, WroteFront}
+use Rattle.replay_core.specs.Streams.{Gave, GaveAtMost, HadAll, Overlong, WroteBytes, WroteFront}
 
 -- ---- a sink
 
@@ -109,6 +110,48 @@ gave_too_much limit (Some all) new bytes g size =
       longer = omega arith;
       read = g.now ∙ ap Some (sym (ap (drop (limit + 1)) g.was ∙ behind bytes g.rest (limit + 1) size));
     }
+
+-- with the piece that came the bytes are one more than the limit
+pub too_much_with_piece : (limit : ℕ) (old mid new : Option (List ℕ)) (bytes piece : List ℕ) (count : ℕ) → Gave old mid bytes → Pulls mid new (Got count) piece
+    → length bytes + count ≡ limit + 1 → count ≤ length piece → IfSome old (λ all. Overlong limit all new)
+too_much_with_piece limit old mid new bytes piece count g p size most =
+    gave_too_much limit old new (bytes ++ take count piece) (gave_more old mid new bytes piece (bytes ++ take count piece) count g p refl)
+    (omega (arith, size, most, length-append bytes (take count piece), length-take {A = ℕ} count piece))
+
+-- ---- no more than the limit
+
+pub none_gave : (limit : ℕ) (old : Option (List ℕ)) → GaveAtMost limit old old
+none_gave limit None = tt
+none_gave limit (Some all) = record { bytes = []; gave = record { rest = all; was = refl; now = refl }; few = omega arith }
+
+pub few_gave : (limit : ℕ) (old new : Option (List ℕ)) (bytes : List ℕ) → Gave old new bytes → length bytes ≤ limit → GaveAtMost limit old new
+few_gave limit None new bytes g few = tt
+few_gave limit (Some all) new bytes g few = record { bytes = bytes; gave = g; few = few }
+
+-- a piece more came, and the bytes are few with it
+pub few_with_piece : (limit : ℕ) (old mid new : Option (List ℕ)) (bytes piece : List ℕ) (count : ℕ) → Gave old mid bytes → Pulls mid new (Got count) piece → length bytes + count ≤ limit
+    → GaveAtMost limit old new
+few_with_piece limit old mid new bytes piece count g p few =
+    few_gave limit old new (bytes ++ take count piece) (gave_more old mid new bytes piece (bytes ++ take count piece) count g p refl)
+    (omega (arith, length-append bytes (take count piece), length-take {A = ℕ} count piece))
+
+-- at a fault nothing comes
+pub few_at_fault : (limit : ℕ) (old mid new : Option (List ℕ)) (bytes piece : List ℕ) → Gave old mid bytes → Pulls mid new pulled.Failed piece → length bytes ≤ limit → GaveAtMost limit old new
+few_at_fault limit None mid new bytes piece g p few = tt
+few_at_fault limit (Some all) mid new bytes piece g p few =
+    let q = subst (λ m. Pulls m new pulled.Failed piece) g.now p in record {
+      bytes = bytes;
+      gave = record { rest = g.rest; was = g.was; now = q };
+      few = few;
+    }
+
+pub all_few : (limit : ℕ) (old new : Option (List ℕ)) (bytes : List ℕ) → HadAll old new bytes → length bytes ≤ limit → GaveAtMost limit old new
+all_few limit None new bytes h few = tt
+all_few limit (Some all) new bytes h few = record {
+  bytes = bytes;
+  gave = record { rest = []; was = h.0 ∙ sym (append-nil bytes); now = h.1 };
+  few = few;
+}
 
 -- ---- one text and then another
 

@@ -16,7 +16,7 @@ use Rattle.replay_core.specs.declared.status.Status.{Status}
 use Rattle.replay_core.specs.declared.status.Status.TheVariants as status
 use Rattle.replay_core.specs.declared.writing.WriteFault.{WriteFault}
 use Rattle.replay_core.specs.declared.writing.WriteFault.TheVariants as writing
-use Rattle.replay_core.specs.Streams.{HadAll, Overlong, WroteBytes, WroteFront, script_limit}
+use Rattle.replay_core.specs.Streams.{GaveAtMost, HadAll, Overlong, WroteBytes, WroteFront, script_limit}
 
 -- ---- where the script comes from
 
@@ -27,6 +27,10 @@ HadScript had left bytes = HadAll had left bytes × (length bytes ≤ script_lim
 -- the source gave a byte more than a script may have
 abbrev pub HadTooMuch : Option (List ℕ) → Option (List ℕ) → Type 0
 HadTooMuch had left = IfSome had (λ bytes. Overlong script_limit bytes left)
+
+-- the source gave no more bytes than a script may have
+abbrev pub HadNoMore : Option (List ℕ) → Option (List ℕ) → Type 0
+HadNoMore had left = GaveAtMost script_limit had left
 
 -- ---- what was played
 -- `IsScript` says of bytes that they are those of the script that is replayed.
@@ -91,34 +95,43 @@ abbrev pub CutOff : (List ℕ → Type 0) → (List Line → List ℕ) → Optio
 CutOff IsScript transcript old new = (new ≡ old) ⊎ BrokeOff IsScript transcript old new
 
 -- what each status says of a replay, by which bytes its script is, what too long a script shows of
--- the source, and what is written of a journal: of the journal, and of what the sink had taken and
--- has taken now
-abbrev pub Ended : (List ℕ → Type 0) → Type 0 → (List Line → List ℕ) → Status → List Line
-    → Option (List ℕ) → Option (List ℕ) → Type 0
-Ended IsScript IsTooLong transcript status.Done journal old new =
+-- the source, what one shows of it that isn't, and what is written of a journal: of the journal, and
+-- of what the sink had taken and has taken now
+abbrev pub Ended : (List ℕ → Type 0) → Type 0 → Type 0 → (List Line → List ℕ) → Status
+    → List Line → Option (List ℕ) → Option (List ℕ) → Type 0
+Ended IsScript IsTooLong IsShort transcript status.Done journal old new =
     Replayed IsScript journal × WroteBytes old new (transcript journal)
-Ended IsScript IsTooLong transcript status.NoMemory journal old new =
-    (journal ≡ []) × CutOff IsScript transcript old new
-Ended IsScript IsTooLong transcript status.BadWords journal old new = ⊥
-Ended IsScript IsTooLong transcript (status.BadScript line cause) journal old new =
+Ended IsScript IsTooLong IsShort transcript status.NoMemory journal old new =
+    (journal ≡ []) × IsShort × CutOff IsScript transcript old new
+Ended IsScript IsTooLong IsShort transcript status.BadWords journal old new = ⊥
+Ended IsScript IsTooLong IsShort transcript (status.BadScript line cause) journal old new =
     Unplayed journal old new × Misread IsScript line cause
-Ended IsScript IsTooLong transcript status.ReadFault journal old new = Unplayed journal old new
-Ended IsScript IsTooLong transcript status.WriteFault journal old new =
+Ended IsScript IsTooLong IsShort transcript status.ReadFault journal old new =
+    Unplayed journal old new × IsShort
+Ended IsScript IsTooLong IsShort transcript status.WriteFault journal old new =
     Replayed IsScript journal × WroteFront old new (transcript journal)
-Ended IsScript IsTooLong transcript status.ScriptTooLong journal old new =
+Ended IsScript IsTooLong IsShort transcript status.ScriptTooLong journal old new =
     Unplayed journal old new × IsTooLong
-Ended IsScript IsTooLong transcript status.RunTooLong journal old new =
+Ended IsScript IsTooLong IsShort transcript status.RunTooLong journal old new =
     (new ≡ old) × Outgrown IsScript journal
-Ended IsScript IsTooLong transcript status.TranscriptTooLong journal old new = ⊥
-Ended IsScript IsTooLong transcript (status.BadTranscript line) journal old new = ⊥
-Ended IsScript IsTooLong transcript (status.Refuted law line) journal old new = ⊥
+Ended IsScript IsTooLong IsShort transcript status.TranscriptTooLong journal old new = ⊥
+Ended IsScript IsTooLong IsShort transcript (status.BadTranscript line) journal old new = ⊥
+Ended IsScript IsTooLong IsShort transcript (status.Refuted law line) journal old new = ⊥
 
 -- what each status says where the script is what a source had left, and the journal's text is
 -- written: also of what the source had left and has left now
 abbrev pub SourceEnded : Status → List Line → Option (List ℕ) → Option (List ℕ)
     → Option (List ℕ) → Option (List ℕ) → Type 0
 SourceEnded st journal had left old new =
-    Ended (HadScript had left) (HadTooMuch had left) text st journal old new
+    Ended (HadScript had left) (HadTooMuch had left) (HadNoMore had left) text st journal old new
+
+-- with these statuses nothing is pushed to the sink: neither bytes of a run nor of a verdict
+abbrev pub PushesNothing : Status → Type 0
+PushesNothing status.Done = ⊥
+PushesNothing status.NoMemory = ⊥
+PushesNothing status.WriteFault = ⊥
+PushesNothing (status.Refuted law line) = ⊥
+PushesNothing _ = Unit {0}
 
 -- wherever the run of a proper script that has this journal begins rounds of calm, they are in time
 abbrev pub CalmsAreInTime : List Line → Type 0

@@ -1,5 +1,5 @@
 -- What a run took from its source, and gave to its sink, where these tell.
-use Rattle.std.specs.Prelude.{◌≡◌, ℕ, ◌+◌, ◌<◌, List, [], ◌++◌, length, drop, Option, Some, IfSome}
+use Rattle.std.specs.Prelude.{◌≡◌, ℕ, ◌+◌, ◌<◌, ◌≤◌, List, [], ◌++◌, length, drop, Option, Some, IfSome}
 
 -- the source gave these bytes
 pub record GaveBytes (all : List ℕ) (left : Option (List ℕ)) (bytes : List ℕ) : Type 0 where
@@ -9,6 +9,15 @@ pub record GaveBytes (all : List ℕ) (left : Option (List ℕ)) (bytes : List �
 
 abbrev pub Gave : Option (List ℕ) → Option (List ℕ) → List ℕ → Type 0
 Gave old new bytes = IfSome old (λ all. GaveBytes all new bytes)
+
+-- the source gave no more bytes than so many
+pub record GaveFew (limit : ℕ) (all : List ℕ) (left : Option (List ℕ)) : Type 0 where
+  pub bytes : List ℕ
+  pub gave : GaveBytes all left bytes
+  pub few : length bytes ≤ limit
+
+abbrev pub GaveAtMost : ℕ → Option (List ℕ) → Option (List ℕ) → Type 0
+GaveAtMost limit old new = IfSome old (λ all. GaveFew limit all new)
 
 -- these bytes were all that the source had left, and it gave them
 abbrev pub HadAll : Option (List ℕ) → Option (List ℕ) → List ℕ → Type 0

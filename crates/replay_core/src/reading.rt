@@ -1,7 +1,7 @@
 //! Reads a source to its end.
-ghost use Rattle.std.specs.Prelude.{◌≡◌, ◌<◌, ◌≤◌, ◌+◌, ◌^◌, [], length, vec_len, drop, Some, IfSome, IfOk, IsErrOf};
+ghost use Rattle.std.specs.Prelude.{◌≡◌, ◌≢◌, ◌<◌, ◌≤◌, ◌^◌, length, vec_len, Err, IfSome, IfOk, IsErrOf};
 ghost use Rattle.byte_ends.specs.Faults.{Rose};
-ghost use Rattle.replay_core.specs.Streams.{HadAll, Overlong};
+ghost use Rattle.replay_core.specs.Streams.{GaveAtMost, HadAll, Overlong};
 
 use byte_ends::{Pulled, Source};
 use std::alloc::{AllocError, Global};
@@ -28,7 +28,8 @@ impl From<AllocError> for ReadFault {
     }
 }
 
-/// Reads the source to its end, unless a byte more than the limit comes first.
+/// Reads the source to its end, unless a byte more than the limit comes first: then it is `TooLong`,
+/// and no other fault hides that.
 pub fn read_all<S: Source>(
     alloc: Global,
     source: &mut S,
@@ -43,20 +44,22 @@ pub fn read_all<S: Source>(
         → Rose (S.faults source.old) (S.faults source.new) }
     ensures too_long { IsErrOf result ReadFault.TooLong
         → IfSome (S.left source.old) (λ bytes. Overlong limit bytes (S.left source.new)) }
+    ensures no_more { result ≢ Err ReadFault.TooLong
+        → GaveAtMost limit (S.left source.old) (S.left source.new) }
     ensures never_falls { S.faults source.old ≤ S.faults source.new }
 {
     let mut bytes = Vec::new(alloc);
     let mut buffer = room_for_a_piece(alloc)?;
-    while bytes.len() <= limit {
-        let room = PIECE.min(limit + 1 - bytes.len());
+    'pieces: loop {
+        let room = PIECE.min(limit - bytes.len() + 1);
         let piece = &mut buffer[..room];
         match source.pull(piece) {
+            Pulled::Got(count) if count > limit - bytes.len() => return Err(ReadFault::TooLong),
             Pulled::Got(count) => bytes.extend_from_slice(&piece[..count])?,
             Pulled::End => return Ok(bytes),
             Pulled::Failed => return Err(ReadFault::Source),
         }
     }
-    Err(ReadFault::TooLong)
 }
 
 fn room_for_a_piece(alloc: Global) -> Result<Vec<u8>, AllocError>

@@ -5,7 +5,7 @@ ghost use Rattle.journal_text.specs.Text as texts;
 ghost use Rattle.script_lang.specs.Grammar.{script_of};
 ghost use Rattle.script_lang.specs.Proper.{IsProper};
 ghost use Rattle.world.specs.Claims.{HasClaims};
-ghost use Rattle.replay_core.specs.Outcome.{CalmsAreInTime, HadScript, IsSourceDecided, PlayEnded, SourceEnded, WritingEnded, status_after_writing};
+ghost use Rattle.replay_core.specs.Outcome.{CalmsAreInTime, HadScript, IsSourceDecided, PlayEnded, PushesNothing, SourceEnded, WritingEnded, status_after_writing};
 
 use crate::play::{Played, play_script};
 use crate::reading::{ReadFault, read_all};
@@ -49,6 +49,9 @@ pub fn replay<S: Source, K: Sink>(alloc: Global, source: &mut S, out: &mut K) ->
     ensures write_fault { result.status ≡ Status.WriteFault
         → Rose (K.faults out.old) (K.faults out.new) }
     ensures never_falls { K.faults out.old ≤ K.faults out.new }
+
+    // Nothing is pushed where there is nothing to write.
+    ensures unpushed { PushesNothing result.status → out.new ≡ out.old }
 
     // Without a fault of either end, the bytes decide how the run ends, unless memory is refused.
     ensures decided { ¬ Rose (S.faults source.old) (S.faults source.new)
@@ -123,6 +126,7 @@ fn replay_bytes<K: Sink>(alloc: Global, bytes: &[u8], out: &mut K) -> Outcome
     ensures write_fault { result.status ≡ Status.WriteFault
         → Rose (K.faults out.old) (K.faults out.new) }
     ensures never_falls { K.faults out.old ≤ K.faults out.new }
+    ensures unpushed { PushesNothing result.status → out.new ≡ out.old }
 {
     let played = play_bytes(alloc, bytes);
     match played.status {

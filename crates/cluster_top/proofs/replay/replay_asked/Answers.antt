@@ -13,7 +13,7 @@ returns-in-Err-Bad-clause-decided g c = λ asked a p q. absurd (c.in-Err-Bad.ens
 
 pub returns-in-Err-NoMemory-clause-ended : goal.returns-in-Err-NoMemory-clause-ended
 returns-in-Err-NoMemory-clause-ended g c = λ asked a.
-    refused_at_once asked _ _ (g.S.Source.left c.args.source.now) (g.S.Source.left c.args.source.now) _ c.unplayed-in-Err-NoMemory.ensures.status c.unplayed-in-Err-NoMemory.ensures.empty
+    refused_at_once asked _ _ (g.S.Source.left c.args.source.now) _ c.unplayed-in-Err-NoMemory.ensures.status c.unplayed-in-Err-NoMemory.ensures.empty
 
 pub returns-in-Err-NoMemory-clause-refused : goal.returns-in-Err-NoMemory-clause-refused
 returns-in-Err-NoMemory-clause-refused g c = λ bad. (inr c.unplayed-in-Err-NoMemory.ensures.status, c.unplayed-in-Err-NoMemory.ensures.empty)

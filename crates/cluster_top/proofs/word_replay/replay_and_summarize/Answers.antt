@@ -1,3 +1,4 @@
+use Rattle.replay_core.proofs.Endings.{writing_pushes}
 use Rattle.cluster_top.proofs.WordReplays.{not_reached, summed}
 use Rattle.cluster_top.proofs.word_replay.replay_and_summarize.Goals as goal
 
@@ -5,6 +6,10 @@ pub returns-in-Done-clause-ended : goal.returns-in-Done-clause-ended
 returns-in-Done-clause-ended g c = λ words s n.
     summed words _ _ _ _ (g.S.Source.left c.args.source.now) (g.S.Source.left c.replay-replayed.new.source) (g.K.Sink.taken c.args.out.now) (g.K.Sink.taken c.replay-replayed.new.out)
     (g.K.Sink.taken c.summarize.new.out) s n c.in-Done.is c.replay-replayed.ensures.ended c.summarize.ensures.written c.summarize.ensures.kept c.summarize.ensures.empty
+
+pub returns-in-Done-clause-unpushed : goal.returns-in-Done-clause-unpushed
+returns-in-Done-clause-unpushed g c = λ none.
+    absurd (writing_pushes _ (g.K.Sink.taken c.replay-replayed.new.out) (g.K.Sink.taken c.summarize.new.out) _ c.summarize.ensures.written none)
 
 pub returns-in_default : goal.returns-in_default
 returns-in_default g c = record {
@@ -15,4 +20,5 @@ returns-in_default g c = record {
   calms = c.replay-replayed.ensures.calms;
   read_fault = c.replay-replayed.ensures.read_fault;
   write_fault = c.replay-replayed.ensures.write_fault;
+  unpushed = c.replay-replayed.ensures.unpushed;
 }

@@ -1,17 +1,14 @@
 use Rattle.std.proofs.Common.{arith, ℕ, length-take}
-use Rattle.replay_core.proofs.StreamLaws.{gave_more, gave_all, gave_too_much}
+use Rattle.replay_core.proofs.StreamLaws.{few_with_piece, too_much_with_piece}
 use Rattle.replay_core.proofs.reading.read_all.Goals as goal
 
-pub loop-bytes-preserved : goal.loop-bytes-preserved
-loop-bytes-preserved g c = record {
-  in_range = omega (arith, c.in-Got.ensures.fits, c.in_ok-extend_from_slice-in-Got.ensures.len, length-take {A = ℕ});
-  room = omega (arith, c.loop-bytes.invariant.room);
-  given = gave_more _ _ _ _ _ _ _ c.loop-bytes.invariant.given c.in-Got.ensures.bytes c.in_ok-extend_from_slice-in-Got.ensures.items;
-  never_falls = omega (arith, c.in-Got.ensures.never_falls);
-}
+pub returns-in-Got-clause-too_long : goal.returns-in-Got-clause-too_long
+returns-in-Got-clause-too_long g c = λ _.
+    too_much_with_piece _ _ _ _ c.pieces.bytes.items _ c.in-Got.count c.pieces.invariant.given c.in-Got.ensures.bytes
+    (omega (arith, c.if-count-limit.true, c.in-Got.ensures.fits.most, c.min-room.ensures, c.deref_mut.ensures.len, c.pieces.invariant.room, c.pieces.invariant.in_range, c.pieces.bytes.ok, length-take {A = ℕ}))
+    (omega (arith, c.in-Got.ensures.fits.most, c.pull.auto.into))
 
-pub returns-in-End-clause-whole : goal.returns-in-End-clause-whole
-returns-in-End-clause-whole g c = gave_all _ _ _ _ _ c.loop-bytes.invariant.given c.in-End.ensures.bytes (omega (arith, c.pull.auto.into, length-take {A = ℕ}, c.deref_mut.ensures.len, c.loop-bytes.invariant.room))
-
-pub returns-clause-too_long : goal.returns-clause-too_long
-returns-clause-too_long g c = λ _. gave_too_much _ _ _ _ c.loop-bytes.invariant.given (omega (arith, c.loop-bytes.bytes.ok))
+pub returns-in_err-extend_from_slice-in-Got-2-clause-no_more : goal.returns-in_err-extend_from_slice-in-Got-2-clause-no_more
+returns-in_err-extend_from_slice-in-Got-2-clause-no_more g c = λ _.
+    few_with_piece _ _ _ _ c.pieces.bytes.items _ c.in-Got.count c.pieces.invariant.given c.in-Got.ensures.bytes
+    (omega (arith, c.if-count-limit.false, c.pieces.invariant.in_range, c.pieces.bytes.ok))
