@@ -1,5 +1,5 @@
--- Commands that are one event, and commands of which nothing was taken.
-use Rattle.std.proofs.Common.{◌≡◌, ℕ, inl, inr, true, List, [], ◌∷◌, ◌++◌, Some, None, refl, sym, ap, subst, ◌∙◌, arith, IsTrue}
+-- Commands that are one event, and calm.
+use Rattle.std.proofs.Common.{◌≡◌, ℕ, inl, true, List, [], ◌∷◌, ◌++◌, Option, Some, None, IsSome, refl, sym, ap, subst, ◌∙◌, IsTrue}
 use Rattle.cluster_types.specs.Partitions.{partition_count}
 use Rattle.script_lang.specs.declared.script.Command.{Command}
 use Rattle.script_lang.specs.declared.script.Command.TheVariants as command
@@ -9,13 +9,13 @@ use Rattle.cluster_rules.specs.Allowed.{event_of, is_playable}
 use Rattle.cluster_rules.specs.Begun.{MayPlay}
 use Rattle.cluster_rules.specs.Opening.{declared_nodes}
 use Rattle.cluster_rules.specs.Runs.{Plays, calming}
-use Rattle.cluster_rules.specs.Steps.{Played, no_steps, play, flow, round, rounds}
+use Rattle.cluster_rules.specs.Steps.{Played, play}
 use Rattle.cluster_rules.specs.World.{World}
 use Rattle.cluster_rules.proofs.AllowedLaws.{command_allowed}
 use Rattle.world.specs.Steps.{RunSoFar, MayCome, standing, run_lines, next_lines, stepped}
 use Rattle.world.proofs.KnownLaws.{same_nodes}
-use Rattle.calm_run.specs.Playing.{PlaysOn, ComesToRest, StopsIn, StandsIn}
-use Rattle.calm_run.proofs.Sequels.{followed_none, not_begun, stands_underway, step_of, stepped_followed, stops_underway}
+use Rattle.calm_run.specs.Playing.{ComesToRest, PlaysOn, StandsIn, StopsIn}
+use Rattle.calm_run.proofs.Sequels.{breaks_stands, breaks_underway, followed_none, not_begun, step_of, stepped_followed, stops_underway}
 
 -- ---- one event
 
@@ -62,24 +62,33 @@ event_not_fit old new c e h same passes =
     (same ∙ followed_none old)
     (subst (λ (r : RunSoFar). ¬ IsWithin (run_lines r ++ next_lines old e)) (sym same) passes)
 
--- ---- nothing was taken
+-- nothing of it was taken
+pub event_not_taken : (old new : RunSoFar) (c : Command) (e : Event) → event_of c ≡ Some e → new ≡ old → StandsIn old new c
+unfolding step_of
+event_not_taken old new c e h same =
+    breaks_stands old new c (breaks_underway old old new c (play partition_count e (standing old)) (step_of old e ∷ []) [] (step_of old e) []
+    (whole_may partition_count (standing old) c (play partition_count e (standing old)) (plays_event partition_count (standing old) c e h))
+    (not_begun old (step_of old e ∷ []))
+    refl
+    (same ∙ followed_none old))
 
--- what a command may play
-record MayBePlayed (n : ℕ) (w : World) (c : Command) : Type 0 where
-  whole : Played
-  plays : MayPlay n w c whole
+none_is_none : IsSome {T = Event} None → ⊥
+none_is_none is = cc
 
-may_be_played : (n : ℕ) (w : World) (c : Command) → MayBePlayed n w c
-unfolding rounds
-may_be_played n w command.Flow = record { whole = flow n w; plays = refl }
-may_be_played n w command.Round = record { whole = round n w; plays = refl }
-may_be_played n w command.Calm = record { whole = no_steps w; plays = inr (record { number = 0; uneasy = λ i less. absurd (omega (arith, less)); played = refl }) }
-may_be_played n w c = record { whole = play n _ w; plays = refl }
+pub event_not_made : (old new : RunSoFar) (c : Command) → IsSome (event_of c) → new ≡ old → StandsIn old new c
+event_not_made old new c some same = go (event_of c) refl some
+  where
+    go : (o : Option Event) → event_of c ≡ o → IsSome o → StandsIn old new c
+    go None h is = absurd (none_is_none is)
+    go (Some e) h is = event_not_taken old new c e h same
 
-pub nothing_taken : (old new : RunSoFar) (c : Command) → new ≡ old → StandsIn old new c
-nothing_taken old new c same =
-    let may : MayBePlayed partition_count (standing old) c = may_be_played partition_count (standing old) c in
-    stands_underway old old new c may.whole may.whole.steps [] may.whole.steps may.plays (not_begun old may.whole.steps) refl (same ∙ followed_none old)
+-- ---- several events
+
+pub calm_is_no_event : (c : Command) (e : Event) → event_of c ≡ Some e → c ≡ command.Calm → ⊥
+calm_is_no_event c e h is = not_none e (sym (ap event_of is) ∙ h)
+
+pub calm_is_none : (c : Command) → IsSome (event_of c) → c ≡ command.Calm → ⊥
+calm_is_none c some is = none_is_none (subst (λ (d : Command). IsSome (event_of d)) is some)
 
 -- a command that is no event, no flow and no round is calm
 pub is_calm_command : (c : Command) → event_of c ≡ None → (c ≡ command.Flow → ⊥) → (c ≡ command.Round → ⊥) → c ≡ command.Calm

@@ -15,8 +15,8 @@ use Rattle.cluster_rules.specs.World.{World, up_nodes}
 use Rattle.cluster_rules.proofs.AllowedLaws.{command_allowed}
 use Rattle.cluster_rules.proofs.MarkLaws.{flow_follows, rounds_follow}
 use Rattle.world.specs.Steps.{RunSoFar, MayCome, standing, run_lines, next_lines, stepped}
-use Rattle.calm_run.specs.Playing.{followed, PlaysOn, ComesToRest, StopsIn, StandsIn}
-use Rattle.calm_run.proofs.Sequels.{AreUnderway, all_taken, events_then, event_comes, event_stands, event_stops, event_taken, followed_none, more_taken, not_begun, part_stands, part_stops, standing_played, step_of, stepped_followed, stops_underway, underway_as}
+use Rattle.calm_run.specs.Playing.{followed, ComesToRest, GivesUp, PlaysOn, StandsIn, StopsIn}
+use Rattle.calm_run.proofs.Sequels.{AreUnderway, all_taken, breaks_stands, breaks_underway, events_then, event_breaks, event_comes, event_stops, event_taken, followed_none, more_taken, not_begun, part_stands, part_stops, standing_played, step_of, stepped_followed, stops_underway, underway_as}
 
 -- ---- a flow
 
@@ -62,8 +62,30 @@ delivery_stops old now new ids place n within read u same passes =
     same
     passes
 
-pub flow_stands : (old now new : RunSoFar) (rest : List Step) → AreUnderway old now (flow partition_count (standing old)).steps rest → new ≡ now → StandsIn old new command.Flow
-flow_stands old now new rest u same = event_stands old now new command.Flow (flow partition_count (standing old)) rest refl u same
+pub delivery_stands : (old now new : RunSoFar) (ids : List ℕ) (place n : ℕ) → place < length ids → n ≡ get_or ids place 0
+    → AreUnderway old now (flow partition_count (standing old)).steps (deliveries_from ids place (standing now)) → new ≡ now → StandsIn old new command.Flow
+delivery_stands old now new ids place n within read u same =
+    breaks_stands old new command.Flow
+    (event_breaks old now new command.Flow (flow partition_count (standing old)) (event.Deliver n) (map event.Deliver (drop (place + 1) ids)) no_steps refl
+    (underway_as old now (flow partition_count (standing old)).steps _ _ (first_delivery ids place n (standing now) within read) u)
+    same)
+
+-- a flow without a step is one of no message
+no_delivery : (ids : List ℕ) (w : World) → (play_all partition_count (map event.Deliver ids) w).steps ≡ [] → ids ≡ []
+no_delivery [] w e = refl
+no_delivery (n ∷ ids) w e = absurd (none _ _ e)
+  where
+    none : (s : Step) (ss : List Step) → s ∷ ss ≡ [] → ⊥
+    none s ss h = cc
+
+-- none of its steps is taken
+pub flow_not_begun : (old : RunSoFar) → StandsIn old old command.Flow
+flow_not_begun old = record {
+  taken = [];
+  front = record { whole = flow partition_count (standing old); plays = refl; others = (flow partition_count (standing old)).steps; front = refl };
+  steps = followed_none old;
+  idle = no_delivery (standing old).network.flying (standing old);
+}
 
 pub flow_ends : (old new : RunSoFar) (ids : List ℕ) (place : ℕ) → length ids ≤ place → AreUnderway old new (flow partition_count (standing old)).steps (deliveries_from ids place (standing new)) → PlaysOn old new command.Flow
 unfolding deliveries_from events_then
@@ -115,8 +137,13 @@ tick_stops old now new ids place n within read u same passes =
     same
     passes
 
-pub round_stands : (old now new : RunSoFar) (rest : List Step) → AreUnderway old now (round partition_count (standing old)).steps rest → new ≡ now → StandsIn old new command.Round
-round_stands old now new rest u same = event_stands old now new command.Round (round partition_count (standing old)) rest refl u same
+pub tick_stands : (old now new : RunSoFar) (ids : List ℕ) (place n : ℕ) → place < length ids → n ≡ get_or ids place n
+    → AreUnderway old now (round partition_count (standing old)).steps (ticks_from ids place (standing now)) → new ≡ now → StandsIn old new command.Round
+tick_stands old now new ids place n within read u same =
+    breaks_stands old new command.Round
+    (event_breaks old now new command.Round (round partition_count (standing old)) (event.Tick n) (map event.Tick (drop (place + 1) ids)) (flows partition_count 4) refl
+    (underway_as old now (round partition_count (standing old)).steps _ _ (first_tick ids place n (standing now) within read) u)
+    same)
 
 -- ---- its flows
 
@@ -284,7 +311,36 @@ calmed_stops old now new count h e same passes =
 
 pub calmed_stands : (old now new : RunSoFar) (count : ℕ) → AreRounds old now count → is_calm_of partition_count (standing now) ≡ true → new ≡ now → StandsIn old new command.Calm
 calmed_stands old now new count h e same =
-    event_stands old now new command.Calm (calming partition_count count (standing old)) (step_of now (event.Calmed count) ∷ [])
+    breaks_stands old new command.Calm
+    (breaks_underway old now new command.Calm (calming partition_count count (standing old)) (step_of now (event.Calmed count) ∷ []) [] (step_of now (event.Calmed count)) []
     (inl (record { number = count; reached = comes_to_calm old now count h e; played = refl }))
     (calming_underway old now count h)
-    same
+    refl
+    (same ∙ followed_none now))
+
+-- ---- calm is given up
+
+pub round_gives_up : (old now new : RunSoFar) (count : ℕ) → AreRounds old now count → is_calm_of partition_count (standing now) ≡ false → StandsIn now new command.Round → GivesUp old new
+round_gives_up old now new count h e s =
+    let later : AreUnderway old new (rounds partition_count (count + 1) (standing old)).steps s.front.others =
+    more_taken old now new (rounds partition_count (count + 1) (standing old)).steps (round partition_count (standing now)).steps s.front.others s.taken
+    (rounds_underway old now count h)
+    (ap (λ (x : Played). x.steps) (sym s.front.plays) ∙ s.front.front)
+    s.steps in record {
+      rounds = rounds partition_count (count + 1) (standing old);
+      begun = are_begun old now count h e;
+      taken = later.taken;
+      others = s.front.others;
+      front = later.parts;
+      steps = later.steps;
+    }
+
+pub calmed_gives_up : (old now new : RunSoFar) (count : ℕ) → AreRounds old now count → new ≡ now → GivesUp old new
+calmed_gives_up old now new count h same = record {
+  rounds = rounds partition_count count (standing old);
+  begun = record { number = count; uneasy = h.uneasy; played = refl };
+  taken = (rounds partition_count count (standing old)).steps;
+  others = [];
+  front = sym (append-nil (rounds partition_count count (standing old)).steps);
+  steps = same ∙ h.steps;
+}

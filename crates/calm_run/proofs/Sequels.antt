@@ -8,7 +8,7 @@ use Rattle.journal_lines.specs.declared.line.Line.{Line}
 use Rattle.journal_text.specs.Journals.{IsWithin}
 use Rattle.cluster_rules.specs.declared.event.Event.{Event}
 use Rattle.cluster_rules.specs.Allowed.{AreAllowed}
-use Rattle.cluster_rules.specs.Begun.{MayPlay}
+use Rattle.cluster_rules.specs.Begun.{IsBegun, MayPlay}
 use Rattle.cluster_rules.specs.DueEvents.{due_of}
 use Rattle.cluster_rules.specs.Marks.{after_all}
 use Rattle.cluster_rules.specs.Opening.{header_lines}
@@ -16,7 +16,7 @@ use Rattle.cluster_rules.specs.Steps.{Step, marks_of, all_marks, all_lines, Play
 use Rattle.cluster_rules.specs.World.{World, opened}
 use Rattle.cluster_rules.proofs.MarkLaws.{Follows, after_all-append, one}
 use Rattle.world.specs.Steps.{RunSoFar, MayCome, standing, run_lines, next_lines, stepped}
-use Rattle.calm_run.specs.Playing.{followed, StopsIn, StandsIn}
+use Rattle.calm_run.specs.Playing.{followed, StandsIn, StopsIn}
 
 -- ---- more steps
 
@@ -96,14 +96,33 @@ stops_underway old now new c whole rest taken next others plays u parts steps pa
       passes = passes;
     }
 
--- wherever it stops, a front of its steps stands
-pub stands_underway : (old now new : RunSoFar) (c : Command) (whole : Played) (rest taken others : List Step)
-    → MayPlay partition_count (standing old) c whole → AreUnderway old now whole.steps rest → rest ≡ taken ++ others
-    → new ≡ followed now taken → StandsIn old new c
-stands_underway old now new c whole rest taken others plays u parts steps =
-    let later : AreUnderway old new whole.steps others = more_taken old now new whole.steps rest others taken u parts steps in record {
+-- some first steps were taken, and another comes next
+pub record BreaksOff (old new : RunSoFar) (c : Command) : Type 0 where
+  pub taken : List Step
+  pub next : Step
+  pub begun : IsBegun partition_count (standing old) c taken next
+  pub steps : new ≡ followed old taken
+
+no_step : (s : Step) (ss : List Step) → s ∷ ss ≡ [] → ⊥
+no_step s ss e = cc
+
+pub breaks_stands : (old new : RunSoFar) (c : Command) → BreaksOff old new c → StandsIn old new c
+breaks_stands old new c h = record {
+  taken = h.taken;
+  front = record { whole = h.begun.whole; plays = h.begun.plays; others = h.next ∷ h.begun.front.others; front = h.begun.front.in_order };
+  steps = h.steps;
+  idle = λ none. absurd (no_step h.next h.begun.front.others none);
+}
+
+-- where it isn't taken, the command breaks off before it
+pub breaks_underway : (old now new : RunSoFar) (c : Command) (whole : Played) (rest taken : List Step) (next : Step) (others : List Step)
+    → MayPlay partition_count (standing old) c whole → AreUnderway old now whole.steps rest → rest ≡ taken ++ next ∷ others
+    → new ≡ followed now taken → BreaksOff old new c
+breaks_underway old now new c whole rest taken next others plays u parts steps =
+    let later : AreUnderway old new whole.steps (next ∷ others) = more_taken old now new whole.steps rest (next ∷ others) taken u parts steps in record {
       taken = later.taken;
-      front = record { whole = whole; plays = plays; others = others; front = later.parts };
+      next = next;
+      begun = record { whole = whole; plays = plays; front = record { others = others; in_order = later.parts } };
       steps = later.steps;
     }
 
@@ -117,14 +136,24 @@ part_stops old now new c d whole rest others plays u h part =
     h.steps
     h.passes
 
-pub part_stands : (old now new : RunSoFar) (c d : Command) (whole : Played)
-    (rest others : List Step)
+first_none : (ss ts : List Step) → ss ++ ts ≡ [] → ss ≡ []
+first_none [] ts e = refl
+first_none (s ∷ ss) ts e = absurd (no_step s (ss ++ ts) e)
+
+-- a front of a part of it stands
+pub part_stands : (old now new : RunSoFar) (c d : Command) (whole : Played) (rest others : List Step)
     → MayPlay partition_count (standing old) c whole → AreUnderway old now whole.steps rest → (h : StandsIn now new d) → rest ≡ h.front.whole.steps ++ others
     → StandsIn old new c
 part_stands old now new c d whole rest others plays u h part =
-    stands_underway old now new c whole rest h.taken (h.front.others ++ others) plays u
+    let later : AreUnderway old new whole.steps (h.front.others ++ others) =
+    more_taken old now new whole.steps rest (h.front.others ++ others) h.taken u
     (part ∙ ap (λ (ss : List Step). ss ++ others) h.front.front ∙ append_assoc h.taken h.front.others others)
-    h.steps
+    h.steps in record {
+      taken = later.taken;
+      front = record { whole = whole; plays = plays; others = h.front.others ++ others; front = later.parts };
+      steps = later.steps;
+      idle = λ none. h.idle (first_none h.front.others others none);
+    }
 
 -- ---- events in a row
 
@@ -157,9 +186,12 @@ event_stops old now new c whole e es tail plays u same passes =
     (subst (λ (r : RunSoFar). ¬ IsWithin (run_lines r ++ next_lines now e)) (sym same) passes)
 
 -- it isn't taken
-pub event_stands : (old now new : RunSoFar) (c : Command) (whole : Played) (rest : List Step)
-    → MayPlay partition_count (standing old) c whole → AreUnderway old now whole.steps rest → new ≡ now → StandsIn old new c
-event_stands old now new c whole rest plays u same = stands_underway old now new c whole rest [] rest plays u refl (same ∙ followed_none now)
+pub event_breaks : (old now new : RunSoFar) (c : Command) (whole : Played) (e : Event) (es : List Event) (tail : World → Played)
+    → MayPlay partition_count (standing old) c whole → AreUnderway old now whole.steps (events_then (e ∷ es) tail (standing now)) → new ≡ now → BreaksOff old new c
+event_breaks old now new c whole e es tail plays u same =
+    breaks_underway old now new c whole (events_then (e ∷ es) tail (standing now)) [] (step_of now e) (events_then es tail (standing (stepped now e))) plays u
+    (event_first e es tail now)
+    (same ∙ followed_none now)
 
 -- a step to come may come, where all are allowed
 next_allowed : (w : World) (taken : List Step) (next : Step) (others : List Step) → AreAllowed partition_count w (taken ++ next ∷ others)

@@ -1,9 +1,9 @@
 -- What a command makes of a run.
-use Rattle.std.specs.Prelude.{◌≡◌, ℕ, ◌<◌, ◌++◌, List, length}
+use Rattle.std.specs.Prelude.{◌≡◌, ℕ, ◌<◌, ◌++◌, List, [], length}
 use Rattle.cluster_types.specs.Partitions.{partition_count}
 use Rattle.journal_text.specs.Journals.{IsWithin}
 use Rattle.script_lang.specs.declared.script.Command.{Command}
-use Rattle.cluster_rules.specs.Begun.{IsBegun}
+use Rattle.cluster_rules.specs.Begun.{AreBegun, IsBegun}
 use Rattle.cluster_rules.specs.FrontRuns.{IsFrontOf}
 use Rattle.cluster_rules.specs.Runs.{Plays, ComesToCalm, calming}
 use Rattle.cluster_rules.specs.Steps.{Step, Played}
@@ -39,10 +39,22 @@ pub record StopsIn (old new : RunSoFar) (c : Command) : Type 0 where
   pub steps : new ≡ followed old taken
   pub passes : ¬ IsWithin (run_lines new ++ next.lines)
 
--- some first steps of the command were taken
+-- some first steps of the command were taken: all of them only where no message is in flight any more,
+-- since also a flow of nothing takes memory
 pub record StandsIn (old new : RunSoFar) (c : Command) : Type 0 where
   pub taken : List Step
   pub front : IsFrontOf partition_count (standing old) c taken
+  pub steps : new ≡ followed old taken
+  pub idle : front.others ≡ [] → (standing new).network.flying ≡ []
+
+-- calm was given up: some first steps were taken of rounds, each begun only where the world wasn't
+-- calm, and so not the one that tells their number
+pub record GivesUp (old new : RunSoFar) : Type 0 where
+  pub rounds : Played
+  pub begun : AreBegun partition_count (standing old) rounds
+  pub taken : List Step
+  pub others : List Step
+  pub front : rounds.steps ≡ taken ++ others
   pub steps : new ≡ followed old taken
 
 -- lines were added, and the journal still fits: so rounds of a world that isn't calm come to an end

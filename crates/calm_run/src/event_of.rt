@@ -1,5 +1,5 @@
 //! Commands as events.
-ghost use Rattle.std.specs.Prelude.{◌≡◌, IfOk, Some};
+ghost use Rattle.std.specs.Prelude.{◌≡◌, IfOk, IsSome, OnErr, Some};
 ghost use Rattle.cluster_rules.specs.Allowed as allowed;
 
 use cluster_rules::Event;
@@ -7,9 +7,11 @@ use cluster_types::{Boxed, NoMemory};
 use script_lang::Command;
 use std::alloc::Global;
 
-/// The event that the command is, and `None` for a flow, a round and calm, which are several.
+/// The event that the command is, and `None` for a flow, a round and calm, which are several: that
+/// takes no memory.
 pub(crate) fn event_of(alloc: Global, command: &Command) -> Result<Option<Event>, NoMemory>
-    ensures { IfOk result (λ event. event ≡ allowed.event_of command.now) }
+    ensures event { IfOk result (λ event. event ≡ allowed.event_of command.now) }
+    ensures refused { OnErr result (IsSome (allowed.event_of command.now)) }
 {
     let event = match command {
         Command::Flow | Command::Round | Command::Calm => return Ok(None),

@@ -1,11 +1,12 @@
 //! Flows, rounds, and rounds until the world is calm.
-ghost use Rattle.std.specs.Prelude.{◌≡◌, false, OnOk, OnErr, IfOk, IsErrOf, IsTrue};
+ghost use Rattle.std.specs.Prelude.{◌≡◌, false, OnOk, OnErr, IfOk, IsErrOf, IsSome, IsTrue};
 ghost use Rattle.script_lang.specs.declared.script.Command.TheVariants as command_of;
+ghost use Rattle.cluster_rules.specs.Allowed as allowed;
 ghost use Rattle.cluster_rules.specs.Allowed.{is_playable};
 ghost use Rattle.cluster_rules.specs.Calm.{is_calm};
 ghost use Rattle.cluster_rules.specs.Opening.{declared_nodes};
 ghost use Rattle.calm_laws.specs.Claims.{AreInTime};
-ghost use Rattle.calm_run.specs.Playing.{PlaysOn, ComesToRest, RestsInTime, StopsIn, StandsIn, WritesMore};
+ghost use Rattle.calm_run.specs.Playing.{PlaysOn, ComesToRest, GivesUp, RestsInTime, StandsIn, StopsIn, WritesMore};
 ghost use Rattle.world.specs.Claims.{HasClaims};
 ghost use Rattle.world.specs.Steps.{standing, run_lines};
 
@@ -19,7 +20,8 @@ use world::{StepFault, World};
 const FLOWS: usize = 4;
 
 /// Plays a command: as one event, or as those of a flow, a round or calm. Each node that it names is
-/// declared, and groups name every declared node. After a fault the events before it stand.
+/// declared, and groups name every declared node. After a fault the events before it stand: of a
+/// command that is one event none, and of calm none but those of its rounds.
 pub fn play(alloc: Global, world: &mut World, command: &Command) -> Result<(), StepFault>
     requires { IsTrue (is_playable (declared_nodes world.old.header) command.now) }
     ensures played { OnOk result (PlaysOn world.old world.new command.now) }
@@ -27,6 +29,8 @@ pub fn play(alloc: Global, world: &mut World, command: &Command) -> Result<(), S
     ensures too_long { IsErrOf result StepFault.RunTooLong
         → StopsIn world.old world.new command.now }
     ensures err { OnErr result (StandsIn world.old world.new command.now) }
+    ensures unmoved { IsSome (allowed.event_of command.now) → OnErr result (world.new ≡ world.old) }
+    ensures gives_up { command.now ≡ command_of.Calm → OnErr result (GivesUp world.old world.new) }
     ensures claims { HasClaims (run_lines world.new) }
 {
     let answer = play_command(alloc, world, command);
@@ -42,6 +46,8 @@ fn play_command(alloc: Global, world: &mut World, command: &Command) -> Result<(
     ensures too_long { IsErrOf result StepFault.RunTooLong
         → StopsIn world.old world.new command.now }
     ensures err { OnErr result (StandsIn world.old world.new command.now) }
+    ensures unmoved { IsSome (allowed.event_of command.now) → OnErr result (world.new ≡ world.old) }
+    ensures gives_up { command.now ≡ command_of.Calm → OnErr result (GivesUp world.old world.new) }
 {
     if let Some(event) = event_of(alloc, command)? {
         return world.step(alloc, &event);
@@ -59,13 +65,14 @@ fn play_command(alloc: Global, world: &mut World, command: &Command) -> Result<(
 /// Does rounds until the world is calm, and then the event that tells their number, which it
 /// answers. They are at most 21, the records held and the transactions open as it begins, where none
 /// of them loses a message for want of a place; otherwise at most 256 and these, counted behind the
-/// last that does. After a fault the events before it stand.
+/// last that does. After a fault the events before it stand, and their number isn't told.
 pub fn calm(alloc: Global, world: &mut World) -> Result<u64, StepFault>
     ensures calm { IfOk result (ComesToRest world.old world.new) }
     ensures in_time { IfOk result (AreInTime (standing world.old)) }
     ensures too_long { IsErrOf result StepFault.RunTooLong
         → StopsIn world.old world.new command_of.Calm }
     ensures err { OnErr result (StandsIn world.old world.new command_of.Calm) }
+    ensures gives_up { OnErr result (GivesUp world.old world.new) }
     ensures claims { HasClaims (run_lines world.new) }
 {
     let rounds = come_to_rest(alloc, world);
@@ -80,6 +87,7 @@ fn come_to_rest(alloc: Global, world: &mut World) -> Result<u64, StepFault>
     ensures too_long { IsErrOf result StepFault.RunTooLong
         → StopsIn world.old world.new command_of.Calm }
     ensures err { OnErr result (StandsIn world.old world.new command_of.Calm) }
+    ensures gives_up { OnErr result (GivesUp world.old world.new) }
 {
     let mut rounds = 0u64;
     while !world.is_calm() {

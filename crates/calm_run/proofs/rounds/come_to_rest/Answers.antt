@@ -2,7 +2,7 @@ use Rattle.std.proofs.Common.{rules, arith, sym, ◌∙◌, IsErrOf}
 use Rattle.world.specs.declared.fault.StepFault.TheVariants as fault
 use Rattle.calm_run.specs.Playing.{WritesMore}
 use Rattle.calm_run.proofs.Faults.{on_each_fault}
-use Rattle.calm_run.proofs.RoundLaws.{calmed_comes, calmed_stands, calmed_stops, comes_to_rest, no_rounds, one_round_more, round_stands_calm, round_stops_calm}
+use Rattle.calm_run.proofs.RoundLaws.{calmed_comes, calmed_gives_up, calmed_stands, calmed_stops, comes_to_rest, no_rounds, one_round_more, round_gives_up, round_stands_calm, round_stops_calm}
 use Rattle.calm_run.proofs.rounds.come_to_rest.Goals as goal
 
 pub loop-world-init : goal.loop-world-init
@@ -34,6 +34,9 @@ returns-in_err-round-clause-too_long c = λ stopped.
 pub returns-in_err-round-clause-err : goal.returns-in_err-round-clause-err
 returns-in_err-round-clause-err c = on_each_fault _ (round_stands_calm _ _ _ c.loop-world.rounds c.loop-world.invariant.rounds (sym c.is_calm.ensures ∙ c.loop-world-test.true) c.in_err-round.ensures.err)
 
+pub returns-in_err-round-clause-gives_up : goal.returns-in_err-round-clause-gives_up
+returns-in_err-round-clause-gives_up c = on_each_fault _ (round_gives_up _ _ _ c.loop-world.rounds c.loop-world.invariant.rounds (sym c.is_calm.ensures ∙ c.loop-world-test.true) c.in_err-round.ensures.err)
+
 pub step-requires : goal.step-requires
 step-requires c = calmed_comes _ c.loop-world.rounds (sym c.is_calm.ensures ∙ c.loop-world-test.false)
 
@@ -44,6 +47,9 @@ returns-in_err-step-clause-too_long c = λ stopped.
 
 pub returns-in_err-step-clause-err : goal.returns-in_err-step-clause-err
 returns-in_err-step-clause-err c = on_each_fault _ (calmed_stands _ _ _ c.loop-world.rounds c.loop-world.invariant.rounds (sym c.is_calm.ensures ∙ c.loop-world-test.false) c.in_err-step.ensures.err)
+
+pub returns-in_err-step-clause-gives_up : goal.returns-in_err-step-clause-gives_up
+returns-in_err-step-clause-gives_up c = on_each_fault _ (calmed_gives_up _ _ _ c.loop-world.rounds c.loop-world.invariant.rounds c.in_err-step.ensures.err)
 
 pub returns-clause-calm : goal.returns-clause-calm
 returns-clause-calm c = comes_to_rest _ _ _ c.loop-world.rounds c.loop-world.invariant.rounds (sym c.is_calm.ensures ∙ c.loop-world-test.false) c.in_ok-step.ensures.ok

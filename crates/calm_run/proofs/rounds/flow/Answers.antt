@@ -1,8 +1,7 @@
 use Rattle.std.proofs.Common.{rules, refl, ◌∙◌, IsErrOf}
 use Rattle.world.specs.declared.fault.StepFault.TheVariants as fault
 use Rattle.calm_run.proofs.Faults.{on_each_fault}
-use Rattle.calm_run.proofs.RoundLaws.{delivery_stops, delivery_taken, flow_begins, flow_ends, flow_stands}
-use Rattle.calm_run.proofs.CommandLaws.{nothing_taken}
+use Rattle.calm_run.proofs.RoundLaws.{delivery_stands, delivery_stops, delivery_taken, flow_begins, flow_ends, flow_not_begun}
 use Rattle.calm_run.proofs.rounds.flow.Goals as goal
 
 pub loop-message-init : goal.loop-message-init
@@ -18,10 +17,11 @@ returns-in_err-step-clause-too_long c = λ stopped.
     delivery_stops _ _ _ c.as_slice-message-items.result.now c.loop-message.message-index _ c.loop-message-test.true refl c.loop-message.invariant c.in_err-step.ensures.err (c.step.ensures.too_long failed)
 
 pub returns-in_err-step-clause-err : goal.returns-in_err-step-clause-err
-returns-in_err-step-clause-err c = on_each_fault _ (flow_stands _ _ _ _ c.loop-message.invariant c.in_err-step.ensures.err)
+returns-in_err-step-clause-err c = on_each_fault _
+    (delivery_stands _ _ _ c.as_slice-message-items.result.now c.loop-message.message-index _ c.loop-message-test.true refl c.loop-message.invariant c.in_err-step.ensures.err)
 
 pub returns-in_err-in_flight-clause-err : goal.returns-in_err-in_flight-clause-err
-returns-in_err-in_flight-clause-err c = on_each_fault _ (nothing_taken _ _ _ refl)
+returns-in_err-in_flight-clause-err c = on_each_fault _ (flow_not_begun _)
 
 pub returns-clause-played : goal.returns-clause-played
 returns-clause-played c = flow_ends _ _ c.as_slice-message-items.result.now c.loop-message.message-index c.loop-message-test.false c.loop-message.invariant

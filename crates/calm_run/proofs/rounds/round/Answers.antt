@@ -1,7 +1,7 @@
 use Rattle.std.proofs.Common.{rules, arith, ◌≡◌, subst, ◌∙◌, IsErrOf}
 use Rattle.world.specs.declared.fault.StepFault.TheVariants as fault
 use Rattle.calm_run.proofs.Faults.{on_each_fault}
-use Rattle.calm_run.proofs.RoundLaws.{flow_stands_round, flow_stops_round, flow_taken, round_begins, round_ends, round_played, round_stands, tick_comes, tick_stops, tick_taken, ticks_end}
+use Rattle.calm_run.proofs.RoundLaws.{flow_stands_round, flow_stops_round, flow_taken, round_begins, round_ends, round_played, tick_comes, tick_stands, tick_stops, tick_taken, ticks_end}
 use Rattle.journal_text.specs.Journals.{IsWithin}
 use Rattle.calm_run.proofs.MoreLines.{round_writes_more}
 use Rattle.calm_run.proofs.rounds.round.Goals as goal
@@ -22,7 +22,8 @@ returns-in_err-step-clause-too_long c = λ stopped.
     tick_stops _ _ _ c.as_slice-node-items.result.now c.loop-node.node-index c.node-item.result c.loop-node-test.true c.node-item.is c.loop-node.invariant c.in_err-step.ensures.err (c.step.ensures.too_long failed)
 
 pub returns-in_err-step-clause-err : goal.returns-in_err-step-clause-err
-returns-in_err-step-clause-err c = on_each_fault _ (round_stands _ _ _ _ c.loop-node.invariant c.in_err-step.ensures.err)
+returns-in_err-step-clause-err c = on_each_fault _
+    (tick_stands _ _ _ c.as_slice-node-items.result.now c.loop-node.node-index c.node-item.result c.loop-node-test.true c.node-item.is c.loop-node.invariant c.in_err-step.ensures.err)
 
 pub loop-init : goal.loop-init
 loop-init c = ticks_end _ _ _ c.as_slice-node-items.result.now c.loop-node.node-index c.loop-node-test.false c.loop-node.invariant
