@@ -1,5 +1,5 @@
 -- How a replay ended that the words ask for, and what decided it.
-use Rattle.std.proofs.Common.{◌≡◌, ◌≢◌, ℕ, ◌++◌, Bool, false, true, List, [], Option, Some, None, IsSome, inl, inr, refl, sym, subst}
+use Rattle.std.proofs.Common.{◌≡◌, ◌≢◌, ℕ, ◌++◌, Bool, false, true, List, [], Option, Some, None, IsSome, inl, inr, refl, sym, subst, ◌∙◌}
 use Rattle.byte_ends.specs.Faults.{Rose}
 use Rattle.journal_lines.specs.declared.line.Line.{Line}
 use Rattle.journal_text.specs.Text.{text}
@@ -92,6 +92,20 @@ cut_short (status.Refuted law line) j had left old new other e = e
 pub not_reached : (words : Words) (st : Status) (j : List Line) (had left old new : Option (List ℕ)) → words.summary ≡ true → words.generate ≡ None → st ≢ status.Done
     → SourceEnded st j had left old new → ReplayEnded words st j had left old new
 not_reached words st j had left old new s n other e = by_words words true None st j had left old new s n (cut_short st j had left old new other e)
+
+-- what is done had no fault
+
+differ_read : status.Done ≡ status.ReadFault → ⊥
+differ_read e = cc
+
+differ_written : status.Done ≡ status.WriteFault → ⊥
+differ_written e = cc
+
+pub done_read : (st : Status) → st ≡ status.Done → st ≢ status.ReadFault
+done_read st done e = differ_read (sym done ∙ e)
+
+pub done_written : (st : Status) → st ≡ status.Done → st ≢ status.WriteFault
+done_written st done e = differ_written (sym done ∙ e)
 
 -- ---- a script that is generated
 

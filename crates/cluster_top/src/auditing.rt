@@ -1,5 +1,5 @@
 //! Judges the transcript that its source has left, without replaying anything.
-ghost use Rattle.std.specs.Prelude.{◌≡◌, ◌≢◌, ℕ, List, Option, OnOk, IsErrOf, IfOk, IfErr};
+ghost use Rattle.std.specs.Prelude.{◌≡◌, ◌≢◌, ℕ, List, Err, Option, OnOk, IsErrOf, IfOk, IfErr};
 ghost use Rattle.byte_ends.specs.Faults.{Rose};
 ghost use Rattle.audit_core.specs.Transcripts.{IsTranscript};
 ghost use Rattle.replay_core.specs.Outcome.{PushesNothing};
@@ -22,8 +22,12 @@ pub fn audit_source<S: Source, K: Sink>(alloc: Global, source: &mut S, out: &mut
         (S.left source.new) (K.taken out.old) (K.taken out.new) }
     ensures read_fault { result.status ≡ Status.ReadFault
         → Rose (S.faults source.old) (S.faults source.new) }
+    ensures read_told { result.status ≢ Status.ReadFault
+        → S.faults source.new ≡ S.faults source.old }
     ensures write_fault { result.status ≡ Status.WriteFault
         → Rose (K.faults out.old) (K.faults out.new) }
+    ensures write_told { result.status ≢ Status.WriteFault
+        → K.faults out.new ≡ K.faults out.old }
     ensures unpushed { PushesNothing result.status → out.new ≡ out.old }
 {
     match read_journal(alloc, source) {
@@ -41,6 +45,7 @@ fn read_journal<S: Source>(alloc: Global, source: &mut S) -> Result<Journal, Sta
         (λ status. IsUnread status (S.left source.old) (S.left source.new)) }
     ensures fault { IsErrOf result Status.ReadFault
         → Rose (S.faults source.old) (S.faults source.new) }
+    ensures told { result ≢ Err Status.ReadFault → S.faults source.new ≡ S.faults source.old }
 {
     match read_all(alloc, source, TRANSCRIPT_LIMIT) {
         Err(ReadFault::NoMemory) => Err(Status::NoMemory),
@@ -69,6 +74,8 @@ fn audit_journal<K: Sink>(alloc: Global, journal: Journal, out: &mut K) -> Outco
     ensures read_fault { result.status ≢ Status.ReadFault }
     ensures write_fault { result.status ≡ Status.WriteFault
         → Rose (K.faults out.old) (K.faults out.new) }
+    ensures write_told { result.status ≢ Status.WriteFault
+        → K.faults out.new ≡ K.faults out.old }
     ensures unpushed { PushesNothing result.status → out.new ≡ out.old }
 {
     match audit(alloc, &journal) {
@@ -85,6 +92,8 @@ fn tell<K: Sink>(alloc: Global, verdict: Verdict, journal: Journal, out: &mut K)
     ensures read_fault { result.status ≢ Status.ReadFault }
     ensures write_fault { result.status ≡ Status.WriteFault
         → Rose (K.faults out.old) (K.faults out.new) }
+    ensures write_told { result.status ≢ Status.WriteFault
+        → K.faults out.new ≡ K.faults out.old }
     ensures unpushed { PushesNothing result.status → out.new ≡ out.old }
 {
     match write_verdict(alloc, verdict, out) {
@@ -115,6 +124,7 @@ fn write_verdict<K: Sink>(alloc: Global, verdict: Verdict, out: &mut K) -> Resul
     ensures front { WroteFront (K.taken out.old) (K.taken out.new) (verdict_line verdict) }
     ensures refused { IsErrOf result WriteFault.NoMemory → out.new ≡ out.old }
     ensures fault { IsErrOf result WriteFault.Sink → Rose (K.faults out.old) (K.faults out.new) }
+    ensures told { result ≢ Err WriteFault.Sink → K.faults out.new ≡ K.faults out.old }
 {
     let line = format!(in alloc; "{verdict}\n")?;
     write_all(out, line.as_bytes())

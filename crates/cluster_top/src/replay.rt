@@ -52,8 +52,8 @@ pub fn run<S: Source, K: Sink>(
     ensures calms { ¬ AskAudit (map string_bytes words.now)
         → CalmsAreInTime result.journal.lines }
 
-    // The cause of each status. Bad words are refused before anything is pulled or written, also for
-    // want of memory.
+    // The cause of each status, and each fault that an end counts is told. Bad words are refused before
+    // anything is pulled or written, also for want of memory.
     ensures bad_words { result.status ≡ Status.BadWords → AreBad (map string_bytes words.now) }
     ensures refused { AreBad (map string_bytes words.now)
         → EndsBadWords result.status × (result.journal.lines ≡ []) }
@@ -61,8 +61,12 @@ pub fn run<S: Source, K: Sink>(
         → (source.new ≡ source.old) × (out.new ≡ out.old) }
     ensures read_fault { result.status ≡ Status.ReadFault
         → Rose (S.faults source.old) (S.faults source.new) }
+    ensures read_told { result.status ≢ Status.ReadFault
+        → S.faults source.new ≡ S.faults source.old }
     ensures write_fault { result.status ≡ Status.WriteFault
         → Rose (K.faults out.old) (K.faults out.new) }
+    ensures write_told { result.status ≢ Status.WriteFault
+        → K.faults out.new ≡ K.faults out.old }
 
     // Nothing is pushed where there is nothing to write, and nothing pulled where a number stands for
     // the script: then no reading fails.
@@ -109,8 +113,12 @@ fn replay_asked<S: Source, K: Sink>(
         → (source.new ≡ source.old) × (out.new ≡ out.old) }
     ensures read_fault { result.status ≡ Status.ReadFault
         → Rose (S.faults source.old) (S.faults source.new) }
+    ensures read_told { result.status ≢ Status.ReadFault
+        → S.faults source.new ≡ S.faults source.old }
     ensures write_fault { result.status ≡ Status.WriteFault
         → Rose (K.faults out.old) (K.faults out.new) }
+    ensures write_told { result.status ≢ Status.WriteFault
+        → K.faults out.new ≡ K.faults out.old }
     ensures unpushed { PushesNothing result.status → out.new ≡ out.old }
     ensures unread { (asked : Words) → Asks (map string_bytes words.now) asked
         → IsSome asked.generate

@@ -1,5 +1,5 @@
 //! Writes the summary of what was played.
-ghost use Rattle.std.specs.Prelude.{◌≡◌, ◌≢◌, [], OnOk, IsErrOf};
+ghost use Rattle.std.specs.Prelude.{◌≡◌, ◌≢◌, [], Err, OnOk, IsErrOf};
 ghost use Rattle.byte_ends.specs.Faults.{Rose};
 ghost use Rattle.world.specs.Claims.{HasClaims};
 ghost use Rattle.replay_core.specs.Outcome.{CalmsAreInTime, WritingEnded};
@@ -25,6 +25,8 @@ pub fn summarize<K: Sink>(alloc: Global, played: Outcome, out: &mut K) -> Outcom
     ensures calms { CalmsAreInTime result.journal.lines }
     ensures write_fault { result.status ≡ Status.WriteFault
         → Rose (K.faults out.old) (K.faults out.new) }
+    ensures write_told { result.status ≢ Status.WriteFault
+        → K.faults out.new ≡ K.faults out.old }
 {
     let writing = write_summary(alloc, &played.journal, out);
     played.after_writing(alloc, writing)
@@ -37,6 +39,7 @@ fn write_summary<K: Sink>(alloc: Global, journal: &Journal, out: &mut K) -> Resu
         (transcripts.summary journal.now.lines) }
 
     ensures fault { IsErrOf result WriteFault.Sink → Rose (K.faults out.old) (K.faults out.new) }
+    ensures told { result ≢ Err WriteFault.Sink → K.faults out.new ≡ K.faults out.old }
 {
     let summary = summary(alloc, journal)?;
     write_all(out, summary.as_slice())

@@ -29,8 +29,12 @@ pub fn replay_by<S: Source, K: Sink>(
     ensures calms { CalmsAreInTime result.journal.lines }
     ensures read_fault { result.status ≡ Status.ReadFault
         → Rose (S.faults source.old) (S.faults source.new) }
+    ensures read_told { result.status ≢ Status.ReadFault
+        → S.faults source.new ≡ S.faults source.old }
     ensures write_fault { result.status ≡ Status.WriteFault
         → Rose (K.faults out.old) (K.faults out.new) }
+    ensures write_told { result.status ≢ Status.WriteFault
+        → K.faults out.new ≡ K.faults out.old }
     ensures unpushed { PushesNothing result.status → out.new ≡ out.old }
     ensures unread { IsSome words.generate
         → (source.new ≡ source.old) × (result.status ≢ Status.ReadFault) }
@@ -54,8 +58,12 @@ fn replay_and_summarize<S: Source, K: Sink>(alloc: Global, source: &mut S, out: 
     ensures calms { CalmsAreInTime result.journal.lines }
     ensures read_fault { result.status ≡ Status.ReadFault
         → Rose (S.faults source.old) (S.faults source.new) }
+    ensures read_told { result.status ≢ Status.ReadFault
+        → S.faults source.new ≡ S.faults source.old }
     ensures write_fault { result.status ≡ Status.WriteFault
         → Rose (K.faults out.old) (K.faults out.new) }
+    ensures write_told { result.status ≢ Status.WriteFault
+        → K.faults out.new ≡ K.faults out.old }
     ensures unpushed { PushesNothing result.status → out.new ≡ out.old }
 {
     let replayed = replay(alloc, source, out);
@@ -75,6 +83,8 @@ fn replay_number<K: Sink>(alloc: Global, number: u64, out: &mut K) -> Outcome
     ensures read_fault { result.status ≢ Status.ReadFault }
     ensures write_fault { result.status ≡ Status.WriteFault
         → Rose (K.faults out.old) (K.faults out.new) }
+    ensures write_told { result.status ≢ Status.WriteFault
+        → K.faults out.new ≡ K.faults out.old }
     ensures unpushed { PushesNothing result.status → out.new ≡ out.old }
 {
     match generated(alloc, number) {
@@ -95,6 +105,8 @@ fn play_and_summarize<K: Sink>(alloc: Global, bytes: &[u8], out: &mut K) -> Outc
     ensures read_fault { result.status ≢ Status.ReadFault }
     ensures write_fault { result.status ≡ Status.WriteFault
         → Rose (K.faults out.old) (K.faults out.new) }
+    ensures write_told { result.status ≢ Status.WriteFault
+        → K.faults out.new ≡ K.faults out.old }
     ensures unpushed { PushesNothing result.status → out.new ≡ out.old }
 {
     let played = play_bytes(alloc, bytes);

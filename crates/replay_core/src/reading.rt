@@ -46,6 +46,7 @@ pub fn read_all<S: Source>(
         → IfSome (S.left source.old) (λ bytes. Overlong limit bytes (S.left source.new)) }
     ensures no_more { result ≢ Err ReadFault.TooLong
         → GaveAtMost limit (S.left source.old) (S.left source.new) }
+    ensures told { result ≢ Err ReadFault.Source → S.faults source.new ≡ S.faults source.old }
     ensures never_falls { S.faults source.old ≤ S.faults source.new }
 {
     let mut bytes = Vec::new(alloc);

@@ -43,11 +43,15 @@ pub fn replay<S: Source, K: Sink>(alloc: Global, source: &mut S, out: &mut K) ->
     ensures claims { HasClaims result.journal.lines }
     ensures calms { CalmsAreInTime result.journal.lines }
 
-    // The cause of each fault of an end.
+    // The cause of each fault of an end; and each fault that is counted is told.
     ensures read_fault { result.status ≡ Status.ReadFault
         → Rose (S.faults source.old) (S.faults source.new) }
     ensures write_fault { result.status ≡ Status.WriteFault
         → Rose (K.faults out.old) (K.faults out.new) }
+    ensures read_told { result.status ≢ Status.ReadFault
+        → S.faults source.new ≡ S.faults source.old }
+    ensures write_told { result.status ≢ Status.WriteFault
+        → K.faults out.new ≡ K.faults out.old }
     ensures never_falls { K.faults out.old ≤ K.faults out.new }
 
     // Nothing is pushed where there is nothing to write.
@@ -125,6 +129,8 @@ fn replay_bytes<K: Sink>(alloc: Global, bytes: &[u8], out: &mut K) -> Outcome
     ensures read_fault { result.status ≢ Status.ReadFault }
     ensures write_fault { result.status ≡ Status.WriteFault
         → Rose (K.faults out.old) (K.faults out.new) }
+    ensures write_told { result.status ≢ Status.WriteFault
+        → K.faults out.new ≡ K.faults out.old }
     ensures never_falls { K.faults out.old ≤ K.faults out.new }
     ensures unpushed { PushesNothing result.status → out.new ≡ out.old }
 {
@@ -186,6 +192,8 @@ fn transcribe<K: Sink>(alloc: Global, played: Outcome, out: &mut K) -> Outcome
     ensures calms { CalmsAreInTime result.journal.lines }
     ensures write_fault { result.status ≡ Status.WriteFault
         → Rose (K.faults out.old) (K.faults out.new) }
+    ensures write_told { result.status ≢ Status.WriteFault
+        → K.faults out.new ≡ K.faults out.old }
     ensures never_falls { K.faults out.old ≤ K.faults out.new }
 {
     let writing = write_lines(alloc, played.journal.as_slice(), out);

@@ -1,5 +1,5 @@
 //! Writes a journal's text to its sink.
-ghost use Rattle.std.specs.Prelude.{◌≢◌, ◌≤◌, OnOk, IsErrOf, Err};
+ghost use Rattle.std.specs.Prelude.{◌≡◌, ◌≢◌, ◌≤◌, OnOk, IsErrOf, Err};
 ghost use Rattle.byte_ends.specs.Faults.{Rose};
 ghost use Rattle.replay_core.specs.Streams.{WroteBytes, WroteFront};
 ghost use Rattle.journal_text.specs.Text as texts;
@@ -36,6 +36,7 @@ pub fn write_lines<K: Sink>(alloc: Global, lines: &[Line], out: &mut K) -> Resul
     ensures front { WroteFront (K.taken out.old) (K.taken out.new) (texts.text lines.now) }
 
     ensures fault { IsErrOf result WriteFault.Sink → Rose (K.faults out.old) (K.faults out.new) }
+    ensures told { result ≢ Err WriteFault.Sink → K.faults out.new ≡ K.faults out.old }
     ensures never_falls { K.faults out.old ≤ K.faults out.new }
 {
     let mut text = TextBuffer::new(alloc);
@@ -56,6 +57,7 @@ pub fn write_all<K: Sink>(out: &mut K, bytes: &[u8]) -> Result<(), WriteFault>
 
     ensures only { result ≢ Err WriteFault.NoMemory }
     ensures fault { IsErrOf result WriteFault.Sink → Rose (K.faults out.old) (K.faults out.new) }
+    ensures told { result ≢ Err WriteFault.Sink → K.faults out.new ≡ K.faults out.old }
     ensures never_falls { K.faults out.old ≤ K.faults out.new }
 {
     let mut at = 0;

@@ -1,5 +1,6 @@
+use Rattle.std.proofs.Common.{◌∙◌}
 use Rattle.replay_core.proofs.Endings.{writing_pushes}
-use Rattle.cluster_top.proofs.WordReplays.{not_reached, summed}
+use Rattle.cluster_top.proofs.WordReplays.{done_read, done_written, not_reached, summed}
 use Rattle.cluster_top.proofs.word_replay.replay_and_summarize.Goals as goal
 
 pub returns-in-Done-clause-ended : goal.returns-in-Done-clause-ended
@@ -11,6 +12,12 @@ pub returns-in-Done-clause-unpushed : goal.returns-in-Done-clause-unpushed
 returns-in-Done-clause-unpushed g c = λ none.
     absurd (writing_pushes _ (g.K.Sink.taken c.replay-replayed.new.out) (g.K.Sink.taken c.summarize.new.out) _ c.summarize.ensures.written none)
 
+pub returns-in-Done-clause-read_told : goal.returns-in-Done-clause-read_told
+returns-in-Done-clause-read_told g c = λ other. c.replay-replayed.ensures.read_told (done_read _ c.in-Done.is)
+
+pub returns-in-Done-clause-write_told : goal.returns-in-Done-clause-write_told
+returns-in-Done-clause-write_told g c = λ other. c.summarize.ensures.write_told other ∙ c.replay-replayed.ensures.write_told (done_written _ c.in-Done.is)
+
 pub returns-in_default : goal.returns-in_default
 returns-in_default g c = record {
   ended = λ words s n.
@@ -20,5 +27,7 @@ returns-in_default g c = record {
   calms = c.replay-replayed.ensures.calms;
   read_fault = c.replay-replayed.ensures.read_fault;
   write_fault = c.replay-replayed.ensures.write_fault;
+  read_told = c.replay-replayed.ensures.read_told;
+  write_told = c.replay-replayed.ensures.write_told;
   unpushed = c.replay-replayed.ensures.unpushed;
 }

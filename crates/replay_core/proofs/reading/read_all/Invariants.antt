@@ -7,7 +7,7 @@ invariant-pieces g l = record {
   in_range : vec_len l.bytes ≤ l.limit;
   room : vec_len l.buffer ≡ 65536;
   given : Gave (g.S.Source.left l.initial.source) (g.S.Source.left l.source) l.bytes.items;
-  never_falls : g.S.Source.faults l.initial.source ≤ g.S.Source.faults l.source;
+  told : g.S.Source.faults l.source ≡ g.S.Source.faults l.initial.source;
 }
 
 abbrev pub decreases-pieces : goal.decreases-pieces

@@ -1,4 +1,4 @@
-use Rattle.std.proofs.Common.{arith}
+use Rattle.std.proofs.Common.{arith, ◌∙◌}
 use Rattle.replay_core.proofs.StreamLaws.{wrote_more, wrote_front}
 use Rattle.replay_core.proofs.writing.write_all.Goals as goal
 
@@ -6,7 +6,7 @@ pub loop-at-preserved : goal.loop-at-preserved
 loop-at-preserved g c = record {
   in_range = omega (arith, c.in-Took.ensures.fits);
   written = wrote_more _ _ _ _ _ _ _ c.loop-at.invariant.written c.in-Took.ensures.bytes (omega (arith, c.in-Took.ensures.fits));
-  never_falls = omega (arith, c.in-Took.ensures.never_falls);
+  told = c.in-Took.ensures.told (λ e. cc) ∙ c.loop-at.invariant.told;
 }
 
 pub returns-in-Failed-clause-front : goal.returns-in-Failed-clause-front
