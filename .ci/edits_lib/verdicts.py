@@ -17,8 +17,8 @@ AT_SOURCE = re.compile(r"(?:note: )?(?:\./)?(?P<file>src/\S+?):\d+:\d+: (?:error
 # A goal that the answer in a proof file doesn't close.
 AT_PROOF = re.compile(r"(?:\./)?(?P<file>proofs/\S+?):\d+:\d+: error: `(?P<goal>[^`]+)`: (?P<why>.*)")
 LEFT_OPEN = ("`search`: no proof of", "`grind` stopped at its own limit", "`grind`: no proof", "no proof of")
-# Words that a goal of the sources may have at its end: what it is called.
-CALLED = re.compile(r"\(`([^`]+)`\)?$")
+# What a goal of the sources is called, where it has a name.
+CALLED = re.compile(r"\(`([^`]+)(?:`|$)")
 
 
 @dataclasses.dataclass(frozen=True)
