@@ -602,36 +602,38 @@ limits() {
 
 # ---- valgrind
 
-# What `main` forgets has four roots, blocks to which nothing points any longer: the client's table of 4,096 entries and the
-# nodes, made as the run begins, and the messages in flight and the lines, for which a step makes room. Names the root that
-# each lost block is, by the functions that asked for it; where it is none of them, names these.
-lost_roots() { # LOG
+# What `main` forgets has four roots, blocks to which nothing points any longer: three arrays that grew, of the nodes, the
+# lines and the messages in flight, and the client's table of 4,096 entries. Tells of each lost block whether it grew or is
+# such a table, the function that asked for it, and its bytes. A proved program shows no functions further out.
+lost_blocks() { # LOG
     awk '
-        function root() {
-            if (asked ~ /VecDeque::grow.*EndStep::prepare /) return "messages"
-            if (asked ~ /Vec::grow[^ ]* [^ ]*(Ledger::make_room|EndStep::prepare) /) return "lines"
-            if (asked !~ /play_script/ || asked ~ /World::(take|deliver|request)/) return ""
-            if (asked ~ /rattle_alloc/) return bytes % 4096 == 0 ? "client" : ""
-            return "nodes"
+        function kind() {
+            if (blocks == 1 && asked[2] == "rattle_realloc") return "grown"
+            if (blocks == 1 && asked[2] == "rattle_alloc" && asked[3] ~ /^replay_core::/ && bytes % 4096 == 0) return "table"
+            return "unknown"
         }
         function end_block() {
-            if (asked != "") print (blocks == 1 && root() != "") ? root() : "unknown:" asked
-            asked = ""
+            if (count) print kind(), asked[3], bytes
+            count = 0
         }
         / are definitely lost / {
             end_block()
             gsub(",", "")
             bytes = ($3 ~ /^\(/) ? substr($3, 2) : $2
             blocks = substr($0, index($0, " bytes in ") + 10) + 0
-            asked = " "
+            count = 0
+            is_lost = 1
+            next
         }
-        asked != "" && / (at|by) 0x/ { sub(/.* (at|by) 0x[0-9A-F]+: /, ""); asked = asked $1 " " }
+        is_lost && / (at|by) 0x/ { sub(/.* (at|by) 0x[0-9A-F]+: /, ""); asked[++count] = $1; next }
+        { is_lost = 0; end_block() }
         END { end_block() }' "$1" | sort
 }
 
-# Each block that is lost is a root of what is forgotten, and no two are the same.
-is_forgotten() { # ROOTS
-    ! grep -q unknown <<<"$1" && [ -z "$(uniq -d <<<"$1")" ]
+# At most a table and three arrays that grew, no two by the same function.
+are_forgotten() { # BLOCKS
+    [ "$(grep -c '^unknown' <<<"$1")" = 0 ] && [ "$(grep -c '^grown' <<<"$1")" -le 3 ] &&
+        [ "$(grep -c '^table' <<<"$1")" -le 1 ] && [ -z "$(awk '{ print $1, $2 }' <<<"$1" | uniq -d | grep .)" ]
 }
 
 watched() {
@@ -639,7 +641,7 @@ watched() {
         echo "valgrind: there is none on this machine"
         return
     fi
-    local factor roots found=""
+    local factor lost found=""
     for factor in 2 1; do
         merged "$factor" >"$script"
         play_whole "two sides"
@@ -647,11 +649,12 @@ watched() {
             --num-callers=30 --log-file="$folder/valgrind" "$program" <"$script" >"$out" 2>"$said"
         status=$?
         check "valgrind: $(head -c 300 "$folder/valgrind")" is_played
-        roots="$(lost_roots "$folder/valgrind")"
-        check "valgrind, lost: $roots" is_forgotten "$roots"
-        found+="; factor $factor: $(paste -sd' ' <<<"${roots:-none}")"
+        lost="$(lost_blocks "$folder/valgrind")"
+        check "valgrind, lost: $lost" are_forgotten "$lost"
+        found+=", $(awk 'NF { blocks++; bytes += $3 } END { print bytes + 0, "bytes in", blocks + 0 }' <<<"$lost")"
     done
-    tell "valgrind on two sides: no error, and nothing lost but what main forgets$found"
+    tell "valgrind on two sides, with two copies and with one: no error, and nothing lost but the blocks that main" \
+        "forgets: ${found#, }"
 }
 
 refuse_calls
