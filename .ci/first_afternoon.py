@@ -99,10 +99,11 @@ def calls(room: pathlib.Path) -> list[Call]:
     bad = b"node 1\nnode 2\nquiesce 1\n"
     shown = ["line 3: UnknownWord\n    quiesce 1\n    ^^^^^^^\n", "make `script 2` the first line"]
     (room / "bad.script").write_bytes(bad)
+    told = [UNPROVED, "5 nodes", "ends with a calm"]
     return [
         Call("a rolling restart with 100 writes", [str(restart)], 0, keep, [UNPROVED]),
         Call("--summary", ["--summary", str(restart)], 0, is_summary(100), [UNPROVED]),
-        Call("--audit", ["--audit", str(transcript)], 0, lambda written: written == b"holds\n", [UNPROVED]),
+        Call("--audit", ["--audit", str(transcript)], 0, lambda written: written == b"holds\n", told),
         Call("--generate 7", ["--generate", "7"], 0, is_summary(1), [UNPROVED]),
         Call("a word that isn't one", ["--sumary"], 2, nothing, ["--sumary", "usage: "]),
         Call("a bad line", [], 3, nothing, shown, bad),

@@ -1,5 +1,5 @@
 """usage: ./replay [--summary] [FILE]     plays the script in FILE, or on standard input, and writes its transcript
-       ./replay --audit [FILE]       says whether a transcript keeps the laws
+       ./replay --audit [FILE]       says whether a transcript keeps the laws, and what it has of lines and views
        ./replay --generate NUMBER    plays the script that the number stands for, and writes its summary
        ./replay --build              proves and builds the program
        ./replay --version            says which program of which sources is started
@@ -26,8 +26,11 @@ BAD_WORDS = 2
 BAD_SCRIPT = 3
 NO_INPUT = 66
 NO_ANSWER = 125
-# The program takes no script beyond this.
+# The program takes no script and no transcript beyond these.
 SCRIPT_LIMIT = 16_777_216
+TRANSCRIPT_LIMIT = 134_217_728
+# How the program ends with a verdict: all laws hold, or one is broken.
+JUDGED = (0, 10)
 # The command's own words, each of which stands alone.
 ALONE = ("--build", "--version", "--help", "-h")
 
@@ -164,6 +167,10 @@ def start(asked: Asked) -> None:
     import play_script
 
     program = program_to_start(not asked.words)
+    if asked.words == ["--audit"]:
+        import audit_transcript
+
+        raise SystemExit(audit_transcript.audit(program, asked.words, TRANSCRIPT_LIMIT, JUDGED))
     if not asked.reads_script:
         play_script.become(program, asked.words)
     raise SystemExit(play_script.play(program, asked.words, SCRIPT_LIMIT, BAD_SCRIPT))
