@@ -52,15 +52,19 @@ class State:
         refusal = self.record.refusals.get(edit.label)
         return refusal is not None and refusal.digest == self.digests.of(edit)
 
+    def is_weak(self, edit):
+        return self.stands(edit) and self.record.refusals[edit.label].is_weak
+
     def summary(self, tried=None):
-        """How many of the edits were tried, stand by record and are stale, those of definitions apart."""
+        """How many of the edits were tried, stand by record, are weak and are stale, those of definitions apart."""
         return "; ".join(f"{words} {self.counts(kind, tried)}" for words, kind in KINDS.items())
 
     def counts(self, kind, tried):
         those = [it for it in self.edits if it.is_of_definition == kind]
-        standing = sum(map(self.stands, those))
+        standing, weak = sum(map(self.stands, those)), sum(map(self.is_weak, those))
         begin = "" if tried is None else f"{sum(it.is_of_definition == kind for it in tried)} tried, "
-        return f"{begin}{standing} stand by record, {len(those) - standing} are stale"
+        told = f", {weak} are refused for no goal of theirs" if weak else ""
+        return f"{begin}{standing - weak} stand by record{told}, {len(those) - standing} are stale"
 
 
 def last_commit(tree):

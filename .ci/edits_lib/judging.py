@@ -1,4 +1,6 @@
 """What a run of rt found of the edits that it tried, and what the record says of it afterwards."""
+import re
+
 from edits_lib import times, verdicts
 from edits_lib.edit import TRIED
 from edits_lib.record import Refusal
@@ -9,8 +11,13 @@ def is_other(taken, known):
     return taken > 0 and 3 * abs(taken - known) > known
 
 
+def without_places(why):
+    """The words without the numbers of a place, at the length of a line."""
+    return re.sub(r":\d+:\d+:", ":", why)[:100].rstrip()
+
+
 class Judgement:
-    """What came of the edits that were tried: the record holds those that are refused for what they mean."""
+    """What came of the edits that were tried: the record holds those that are refused, and tells those for what they mean."""
 
     def __init__(self, state, tried, log, taken):
         self.state, self.tried = state, tried
@@ -27,15 +34,17 @@ class Judgement:
         verdict = self.said.get(edit.label)
         if verdict is None:
             return False
-        if verdict.is_untried:
+        is_told = verdict.is_untried or verdict.is_weak
+        if is_told:
             self.notes.append(f"edit {edit.label}: {verdict.why}")
         elif not verdict.goal:
             self.faults.append(f"edit {edit.label}: {verdict.why}")
             self.state.record.refusals.pop(edit.label, None)
-        return bool(verdict.goal)
+        return verdict.is_weak or bool(verdict.goal)
 
     def keep(self, edit):
-        goal, known = self.said[edit.label].goal, self.state.record.refusals.get(edit.label)
+        verdict, known = self.said[edit.label], self.state.record.refusals.get(edit.label)
+        goal = verdict.goal or without_places(verdict.why)
         if self.has_changed(edit):
             self.notes.append(f"edit {edit.label}: its crate or one below changed meanwhile, so it isn't recorded")
             return
@@ -43,7 +52,8 @@ class Judgement:
         # where nothing else is new, a line isn't written anew for a little more or less
         if not self.state.stands(edit) or known.goal != goal or is_other(taken, known.seconds):
             seconds = taken or self.state.costs.edit(edit)
-            self.state.record.refusals[edit.label] = Refusal(self.state.digests.of(edit), max(1, round(seconds)), goal)
+            digest = self.state.digests.of(edit)
+            self.state.record.refusals[edit.label] = Refusal(digest, max(1, round(seconds)), goal, verdict.is_weak)
         if is_other(self.seeds.get(edit.crate, 0), self.state.record.seeds.get(edit.crate, 0)):
             self.state.record.seeds[edit.crate] = self.seeds[edit.crate]
 

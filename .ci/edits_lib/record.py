@@ -1,7 +1,8 @@
-"""The record: which edits were refused for what they mean, over which texts, and which goal each left open.
+"""The record: which edits were refused, over which texts, and which goal each left open.
 
-A line of an edit is `edit CRATE/NAME DIGEST SECONDS GOAL`; `seed CRATE SECONDS` says what the first check of a crate
-takes, over which its edits are tried. Both are seconds of a processor.
+A line of an edit is `edit CRATE/NAME DIGEST SECONDS GOAL` where it was refused for what it means, and `weak CRATE/NAME
+DIGEST SECONDS WHY` where it was refused for no goal left open: that one is to get another form, or to go. `seed CRATE
+SECONDS` says what the first check of a crate takes, over which its edits are tried. All are seconds of a processor.
 """
 import dataclasses
 import hashlib
@@ -13,7 +14,7 @@ from edits_lib.tree import NAME
 
 PLACE = ".ci/edits.record"
 LINE = re.compile(
-    rf"edit (?P<edit>{NAME}/{NAME}) (?P<digest>[0-9a-f]{{32}}) (?P<seconds>[0-9]+) (?P<goal>\S.*)"
+    rf"(?P<word>edit|weak) (?P<edit>{NAME}/{NAME}) (?P<digest>[0-9a-f]{{32}}) (?P<seconds>[0-9]+) (?P<goal>\S.*)"
     rf"|seed (?P<crate>{NAME}) (?P<first>[0-9]+)"
 )
 
@@ -22,7 +23,12 @@ LINE = re.compile(
 class Refusal:
     digest: str
     seconds: int
+    # the goal that it left open, or why it was refused in place of one
     goal: str
+    is_weak: bool = False
+
+    def line(self, label):
+        return f"{'weak' if self.is_weak else 'edit'} {label} {self.digest} {self.seconds} {self.goal}"
 
 
 class Record:
@@ -37,13 +43,14 @@ class Record:
         made = cls()
         for _, found in lines_of(tree):
             if found and found["edit"]:
-                made.refusals[found["edit"]] = Refusal(found["digest"], int(found["seconds"]), found["goal"])
+                is_weak = found["word"] == "weak"
+                made.refusals[found["edit"]] = Refusal(found["digest"], int(found["seconds"]), found["goal"], is_weak)
             elif found:
                 made.seeds[found["crate"]] = int(found["first"])
         return made
 
     def write(self, tree):
-        lines = [f"edit {label} {it.digest} {it.seconds} {it.goal}" for label, it in self.refusals.items()]
+        lines = [it.line(label) for label, it in self.refusals.items()]
         lines += [f"seed {crate} {seconds}" for crate, seconds in self.seeds.items()]
         (tree.root / PLACE).write_text("".join(f"{it}\n" for it in sorted(lines)), encoding="utf-8")
 

@@ -16,7 +16,13 @@ REFUSED = re.compile(r"refused, as it must be(?:: (?P<told>.*)| \((?P<but>only [
 AT_SOURCE = re.compile(r"(?:note: )?(?:\./)?(?P<file>src/\S+?):\d+:\d+: (?:error: )?it is not proved that (?P<goal>.*)")
 # A goal that the answer in a proof file doesn't close.
 AT_PROOF = re.compile(r"(?:\./)?(?P<file>proofs/\S+?):\d+:\d+: error: `(?P<goal>[^`]+)`: (?P<why>.*)")
-LEFT_OPEN = ("`search`: no proof of", "`grind` stopped at its own limit", "`grind`: no proof", "no proof of")
+LEFT_OPEN = (
+    "`search`: no proof of",
+    "`grind` stopped at its own limit",
+    "`grind` found no proof",
+    "`omega`: the goal does not follow",
+    "no proof of",
+)
 # What a goal of the sources is called, where it has a name.
 CALLED = re.compile(r"\(`([^`]+)(?:`|$)")
 
@@ -28,6 +34,8 @@ class Verdict:
     why: str = ""
     # nothing is known of it: rt itself fails, and asks to be run again
     is_untried: bool = False
+    # rt takes it for refused, though for no goal left open
+    is_weak: bool = False
 
 
 def verdicts(log):
@@ -42,10 +50,10 @@ def verdict(said):
     if refused is None:
         return Verdict(why=said)
     if refused["but"]:
-        return Verdict(why=f"refused {refused['but']}")
+        return Verdict(why=f"refused {refused['but']}", is_weak=True)
     told = refused["told"] or "nothing that rt tells"
     goal = goal_in(told)
-    return Verdict(goal=goal) if goal else Verdict(why=f"refused for no goal left open, but: {told}")
+    return Verdict(goal=goal) if goal else Verdict(why=f"refused for no goal left open, but: {told}", is_weak=True)
 
 
 def goal_in(told):
