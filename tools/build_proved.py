@@ -20,7 +20,7 @@ import kept_programs
 import sources
 
 # What of a crate `rt ci` reads and writes that isn't needed here: what it makes, and the edits that it must refuse.
-LEFT_OUT = ("out", "must-fail", "edits")
+LEFT_OUT = ("out", "must-fail", "edits", "definition-edits")
 # How many lines of code a processor proves in a minute, with what is said and proved of them, and what a check of a
 # crate takes besides, in lines.
 LINES_A_MINUTE = 500
@@ -59,7 +59,7 @@ def build_in(root: str, copy: str, say: Say) -> int:
         print(*log.read_text(errors="replace").splitlines()[-20:], sep="\n", file=sys.stderr)
         say(f"the program isn't proved and built; {log} has all that rt said")
         return 1
-    put_program(f"{copy}/crates/{kept_programs.PROGRAM}/out/{kept_programs.PROGRAM}", place.program)
+    put_program(f"{copy}/crates/{kept_programs.WHOLE}/out/{kept_programs.WHOLE}", place.program)
     place.note(digest=digest, kit=kept_programs.kit_of(command), command=kept_programs.mark_of(command), state=state)
     say(f"proved and built in {progress.minutes()} min; ./replay now starts the program itself")
     return 0
