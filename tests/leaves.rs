@@ -1,4 +1,9 @@
-//! Tests of the chain and of the store by their public calls.
+//! Tests of small crates by their public calls.
 
 mod chains;
+mod digests;
+mod events;
+mod network;
+mod placement;
 mod stores;
+mod versions;

@@ -10,7 +10,7 @@ MINUTES = 40
 # Of the edits that stand by record, one of so many is tried again, and never fewer than the least.
 SHARE, LEAST = 20, 10
 # The seconds of a processor that a check of a crate takes for each of its lines, where the record says nothing.
-SECONDS_A_LINE = 0.03
+SECONDS_A_LINE = 0.1
 # What the check of one edit takes of the check of its crate from nothing, likewise.
 OF_SEED = 0.3
 # What a run says of the edits, and whether it is of those of definitions.

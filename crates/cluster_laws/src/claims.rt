@@ -1,5 +1,5 @@
 //! What holds of the journal of a licensed run, read off its lines alone. A call does nothing: what it
-//! ensures is the law. docs/JOURNALS.md says what is asked of a journal.
+//! ensures is the law. docs/LAWS.md says what is asked of a journal.
 ghost use Rattle.journal_readings.specs.Claims.{EqualClasses, NoLoss, OneMap, ReadJoin, SettledJoin};
 ghost use Rattle.cluster_laws.specs.Journals.{IsJournal, OfJournals, lone_header, shown_run};
 ghost use Rattle.cluster_laws.specs.Weaker.{lone};

@@ -153,14 +153,3 @@ pub enum Event {
         rounds: u64,
     },
 }
-
-#[cfg(test)]
-mod tests {
-    use super::Event;
-    use std::mem::size_of;
-
-    #[test]
-    fn events_stay_small_in_memory(rt: HostRuntime) {
-        assert!(rt; size_of::<Event>() <= 80);
-    }
-}

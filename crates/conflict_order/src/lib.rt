@@ -11,6 +11,3 @@ pub use policy::Policy;
 pub use value::{VALUE_LIMIT, ValueBytes, ValueFault};
 pub use version::{Body, Version, join};
 pub use want::{Action, Want};
-
-#[cfg(test)]
-mod tests;

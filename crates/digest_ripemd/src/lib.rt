@@ -4,7 +4,5 @@
 mod blocks;
 mod hasher;
 mod rounds;
-#[cfg(test)]
-mod tests;
 
 pub use hasher::{Ripemd160, digest_of};

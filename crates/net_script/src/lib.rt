@@ -6,6 +6,3 @@ mod net;
 mod slots;
 
 pub use net::{FLIGHT_LIMIT, Flying, Net, Posted};
-
-#[cfg(test)]
-mod tests;

@@ -16,6 +16,3 @@ pub use hashes::{fnv1a, one_at_a_time, place};
 pub use lists::{is_replica, list, replicas};
 pub use ranks::Ranks;
 pub use view_lists::Lists;
-
-#[cfg(test)]
-mod tests;

@@ -1,4 +1,5 @@
-use super::*;
+//! Worked rows of `conflict_order`, and its public calls.
+use conflict_order::{Action, Body, Policy, ValueBytes, ValueFault, Version, Want, join};
 use std::alloc::Global;
 use std::cmp::Ordering::{Equal, Greater, Less};
 use std::test::Fail;

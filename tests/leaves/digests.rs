@@ -1,20 +1,14 @@
-ghost use Rattle.std.specs.Prelude.{◌≡◌, ◌^◌, ◌<◌, length, IfOk};
-ghost use Rattle.digest_ripemd.specs.Digests.{ripemd160};
-
-use crate::{Ripemd160, digest_of};
+//! Published digests, in pieces of several sizes.
 use cluster_types::Digest;
+use digest_ripemd::{Ripemd160, digest_of};
 use std::alloc::{AllocError, Global};
 use std::test::Fail;
 
-// The digest of the message, fed in pieces of this size.
-fn digest_in_pieces(message: &[u8], size: usize) -> Digest
-    requires short { length message.now < 2 ^ 20 }
-    requires some { 0 < size }
-    ensures { result ≡ ripemd160 message.now }
-{
+/// The digest of the message, fed in pieces of this size.
+fn digest_in_pieces(message: &[u8], size: usize) -> Digest {
     let mut hasher = Ripemd160::new();
     let mut place = 0;
-    'pieces: while place < message.len() {
+    while place < message.len() {
         let end = place + size.min(message.len() - place);
         hasher.update(&message[place..end]);
         place = end;
@@ -22,10 +16,8 @@ fn digest_in_pieces(message: &[u8], size: usize) -> Digest
     hasher.finish()
 }
 
-// A byte so many times.
-fn repeated(alloc: Global, byte: u8, count: usize) -> Result<Vec<u8>, AllocError>
-    ensures { IfOk result (λ bytes. length bytes.items ≡ count) }
-{
+/// A byte so many times.
+fn repeated(alloc: Global, byte: u8, count: usize) -> Result<Vec<u8>, AllocError> {
     vec![in alloc; byte; count]
 }
 

@@ -1,16 +1,12 @@
-ghost use Rattle.std.specs.Prelude.{◌≡◌, ◌<◌, ◌+◌, ◌-◌, ◌^◌, OnOk};
-
-use crate::{FLIGHT_LIMIT, Net, Posted};
+//! The network by its public calls.
 use cluster_types::{Bytes, Groups, NoMemory, NodeId, NodeList};
+use net_script::{FLIGHT_LIMIT, Net, Posted};
 use std::alloc::Global;
 use std::process::Abort;
 use std::test::Fail;
 
 /// Sends that many empty messages, from node 1 to each of ten nodes in turn.
-fn send_many(alloc: Global, net: &mut Net, n: u64) -> Result<(), NoMemory>
-    requires { net.old.sent + n < 2 ^ 64 - 1 }
-    ensures { OnOk result (net.new.sent ≡ net.old.sent + n) }
-{
+fn send_many(alloc: Global, net: &mut Net, n: u64) -> Result<(), NoMemory> {
     for i in 0..n {
         net.send(1, (i % 10) as u16, Bytes::new(alloc))?;
     }
@@ -67,9 +63,7 @@ fn takes_messages_in_any_order(rt: HostRuntime) -> Result<(), Fail> {
     Ok(())
 }
 
-fn node(rt: &impl Abort, n: u16) -> NodeId
-    ensures { result ≡ n }
-{
+fn node(rt: &impl Abort, n: u16) -> NodeId {
     NodeId::new(n).expect(rt, "an id")
 }
 

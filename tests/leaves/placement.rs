@@ -1,5 +1,6 @@
-use super::*;
+//! Worked rows of `partition_lists`, and its public calls.
 use cluster_types::{Member, Members, NodeId, NodeList, PartitionId, Role};
+use partition_lists::{Lists, Ranks, fnv1a, is_replica, list, one_at_a_time, place, replicas};
 use std::alloc::Global;
 use std::test::Fail;
 
