@@ -3,7 +3,8 @@
 
 ./replay answers a first script by a program that it compiles without proof, and each call behind that is to start at
 once. What each call answers is checked, and that each but the first two takes less than a second of a processor; the
-time of the first answer is only told, since machines differ.
+time of the first answer is only told, since machines differ. Then `./replay --build`, where rt keeps what it proved: with
+a kit that keeps nothing it would prove all once more.
 """
 from __future__ import annotations
 
@@ -11,6 +12,7 @@ import json
 import os
 import pathlib
 import resource
+import shutil
 import subprocess
 import sys
 import tempfile
@@ -124,6 +126,17 @@ def first_calls() -> list[Call]:
     ]
 
 
+def last_calls() -> list[Call]:
+    """The calls that build the proved program and start it, where the gate's proofs are kept beside the kit."""
+    kit = pathlib.Path(shutil.which("rt") or "/").resolve().parent.parent
+    if not (kit.parent / "rattle-kept").is_dir():
+        return []
+    return [
+        Call("--build over the proofs that are kept", ["--build"], 0, nothing, ["proved and built in"]),
+        Call("--version", ["--version"], 0, lambda written: b"\nprogram proved" in written),
+    ]
+
+
 def is_answered(what: Call, done: Done) -> bool:
     ended, errors = done.ended, done.ended.stderr.decode(errors="replace")
     is_told = all(it in errors for it in what.errors)
@@ -147,6 +160,7 @@ def walk(room: pathlib.Path) -> list[str]:
         done = call(clone / "replay", it, settings)
         if not is_answered(it, done) or done.used > MOST_SECONDS:
             failed.append(it.name)
+    failed += [it.name for it in last_calls() if not is_answered(it, call(clone / "replay", it, settings))]
     return failed
 
 
