@@ -11,7 +11,8 @@ sources is built, they are compiled without proof, once; that such a program isn
 
 The exit status is the program's: 0 where all was played and written, 1 no memory, 2 bad words, 3 a bad line of the
 script, 4 and 5 a fault of reading or writing, 6 to 8 a script, run or transcript that is too long, 9 no transcript, and
-10 a transcript that breaks a law, which is said as `refuted`. 66 says that FILE can't be read, and 125 that there is no program to start.
+10 a transcript that breaks a law, of which the program says `refuted`. 66 says that FILE can't be read, and 125 that
+there is no program to start.
 """
 from __future__ import annotations
 
