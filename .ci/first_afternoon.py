@@ -128,7 +128,7 @@ def first_calls() -> list[Call]:
     script, transcript = (ROOT / f"examples/first.{kind}" for kind in ("script", "transcript"))
     wanted = transcript.read_bytes()
     return [
-        Call("the first answer", [], 0, lambda written: written == wanted, [], script.read_bytes(), True),
+        Call("the first answer", [], 0, lambda written: written == wanted, ["background"], script.read_bytes(), True),
         Call("the first word, once all is compiled", ["--generate=1"], 0, is_summary(1), tells_unproved=True),
     ]
 
