@@ -55,7 +55,7 @@ def alone(place: Unproved, say: Say, beginner: str = ANOTHER) -> Iterator[None]:
         except BlockingIOError:
             lock.seek(0)
             began = lock.read() or "another ./replay began it just now"
-            say(f"{NAMED[place.crate]} is still being compiled ({began}; it takes one to four minutes): waits for it")
+            say(f"{NAMED[place.crate]} is still being compiled ({began}; it takes two to six minutes in all): waits for it")
             fcntl.flock(lock, fcntl.LOCK_EX)
         lock.truncate(0)
         lock.write(f"{beginner} at {time.strftime('%H:%M')}")
@@ -95,7 +95,7 @@ def compiled_whole(root: str, say: Say, beginner: str = ANOTHER) -> Unproved:
     whole = Unproved(root, folder_for(root), WHOLE)
     with alone(whole, say, beginner):
         if not whole.is_current():
-            say("the sources are compiled as they are, without proof, which takes about two minutes, once")
+            say("the sources are compiled as they are, without proof, which takes two to six minutes, once")
             compile_place(whole)
     return whole
 
@@ -107,7 +107,7 @@ def compiled_light(root: str, say: Say) -> Unproved:
     begin_whole(root, folder)
     with alone(light, say):
         if not light.is_current():
-            say("the sources are compiled as they are, without proof, which takes about a minute, once")
+            say("the sources are compiled as they are, without proof, which takes one to three minutes, once")
             say(f"{NAMED[WHOLE]} is compiled in the background meanwhile, and is there some minutes later")
             compile_place(light)
     return whole if whole.is_current() else light
