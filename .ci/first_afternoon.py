@@ -3,8 +3,9 @@
 
 ./replay answers a first script by a program that it compiles without proof, and each call behind that is to start at
 once. What each call answers is checked, and that each but the first two takes less than a second of a processor; the
-time of the first answer is only told, since machines differ. Then `./replay --build`, where rt keeps what it proved: with
-a kit that keeps nothing it would prove all once more.
+time of the first answer is only told, since machines differ. That a program isn't proved is to be told as it is started
+first and then once a day, and by --version each time. `./replay --build` comes last, where rt keeps what it proved: with a
+kit that keeps nothing it would prove all once more.
 """
 from __future__ import annotations
 
@@ -25,10 +26,12 @@ MOST_SECONDS = 1.0
 NODES = range(1, 6)
 WRITES_A_STOP = 20
 UNPROVED = "isn't proved"
+A_DAY = 24 * 60 * 60
 
 
 class Call(NamedTuple):
-    """What is called, how it is to end, what it is to write, and a part of what is to stand on standard error."""
+    """What is called, how it is to end, what it is to write, a part of what is to stand on standard error, and whether
+    that is to say that the program isn't proved."""
 
     name: str
     words: list[str]
@@ -36,6 +39,7 @@ class Call(NamedTuple):
     is_right: Callable[[bytes], bool]
     errors: list[str] = []
     script: bytes = b""
+    tells_unproved: bool = False
 
 
 def copy_tree(to: pathlib.Path) -> None:
@@ -101,13 +105,18 @@ def calls(room: pathlib.Path) -> list[Call]:
     bad = b"node 1\nnode 2\nquiesce 1\n"
     shown = ["line 3: UnknownWord\n    quiesce 1\n    ^^^^^^^\n", "make `script 2` the first line"]
     (room / "bad.script").write_bytes(bad)
-    told = [UNPROVED, "5 nodes", "ends with a calm"]
+    split = (ROOT / "examples/split.transcript").read_bytes()
+    told = ["5 nodes", "ends with a calm"]
+    unmerged = b"".join(line for line in split.splitlines(True) if not line.startswith(b"merge "))
+    broken = ["    line 133: settled 2 2.2 1228\n", "breaks the law settledjoin", "its last calm is line 148, with 4 lines"]
     return [
-        Call("a rolling restart with 100 writes", [str(restart)], 0, keep, [UNPROVED]),
-        Call("--summary", ["--summary", str(restart)], 0, is_summary(100), [UNPROVED]),
+        Call("a rolling restart with 100 writes", [str(restart)], 0, keep),
+        Call("--summary", ["--summary", str(restart)], 0, is_summary(100)),
         Call("--audit", ["--audit", str(transcript)], 0, lambda written: written == b"holds\n", told),
-        Call("--generate 7", ["--generate", "7"], 0, is_summary(1), [UNPROVED]),
-        Call("a word that isn't one", ["--sumary"], 2, nothing, ["--sumary", "usage: "]),
+        Call("--audit without merges", ["--audit"], 10, lambda said: said == b"fails settledjoin 133\n", broken, unmerged),
+        Call("--audit of a script", ["--audit", str(restart)], 9, nothing, ["line 7: not a transcript\n", "of a script"]),
+        Call("--generate 7", ["--generate", "7"], 0, is_summary(1)),
+        Call("a word that isn't one", ["--sumary"], 2, nothing, ["--sumary", "--summary is the nearest", "--help has"]),
         Call("a bad line", [], 3, nothing, shown, bad),
         Call("a bad line of a file", [str(room / "bad.script")], 3, nothing, shown),
         Call("a file that isn't there", [str(room / "none.script")], 66, nothing, ["none.script: "]),
@@ -121,8 +130,8 @@ def first_calls() -> list[Call]:
     script, transcript = (ROOT / f"examples/first.{kind}" for kind in ("script", "transcript"))
     wanted = transcript.read_bytes()
     return [
-        Call("the first answer", [], 0, lambda written: written == wanted, [UNPROVED], script.read_bytes()),
-        Call("the first word, once all is compiled", ["--generate=1"], 0, is_summary(1), [UNPROVED]),
+        Call("the first answer", [], 0, lambda written: written == wanted, ["background"], script.read_bytes(), True),
+        Call("the first word, once all is compiled", ["--generate=1"], 0, is_summary(1), tells_unproved=True),
     ]
 
 
@@ -137,9 +146,23 @@ def last_calls() -> list[Call]:
     ]
 
 
+def calls_of_a_day_later() -> list[Call]:
+    script = ROOT / "examples/first.script"
+    wanted = script.with_suffix(".transcript").read_bytes()
+    first = Call("a day later", [str(script)], 0, lambda written: written == wanted, tells_unproved=True)
+    return [first, first._replace(name="right behind that", tells_unproved=False)]
+
+
+def let_a_day_pass(clone: pathlib.Path) -> None:
+    """The notes of what was told are as if they had been made a day earlier."""
+    for note in clone.glob(".replay/*.told"):
+        earlier = note.stat().st_mtime - A_DAY
+        os.utime(note, (earlier, earlier))
+
+
 def is_answered(what: Call, done: Done) -> bool:
     ended, errors = done.ended, done.ended.stderr.decode(errors="replace")
-    is_told = all(it in errors for it in what.errors)
+    is_told = all(it in errors for it in what.errors) and (UNPROVED in errors) == what.tells_unproved
     is_right = ended.returncode == what.status and what.is_right(ended.stdout) and is_told
     print(f"first afternoon: {what.name}: {done.seconds:.2f} s, of a processor {done.used:.2f} s", flush=True)
     if not is_right:
@@ -155,12 +178,18 @@ def walk(room: pathlib.Path) -> list[str]:
     for it in first_calls():
         if not is_answered(it, call(clone / "replay", it, settings)):
             return [it.name]
+    failed = late_or_wrong(clone, calls(room), settings)
+    let_a_day_pass(clone)
+    failed += late_or_wrong(clone, calls_of_a_day_later(), settings)
+    return failed + [it.name for it in last_calls() if not is_answered(it, call(clone / "replay", it, settings))]
+
+
+def late_or_wrong(clone: pathlib.Path, calls: list[Call], settings: dict[str, str]) -> list[str]:
     failed = []
-    for it in calls(room):
+    for it in calls:
         done = call(clone / "replay", it, settings)
         if not is_answered(it, done) or done.used > MOST_SECONDS:
             failed.append(it.name)
-    failed += [it.name for it in last_calls() if not is_answered(it, call(clone / "replay", it, settings))]
     return failed
 
 

@@ -15,6 +15,7 @@ import signal
 import subprocess
 import sys
 import tempfile
+import time
 from typing import Callable, Iterator, Sequence
 
 sys.path.insert(0, os.path.dirname(os.path.realpath(__file__)))
@@ -22,6 +23,11 @@ import sources
 from compile_unproved import NotCompiled, compile_program
 from kept_programs import LIGHT, WHOLE, Unproved, find_rt, folders_for, kit_of, mark_of
 
+# What each program is for, as it is told.
+NAMED = {LIGHT: "the program that plays scripts", WHOLE: "the program for --audit, --summary and --generate"}
+# Who began to compile, as another call tells it that waits.
+ANOTHER = "another ./replay began it"
+EARLIER = "an earlier ./replay began it in the background"
 # How far each is optimised: the lighter one is waited for. With less inlining it is compiled in two thirds of the time,
 # and runs as fast.
 OPTIMISED = {LIGHT: ("-O1", "-mllvm", "-inline-threshold=20"), WHOLE: ("-O2",)}
@@ -40,14 +46,20 @@ def folder_for(root: str) -> str:
 
 
 @contextlib.contextmanager
-def alone(place: Unproved, say: Say) -> Iterator[None]:
-    """Waits until no other call compiles this program, and keeps others out meanwhile."""
-    with open(f"{place.program}.lock", "w", encoding="utf-8") as lock:
+def alone(place: Unproved, say: Say, beginner: str = ANOTHER) -> Iterator[None]:
+    """Waits until no other call compiles this program, and keeps others out meanwhile. The file of the lock says who
+    began, and when."""
+    with open(f"{place.program}.lock", "a+", encoding="utf-8") as lock:
         try:
             fcntl.flock(lock, fcntl.LOCK_EX | fcntl.LOCK_NB)
         except BlockingIOError:
-            say("another ./replay is compiling this program: waiting for it")
+            lock.seek(0)
+            began = lock.read() or "another ./replay began it just now"
+            say(f"{NAMED[place.crate]} is still being compiled ({began}; it takes two to six minutes in all): waits for it")
             fcntl.flock(lock, fcntl.LOCK_EX)
+        lock.truncate(0)
+        lock.write(f"{beginner} at {time.strftime('%H:%M')}")
+        lock.flush()
         yield
 
 
@@ -78,12 +90,12 @@ def compile_place(place: Unproved) -> None:
     place.note(digest=digest, kit=kit, command=mark, state=state)
 
 
-def compiled_whole(root: str, say: Say) -> Unproved:
+def compiled_whole(root: str, say: Say, beginner: str = ANOTHER) -> Unproved:
     """The whole program of the sources as they stand."""
     whole = Unproved(root, folder_for(root), WHOLE)
-    with alone(whole, say):
+    with alone(whole, say, beginner):
         if not whole.is_current():
-            say("the sources are compiled as they are, without proof, which takes about two minutes, once")
+            say("the sources are compiled as they are, without proof, which takes two to six minutes, once")
             compile_place(whole)
     return whole
 
@@ -95,7 +107,8 @@ def compiled_light(root: str, say: Say) -> Unproved:
     begin_whole(root, folder)
     with alone(light, say):
         if not light.is_current():
-            say("the sources are compiled as they are, without proof, which takes about a minute, once")
+            say("the sources are compiled as they are, without proof, which takes one to three minutes, once")
+            say(f"{NAMED[WHOLE]} is compiled in the background meanwhile, and is there some minutes later")
             compile_place(light)
     return whole if whole.is_current() else light
 
@@ -111,7 +124,7 @@ def main() -> None:
     """Compiles in the background, behind what is waited for."""
     os.nice(5)
     try:
-        compiled_whole(os.path.realpath(sys.argv[1]), print)
+        compiled_whole(os.path.realpath(sys.argv[1]), print, EARLIER)
     except NotCompiled as why:
         sys.exit(str(why))
 

@@ -33,7 +33,12 @@ SERVED_INSTEAD = {
 OTHER_WORDS = {
     "write": "put", "set": "put", "read": "get", "delete": "del", "remove": "del", "kill": "stop", "crash": "stop",
     "split": "groups", "partition": "groups", "heal": "groups", "merge": "groups", "time": "clock",
+    "insert": "put", "up": "start", "down": "stop", "wait": "round", "sleep": "round", "settle": "calm",
+    "quiesce-undo": "unquiesce",
+    "replication-factor": "factor", "conflict-resolution-policy": "policy",
 }
+# The word of the client's request, which names no node, for that of a node.
+AT_THE_CLIENT = {"put": "cput", "get": "cget", "del": "cdel"}
 COMMENT_MARKS = ("#", "//", "--", "%")
 RANGES = {
     "V": "the version is 1 or 2", "N": "a node is a number from 1 to 65535",
@@ -61,11 +66,15 @@ HINTS = {
     "words": "docs/FORMATS.md lists the words",
     "not served": "lines of `{word}` aren't served yet; `{form}` is",
     "header": "header lines stand before the first command, which is line {line}: move this line above it",
+    "node missing": "`{found}` stands where the node's number is: the form is `{form}`",
+    "node missing of a request": "`{found}` stands where the node's number is: `{at_node}` with the number of a node for "
+    "N, or `{client}`, where the client's table says which node",
     "missing": "the form is `{form}`: {field} is missing",
     "missing ids": "behind `groups` stand the ids of all declared nodes: `{proposal}`",
     "comment line": "a comment stands on a line of its own, and begins with `;`",
     "value has spaces": "a value has no spaces: the form is `{form}`",
     "rack": "a rack needs version 2: make `script 2` the first line of the script",
+    "repeated": "`{word}` takes no number: write the line `{word}` {count} times",
     "extra": "the form is `{form}`, and this field is one too many",
     "bar": "a bar has a space on each side: `{proposal}`",
     "comma": "each id is a field of its own: `{proposal}`",
@@ -241,8 +250,19 @@ def missing_field(line: Line) -> Found:
         return line.behind("missing ids", proposal=" ".join(["groups", *map(str, line.before.nodes)]))
     if len(line.spans) > len(form):
         return line.at(0)
+    if form[0] == "N" and len(line.spans) > 1 and number_of(line.field(1)) is None:
+        return missing_node(line)
     field = form[len(line.spans) - 1].replace("NEW", "N")
     return line.behind("missing", form=spelled(form, word), field=field)
+
+
+def missing_node(line: Line) -> Found:
+    """A line whose first field isn't a node, so that the fields behind it are one too few."""
+    word, *fields = line.fields()
+    if word not in AT_THE_CLIENT or len(line.spans) != len(line.form()):
+        return line.at(1, "node missing", found=fields[0], form=spelled(line.form(), word))
+    at_node, client = " ".join([word, "N", *fields]), " ".join([AT_THE_CLIENT[word], *fields])
+    return line.at(1, "node missing of a request", found=fields[0], at_node=at_node, client=client)
 
 
 def extra_field(line: Line) -> Found:
@@ -256,6 +276,8 @@ def extra_field(line: Line) -> Found:
         return line.at(first, "value has spaces", form=spelled(form, word))
     if word == "node" and line.before.version == 1 and len(line.spans) == 3:
         return line.at(first, "rack")
+    if word in ("flow", "round") and len(line.spans) == 2 and number_of(line.field(1)):
+        return line.at(first, "repeated", word=word, count=number_of(line.field(1)))
     return line.at(first, "extra", form=spelled(form, word))
 
 

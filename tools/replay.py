@@ -1,19 +1,22 @@
 """usage: ./replay [--summary] [FILE]     plays the script in FILE, or on standard input, and writes its transcript
-       ./replay --audit [FILE]       says whether a transcript keeps the laws, and what it has of lines and views
+       ./replay --audit [FILE]       says whether a transcript keeps the laws, and else which line breaks which law
        ./replay --generate NUMBER    plays the script that the number stands for, and writes its summary
        ./replay --build              proves and builds the program
        ./replay --version            says which program of which sources is started
        ./replay --help               shows this
 
 --summary writes a line of JSON behind the transcript: how many lines and nodes it has, and how many lines apply, merge,
-drop, settle and send. Where no proved program of these sources is built, they are compiled without proof, once.
+drop, settle and send. `tail -n 1` takes it; a transcript with it isn't one to audit. Where no proved program of these
+sources is built, they are compiled without proof, once; that such a program isn't proved is told once a day.
 
 The exit status is the program's: 0 where all was played and written, 1 no memory, 2 bad words, 3 a bad line of the
 script, 4 and 5 a fault of reading or writing, 6 to 8 a script, run or transcript that is too long, 9 no transcript, and
-10 a transcript that breaks a law. 66 says that FILE can't be read, and 125 that there is no program to start.
+10 a transcript that breaks a law, of which the program says `refuted`. 66 says that FILE can't be read, and 125 that
+there is no program to start.
 """
 from __future__ import annotations
 
+import contextlib
 import os
 import sys
 
@@ -29,8 +32,11 @@ NO_ANSWER = 125
 # The program takes no script and no transcript beyond these.
 SCRIPT_LIMIT = 16_777_216
 TRANSCRIPT_LIMIT = 134_217_728
-# How the program ends with a verdict: all laws hold, or one is broken.
-JUDGED = (0, 10)
+# How the program ends with a verdict.
+HOLDS = 0
+FAILS = 10
+# How long what is told of an unproved program isn't told again, in seconds.
+DAY = 24 * 60 * 60
 # The command's own words, each of which stands alone.
 ALONE = ("--build", "--version", "--help", "-h")
 
@@ -63,7 +69,7 @@ class Asked:
                 raise Refused("--generate takes a number of at most 20 digits, below 2^64")
             self.words.append(f"--generate={number}")
         elif word.startswith("-"):
-            raise Refused(f"{word} is no word of it")
+            raise Refused(f"{word} is no word of it{nearest(word)}")
         elif self.file is not None:
             raise Refused(f"{word} is one FILE too many")
         else:
@@ -79,8 +85,12 @@ def stop(status: int, text: str) -> None:
     raise SystemExit(status)
 
 
-def usage() -> str:
-    return __doc__.partition("\n\n")[0]
+def nearest(word: str) -> str:
+    """The word that may be meant, if one is near."""
+    import difflib
+
+    near = difflib.get_close_matches(word, ("--summary", "--audit", "--generate", *ALONE), 1, 0.75)
+    return f"; {near[0]} is the nearest" if near else ""
 
 
 def read_words(words: list[str]) -> Asked:
@@ -138,9 +148,29 @@ def current_program(is_light: bool) -> kept_programs.Kept | None:
 def program_to_start(is_light: bool) -> str:
     """The path of the current program, which is compiled without proof where there is none."""
     kept = current_program(is_light) or compile_program(is_light)
-    if not isinstance(kept, kept_programs.Proved):
-        say("this program isn't proved, but compiled of the sources as they are; ./replay --build proves and builds it")
+    if not isinstance(kept, kept_programs.Proved) and is_to_tell(kept.program):
+        say(
+            "this program isn't proved, but compiled of the sources as they are; ./replay --build proves and builds it. "
+            "This is told once a day, and by ./replay --version at any time"
+        )
     return kept.program
+
+
+def is_to_tell(program: str) -> bool:
+    """Whether it wasn't told of this program in the last day; if so a file beside it notes that it is told now."""
+    import time
+
+    note, mark = f"{program}.told", kept_programs.mark_of(program)
+    try:
+        with open(note, encoding="utf-8") as file:
+            is_told = file.read() == mark and 0 <= time.time() - os.stat(note).st_mtime < DAY
+    except OSError:
+        is_told = False
+    if not is_told:
+        # Where that can't be noted it is told each time.
+        with contextlib.suppress(OSError), open(note, "w", encoding="utf-8") as file:
+            file.write(mark)
+    return not is_told
 
 
 def compile_program(is_light: bool) -> kept_programs.Kept:
@@ -170,7 +200,7 @@ def start(asked: Asked) -> None:
     if asked.words == ["--audit"]:
         import audit_transcript
 
-        raise SystemExit(audit_transcript.audit(program, asked.words, TRANSCRIPT_LIMIT, JUDGED))
+        raise SystemExit(audit_transcript.audit(program, asked.words, TRANSCRIPT_LIMIT, HOLDS, FAILS))
     if not asked.reads_script:
         play_script.become(program, asked.words)
     raise SystemExit(play_script.play(program, asked.words, SCRIPT_LIMIT, BAD_SCRIPT))
@@ -196,8 +226,6 @@ if __name__ == "__main__":
     try:
         main(sys.argv[1:])
     except Refused as why:
-        say(str(why))
-        print(usage(), file=sys.stderr)
-        raise SystemExit(BAD_WORDS)
+        stop(BAD_WORDS, f"{why}. ./replay --help has the usage")
     except KeyboardInterrupt:
         raise SystemExit(130)
