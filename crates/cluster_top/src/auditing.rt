@@ -1,5 +1,5 @@
 //! Judges the transcript that its source has left, without replaying anything.
-ghost use Rattle.std.specs.Prelude.{◌≡◌, ◌≢◌, ℕ, List, [], Err, Option, OnOk, IsErrOf, IfOk, IfErr};
+ghost use Rattle.std.specs.Prelude.{◌≡◌, ◌≢◌, ℕ, List, [], Err, Option, OnOk, OnErr, IsErrOf, IfOk, IfErr};
 ghost use Rattle.byte_ends.specs.Faults.{Rose};
 ghost use Rattle.audit_core.specs.Transcripts.{IsTranscript};
 ghost use Rattle.replay_core.specs.Outcome.{PushesNothing};
@@ -141,7 +141,8 @@ fn ending_of(verdict: Verdict) -> Status
 fn write_verdict<K: Sink>(alloc: Global, verdict: Verdict, out: &mut K) -> Result<(), WriteFault>
     ensures ok { OnOk result
         (WroteBytes (K.taken out.old) (K.taken out.new) (verdict_line verdict)) }
-    ensures front { WroteFront (K.taken out.old) (K.taken out.new) (verdict_line verdict) }
+    ensures front { OnErr result
+        (WroteFront (K.taken out.old) (K.taken out.new) (verdict_line verdict)) }
     ensures refused { IsErrOf result WriteFault.NoMemory → out.new ≡ out.old }
     ensures fault { IsErrOf result WriteFault.Sink → Rose (K.faults out.old) (K.faults out.new) }
     ensures told { result ≢ Err WriteFault.Sink → K.faults out.new ≡ K.faults out.old }

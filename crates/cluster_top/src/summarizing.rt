@@ -1,5 +1,5 @@
 //! Writes the summary of what was played.
-ghost use Rattle.std.specs.Prelude.{◌≡◌, ◌≢◌, [], Err, OnOk, IsErrOf};
+ghost use Rattle.std.specs.Prelude.{◌≡◌, ◌≢◌, [], Err, OnOk, OnErr, IsErrOf};
 ghost use Rattle.byte_ends.specs.Faults.{Rose};
 ghost use Rattle.replay_core.specs.Outcome.{WritingEnded};
 ghost use Rattle.replay_core.specs.Streams.{WroteBytes, WroteFront};
@@ -29,8 +29,8 @@ pub fn summarize<K: Sink>(alloc: Global, played: ReplayOutcome, out: &mut K) -> 
 fn write_summary<K: Sink>(alloc: Global, journal: &Journal, out: &mut K) -> Result<(), WriteFault>
     ensures ok { OnOk result
         (WroteBytes (K.taken out.old) (K.taken out.new) (transcripts.summary journal.now.lines)) }
-    ensures front { WroteFront (K.taken out.old) (K.taken out.new)
-        (transcripts.summary journal.now.lines) }
+    ensures front { OnErr result
+        (WroteFront (K.taken out.old) (K.taken out.new) (transcripts.summary journal.now.lines)) }
 
     ensures fault { IsErrOf result WriteFault.Sink → Rose (K.faults out.old) (K.faults out.new) }
     ensures told { result ≢ Err WriteFault.Sink → K.faults out.new ≡ K.faults out.old }
