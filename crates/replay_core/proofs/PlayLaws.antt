@@ -5,7 +5,6 @@ use Rattle.std.proofs.lemmas.List.{append-nil, take_all, take_more, take-append-
 use Rattle.std.proofs.lemmas.List.Elements.{All-nil, All-cons}
 use Rattle.std.proofs.lemmas.Grind.{flat_map-append}
 use Rattle.std.specs.List.{list_all}
-use Rattle.cluster_types.specs.NodeLists.{IsNodeList}
 use Rattle.cluster_types.specs.Partitions.{partition_count}
 use Rattle.script_lang.specs.declared.script.Command.{Command}
 use Rattle.script_lang.specs.declared.script.Script.{Script}
@@ -160,9 +159,6 @@ pub playable_at_first : (world : RunSoFar) (s : Script) (commands : List Command
 playable_at_first world s commands is same p =
     subst (λ (cs : List Command). ArePlayable world.header cs) (sym same)
     (subst (λ (r : RunSoFar). ArePlayable r.header s.commands) (sym is) (playable (declared_nodes s.header) s.commands (all_playable s p)))
-
-pub declares_nodes : (s : Script) → IsProper s → IsNodeList (declared_nodes s.header)
-declares_nodes s p = p.nodes
 
 run_of_first : (s : Script) (last : RunSoFar) (lines : List Line) → PlaysAllOn (run_begun s.header) last s.commands → lines ≡ run_lines last → runs.Run s lines
 unfolding standing run_lines

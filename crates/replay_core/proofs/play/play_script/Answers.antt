@@ -1,9 +1,6 @@
 use Rattle.std.proofs.Common.{Err, ap}
-use Rattle.replay_core.proofs.PlayLaws.{declares_nodes, plays_nothing, stops_at_once}
+use Rattle.replay_core.proofs.PlayLaws.{plays_nothing, stops_at_once}
 use Rattle.replay_core.proofs.play.play_script.Goals as goal
-
-pub new-requires-clause-nodes : goal.new-requires-clause-nodes
-new-requires-clause-nodes c = declares_nodes c.args.script.now c.requires
 
 pub returns-in-Err-RunTooLong : goal.returns-in-Err-RunTooLong
 returns-in-Err-RunTooLong c = λ bytes parsed.
