@@ -35,9 +35,9 @@ fn ended(alloc: Global, transcript: &[u8], pull: u64, push: u64) -> Result<Audit
     let mut sink = MemSink::new(alloc, ROOM, &[push])?;
     let outcome = run(alloc, &words, &mut source, &mut sink);
     Ok(Audited {
-        status: outcome.status,
+        status: outcome.status(),
         taken: Vec::from_slice(alloc, sink.as_slice())?,
-        lines: outcome.journal.lines(),
+        lines: outcome.journal().lines(),
     })
 }
 
@@ -67,7 +67,7 @@ fn two_sides(alloc: Global) -> Result<String, Fail> {
     let script = joined(alloc, &[TWO_SIDES, AT_REST])?;
     let mut source = SureSource::new(alloc, script.as_bytes())?;
     let mut sink = MemSink::new(alloc, ROOM, &[])?;
-    if run(alloc, &[], &mut source, &mut sink).status != Status::Done {
+    if run(alloc, &[], &mut source, &mut sink).status() != Status::Done {
         Err("not done")?;
     }
     let text = Vec::from_slice(alloc, sink.as_slice())?;
@@ -179,7 +179,7 @@ fn an_audit_stands_alone(rt: HostRuntime) -> Result<(), Fail> {
         let mut source = SureSource::new(alloc, TRANSCRIPT.as_bytes())?;
         let mut sink = MemSink::new(alloc, ROOM, &[])?;
         let outcome = run(alloc, given.as_slice(), &mut source, &mut sink);
-        assert_eq!(rt; outcome.status, Status::BadWords, "{words}");
+        assert_eq!(rt; outcome.status(), Status::BadWords, "{words}");
         assert!(rt; sink.as_slice().is_empty(), "{words}");
     }
     Ok(())

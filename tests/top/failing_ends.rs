@@ -105,7 +105,7 @@ fn tables(alloc: Global) -> Result<String, Fail> {
 fn ended(alloc: Global, script: &str, pull: u64, push: u64) -> Result<(Status, Vec<u8>), Fail> {
     let mut source = MemSource::new(alloc, script.as_bytes(), 16, &[pull])?;
     let mut sink = MemSink::new(alloc, ROOM, &[push])?;
-    let status = run(alloc, &[], &mut source, &mut sink).status;
+    let status = run(alloc, &[], &mut source, &mut sink).status();
     Ok((status, Vec::from_slice(alloc, sink.as_slice())?))
 }
 

@@ -154,7 +154,7 @@ fn transcript_of(alloc: Global, script: &[&str]) -> Result<Vec<u8>, Fail> {
     let script = joined(alloc, script)?;
     let mut source = SureSource::new(alloc, script.as_bytes())?;
     let mut sink = MemSink::new(alloc, 1_000_000, &[])?;
-    match run(alloc, &[], &mut source, &mut sink).status {
+    match run(alloc, &[], &mut source, &mut sink).status() {
         Status::Done => Ok(Vec::from_slice(alloc, sink.as_slice())?),
         _ => Err("not done")?,
     }

@@ -149,7 +149,7 @@ fn ends_as_wanted(alloc: Global, case: &Case) -> Result<bool, Fail> {
     let mut source = MemSource::new(alloc, case.script.as_bytes(), 7, case.pull_fails)?;
     let mut sink = MemSink::new(alloc, 1000, case.push_fails)?;
     let outcome = run(alloc, &[], &mut source, &mut sink);
-    Ok(outcome.status == case.status && sink.as_slice() == case.taken.as_bytes())
+    Ok(outcome.status() == case.status && sink.as_slice() == case.taken.as_bytes())
 }
 
 #[test]
@@ -195,7 +195,7 @@ fn a_byte_past_the_limit_is_too_long(rt: HostRuntime) -> Result<(), Fail> {
     let bytes = vec![in alloc; b'\n'; 16_777_217]?;
     let mut source = SureSource::new(alloc, bytes.as_slice())?;
     let outcome = run(alloc, &[], &mut source, &mut SureSink::new());
-    assert_eq!(rt; outcome.status, Status::ScriptTooLong);
+    assert_eq!(rt; outcome.status(), Status::ScriptTooLong);
     Ok(())
 }
 
@@ -233,7 +233,7 @@ fn written_for(alloc: Global, words: &str, script: &str) -> Result<(Status, Vec<
     }
     let mut source = SureSource::new(alloc, script.as_bytes())?;
     let mut sink = MemSink::new(alloc, 1_000_000, &[])?;
-    let status = run(alloc, given.as_slice(), &mut source, &mut sink).status;
+    let status = run(alloc, given.as_slice(), &mut source, &mut sink).status();
     Ok((status, Vec::from_slice(alloc, sink.as_slice())?))
 }
 

@@ -2,10 +2,10 @@
 ghost use Rattle.std.specs.Prelude.{◌≡◌, IfOk, IsSome, OnErr, Some};
 ghost use Rattle.cluster_rules.specs.Allowed as allowed;
 
-use cluster_rules::Event;
 use cluster_types::{Boxed, NoMemory};
 use script_lang::Command;
 use std::alloc::Global;
+use world::Event;
 
 /// The event that the command is, and `None` for a flow, a round and calm, which are several: that
 /// takes no memory.

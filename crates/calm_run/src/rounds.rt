@@ -11,10 +11,9 @@ ghost use Rattle.world.specs.Claims.{HasClaims};
 ghost use Rattle.world.specs.Steps.{standing, run_lines};
 
 use crate::event_of::event_of;
-use cluster_rules::Event;
 use script_lang::Command;
 use std::alloc::Global;
-use world::{StepFault, World};
+use world::{Event, StepFault, World};
 
 /// How many flows there are in a round.
 const FLOWS: usize = 4;

@@ -2,7 +2,7 @@
 #![tactic(auto)]
 
 use byte_ends::{StdSink, StdSource};
-use cluster_top::{Outcome, Status, code, fault_text, run};
+use cluster_top::{Status, code, fault_text, run};
 use std::io::{ErrorKind, Write};
 use std::process::ExitCode;
 use std::{env, io, mem};
@@ -22,14 +22,10 @@ fn status(rt: &HostRuntime) -> Status {
         Ok(words) => {
             let mut source = StdSource::new(rt.reader());
             let mut sink = StdSink::new(io::writer(rt));
-            let Outcome {
-                status,
-                journal,
-                remains,
-            } = run(rt.alloc(), words.as_slice(), &mut source, &mut sink);
+            let outcome = run(rt.alloc(), words.as_slice(), &mut source, &mut sink);
+            let status = outcome.status();
             // The process ends soon: the memory of lines and records needn't be given back.
-            mem::forget(journal);
-            mem::forget(remains);
+            mem::forget(outcome);
             status
         }
         Err(error) if error.kind() == ErrorKind::OutOfMemory => Status::NoMemory,

@@ -1,5 +1,5 @@
 -- How an audit ended, and what decided it.
-use Rattle.std.proofs.Common.{◌≡◌, ℕ, ◌<◌, ◌≤◌, inl, inr, nat_lt, Bool, true, false, List, [], length, Option, Some, None, IfSome, refl, sym, ap, subst, arith, append-nil}
+use Rattle.std.proofs.Common.{◌≡◌, ℕ, ◌<◌, ◌≤◌, inl, inr, nat_lt, Bool, true, false, List, [], length, Option, Some, None, IfSome, refl, sym, ap, subst, arith}
 use Rattle.std.proofs.lemmas.Bool.Decides.{nat_tests}
 use Rattle.byte_ends.specs.Faults.{Rose}
 use Rattle.journal_lines.specs.declared.line.Line.{Line}
@@ -12,16 +12,7 @@ use Rattle.replay_core.proofs.StreamLaws.{all_few}
 use Rattle.replay_core.specs.declared.status.Status.{Status}
 use Rattle.replay_core.specs.declared.status.Status.TheVariants as status
 use Rattle.cluster_top.specs.Auditing.{AuditEnded, EndsAudit, EndsSource, EndsTranscript, EndsTranscriptBytes, HadTranscript, IsAuditDecided, Judged, Mistranscribed, status_of, transcript_limit}
-use Rattle.replay_core.specs.Streams.{Overlong, WroteFront}
-
-pub nothing_written : (old : Option (List ℕ)) (bytes : List ℕ) → WroteFront old old bytes
-nothing_written None bytes = tt
-nothing_written (Some t) bytes = record {
-  front = [];
-  rest = bytes;
-  whole = refl;
-  now = ap Some (sym (append-nil t));
-}
+use Rattle.replay_core.specs.Streams.{Overlong}
 
 -- memory was refused for the line that tells the verdict
 pub refused_verdict : (st : Status) (j judged : List Line) (found : Verdict) (had left old new : Option (List ℕ))

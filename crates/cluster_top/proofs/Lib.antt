@@ -4,5 +4,6 @@ pub mod WordLaws
 pub mod CountLaws
 pub mod GeneratingLaws
 pub mod WordReplays
+pub mod FrontLaws
 pub mod AuditLaws
 pub mod AuditWords

@@ -3,3 +3,4 @@ pub mod Generating
 pub mod Transcripts
 pub mod Replays
 pub mod Auditing
+pub mod Outcomes

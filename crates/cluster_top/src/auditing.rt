@@ -1,5 +1,5 @@
 //! Judges the transcript that its source has left, without replaying anything.
-ghost use Rattle.std.specs.Prelude.{◌≡◌, ◌≢◌, ℕ, List, Err, Option, OnOk, IsErrOf, IfOk, IfErr};
+ghost use Rattle.std.specs.Prelude.{◌≡◌, ◌≢◌, ℕ, List, [], Err, Option, OnOk, OnErr, IsErrOf, IfOk, IfErr};
 ghost use Rattle.byte_ends.specs.Faults.{Rose};
 ghost use Rattle.audit_core.specs.Transcripts.{IsTranscript};
 ghost use Rattle.replay_core.specs.Outcome.{PushesNothing};
@@ -10,14 +10,35 @@ use audit_core::{TextFault, Verdict, audit, lines_of};
 use byte_ends::{Sink, Source};
 use cluster_types::NoMemory;
 use journal_text::Journal;
-use replay_core::{Outcome, ReadFault, Status, WriteFault, read_all, unplayed, write_all};
+use replay_core::{ReadFault, Status, WriteFault, read_all, write_all};
 use std::alloc::Global;
 
 /// The most bytes of a transcript that is audited.
 const TRANSCRIPT_LIMIT: usize = 134_217_728;
 
+/// How an audit ended, and the journal whose transcript was read: it is that on which the verdict was
+/// written, and empty where none was.
+#[derive(Drop)]
+pub struct AuditOutcome {
+    pub status: Status,
+    pub journal: Journal,
+}
+
+impl AuditOutcome {
+    /// Where no verdict was written.
+    fn untold(alloc: Global, status: Status) -> AuditOutcome
+        ensures status { result.status ≡ status }
+        ensures empty { result.journal.lines ≡ [] }
+    {
+        AuditOutcome {
+            status,
+            journal: Journal::new(alloc),
+        }
+    }
+}
+
 /// Audits the transcript that the source has left, and writes the verdict.
-pub fn audit_source<S: Source, K: Sink>(alloc: Global, source: &mut S, out: &mut K) -> Outcome
+pub fn audit_source<S: Source, K: Sink>(alloc: Global, source: &mut S, out: &mut K) -> AuditOutcome
     ensures ended { AuditEnded result.status result.journal.lines (S.left source.old)
         (S.left source.new) (K.taken out.old) (K.taken out.new) }
     ensures read_fault { result.status ≡ Status.ReadFault
@@ -31,7 +52,7 @@ pub fn audit_source<S: Source, K: Sink>(alloc: Global, source: &mut S, out: &mut
     ensures unpushed { PushesNothing result.status → out.new ≡ out.old }
 {
     match read_journal(alloc, source) {
-        Err(status) => unplayed(alloc, status),
+        Err(status) => AuditOutcome::untold(alloc, status),
         Ok(journal) => audit_journal(alloc, journal, out),
     }
 }
@@ -67,7 +88,7 @@ fn journal_of(alloc: Global, bytes: &[u8]) -> Result<Journal, Status>
     }
 }
 
-fn audit_journal<K: Sink>(alloc: Global, journal: Journal, out: &mut K) -> Outcome
+fn audit_journal<K: Sink>(alloc: Global, journal: Journal, out: &mut K) -> AuditOutcome
     ensures ended { (had left : Option (List ℕ)) → Transcribed had left journal.lines
         → AuditEnded result.status result.journal.lines had left (K.taken out.old)
         (K.taken out.new) }
@@ -79,13 +100,13 @@ fn audit_journal<K: Sink>(alloc: Global, journal: Journal, out: &mut K) -> Outco
     ensures unpushed { PushesNothing result.status → out.new ≡ out.old }
 {
     match audit(alloc, &journal) {
-        Err(NoMemory) => unplayed(alloc, Status::NoMemory),
+        Err(NoMemory) => AuditOutcome::untold(alloc, Status::NoMemory),
         Ok(verdict) => tell(alloc, verdict, journal, out),
     }
 }
 
 /// Writes the verdict on the journal.
-fn tell<K: Sink>(alloc: Global, verdict: Verdict, journal: Journal, out: &mut K) -> Outcome
+fn tell<K: Sink>(alloc: Global, verdict: Verdict, journal: Journal, out: &mut K) -> AuditOutcome
     ensures ended { (had left : Option (List ℕ)) → Judged had left journal.lines verdict
         → AuditEnded result.status result.journal.lines had left (K.taken out.old)
         (K.taken out.new) }
@@ -97,13 +118,12 @@ fn tell<K: Sink>(alloc: Global, verdict: Verdict, journal: Journal, out: &mut K)
     ensures unpushed { PushesNothing result.status → out.new ≡ out.old }
 {
     match write_verdict(alloc, verdict, out) {
-        Ok(()) => Outcome {
+        Ok(()) => AuditOutcome {
             status: ending_of(verdict),
             journal,
-            remains: None,
         },
-        Err(WriteFault::Sink) => unplayed(alloc, Status::WriteFault),
-        Err(WriteFault::NoMemory) => unplayed(alloc, Status::NoMemory),
+        Err(WriteFault::Sink) => AuditOutcome::untold(alloc, Status::WriteFault),
+        Err(WriteFault::NoMemory) => AuditOutcome::untold(alloc, Status::NoMemory),
     }
 }
 
@@ -121,7 +141,8 @@ fn ending_of(verdict: Verdict) -> Status
 fn write_verdict<K: Sink>(alloc: Global, verdict: Verdict, out: &mut K) -> Result<(), WriteFault>
     ensures ok { OnOk result
         (WroteBytes (K.taken out.old) (K.taken out.new) (verdict_line verdict)) }
-    ensures front { WroteFront (K.taken out.old) (K.taken out.new) (verdict_line verdict) }
+    ensures front { OnErr result
+        (WroteFront (K.taken out.old) (K.taken out.new) (verdict_line verdict)) }
     ensures refused { IsErrOf result WriteFault.NoMemory → out.new ≡ out.old }
     ensures fault { IsErrOf result WriteFault.Sink → Rose (K.faults out.old) (K.faults out.new) }
     ensures told { result ≢ Err WriteFault.Sink → K.faults out.new ≡ K.faults out.old }

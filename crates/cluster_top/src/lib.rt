@@ -9,12 +9,15 @@
 mod auditing;
 mod counting;
 mod generating;
+mod outcome;
 mod replay;
 mod summarizing;
 mod word_replay;
 mod words;
 
+pub use auditing::AuditOutcome;
 pub use counting::summary;
 pub use generating::generated;
+pub use outcome::Outcome;
 pub use replay::run;
-pub use replay_core::{Outcome, Status, code, fault_text};
+pub use replay_core::{ReplayOutcome, Status, code, fault_text};

@@ -1,8 +1,7 @@
 //! Replays what the words ask for.
 ghost use Rattle.std.specs.Prelude.{◌≡◌, ◌≢◌, ◌<◌, ◌^◌, ℕ, List, Option, None, Some, IsSome, length, true};
 ghost use Rattle.byte_ends.specs.Faults.{Rose};
-ghost use Rattle.world.specs.Claims.{HasClaims};
-ghost use Rattle.replay_core.specs.Outcome.{CalmsAreInTime, PushesNothing};
+ghost use Rattle.replay_core.specs.Outcome.{PushesNothing};
 ghost use Rattle.cluster_top.specs.Generating as script_text;
 ghost use Rattle.cluster_top.specs.Replays.{IsDecided, ReplayEnded};
 
@@ -10,7 +9,7 @@ use crate::generating::generated;
 use crate::summarizing::summarize;
 use crate::words::Words;
 use byte_ends::{Sink, Source};
-use replay_core::{Outcome, Status, play_bytes, replay, unplayed};
+use replay_core::{ReplayOutcome, Status, play_bytes, replay};
 use std::alloc::Global;
 
 /// Replays the script that the source has left, and writes the transcript to the sink, or the
@@ -22,11 +21,9 @@ pub fn replay_by<S: Source, K: Sink>(
     words: Words,
     source: &mut S,
     out: &mut K,
-) -> Outcome
-    ensures ended { ReplayEnded words result.status result.journal.lines (S.left source.old)
+) -> ReplayOutcome
+    ensures ended { ReplayEnded words result.status result.lines (S.left source.old)
         (S.left source.new) (K.taken out.old) (K.taken out.new) }
-    ensures claims { HasClaims result.journal.lines }
-    ensures calms { CalmsAreInTime result.journal.lines }
     ensures read_fault { result.status ≡ Status.ReadFault
         → Rose (S.faults source.old) (S.faults source.new) }
     ensures read_told { result.status ≢ Status.ReadFault
@@ -50,12 +47,14 @@ pub fn replay_by<S: Source, K: Sink>(
 }
 
 /// Replays the script that the source has left, and writes the summary behind its transcript.
-fn replay_and_summarize<S: Source, K: Sink>(alloc: Global, source: &mut S, out: &mut K) -> Outcome
+fn replay_and_summarize<S: Source, K: Sink>(
+    alloc: Global,
+    source: &mut S,
+    out: &mut K,
+) -> ReplayOutcome
     ensures ended { (words : Words) → words.summary ≡ true → words.generate ≡ None
-        → ReplayEnded words result.status result.journal.lines (S.left source.old)
+        → ReplayEnded words result.status result.lines (S.left source.old)
         (S.left source.new) (K.taken out.old) (K.taken out.new) }
-    ensures claims { HasClaims result.journal.lines }
-    ensures calms { CalmsAreInTime result.journal.lines }
     ensures read_fault { result.status ≡ Status.ReadFault
         → Rose (S.faults source.old) (S.faults source.new) }
     ensures read_told { result.status ≢ Status.ReadFault
@@ -67,19 +66,17 @@ fn replay_and_summarize<S: Source, K: Sink>(alloc: Global, source: &mut S, out: 
     ensures unpushed { PushesNothing result.status → out.new ≡ out.old }
 {
     let replayed = replay(alloc, source, out);
-    match replayed.status {
+    match replayed.status() {
         Status::Done => summarize(alloc, replayed, out),
         _ => replayed,
     }
 }
 
 /// Replays the script that the number stands for, and writes its summary.
-fn replay_number<K: Sink>(alloc: Global, number: u64, out: &mut K) -> Outcome
+fn replay_number<K: Sink>(alloc: Global, number: u64, out: &mut K) -> ReplayOutcome
     ensures ended { (words : Words) (had : Option (List ℕ)) → words.generate ≡ Some number
-        → ReplayEnded words result.status result.journal.lines had had (K.taken out.old)
+        → ReplayEnded words result.status result.lines had had (K.taken out.old)
         (K.taken out.new) }
-    ensures claims { HasClaims result.journal.lines }
-    ensures calms { CalmsAreInTime result.journal.lines }
     ensures read_fault { result.status ≢ Status.ReadFault }
     ensures write_fault { result.status ≡ Status.WriteFault
         → Rose (K.faults out.old) (K.faults out.new) }
@@ -88,20 +85,18 @@ fn replay_number<K: Sink>(alloc: Global, number: u64, out: &mut K) -> Outcome
     ensures unpushed { PushesNothing result.status → out.new ≡ out.old }
 {
     match generated(alloc, number) {
-        Err(_) => unplayed(alloc, Status::NoMemory),
+        Err(_) => ReplayOutcome::unplayed(alloc, Status::NoMemory),
         Ok(script) => play_and_summarize(alloc, script.as_slice(), out),
     }
 }
 
 /// Plays the script that the bytes are, and writes its summary.
-fn play_and_summarize<K: Sink>(alloc: Global, bytes: &[u8], out: &mut K) -> Outcome
+fn play_and_summarize<K: Sink>(alloc: Global, bytes: &[u8], out: &mut K) -> ReplayOutcome
     requires { length bytes.now < 2 ^ 60 }
     ensures ended { (words : Words) (had : Option (List ℕ)) (number : ℕ)
         → words.generate ≡ Some number → bytes.now ≡ script_text.generated number
-        → ReplayEnded words result.status result.journal.lines had had (K.taken out.old)
+        → ReplayEnded words result.status result.lines had had (K.taken out.old)
         (K.taken out.new) }
-    ensures claims { HasClaims result.journal.lines }
-    ensures calms { CalmsAreInTime result.journal.lines }
     ensures read_fault { result.status ≢ Status.ReadFault }
     ensures write_fault { result.status ≡ Status.WriteFault
         → Rose (K.faults out.old) (K.faults out.new) }
@@ -110,7 +105,7 @@ fn play_and_summarize<K: Sink>(alloc: Global, bytes: &[u8], out: &mut K) -> Outc
     ensures unpushed { PushesNothing result.status → out.new ≡ out.old }
 {
     let played = play_bytes(alloc, bytes);
-    match played.status {
+    match played.status() {
         Status::Done => summarize(alloc, played, out),
         _ => played,
     }

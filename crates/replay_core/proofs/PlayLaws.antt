@@ -1,14 +1,14 @@
 -- Commands that are played one after another.
-use Rattle.std.proofs.Common.{◌≡◌, ℕ, ◌+◌, ◌<◌, ◌≤◌, true, List, [], ◌∷◌, ◌++◌, length, take, drop, get_or, inl, inr, refl, sym, ap, subst, ◌∙◌, arith, append_assoc, IsTrue, All}
+use Rattle.std.proofs.Common.{◌≡◌, ℕ, ◌+◌, ◌<◌, ◌≤◌, true, List, [], ◌∷◌, ◌++◌, length, take, drop, get_or, inl, inr, Ok, refl, sym, ap, subst, ◌∙◌, arith, append_assoc, IsTrue, All}
 use Rattle.std.proofs.lemmas.Bool.{and_parts}
 use Rattle.std.proofs.lemmas.List.{append-nil, take_all, take_more, take-append-drop}
 use Rattle.std.proofs.lemmas.List.Elements.{All-nil, All-cons}
 use Rattle.std.proofs.lemmas.Grind.{flat_map-append}
 use Rattle.std.specs.List.{list_all}
-use Rattle.cluster_types.specs.NodeLists.{IsNodeList}
 use Rattle.cluster_types.specs.Partitions.{partition_count}
 use Rattle.script_lang.specs.declared.script.Command.{Command}
 use Rattle.script_lang.specs.declared.script.Script.{Script}
+use Rattle.script_lang.specs.Grammar.{script_of}
 use Rattle.script_lang.specs.Proper.{IsProper}
 use Rattle.journal_lines.specs.declared.line.Line.{Line}
 use Rattle.journal_text.specs.Journals.{IsWithin}
@@ -16,7 +16,7 @@ use Rattle.cluster_rules.specs.Allowed.{is_playable}
 use Rattle.cluster_rules.specs.Begun.{AllBegun, IsBegun}
 use Rattle.cluster_rules.specs.FrontRuns.{AreFrontOf, IsFrontOf}
 use Rattle.cluster_rules.specs.Marks.{after_all}
-use Rattle.cluster_rules.specs.Opening.{declared_nodes}
+use Rattle.cluster_rules.specs.Opening.{declared_nodes, header_lines}
 use Rattle.cluster_rules.specs.Runs.{Plays, PlaysAll}
 use Rattle.cluster_rules.specs.Runs as runs
 use Rattle.cluster_rules.specs.Steps.{Played, Step, all_marks, then_played, marks_of}
@@ -27,7 +27,9 @@ use Rattle.calm_laws.proofs.ScriptRuns.{scripts_calm_in_time}
 use Rattle.world.specs.Claims.{HasClaims}
 use Rattle.world.specs.Steps.{RunSoFar, run_begun, standing, run_lines}
 use Rattle.calm_run.specs.Playing.{PlaysOn, StandsIn, StopsIn, followed}
-use Rattle.replay_core.specs.Outcome.{CalmsAreInTime, IsCut}
+use Rattle.replay_core.specs.declared.status.Status.{Status}
+use Rattle.replay_core.specs.declared.status.Status.TheVariants as status
+use Rattle.replay_core.specs.Outcome.{CalmsAreInTime, HasAllClaims, IsCut, PlayEnded}
 use Rattle.replay_core.specs.Playing.{ArePlayable, PlaysAllOn, StandsAmong, StopsAmong}
 use Rattle.replay_core.proofs.EmptyClaims.{no_claims_fail}
 use Rattle.run_laws.proofs.Named.{all_playable}
@@ -158,9 +160,6 @@ playable_at_first world s commands is same p =
     subst (λ (cs : List Command). ArePlayable world.header cs) (sym same)
     (subst (λ (r : RunSoFar). ArePlayable r.header s.commands) (sym is) (playable (declared_nodes s.header) s.commands (all_playable s p)))
 
-pub declares_nodes : (s : Script) → IsProper s → IsNodeList (declared_nodes s.header)
-declares_nodes s p = p.nodes
-
 run_of_first : (s : Script) (last : RunSoFar) (lines : List Line) → PlaysAllOn (run_begun s.header) last s.commands → lines ≡ run_lines last → runs.Run s lines
 unfolding standing run_lines
 run_of_first s last lines p w = record { played = p.played; plays = p.plays; written = w ∙ ap run_lines p.steps }
@@ -181,19 +180,39 @@ pub cut_of : (s : Script) (first last : RunSoFar) (commands : List Command) (lin
 cut_of s first last commands lines is same p w =
     cut_of_first s last lines (subst (λ (cs : List Command). StopsAmong (run_begun s.header) last cs) same (subst (λ (r : RunSoFar). StopsAmong r last commands) is p)) w
 
--- ---- no line at all
+-- ---- how a play ends
 
-pub nothing_within : (j : List Line) → j ≡ [] → IsWithin j
+nothing_within : (j : List Line) → j ≡ [] → IsWithin j
 nothing_within j none = subst IsWithin (sym none) (record { lines_fit = omega arith; text_fits = omega arith })
 
-pub nothing_claimed : (j : List Line) → j ≡ [] → HasClaims j
-nothing_claimed j none = subst HasClaims (sym none) no_claims_fail
+pub plays_whole : (bytes : List ℕ) (s : Script) (st : Status) (j : List Line) → st ≡ status.Done → script_of bytes ≡ Ok s → IsProper s → IsWithin j → runs.Run s j → PlayEnded bytes st j
+plays_whole bytes s st j is parsed proper within played =
+    subst (λ (x : Status). PlayEnded bytes x j) (sym is)
+    (record { bytes = bytes; script = s; read = refl; parsed = parsed; proper = proper; played = played; within = within })
 
--- ---- calm
+pub plays_short : (bytes : List ℕ) (s : Script) (st : Status) (j : List Line) → st ≡ status.RunTooLong → script_of bytes ≡ Ok s → IsProper s → IsWithin j → IsCut s j → PlayEnded bytes st j
+plays_short bytes s st j is parsed proper within cut =
+    subst (λ (x : Status). PlayEnded bytes x j) (sym is)
+    (record { bytes = bytes; script = s; read = refl; parsed = parsed; proper = proper; cut = cut; within = within })
+
+pub plays_nothing : (bytes : List ℕ) (st : Status) (j : List Line) → st ≡ status.NoMemory → j ≡ [] → PlayEnded bytes st j
+plays_nothing bytes st j is none = subst (λ (x : Status). PlayEnded bytes x j) (sym is) none
+
+-- the header's lines alone don't fit
+pub stops_at_once : (bytes : List ℕ) (s : Script) (st : Status) (j : List Line) → st ≡ status.RunTooLong → j ≡ [] → ¬ IsWithin (header_lines s.header) → script_of bytes ≡ Ok s → IsProper s
+    → PlayEnded bytes st j
+stops_at_once bytes s st j is none passes parsed proper =
+    plays_short bytes s st j is parsed proper (nothing_within j none) (inl (record { lines = none; passes = passes }))
+
+-- ---- the claims
 
 -- a journal within its limits has fewer lines than a number in a message can count
-pub calms_within : (j : List Line) → IsWithin j → CalmsAreInTime j
+calms_within : (j : List Line) → IsWithin j → CalmsAreInTime j
 calms_within j within s proper r = scripts_calm_in_time s proper j r (omega (arith, within.lines_fit))
 
-pub nothing_calms : (j : List Line) → j ≡ [] → CalmsAreInTime j
-nothing_calms j none = calms_within j (nothing_within j none)
+pub all_claimed : (j : List Line) → IsWithin j → HasClaims j → HasAllClaims j
+all_claimed j within claims = record { claims = claims; calms = calms_within j within }
+
+-- there is no line
+pub nothing_claimed : (j : List Line) → j ≡ [] → HasAllClaims j
+nothing_claimed j none = all_claimed j (nothing_within j none) (subst HasClaims (sym none) no_claims_fail)

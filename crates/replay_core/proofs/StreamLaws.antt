@@ -1,7 +1,7 @@
 -- What a source gave and a sink took, piece by piece.
-use Rattle.std.proofs.Common.{◌≡◌, ℕ, ◌+◌, ◌-◌, ◌<◌, ◌≤◌, List, [], ◌∷◌, ◌++◌, length, take, drop, Option, Some, None, refl, sym, ap, subst, ◌∙◌, arith, append_assoc, length-append, IfSome, length-take, zero, suc}
+use Rattle.std.proofs.Common.{◌≡◌, ℕ, ◌+◌, ◌-◌, ◌<◌, ◌≤◌, List, [], ◌∷◌, ◌++◌, length, take, drop, Option, Some, None, ◌≢◌, refl, sym, ap, subst, ◌∙◌, arith, append_assoc, length-append, IfSome, length-take, zero, suc}
 use Rattle.std.specs.List.{slice_range}
-use Rattle.std.proofs.lemmas.List.{take-append-drop, append-nil}
+use Rattle.std.proofs.lemmas.List.{take-append-drop, append-nil, length-drop}
 use Rattle.std.proofs.Math.Seq.{take-add}
 use Rattle.byte_ends.specs.declared.sink.Pushed.TheVariants.{Took, Failed}
 use Rattle.byte_ends.specs.declared.source.Pulled.TheVariants.{Got, End}
@@ -27,13 +27,35 @@ wrote_more (Some t) mid new bytes at count end w p h =
     let q = subst (λ m. Pushes m new (Took count) (slice_range bytes at end)) w p in
     q ∙ ap Some (append_assoc t (take at bytes) _ ∙ ap (λ y. t ++ y) (take_on at count end bytes h))
 
-pub wrote_front : (old mid new : Option (List ℕ)) (bytes piece : List ℕ) (at : ℕ) → WroteBytes old mid (take at bytes) → Pushes mid new Failed piece → WroteFront old new bytes
-wrote_front None mid new bytes piece at w p = tt
-wrote_front (Some t) mid new bytes piece at w p =
+-- ---- what is left
+
+pub more_left : (xs ys : List ℕ) → xs ≢ [] → xs ++ ys ≢ []
+more_left [] ys some e = some refl
+more_left (x ∷ xs) ys some e =
+    let none : length (x ∷ (xs ++ ys)) ≡ length {A = ℕ} [] = ap length e in
+    omega (arith, none)
+
+pub left_behind : (xs ys : List ℕ) → ys ≢ [] → xs ++ ys ≢ []
+left_behind [] ys some e = some e
+left_behind (x ∷ xs) ys some e =
+    let none : length (x ∷ (xs ++ ys)) ≡ length {A = ℕ} [] = ap length e in
+    omega (arith, none)
+
+left_over : (at : ℕ) (xs : List ℕ) → at < length xs → drop at xs ≢ []
+left_over at xs below e =
+    let none : length (drop at xs) ≡ length {A = ℕ} [] = ap length e in
+    omega (arith, none, length-drop at xs, below)
+
+-- ---- a sink that fails
+
+pub wrote_front : (old mid new : Option (List ℕ)) (bytes piece : List ℕ) (at : ℕ) → at < length bytes → WroteBytes old mid (take at bytes) → Pushes mid new Failed piece → WroteFront old new bytes
+wrote_front None mid new bytes piece at below w p = tt
+wrote_front (Some t) mid new bytes piece at below w p =
     let q = subst (λ m. Pushes m new Failed piece) w p in record {
       front = take at bytes;
       rest = drop at bytes;
       whole = take-append-drop at bytes;
+      short = left_over at bytes below;
       now = q ∙ ap Some (append-nil (t ++ take at bytes));
     }
 
@@ -61,12 +83,13 @@ all_written None mid new bytes buffer h w = tt
 all_written (Some t) mid new bytes buffer h w = subst (λ m. WroteBytes m new buffer) h.now w ∙ ap Some (append_assoc t h.front buffer ∙ ap (λ y. t ++ y) h.whole)
 
 -- the bytes go on with more
-pub buffered_front : (old new : Option (List ℕ)) (bytes buffer more : List ℕ) → Buffered old new bytes buffer → WroteFront old new (bytes ++ more)
-buffered_front None new bytes buffer more h = tt
-buffered_front (Some t) new bytes buffer more h = record {
+pub buffered_front : (old new : Option (List ℕ)) (bytes buffer more : List ℕ) → more ≢ [] → Buffered old new bytes buffer → WroteFront old new (bytes ++ more)
+buffered_front None new bytes buffer more some h = tt
+buffered_front (Some t) new bytes buffer more some h = record {
   front = h.front;
   rest = buffer ++ more;
   whole = sym (append_assoc h.front buffer more) ∙ ap (λ y. y ++ more) h.whole;
+  short = left_behind buffer more some;
   now = h.now;
 }
 
@@ -76,6 +99,7 @@ front_written (Some t) mid new bytes buffer more h w =
     let q = subst (λ m. WroteFront m new buffer) h.now w in record {
       front = h.front ++ q.front;
       rest = q.rest ++ more;
+      short = more_left q.rest more q.short;
       whole = sym (append_assoc (h.front ++ q.front) q.rest more) ∙ ap (λ y. y ++ more) (append_assoc h.front q.front q.rest ∙ ap (λ y. h.front ++ y) q.whole ∙ h.whole);
       now = q.now ∙ ap Some (append_assoc t h.front q.front);
     }
@@ -161,6 +185,7 @@ front_of_both (Some t) mid new first second a h =
     let q = subst (λ m. WroteFront m new second) a h in record {
       front = first ++ q.front;
       rest = q.rest;
+      short = q.short;
       whole = append_assoc first q.front q.rest ∙ ap (λ y. first ++ y) q.whole;
       now = q.now ∙ ap Some (append_assoc t first q.front);
     }
@@ -174,6 +199,7 @@ front_of_first None new first second h = tt
 front_of_first (Some t) new first second h = record {
   front = h.front;
   rest = h.rest ++ second;
+  short = more_left h.rest second h.short;
   whole = sym (append_assoc h.front h.rest second) ∙ ap (λ y. y ++ second) h.whole;
   now = h.now;
 }

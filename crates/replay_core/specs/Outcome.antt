@@ -12,6 +12,7 @@ use Rattle.cluster_rules.specs.FrontRuns.{FrontRun}
 use Rattle.cluster_rules.specs.Opening.{header_lines}
 use Rattle.cluster_rules.specs.Runs.{Run}
 use Rattle.calm_laws.specs.Claims.{CalmsInTime}
+use Rattle.world.specs.Claims.{HasClaims}
 use Rattle.replay_core.specs.declared.status.Status.{Status}
 use Rattle.replay_core.specs.declared.status.Status.TheVariants as status
 use Rattle.replay_core.specs.declared.writing.WriteFault.{WriteFault}
@@ -133,10 +134,22 @@ PushesNothing status.WriteFault = ⊥
 PushesNothing (status.Refuted law line) = ⊥
 PushesNothing _ = Unit {0}
 
+-- ---- what a replay leaves
+
+-- how it ended, and the lines of its journal
+pub record ReplayEnd : Type 0 where
+  pub status : Status
+  pub lines : List Line
+
 -- wherever the run of a proper script that has this journal begins rounds of calm, they are in time
 abbrev pub CalmsAreInTime : List Line → Type 0
 CalmsAreInTime journal = (script : Script) → IsProper script → (r : FrontRun script journal)
     → CalmsInTime script.header r.taken
+
+-- what holds of the journal of every replay, however it ended
+pub record HasAllClaims (journal : List Line) : Type 0 where
+  pub claims : HasClaims journal
+  pub calms : CalmsAreInTime journal
 
 -- ---- on the way
 

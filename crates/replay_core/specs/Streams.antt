@@ -1,5 +1,5 @@
 -- What a run took from its source, and gave to its sink, where these tell.
-use Rattle.std.specs.Prelude.{◌≡◌, ℕ, ◌+◌, ◌<◌, ◌≤◌, List, [], ◌++◌, length, drop, Option, Some, IfSome}
+use Rattle.std.specs.Prelude.{◌≡◌, ◌≢◌, ℕ, ◌+◌, ◌<◌, ◌≤◌, List, [], ◌++◌, length, drop, Option, Some, IfSome}
 
 -- the source gave these bytes
 pub record GaveBytes (all : List ℕ) (left : Option (List ℕ)) (bytes : List ℕ) : Type 0 where
@@ -36,11 +36,12 @@ pub record Overlong (limit : ℕ) (bytes : List ℕ) (left : Option (List ℕ)) 
 abbrev pub WroteBytes : Option (List ℕ) → Option (List ℕ) → List ℕ → Type 0
 WroteBytes old new bytes = IfSome old (λ taken. new ≡ Some (taken ++ bytes))
 
--- the sink took a front of these bytes
+-- the sink took a front of these bytes, and not all of them
 pub record TookFront (taken : List ℕ) (new : Option (List ℕ)) (bytes : List ℕ) : Type 0 where
   pub front : List ℕ
   pub rest : List ℕ
   pub whole : front ++ rest ≡ bytes
+  pub short : rest ≢ []
   pub now : new ≡ Some (taken ++ front)
 
 abbrev pub WroteFront : Option (List ℕ) → Option (List ℕ) → List ℕ → Type 0

@@ -1,5 +1,5 @@
 //! Writes a journal's text to its sink.
-ghost use Rattle.std.specs.Prelude.{◌≡◌, ◌≢◌, ◌≤◌, OnOk, IsErrOf, Err};
+ghost use Rattle.std.specs.Prelude.{◌≡◌, ◌≢◌, ◌≤◌, OnOk, OnErr, IsErrOf, Err};
 ghost use Rattle.byte_ends.specs.Faults.{Rose};
 ghost use Rattle.replay_core.specs.Streams.{WroteBytes, WroteFront};
 ghost use Rattle.journal_text.specs.Text as texts;
@@ -33,7 +33,8 @@ impl From<AllocError> for WriteFault {
 pub fn write_lines<K: Sink>(alloc: Global, lines: &[Line], out: &mut K) -> Result<(), WriteFault>
     ensures ok { OnOk result
         (WroteBytes (K.taken out.old) (K.taken out.new) (texts.text lines.now)) }
-    ensures front { WroteFront (K.taken out.old) (K.taken out.new) (texts.text lines.now) }
+    ensures front { OnErr result
+        (WroteFront (K.taken out.old) (K.taken out.new) (texts.text lines.now)) }
 
     ensures fault { IsErrOf result WriteFault.Sink → Rose (K.faults out.old) (K.faults out.new) }
     ensures told { result ≢ Err WriteFault.Sink → K.faults out.new ≡ K.faults out.old }
@@ -53,7 +54,7 @@ pub fn write_lines<K: Sink>(alloc: Global, lines: &[Line], out: &mut K) -> Resul
 /// Writes all of the bytes, or fails at a fault of the sink.
 pub fn write_all<K: Sink>(out: &mut K, bytes: &[u8]) -> Result<(), WriteFault>
     ensures ok { OnOk result (WroteBytes (K.taken out.old) (K.taken out.new) bytes.now) }
-    ensures front { WroteFront (K.taken out.old) (K.taken out.new) bytes.now }
+    ensures front { OnErr result (WroteFront (K.taken out.old) (K.taken out.new) bytes.now) }
 
     ensures only { result ≢ Err WriteFault.NoMemory }
     ensures fault { IsErrOf result WriteFault.Sink → Rose (K.faults out.old) (K.faults out.new) }

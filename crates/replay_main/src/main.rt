@@ -3,7 +3,7 @@
 #![tactic(auto)]
 
 use byte_ends::{StdSink, StdSource};
-use replay_core::{Outcome, Status, code, fault_text, replay};
+use replay_core::{Status, code, fault_text, replay};
 use std::io::{ErrorKind, Write};
 use std::process::ExitCode;
 use std::{env, io, mem};
@@ -20,14 +20,10 @@ fn status(rt: &HostRuntime) -> Status {
 fn replay_input(rt: &HostRuntime) -> Status {
     let mut source = StdSource::new(rt.reader());
     let mut sink = StdSink::new(io::writer(rt));
-    let Outcome {
-        status,
-        journal,
-        remains,
-    } = replay(rt.alloc(), &mut source, &mut sink);
+    let outcome = replay(rt.alloc(), &mut source, &mut sink);
+    let status = outcome.status();
     // The process ends soon: the memory of lines and records needn't be given back.
-    mem::forget(journal);
-    mem::forget(remains);
+    mem::forget(outcome);
     status
 }
 

@@ -25,6 +25,7 @@ use Rattle.script_lang.specs.WordsOf.{word_of_command}
 use Rattle.script_lang.proofs.AllBytes.{bytes_from_all}
 use Rattle.script_lang.proofs.CommandRanges.{good}
 use Rattle.script_lang.proofs.Groups.{from_map}
+use Rattle.script_lang.proofs.HeaderLaws.{declared_more, nodes_more}
 use Rattle.script_lang.proofs.Ranges.{contained}
 use Rattle.script_lang.proofs.Said.{IsHeader, IsRead, said}
 
@@ -79,20 +80,6 @@ pub record Keeps (script : Script) : Type 0 where
 no_commands : (commands : List Command) → nat_lt 0 (length commands) ≡ false → commands ≡ []
 no_commands [] e = refl
 no_commands (c ∷ commands) e = let high = ltb-false _ _ e in absurd (omega (arith, high))
-
-nodes_more : (lines : List HeaderLine) (h : HeaderLine) → nodes_of (lines ++ h ∷ []) ≡ nodes_of lines ++ nodes_of (h ∷ [])
-nodes_more lines h = filter_map-append node_in lines (h ∷ [])
-
-declared_more : (nodes : List ℕ) (h : HeaderLine) → IsNodeList nodes → MayDeclare nodes h → IsNodeList (nodes ++ nodes_of (h ∷ []))
-declared_more nodes (header.Script version) n m = subst IsNodeList (sym (append-nil nodes)) n
-declared_more nodes (header.Factor factor) n m = subst IsNodeList (sym (append-nil nodes)) n
-declared_more nodes (header.Node node rack) n m =
-    let few = m.1 in
-    record { limit = omega (arith, few, length-append nodes (node ∷ [])); distinct = distinct_push nodes node n.distinct (λ found. clash (contained node nodes found) m.0) }
-  where
-    clash : {t : Bool} → t ≡ true → t ≡ false → ⊥
-    clash p q = cc
-declared_more nodes (header.Policy policy) n m = subst IsNodeList (sym (append-nil nodes)) n
 
 with_header : (script : Script) (text : List ℕ) (h : HeaderLine) → Keeps script → IsHeader (before_next script.header script.commands) h → Keeps (with_line script (line.Header h))
 with_header script text h k s =

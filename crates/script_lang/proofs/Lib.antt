@@ -4,6 +4,7 @@ pub mod Digits
 mod Grouped
 mod GroupRanges
 mod Groups
+mod HeaderLaws
 mod Named
 mod Kept
 mod Parts

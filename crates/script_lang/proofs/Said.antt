@@ -86,7 +86,9 @@ said before text l e = said_by before text l (is_passed_over (line_fields text))
 
 pub may_add : (script : Script) (before : Before) (text : List ℕ) (l : Line) → before ≡ before_next script.header script.commands → line_of before text ≡ Ok l → MayAdd script l
 may_add script before text line.Nothing b e = tt
-may_add script before text (line.Header h) b e = subst (λ (x : Before). MayDeclare x.nodes h) b (said before text (line.Header h) e).fine.declares
+may_add script before text (line.Header h) b e =
+    let fine = (said before text (line.Header h) e).fine in
+    (subst (λ (x : Before). MayDeclare x.nodes h) b fine.declares, fine.ranges)
 may_add script before text (line.Command c) b e = tt
 
 pub at_line : (script : Script) (before : Before) (text : List ℕ) (l : Line) → before ≡ before_next script.header script.commands → line_of before text ≡ Ok l → script_after script text ≡ Ok (with_line script l)

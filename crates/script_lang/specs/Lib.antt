@@ -4,6 +4,7 @@ pub mod Counts
 pub mod Fields
 pub mod Forms
 pub mod Grammar
+pub mod Headers
 pub mod Layout
 pub mod Outcomes
 pub mod Proper

@@ -13,6 +13,7 @@ use Rattle.script_lang.specs.declared.script.Script.{Script}
 use Rattle.script_lang.specs.Before.{MayDeclare, nodes_of}
 use Rattle.script_lang.specs.Forms.{are_whole}
 use Rattle.script_lang.specs.Grammar.{Fault}
+use Rattle.script_lang.specs.Headers.{IsProperHeaderLine}
 use Rattle.script_lang.specs.Outcomes.{ok_if}
 
 -- the fault is the one for which the grammar refuses, unless memory ran out
@@ -43,10 +44,11 @@ abbrev pub RefusesAt : {Y : Type 0} → ℕ → Result Y Cause → ScriptFault �
 RefusesAt line due (At place cause) = (place ≡ line) × (due ≡ Err cause)
 RefusesAt line due NoMemory = ⊤
 
--- what a line says may be added: a node that it declares isn't declared yet
+-- what a line says may be added: a header line keeps its ranges, and a node that it declares isn't declared yet
 abbrev pub MayAdd : Script → Line → Type 0
 MayAdd script line.Nothing = ⊤
-MayAdd script (line.Header said) = MayDeclare (nodes_of script.header) said
+MayAdd script (line.Header said) =
+    MayDeclare (nodes_of script.header) said × IsProperHeaderLine said
 MayAdd script (line.Command said) = ⊤
 
 -- a text is cut at the first such byte

@@ -5,6 +5,7 @@ ghost use Rattle.script_lang.specs.Grammar as grammar;
 ghost use Rattle.script_lang.specs.Layout as layout;
 ghost use Rattle.script_lang.specs.Proper.{IsProper, IsServed};
 ghost use Rattle.script_lang.specs.Before.{MayDeclare, nodes_of};
+ghost use Rattle.script_lang.specs.Headers.{IsProperHeaderLine};
 ghost use Rattle.script_lang.specs.Reading.{MayAdd, Refuses, RefusesAt};
 
 use crate::before::Before;
@@ -110,7 +111,8 @@ impl Reader {
     }
 
     fn add_header(&mut self, said: HeaderLine) -> Result<(), AllocError>
-        requires { MayDeclare (nodes_of self.old.header) said }
+        requires declares { MayDeclare (nodes_of self.old.header) said }
+        requires ranges { IsProperHeaderLine said }
         ensures { OnOk result (self.new ≡ grammar.with_line self.old (Line.Header said)) }
     {
         let before = self.before.after_header(&said);

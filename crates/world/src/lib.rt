@@ -24,6 +24,7 @@ mod showing;
 mod taking;
 mod world;
 
+pub use cluster_rules::Event;
 pub use fault::StepFault;
 pub use parts::{Parts, Remains};
 pub use world::World;

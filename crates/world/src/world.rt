@@ -1,8 +1,6 @@
 //! The world.
-ghost use Rattle.std.specs.Prelude.{◌≡◌, ◌++◌, All, Contains, OnOk, OnErr, IfOk, IsErrOf};
-ghost use Rattle.cluster_types.specs.NodeLists.{IsNodeList};
+ghost use Rattle.std.specs.Prelude.{◌≡◌, ◌++◌, Contains, OnOk, OnErr, IfOk, IsErrOf};
 ghost use Rattle.journal_text.specs.Journals.{IsWithin};
-ghost use Rattle.script_lang.specs.Proper.{IsProperHeaderLine};
 ghost use Rattle.cluster_rules.specs.Opening as opening;
 ghost use Rattle.cluster_rules.specs.World as worlds;
 ghost use Rattle.run_laws.specs.Taken.{Taken};
@@ -57,12 +55,9 @@ impl Model for World {
 
 impl World {
     /// The world that a header declares, with its lines in the journal: all nodes run with empty
-    /// stores, all clocks stand at 0, and nothing was sent. The header declares at most sixteen
-    /// nodes, none twice, with factors of 1 to 4. `RunTooLong` exactly where its lines alone pass a
-    /// limit of a journal, unless memory is refused.
+    /// stores, all clocks stand at 0, and nothing was sent. `RunTooLong` exactly where its lines
+    /// alone pass a limit of a journal, unless memory is refused.
     pub fn new(alloc: Global, header: &Header) -> Result<World, StepFault>
-        requires nodes { IsNodeList (opening.declared_nodes header.now) }
-        requires ranges { All IsProperHeaderLine header.now }
         ensures ok { IfOk result (λ w. w ≡ run_begun header.now) }
         ensures within { OnOk result (IsWithin (opening.header_lines header.now)) }
         ensures too_long { IsErrOf result StepFault.RunTooLong

@@ -10,4 +10,4 @@ loop-at-preserved g c = record {
 }
 
 pub returns-in-Failed-clause-front : goal.returns-in-Failed-clause-front
-returns-in-Failed-clause-front g c = wrote_front _ _ _ _ _ _ c.loop-at.invariant.written c.in-Failed.ensures.bytes
+returns-in-Failed-clause-front g c = wrote_front _ _ _ _ _ _ (omega (arith, c.loop-at-test.true)) c.loop-at.invariant.written c.in-Failed.ensures.bytes

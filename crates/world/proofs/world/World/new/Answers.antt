@@ -16,11 +16,11 @@ use Rattle.world.proofs.world.World.new.Goals as goal
 pub invariant_of-result : goal.invariant_of-result
 invariant_of-result c =
     let h : Header = c.as_slice-header.result.now in
-    let same : h ≡ c.args.header.now = c.as_slice-header.ensures in
+    let same : h ≡ c.args.header.now = c.as_slice-header.ensures.lines in
     let empty : c.make_room.new.self.journal.lines ≡ [] = c.make_room.ensures.same.lines ∙ c.new-ledger.ensures.lines in
     opened_keeps _ h
-    (subst (λ (x : Header). IsNodeList (declared_nodes x)) (sym same) c.requires.nodes)
-    (subst (λ (x : Header). All IsProperHeaderLine x) (sym same) c.requires.ranges)
+    (subst (λ (x : Header). IsNodeList (declared_nodes x)) (sym same) c.as_slice-header.ensures.nodes)
+    (subst (λ (x : Header). All IsProperHeaderLine x) (sym same) c.as_slice-header.ensures.ranges)
     c.in_ok-header.ensures.items
     (rw c.append.ensures.events (c.make_room.ensures.same.events ∙ c.new-ledger.ensures.events))
     (c.append.ensures.lines ∙ ap (λ (ls : List Line). ls ++ c.in_ok-lines.lines) empty ∙ c.in_ok-lines.ensures)
@@ -35,4 +35,4 @@ invariant_of-result c =
 pub returns-clause-ok : goal.returns-clause-ok
 returns-clause-ok c =
     let none : c.append.new.self.events.items ≡ [] = rw c.append.ensures.events (c.make_room.ensures.same.events ∙ c.new-ledger.ensures.events) in
-    ap₂ run_of_events c.in_ok-header.ensures.items none ∙ first_run c.as_slice-header.result.now ∙ ap run_begun c.as_slice-header.ensures
+    ap₂ run_of_events c.in_ok-header.ensures.items none ∙ first_run c.as_slice-header.result.now ∙ ap run_begun c.as_slice-header.ensures.lines
