@@ -1,0 +1,2 @@
+mod DressingLaws
+mod TakenLaws

@@ -1,0 +1,94 @@
+//! Laws of the rules. A call does nothing: what it ensures is the law.
+ghost use Rattle.std.specs.Prelude.{◌≡◌, ◌==◌, ◌++◌, ◌∷◌, [], ℕ, List, All, Bool, true, false, not, filter, map, Option, Some, None};
+ghost use Rattle.std.specs.List.{list_any};
+ghost use Rattle.conflict_order.specs.declared.want.Action.{Action};
+ghost use Rattle.conflict_order.specs.declared.want.Want.{Want};
+ghost use Rattle.cluster_types.specs.declared.cluster_key.ClusterKey.{ClusterKey};
+ghost use Rattle.cluster_types.specs.Endpoints.{client};
+ghost use Rattle.journal_lines.specs.declared.line.Line.{Line};
+ghost use Rattle.journal_lines.specs.declared.line.Line.TheVariants as line;
+ghost use Rattle.journal_lines.specs.declared.refusal.Refusal.{Refusal};
+ghost use Rattle.wire_messages.specs.declared.reply.ReplyBody.{ReplyBody};
+ghost use Rattle.node_rules.specs.Effects.{Effects};
+ghost use Rattle.node_rules.specs.Facts.{Facts};
+ghost use Rattle.request_rules.specs.declared.passed.Passed.{Passed};
+ghost use Rattle.request_rules.specs.declared.taken.Asker.{Asker};
+ghost use Rattle.request_rules.specs.declared.taken.Outcome.TheVariants as outcome;
+ghost use Rattle.request_rules.specs.declared.taken.Taken.{Taken};
+ghost use Rattle.request_rules.specs.Dressing.{served};
+ghost use Rattle.request_rules.specs.LineNotes.{noted};
+ghost use Rattle.request_rules.specs.Numbered.{Numbered};
+ghost use Rattle.request_rules.specs.Passing.{given_up, gives_up, leaves, parted};
+ghost use Rattle.request_rules.specs.Replies.{is_reply, refusal_body};
+ghost use Rattle.request_rules.specs.Requests.{NodeRequests};
+ghost use Rattle.request_rules.specs.TakenUp.{AreTakenOnce, bound_to, keeping, note_taken, outcome_of, owed, same_asker};
+
+/// A node that keeps nothing, with no asker in hand, does what it does without requests by message.
+pub fn an_idle_node_does_nothing_more()
+    ensures { (r : NodeRequests) → (f : Facts) → (e : Effects)
+        → r.taken ≡ []
+        → r.passed.waiting ≡ []
+        → served r f None e ≡ e }
+{}
+
+/// What a node gives up stands right before the first line at which it leaves its view, and nowhere
+/// else. All other lines stay, in their order.
+pub fn what_is_given_up_stands_before_the_leaving()
+    ensures leaving { (ps : Numbered Passed) → (key : ClusterKey) → (n : ℕ) → (before : List Line)
+        → (l : Line) → (behind : List Line)
+        → list_any (leaves n) before ≡ false
+        → leaves n l ≡ true
+        → parted ps key n (before ++ l ∷ behind)
+        ≡ before ++ (map (given_up n key) ps ++ l ∷ behind) }
+    ensures staying { (ps : Numbered Passed) → (key : ClusterKey) → (n : ℕ) → (ls : List Line)
+        → list_any (leaves n) ls ≡ false
+        → parted ps key n ls ≡ ls }
+    ensures added { (ps : Numbered Passed) → (key : ClusterKey) → (n : ℕ) → (ls : List Line)
+        → filter (λ l. not (gives_up n l)) (parted ps key n ls)
+        ≡ filter (λ l. not (gives_up n l)) ls }
+{}
+
+/// What is given up changes nothing of what is kept, since the line behind it empties all.
+pub fn what_is_given_up_changes_nothing_kept()
+    ensures { (a : Option Asker) → (w : Option Want) → (r : NodeRequests) → (ps : Numbered Passed)
+        → (key : ClusterKey) → (n : ℕ) → (ls : List Line)
+        → noted a w r (parted ps key n ls) ≡ noted a w r ls }
+{}
+
+/// What the lines of a step owe are replies alone.
+pub fn replies_alone_are_owed()
+    ensures { (key : ClusterKey) → (a : Option Asker) → (taken : List Taken) → (ls : List Line)
+        → All (λ m. is_reply m.1 ≡ true) (owed key a taken ls) }
+{}
+
+/// A request that is taken up is known from then on: its transaction is open, and once that has
+/// ended, or the request is refused, its reply is kept. A refusal of the client isn't kept. What is
+/// known of other requests stays.
+pub fn what_is_taken_up_is_known()
+    ensures opened { (a : Asker) → (taken : List Taken) → (n : ℕ) → (key : ClusterKey) → (t : ℕ)
+        → (d : List ℕ) → (action : Action)
+        → outcome_of taken a ≡ None
+        → outcome_of (note_taken (Some a) taken (line.Opened n key t d action)) a
+        ≡ Some (outcome.Open t) }
+    ensures refused { (a : Asker) → (taken : List Taken) → (n : ℕ) → (d : List ℕ)
+        → (cause : Refusal) → (b : ReplyBody)
+        → outcome_of taken a ≡ None
+        → (a.from == client) ≡ false
+        → refusal_body cause ≡ Some b
+        → outcome_of (note_taken (Some a) taken (line.Refused n d cause)) a
+        ≡ Some (outcome.Kept b) }
+    ensures client { (a : Asker) → (taken : List Taken) → (n : ℕ) → (d : List ℕ)
+        → (cause : Refusal)
+        → (a.from == client) ≡ true
+        → note_taken (Some a) taken (line.Refused n d cause) ≡ taken }
+    ensures ended { (a : Asker) → (taken : List Taken) → (t : ℕ) → (b : ReplyBody)
+        → AreTakenOnce taken
+        → bound_to taken t ≡ Some a
+        → outcome_of (keeping taken t b) a ≡ Some (outcome.Kept b) }
+    ensures others { (a : Asker) → (other : Asker) → (taken : List Taken) → (t : ℕ)
+        → (b : ReplyBody)
+        → AreTakenOnce taken
+        → bound_to taken t ≡ Some a
+        → same_asker a other ≡ false
+        → outcome_of (keeping taken t b) other ≡ outcome_of taken other }
+{}
