@@ -1,5 +1,5 @@
 -- What a step adds for requests that came or went as messages.
-use Rattle.std.proofs.Common.{◌≡◌, ◌==◌, ◌||◌, ℕ, zero, suc, Bool, true, false, cond, not, List, [], ◌∷◌, ◌++◌, All, filter, map, Option, Some, None, refl, sym, ap, ap₂, ◌∙◌, eq-eqb, arith}
+use Rattle.std.proofs.Common.{◌≡◌, ◌==◌, ℕ, zero, suc, Bool, true, false, cond, not, List, [], ◌∷◌, ◌++◌, All, filter, map, Option, Some, None, refl, ap, ap₂, ◌∙◌, eq-eqb, arith}
 use Rattle.std.specs.List.{list_any}
 use Rattle.std.proofs.lemmas.List.{append-nil}
 use Rattle.std.proofs.lemmas.List.Elements.{All-nil, All-append}
@@ -56,11 +56,11 @@ nothing_parted key n (l ∷ ls) = part_if (leaves n l) l ls (parted [] key n ls)
 pub idle : (r : NodeRequests) (f : Facts) (e : Effects) → r.taken ≡ [] → r.passed.waiting ≡ [] → served r f None e ≡ e
 idle r f e no_taken no_waiting =
     let lines : parted r.passed.waiting (view_key f) f.me e.lines ≡ e.lines =
-        ap (λ ps. parted ps (view_key f) f.me e.lines) no_waiting ∙ nothing_parted (view_key f) f.me e.lines in
+    ap (λ ps. parted ps (view_key f) f.me e.lines) no_waiting ∙ nothing_parted (view_key f) f.me e.lines in
     let owes : owed (view_key f) None r.taken e.lines ≡ [] =
-        ap (λ taken. owed (view_key f) None taken e.lines) no_taken ∙ nothing_owed (view_key f) e.lines in
+    ap (λ taken. owed (view_key f) None taken e.lines) no_taken ∙ nothing_owed (view_key f) e.lines in
     let sends : (e.sends ++ owed (view_key f) None r.taken e.lines) ≡ e.sends =
-        ap (λ ms. e.sends ++ ms) owes ∙ append-nil e.sends in
+    ap (λ ms. e.sends ++ ms) owes ∙ append-nil e.sends in
     ap₂ (λ ls ms. record { lines = ls; sends = ms }) lines sends
 
 -- ---- where what is given up stands

@@ -1,2 +1,3 @@
 mod DressingLaws
 mod TakenLaws
+mod WorkedExamples

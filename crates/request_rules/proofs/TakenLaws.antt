@@ -1,5 +1,5 @@
 -- What is known of requests that a node took up.
-use Rattle.std.proofs.Common.{◌≡◌, ◌==◌, ◌&&◌, ◌<◌, ℕ, zero, suc, Bool, true, false, cond, List, [], ◌∷◌, ◌++◌, All, AllPairs, length, get_or, map, Option, Some, None, refl, sym, ap, ap₂, ◌∙◌, eq-eqb, arith}
+use Rattle.std.proofs.Common.{◌≡◌, ◌==◌, ℕ, zero, suc, Bool, true, false, cond, List, [], ◌∷◌, All, AllPairs, Option, Some, None, refl, sym, ap, ap₂, ◌∙◌, eq-eqb, arith}
 use Rattle.std.specs.Prelude.{find, option_map}
 use Rattle.cluster_types.specs.Endpoints.{client}
 use Rattle.cluster_types.proofs.BoolFacts.{and_both}
@@ -56,6 +56,12 @@ refused_client a taken n d cause e = refusal_of_client a taken (refusal_body cau
 
 -- ---- one whose transaction ends
 
+abbrev AreOthers : Taken → Taken → Type 0
+AreOthers x y = same_asker x.asker y.asker ≡ false
+
+abbrev HaveOthers : Taken → Taken → Type 0
+HaveOthers x y = (t : ℕ) → is_bound_to t x.outcome ≡ true → is_bound_to t y.outcome ≡ false
+
 first : {X : Type 0} (R : X → X → Type 0) (x : X) (xs : List X) → AllPairs R (x ∷ xs) → All (R x) xs
 first R x xs h k d lt = h zero (suc k) d (omega arith) (omega arith)
 
@@ -91,7 +97,7 @@ differs a (x ∷ xs) t b h e = go (is_bound_to t x.outcome) (sym (bound_front x 
     go false i rest = rest i
 
 once_later : (x : Taken) (xs : List Taken) → AreTakenOnce (x ∷ xs) → AreTakenOnce xs
-once_later x xs h = record { askers = later _ x xs h.askers; transactions = later _ x xs h.transactions }
+once_later x xs h = record { askers = later AreOthers x xs h.askers; transactions = later HaveOthers x xs h.transactions }
 
 pub ended : (a : Asker) (taken : List Taken) (t : ℕ) (b : ReplyBody) → AreTakenOnce taken → bound_to taken t ≡ Some a → outcome_of (keeping taken t b) a ≡ Some (outcome.Kept b)
 ended a [] t b h e = absurd (let wrong : None ≡ Some a = e in cc)
@@ -106,7 +112,7 @@ ended a (x ∷ xs) t b h e = go (is_bound_to t x.outcome) refl (sym (bound_front
         ∙ ap (λ c. front_or c (replied_if b x true) (outcome_of (keeping xs t b) a)) (ap (λ o. same_asker o a) same ∙ itself a)
     go false i j rest =
         let behind : bound_to xs t ≡ Some a = rw i at j in
-        let other : same_asker x.asker a ≡ false = differs x.asker xs t a (first _ x xs h.askers) behind in
+        let other : same_asker x.asker a ≡ false = differs x.asker xs t a (first AreOthers x xs h.askers) behind in
         ap (λ c. outcome_of (replied_if b x c ∷ keeping xs t b) a) i
         ∙ found_front x (keeping xs t b) a
         ∙ ap (λ c. front_or c x (outcome_of (keeping xs t b) a)) other
@@ -130,7 +136,7 @@ others a other (x ∷ xs) t b h e differ = go (is_bound_to t x.outcome) refl (sy
         let here : Some x.asker ≡ Some a = rw i at j in
         let same : x.asker ≡ a = cc in
         let not_here : same_asker x.asker other ≡ false = ap (λ o. same_asker o other) same ∙ differ in
-        let stay : keeping xs t b ≡ xs = unbound xs t b (λ k d lt. first _ x xs h.transactions k d lt t i) in
+        let stay : keeping xs t b ≡ xs = unbound xs t b (λ k d lt. first HaveOthers x xs h.transactions k d lt t i) in
         ap (λ c. outcome_of (replied_if b x c ∷ keeping xs t b) other) i
         ∙ found_front (replied_if b x true) (keeping xs t b) other
         ∙ ap (λ c. front_or c (replied_if b x true) (outcome_of (keeping xs t b) other)) not_here

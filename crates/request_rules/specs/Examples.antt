@@ -11,7 +11,6 @@ use Rattle.cluster_types.specs.declared.copy_state.CopyState.TheVariants.{Whole}
 use Rattle.cluster_types.specs.Members.{plain_role, plain_member}
 use Rattle.wire_messages.specs.declared.message.Message.{Message}
 use Rattle.wire_messages.specs.declared.message.Message.TheVariants as message
-use Rattle.wire_messages.specs.declared.reply.ReplyBody.{ReplyBody}
 use Rattle.wire_messages.specs.declared.reply.ReplyBody.TheVariants as reply
 use Rattle.wire_messages.specs.declared.scan.ScanPage.{ScanPage}
 use Rattle.node_rules.specs.declared.member_row.MemberRow.{MemberRow}
@@ -23,8 +22,7 @@ use Rattle.request_rules.specs.declared.call.Call.{Call}
 use Rattle.request_rules.specs.declared.passed.Passed.{Passed}
 use Rattle.request_rules.specs.declared.taken.Asker.{Asker}
 use Rattle.request_rules.specs.declared.taken.Outcome.TheVariants as outcome
-use Rattle.request_rules.specs.declared.taken.Taken.{Taken}
-use Rattle.request_rules.specs.Requests.{NodeRequests, PassedOn, Calls, Scans, no_requests}
+use Rattle.request_rules.specs.Requests.{NodeRequests, Calls, Scans, no_requests}
 use Rattle.request_rules.specs.Scans.{took_page}
 
 -- a digest of partition 4095
