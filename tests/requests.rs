@@ -1,0 +1,112 @@
+//! Tests of what is kept of requests that go as messages, by its public calls.
+
+use conflict_order::{Body, ValueBytes, ValueFault, Version};
+use open_table::OpenTable;
+use reply_table::ReplyTable;
+use request_rules::Asker;
+use std::alloc::Global;
+use std::test::Fail;
+use wire_messages::{Known, ReplyBody};
+
+/// Node 1 with its first request.
+const FIRST: Asker = Asker { from: 1, number: 1 };
+
+/// The version 0.1=62.
+fn version(alloc: Global) -> Result<Version, ValueFault> {
+    Ok(Version {
+        lut: 0,
+        generation: 1,
+        body: Body::Value(ValueBytes::from_slice(alloc, b"b")?),
+    })
+}
+
+fn is_new(known: Known<'_>) -> bool {
+    match known {
+        Known::New => true,
+        Known::Open => false,
+        Known::Kept(_) => false,
+    }
+}
+
+fn is_open(known: Known<'_>) -> bool {
+    match known {
+        Known::New => false,
+        Known::Open => true,
+        Known::Kept(_) => false,
+    }
+}
+
+fn is_kept(known: Known<'_>, reply: &ReplyBody) -> bool {
+    match known {
+        Known::New => false,
+        Known::Open => false,
+        Known::Kept(kept) => kept == reply,
+    }
+}
+
+/// A read that comes twice: once while its transaction is open, and once it was replied to.
+#[test]
+fn a_read_is_taken_up_once(rt: HostRuntime) -> Result<(), Fail> {
+    let alloc = rt.alloc();
+    let mut table = ReplyTable::new(alloc);
+    assert!(rt; table.is_empty());
+    assert!(rt; is_new(table.known(FIRST)));
+
+    table.reserve()?;
+    table.bind(FIRST, 1);
+    assert!(rt; is_open(table.known(FIRST)));
+    assert!(rt; table.bound(1) == Some(FIRST));
+    assert!(rt; table.bound(2) == None);
+
+    table.keep(FIRST, ReplyBody::Found(version(alloc)?));
+    let found = ReplyBody::Found(version(alloc)?);
+    assert!(rt; is_kept(table.known(FIRST), &found));
+    assert!(rt; table.bound(1) == None);
+
+    table.clear();
+    assert!(rt; table.is_empty());
+    assert!(rt; is_new(table.known(FIRST)));
+    Ok(())
+}
+
+/// One number of two askers is two requests.
+#[test]
+fn askers_are_told_apart(rt: HostRuntime) -> Result<(), Fail> {
+    let mut table = ReplyTable::new(rt.alloc());
+    let client = Asker { from: 0, number: 1 };
+    table.reserve()?;
+    table.bind(client, 7);
+    table.reserve()?;
+    table.keep(FIRST, ReplyBody::Busy(7));
+    assert!(rt; is_open(table.known(client)));
+    assert!(rt; is_kept(table.known(FIRST), &ReplyBody::Busy(7)));
+    assert!(rt; is_new(table.known(Asker { from: 1, number: 2 })));
+    assert!(rt; table.bound(7) == Some(client));
+    Ok(())
+}
+
+#[test]
+fn numbers_rise_whatever_is_closed(rt: HostRuntime) -> Result<(), Fail> {
+    let alloc = rt.alloc();
+    let mut open: OpenTable<u8> = OpenTable::new(alloc);
+    for (item, number) in [(b'a', 1), (b'b', 2), (b'c', 3)] {
+        open.reserve()?;
+        assert_eq!(rt; open.push(item), number);
+    }
+    assert!(rt; open.take(2) == Some(b'b'));
+    assert!(rt; open.take(2) == None);
+    assert!(rt; open.get(3) == Some(&b'c'));
+    assert_eq!(rt; open.numbers(alloc)?.as_slice(), [1, 3].as_slice());
+
+    assert!(rt; open.take(1) == Some(b'a'));
+    open.reserve()?;
+    assert_eq!(rt; open.push(b'd'), 4);
+    assert_eq!(rt; open.numbers(alloc)?.as_slice(), [3, 4].as_slice());
+    assert_eq!(rt; open.given(), 4);
+    assert_eq!(rt; open.len(), 2);
+
+    open.clear();
+    assert!(rt; open.is_empty());
+    assert_eq!(rt; open.given(), 0);
+    Ok(())
+}
