@@ -90,16 +90,16 @@ impl ReplyTable {
         Some(self.taken[*place].asker)
     }
 
-    /// Makes room: one `bind` or `keep` then wants no memory.
-    pub fn reserve(&mut self) -> Result<(), NoMemory>
+    /// Makes room for so many requests: as many times `bind` or `keep` then wants no memory.
+    pub fn reserve(&mut self, additional: usize) -> Result<(), NoMemory>
         ensures same { IsSameButRoom self.old self.new }
-        ensures enough { OnOk result (0 < self.new.spare) }
+        ensures enough { OnOk result (additional ≤ self.new.spare) }
         ensures kept { self.old.spare ≤ self.new.spare }
-        ensures reserved { 0 < self.old.spare → IsOk result }
+        ensures reserved { additional ≤ self.old.spare → IsOk result }
     {
-        self.taken.reserve(1)?;
-        self.by_asker.reserve(1)?;
-        self.by_transaction.reserve(1)
+        self.taken.reserve(additional)?;
+        self.by_asker.reserve(additional)?;
+        self.by_transaction.reserve(additional)
     }
 
     /// A request is taken up whose transaction is open. It wasn't taken up before, the transaction
