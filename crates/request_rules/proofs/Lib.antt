@@ -1,3 +1,4 @@
 mod DressingLaws
+mod PageLaws
 mod TakenLaws
 mod WorkedExamples

@@ -1,5 +1,5 @@
 -- The client's scans: a partition is read page by page, from one node in one view, as long as nothing is written there.
-use Rattle.std.specs.Prelude.{ℕ, ◌+◌, ◌==◌, ◌&&◌, Bool, true, false, nat_lt, List, [], ◌∷◌, ◌++◌, Option, Some, None, bytes_eq, map, length, if◌then◌else◌}
+use Rattle.std.specs.Prelude.{◌≡◌, ℕ, ◌+◌, ◌==◌, ◌&&◌, Bool, true, false, nat_lt, List, [], ◌∷◌, ◌++◌, Option, Some, None, bytes_eq, map, take, drop, length, if◌then◌else◌}
 use Rattle.conflict_order.specs.Contents.{Record}
 use Rattle.cluster_types.specs.Endpoints.{client}
 use Rattle.cluster_types.specs.ClusterKeys.{same_key}
@@ -74,6 +74,14 @@ step_of (Some x) from page =
 -- what a page from that node is
 abbrev pub scan_step : Scans → ℕ → ScanPage → ScanStep
 scan_step ss from page = step_of (item_at ss.running page.scan) from page
+
+-- the scan has the first so many of those records, and the page is the next part of them, with so many at most
+pub record IsNextPage (rs : List Record) (so_far most from : ℕ) (x : Scanning) (page : ScanPage) : Type 0 where
+  pub records : x.records ≡ take so_far rs
+  pub begins : page.after ≡ position x
+  pub one_content : stands_with (page_front from page) x.first ≡ true
+  pub part : page.records ≡ take most (drop so_far rs)
+  pub more : page.more ≡ nat_lt most (length (drop so_far rs))
 
 -- ---- what changes
 

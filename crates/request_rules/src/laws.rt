@@ -1,6 +1,7 @@
 //! Laws of the rules. A call does nothing: what it ensures is the law.
-ghost use Rattle.std.specs.Prelude.{◌≡◌, ◌==◌, ◌++◌, ◌∷◌, [], ℕ, List, All, Bool, true, false, not, filter, map, Option, Some, None};
+ghost use Rattle.std.specs.Prelude.{◌≡◌, ◌==◌, ◌+◌, ◌++◌, ◌∷◌, [], ℕ, List, All, Bool, true, false, not, filter, map, take, length, Option, Some, None, if◌then◌else◌};
 ghost use Rattle.std.specs.List.{list_any};
+ghost use Rattle.conflict_order.specs.Contents.{Record};
 ghost use Rattle.conflict_order.specs.declared.want.Action.{Action};
 ghost use Rattle.conflict_order.specs.declared.want.Want.{Want};
 ghost use Rattle.cluster_types.specs.declared.cluster_key.ClusterKey.{ClusterKey};
@@ -9,9 +10,12 @@ ghost use Rattle.journal_lines.specs.declared.line.Line.{Line};
 ghost use Rattle.journal_lines.specs.declared.line.Line.TheVariants as line;
 ghost use Rattle.journal_lines.specs.declared.refusal.Refusal.{Refusal};
 ghost use Rattle.wire_messages.specs.declared.reply.ReplyBody.{ReplyBody};
+ghost use Rattle.wire_messages.specs.declared.scan.ScanPage.{ScanPage};
 ghost use Rattle.node_rules.specs.Effects.{Effects};
 ghost use Rattle.node_rules.specs.Facts.{Facts};
 ghost use Rattle.request_rules.specs.declared.passed.Passed.{Passed};
+ghost use Rattle.request_rules.specs.declared.scanning.Scanning.{Scanning};
+ghost use Rattle.request_rules.specs.declared.scanning.ScanStep.TheVariants as scan;
 ghost use Rattle.request_rules.specs.declared.taken.Asker.{Asker};
 ghost use Rattle.request_rules.specs.declared.taken.Outcome.TheVariants as outcome;
 ghost use Rattle.request_rules.specs.declared.taken.Taken.{Taken};
@@ -21,6 +25,7 @@ ghost use Rattle.request_rules.specs.Numbered.{Numbered};
 ghost use Rattle.request_rules.specs.Passing.{given_up, gives_up, leaves, parted};
 ghost use Rattle.request_rules.specs.Replies.{is_reply, refusal_body};
 ghost use Rattle.request_rules.specs.Requests.{NodeRequests};
+ghost use Rattle.request_rules.specs.Scans.{IsNextPage, records_with, step_of};
 ghost use Rattle.request_rules.specs.TakenUp.{AreTakenOnce, bound_to, keeping, note_taken, outcome_of, owed, same_asker};
 
 /// A node that keeps nothing, with no asker in hand, does what it does without requests by message.
@@ -91,4 +96,18 @@ pub fn what_is_taken_up_is_known()
         → bound_to taken t ≡ Some a
         → same_asker a other ≡ false
         → outcome_of (keeping taken t b) other ≡ outcome_of taken other }
+{}
+
+/// A scan whose pages are the parts of one list of records, each from where the scan has come to, has
+/// with each page the part up to there, and with the last page the whole list.
+pub fn pages_of_one_list_make_it_whole()
+    ensures taken { (rs : List Record) → (so_far : ℕ) → (most : ℕ) → (from : ℕ)
+        → (x : Scanning) → (page : ScanPage)
+        → IsNextPage rs so_far most from x page
+        → step_of (Some x) from page
+        ≡ (if page.more then scan.More (length page.records) else scan.Whole rs) }
+    ensures records { (rs : List Record) → (so_far : ℕ) → (most : ℕ) → (from : ℕ)
+        → (x : Scanning) → (page : ScanPage)
+        → IsNextPage rs so_far most from x page
+        → records_with x page ≡ take (so_far + most) rs }
 {}
