@@ -3,7 +3,7 @@ ghost use Rattle.std.specs.Prelude.{◌≡◌, ◌≢◌, ◌↔◌, ◌<◌, �
 ghost use Rattle.std.specs.Option.{option_copied};
 ghost use Rattle.request_rules.specs.declared.call.CallStep.TheVariants as step;
 ghost use Rattle.request_rules.specs.Calls.{call_step, is_full, opening_call, replied_to};
-ghost use Rattle.request_rules.specs.Numbered.{item_at};
+ghost use Rattle.request_rules.specs.ByNumber.{item_under};
 ghost use Rattle.request_rules.specs.Replies.{is_refusal};
 ghost use Rattle.request_rules.specs.Requests.{no_calls};
 
@@ -98,7 +98,7 @@ impl OnceClient {
 
     /// The request of that number, if it is open.
     pub fn get(&self, number: u32) -> Option<&Call>
-        ensures { option_copied result ≡ item_at self.now.waiting number }
+        ensures { option_copied result ≡ item_under self.now.waiting number }
     {
         self.calls.get(number)
     }
@@ -106,7 +106,7 @@ impl OnceClient {
     /// A reply came. It closes the request of that number, unless it is a refusal: then the request
     /// stays open. `Spent` exactly where no request of that number is open.
     pub fn on_reply(&mut self, number: u32, reply: &ReplyBody) -> CallStep
-        ensures step { result ≡ call_step (item_at self.old.waiting number) reply.now }
+        ensures step { result ≡ call_step (item_under self.old.waiting number) reply.now }
         ensures closed { result ≡ step.Closed
             → self.new ≡ replied_to self.old number reply.now }
         ensures kept { result ≢ step.Closed → self.new ≡ self.old }
@@ -120,7 +120,7 @@ impl OnceClient {
 
     /// What a reply is to the request of that number.
     fn step_of(&self, number: u32, reply: &ReplyBody) -> CallStep
-        ensures { result ≡ call_step (item_at self.now.waiting number) reply.now }
+        ensures { result ≡ call_step (item_under self.now.waiting number) reply.now }
     {
         match self.calls.get(number) {
             Some(_) => step_by(reply),

@@ -2,10 +2,10 @@
 use Rattle.std.specs.Prelude.{ℕ, ◌+◌, Bool, true, false, List, [], ◌∷◌, Option, Some, None}
 
 -- the items in slots, each under its slot's number, where so many numbers were given before the first slot's
-abbrev pub open_from : {X : Type 0} → ℕ → List (Option X) → List (ℕ × X)
-open_from b [] = []
-open_from b (None ∷ slots) = open_from (b + 1) slots
-open_from b (Some x ∷ slots) = (b + 1, x) ∷ open_from (b + 1) slots
+abbrev pub items_from : {X : Type 0} → ℕ → List (Option X) → List (ℕ × X)
+items_from b [] = []
+items_from b (None ∷ slots) = items_from (b + 1) slots
+items_from b (Some x ∷ slots) = (b + 1, x) ∷ items_from (b + 1) slots
 
 -- the first slot, if there is one, has an item
 abbrev pub starts_with_item : {X : Type 0} → List (Option X) → Bool

@@ -2,8 +2,8 @@
 ghost use Rattle.std.specs.Prelude.{◌≡◌, ◌≢◌, ◌↔◌, ◌<◌, ◌≤◌, ◌+◌, ◌-◌, ◌^◌, ◌∷◌, ◌++◌, [], ◌⊎◌, ℕ, Some, None, IsTrue, IsOk, IfOk, OnOk, MatchOption, length, map, slice_index_or, slice_set};
 ghost use Rattle.std.specs.Option.{option_copied};
 ghost use Rattle.std.specs.VecDeque.{deque_len, deque_capacity};
-ghost use Rattle.open_table.specs.Open.{AreRisingUpTo, IsSameButRoom, item_at, without};
-ghost use Rattle.open_table.specs.Slots.{open_from, starts_with_item};
+ghost use Rattle.open_table.specs.Open.{HaveRisingNumbers, KeepsItems, item_at, without_item};
+ghost use Rattle.open_table.specs.Slots.{items_from, starts_with_item};
 
 use cluster_types::NoMemory;
 use item_lists::CopyList;
@@ -27,20 +27,20 @@ impl<T> Model for OpenTable<T> {
     ghost use Rattle.std.specs.Prelude.{◌≡◌, ◌≤◌, ◌-◌, IsTrue, length};
     ghost use Rattle.std.specs.VecDeque.{deque_len, deque_capacity};
     ghost use Rattle.open_table.specs.Open.{OpenNumbers};
-    ghost use Rattle.open_table.specs.Slots.{open_from, starts_with_item};
+    ghost use Rattle.open_table.specs.Slots.{items_from, starts_with_item};
 
     ghost Value = { OpenNumbers T };
 
     ghost view = { λ s.
         record {
           given = s.given;
-          items = open_from (s.given - deque_len s.slots) s.slots.items;
+          items = items_from (s.given - deque_len s.slots) s.slots.items;
           spare = deque_capacity s.slots - deque_len s.slots;
         } };
 
     ghost invariant = { λ s. (deque_len s.slots ≤ s.given)
         × IsTrue (starts_with_item s.slots.items)
-        × (s.count ≡ length (open_from (s.given - deque_len s.slots) s.slots.items)) };
+        × (s.count ≡ length (items_from (s.given - deque_len s.slots) s.slots.items)) };
 }
 
 impl<T: Drop> OpenTable<T> {
@@ -59,7 +59,7 @@ impl<T: Drop> OpenTable<T> {
     /// How many numbers were given: they are 1 to this one.
     pub fn given(&self) -> u32
         ensures value { result ≡ self.now.given }
-        ensures numbers { AreRisingUpTo self.now.given self.now.items }
+        ensures numbers { HaveRisingNumbers self.now.given self.now.items }
     {
         self.given
     }
@@ -80,7 +80,7 @@ impl<T: Drop> OpenTable<T> {
 
     /// Makes room: the next `push` then wants no memory.
     pub fn reserve(&mut self) -> Result<(), NoMemory>
-        ensures same { IsSameButRoom self.old self.new }
+        ensures same { KeepsItems self.old self.new }
         ensures enough { OnOk result (0 < self.new.spare) }
         ensures kept { self.old.spare ≤ self.new.spare }
         ensures reserved { 0 < self.old.spare → IsOk result }
@@ -116,7 +116,7 @@ impl<T: Drop> OpenTable<T> {
     pub fn take(&mut self, n: u32) -> Option<T>
         ensures item { result ≡ item_at self.old.items n }
         ensures given { self.new.given ≡ self.old.given }
-        ensures items { self.new.items ≡ without self.old.items n }
+        ensures items { self.new.items ≡ without_item self.old.items n }
         ensures spare { self.old.spare ≤ self.new.spare }
     {
         let place = place_of(n, self.given, self.slots.len())?;
@@ -182,8 +182,8 @@ fn take_at<T: Drop>(slots: &mut VecDeque<Option<T>>, place: usize) -> Option<T>
 /// Drops the slots before the first item.
 fn drop_taken<T: Drop>(slots: &mut VecDeque<Option<T>>)
     ensures items { (given : ℕ) → deque_len slots.old ≤ given
-        → open_from (given - deque_len slots.new) slots.new.items
-        ≡ open_from (given - deque_len slots.old) slots.old.items }
+        → items_from (given - deque_len slots.new) slots.new.items
+        ≡ items_from (given - deque_len slots.old) slots.old.items }
     ensures first { IsTrue (starts_with_item slots.new.items) }
     ensures len { deque_len slots.new ≤ deque_len slots.old }
     ensures capacity { deque_capacity slots.new ≡ deque_capacity slots.old }

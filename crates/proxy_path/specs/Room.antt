@@ -12,16 +12,16 @@ pub record RequestsWithRoom : Type 0 where
   pub to_take : ℕ
 
 -- one request can be passed on, one bound and the reply to one kept without memory
-pub record HasRoom (r : RequestsWithRoom) : Type 0 where
+pub record HasRoomForEach (r : RequestsWithRoom) : Type 0 where
   pub to_pass : 0 < r.to_pass
   pub to_take : 2 ≤ r.to_take
 
 -- no less room
-pub record KeepsRoom (old new : RequestsWithRoom) : Type 0 where
+pub record HasNoLessRoom (old new : RequestsWithRoom) : Type 0 where
   pub to_pass : old.to_pass ≤ new.to_pass
   pub to_take : old.to_take ≤ new.to_take
 
 -- all but the room is the same
-pub record IsSameButRoom (old new : RequestsWithRoom) : Type 0 where
+pub record KeepsRequests (old new : RequestsWithRoom) : Type 0 where
   pub passed : new.passed ≡ old.passed
   pub taken : new.taken ≡ old.taken

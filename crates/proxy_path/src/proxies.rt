@@ -4,12 +4,12 @@ ghost use Rattle.std.specs.Option.{option_copied};
 ghost use Rattle.wire_messages.specs.declared.reply.ReplyBody.{ReplyBody};
 ghost use Rattle.request_rules.specs.declared.passed.ReplyStep.TheVariants as step;
 ghost use Rattle.request_rules.specs.declared.taken.Outcome.TheVariants as outcome;
-ghost use Rattle.request_rules.specs.Numbered.{item_at};
+ghost use Rattle.request_rules.specs.ByNumber.{item_under};
 ghost use Rattle.request_rules.specs.Passing.{closing_passed, passing_to, reply_step, waits_for};
 ghost use Rattle.request_rules.specs.Requests.{none_passed};
-ghost use Rattle.request_rules.specs.TakenUp.{bound_to, keeping, outcome_of, taking_up};
-ghost use Rattle.reply_table.specs.Kept.{Tells};
-ghost use Rattle.proxy_path.specs.Room.{HasRoom, IsSameButRoom, KeepsRoom};
+ghost use Rattle.request_rules.specs.TakenUp.{bound_to, keeping, outcome_for, taking_up};
+ghost use Rattle.reply_table.specs.Kept.{TellsOutcome};
+ghost use Rattle.proxy_path.specs.Room.{HasRoomForEach, KeepsRequests, HasNoLessRoom};
 
 use cluster_types::{Digest, NoMemory, NodeId};
 use conflict_order::Want;
@@ -65,10 +65,10 @@ impl Proxies {
 
     /// Makes room: one `open`, one `bind` and one `keep` then want no memory.
     pub fn reserve(&mut self) -> Result<(), NoMemory>
-        ensures same { IsSameButRoom self.old self.new }
-        ensures enough { OnOk result (HasRoom self.new) }
-        ensures kept { KeepsRoom self.old self.new }
-        ensures reserved { HasRoom self.old → IsOk result }
+        ensures same { KeepsRequests self.old self.new }
+        ensures enough { OnOk result (HasRoomForEach self.new) }
+        ensures kept { HasNoLessRoom self.old self.new }
+        ensures reserved { HasRoomForEach self.old → IsOk result }
     {
         self.passed.reserve()?;
         self.taken.reserve(2)
@@ -91,7 +91,7 @@ impl Proxies {
         ensures number { IfOk result (λ x. x ≡ self.old.passed.given + 1) }
         ensures passed { OnOk result (self.new.passed ≡ passing_to self.old.passed digest want to) }
         ensures taken { self.new.taken ≡ self.old.taken }
-        ensures err { OnErr result (IsSameButRoom self.old self.new) }
+        ensures err { OnErr result (KeepsRequests self.old self.new) }
         ensures reserved { 0 < self.old.to_pass → IsOk result }
         ensures room { self.old.to_take ≤ self.new.to_take }
     {
@@ -101,7 +101,7 @@ impl Proxies {
 
     /// What was passed on under that number, if it isn't replied to.
     pub fn get(&self, number: u32) -> Option<&Passed>
-        ensures { option_copied result ≡ item_at self.now.passed.waiting number }
+        ensures { option_copied result ≡ item_under self.now.passed.waiting number }
     {
         self.passed.get(number)
     }
@@ -117,12 +117,12 @@ impl Proxies {
     /// none of that number waits for the node.
     pub fn on_reply(&mut self, from: NodeId, number: u32) -> ReplyStep
         ensures step { result
-            ≡ reply_step (waits_for from (item_at self.old.passed.waiting number)) }
+            ≡ reply_step (waits_for from (item_under self.old.passed.waiting number)) }
         ensures closed { result ≡ step.Taken
             → self.new.passed ≡ closing_passed self.old.passed number }
         ensures spent { result ≡ step.Spent → self.new.passed ≡ self.old.passed }
         ensures taken { self.new.taken ≡ self.old.taken }
-        ensures room { KeepsRoom self.old self.new }
+        ensures room { HasNoLessRoom self.old self.new }
     {
         if !self.is_awaited(from, number) {
             return ReplyStep::Spent;
@@ -133,7 +133,7 @@ impl Proxies {
 
     /// Whether the request of that number waits for that node.
     fn is_awaited(&self, from: NodeId, number: u32) -> bool
-        ensures { result ≡ waits_for from (item_at self.now.passed.waiting number) }
+        ensures { result ≡ waits_for from (item_under self.now.passed.waiting number) }
     {
         match self.passed.get(number) {
             Some(passed) => passed.to == from,
@@ -146,7 +146,7 @@ impl Proxies {
     /// What became of the asker's request: it has a reply, its transaction is open, or it wasn't
     /// taken up.
     pub fn known(&self, asker: Asker) -> Known<'_>
-        ensures { Tells result (outcome_of self.now.taken asker) }
+        ensures { TellsOutcome result (outcome_for self.now.taken asker) }
     {
         self.taken.known(asker)
     }
@@ -161,12 +161,12 @@ impl Proxies {
     /// A request is taken up whose transaction is open. It wasn't taken up before, and the
     /// transaction is no other's.
     pub fn bind(&mut self, asker: Asker, transaction: u32) -> Result<(), NoMemory>
-        requires new { outcome_of self.old.taken asker ≡ None }
+        requires new { outcome_for self.old.taken asker ≡ None }
         requires free { bound_to self.old.taken transaction ≡ None }
         ensures taken { OnOk result
             (self.new.taken ≡ taking_up self.old.taken asker (outcome.Open transaction)) }
         ensures passed { self.new.passed ≡ self.old.passed }
-        ensures err { OnErr result (IsSameButRoom self.old self.new) }
+        ensures err { OnErr result (KeepsRequests self.old self.new) }
         ensures reserved { 0 < self.old.to_take → IsOk result }
         ensures room { self.old.to_take ≤ self.new.to_take + 1 }
         ensures to_pass { self.old.to_pass ≤ self.new.to_pass }
@@ -179,14 +179,14 @@ impl Proxies {
     /// The reply to a request is kept, which has none yet: in the place of its open transaction, or,
     /// where it wasn't taken up, as one that is refused, as a new one.
     pub fn keep(&mut self, asker: Asker, reply: ReplyBody) -> Result<(), NoMemory>
-        requires { (b : ReplyBody) → outcome_of self.old.taken asker ≢ Some (outcome.Kept b) }
-        ensures bound { (t : ℕ) → outcome_of self.old.taken asker ≡ Some (outcome.Open t)
+        requires { (b : ReplyBody) → outcome_for self.old.taken asker ≢ Some (outcome.Kept b) }
+        ensures bound { (t : ℕ) → outcome_for self.old.taken asker ≡ Some (outcome.Open t)
             → OnOk result (self.new.taken ≡ keeping self.old.taken t reply) }
-        ensures new { outcome_of self.old.taken asker ≡ None
+        ensures new { outcome_for self.old.taken asker ≡ None
             → OnOk result
             (self.new.taken ≡ taking_up self.old.taken asker (outcome.Kept reply)) }
         ensures passed { self.new.passed ≡ self.old.passed }
-        ensures err { OnErr result (IsSameButRoom self.old self.new) }
+        ensures err { OnErr result (KeepsRequests self.old self.new) }
         ensures reserved { 0 < self.old.to_take → IsOk result }
         ensures room { self.old.to_take ≤ self.new.to_take + 1 }
         ensures to_pass { self.old.to_pass ≤ self.new.to_pass }
@@ -200,7 +200,7 @@ impl Proxies {
     pub fn clear(&mut self)
         ensures passed { self.new.passed ≡ none_passed }
         ensures taken { self.new.taken ≡ [] }
-        ensures room { KeepsRoom self.old self.new }
+        ensures room { HasNoLessRoom self.old self.new }
     {
         self.passed.clear();
         self.taken.clear();

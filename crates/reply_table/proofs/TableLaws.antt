@@ -10,9 +10,9 @@ use Rattle.request_rules.specs.declared.taken.Asker.{Asker}
 use Rattle.request_rules.specs.declared.taken.Outcome.{Outcome}
 use Rattle.request_rules.specs.declared.taken.Outcome.TheVariants as outcome
 use Rattle.request_rules.specs.declared.taken.Taken.{Taken}
-use Rattle.request_rules.specs.TakenUp.{bound_to, is_bound_to, keeping, outcome_of, replied_if, same_asker}
-use Rattle.reply_table.specs.Kept.{is_number, open_transaction}
-use Rattle.reply_table.specs.Places.{AreIndexed, IsPlaceOf, StandsAt}
+use Rattle.request_rules.specs.TakenUp.{bound_to, is_bound_to, keeping, outcome_for, replied_if, same_asker}
+use Rattle.reply_table.specs.Kept.{is_transaction, open_transaction}
+use Rattle.reply_table.specs.Places.{AreIndexed, IsPlaceOfAsker, StandsInPlace}
 
 -- ---- askers and numbers
 
@@ -76,13 +76,13 @@ module _ (taken : List Taken) (f : Asker → Option ℕ) (g : ℕ → Option ℕ
   only_transaction : AreIndexed taken f g → (i : ℕ) (x : Taken) (t : ℕ) → slice_get taken i ≡ Some x → is_bound_to t x.outcome ≡ true → IsOnly (λ y. is_bound_to t y.outcome) taken i
   only_transaction h i x t at passes j y there it = some_is j i (sym (h.transaction j y t there it) ∙ h.transaction i x t at passes)
 
-  pub outcome_at : AreIndexed taken f g → (i : ℕ) (x : Taken) (a : Asker) → slice_get taken i ≡ Some x → same_asker x.asker a ≡ true → outcome_of taken a ≡ Some x.outcome
+  pub outcome_at : AreIndexed taken f g → (i : ℕ) (x : Taken) (a : Asker) → slice_get taken i ≡ Some x → same_asker x.asker a ≡ true → outcome_for taken a ≡ Some x.outcome
   outcome_at h i x a at passes = ap (option_map (λ (y : Taken). y.outcome)) (found (λ y. same_asker y.asker a) taken i x at passes (only_asker h i x a at passes))
 
   pub bound_at : AreIndexed taken f g → (i : ℕ) (x : Taken) (t : ℕ) → slice_get taken i ≡ Some x → is_bound_to t x.outcome ≡ true → bound_to taken t ≡ Some x.asker
   bound_at h i x t at passes = ap (option_map (λ (y : Taken). y.asker)) (found (λ y. is_bound_to t y.outcome) taken i x at passes (only_transaction h i x t at passes))
 
-  pub outcome_none : AreIndexed taken f g → (a : Asker) → f a ≡ None → outcome_of taken a ≡ None
+  pub outcome_none : AreIndexed taken f g → (a : Asker) → f a ≡ None → outcome_for taken a ≡ None
   outcome_none h a e = ap (option_map (λ (y : Taken). y.outcome)) (missed (λ y. same_asker y.asker a) taken (λ j y there it.
       let wrong : None ≡ Some j = sym e ∙ sym (ap f (asker_is y.asker a it)) ∙ h.asker j y there in cc))
 
@@ -90,7 +90,7 @@ module _ (taken : List Taken) (f : Asker → Option ℕ) (g : ℕ → Option ℕ
   bound_none h t e = ap (option_map (λ (y : Taken). y.asker)) (missed (λ y. is_bound_to t y.outcome) taken (λ j y there it.
       let wrong : None ≡ Some j = sym e ∙ h.transaction j y t there it in cc))
 
-  pub is_place : AreIndexed taken f g → (a : Asker) (i : ℕ) → f a ≡ Some i → IsPlaceOf taken a i
+  pub is_place : AreIndexed taken f g → (a : Asker) (i : ℕ) → f a ≡ Some i → IsPlaceOfAsker taken a i
   is_place h a i e =
       let s = h.asker_stands a i e in
       record {
@@ -136,12 +136,12 @@ module _ (taken : List Taken) (f f2 : Asker → Option ℕ) (g g2 : ℕ → Opti
   abbrev IsTransactionAdded : Type 0
   IsTransactionAdded = (n : ℕ) → g2 n ≡ cond (is_bound_to n y.outcome) (Some (length taken)) (g n)
 
-  asker_pushed : AreIndexed taken f g → outcome_of taken y.asker ≡ None → IsAskerAdded → (i : ℕ) (x : Taken) → slice_get pushed i ≡ Some x → f2 x.asker ≡ Some i
+  asker_pushed : AreIndexed taken f g → outcome_for taken y.asker ≡ None → IsAskerAdded → (i : ℕ) (x : Taken) → slice_get pushed i ≡ Some x → f2 x.asker ≡ Some i
   asker_pushed h new added i x at = go (pushed_at taken y i x at)
     where
       old : slice_get taken i ≡ Some x → (same_asker y.asker x.asker ≡ true) ⊎ (same_asker y.asker x.asker ≡ false) → f2 x.asker ≡ Some i
       old there (inl e) =
-          let known : outcome_of taken y.asker ≡ Some x.outcome = outcome_at taken f g h i x y.asker there (asker_same x.asker y.asker (sym (asker_is y.asker x.asker e))) in
+          let known : outcome_for taken y.asker ≡ Some x.outcome = outcome_at taken f g h i x y.asker there (asker_same x.asker y.asker (sym (asker_is y.asker x.asker e))) in
           absurd (let wrong : None ≡ Some x.outcome = sym new ∙ known in cc)
       old there (inr e) = added x.asker ∙ ap (λ b. cond b (Some (length taken)) (f x.asker)) e ∙ h.asker i x there
 
@@ -152,10 +152,10 @@ module _ (taken : List Taken) (f f2 : Asker → Option ℕ) (g g2 : ℕ → Opti
           ∙ ap (λ b. cond b (Some (length taken)) (f x.asker)) (asker_same y.asker x.asker (ap (λ (z : Taken). z.asker) (sym here.1)))
           ∙ ap (λ n. Some n) (sym here.0)
 
-  asker_stands_pushed : AreIndexed taken f g → IsAskerAdded → (a : Asker) (i : ℕ) → f2 a ≡ Some i → StandsAt pushed (λ x. same_asker x.asker a) i
+  asker_stands_pushed : AreIndexed taken f g → IsAskerAdded → (a : Asker) (i : ℕ) → f2 a ≡ Some i → StandsInPlace pushed (λ x. same_asker x.asker a) i
   asker_stands_pushed h added a i e = go (is_or (same_asker y.asker a))
     where
-      go : (same_asker y.asker a ≡ true) ⊎ (same_asker y.asker a ≡ false) → StandsAt pushed (λ x. same_asker x.asker a) i
+      go : (same_asker y.asker a ≡ true) ⊎ (same_asker y.asker a ≡ false) → StandsInPlace pushed (λ x. same_asker x.asker a) i
       go (inl it) =
           let place : length taken ≡ i = some_is (length taken) i (sym (added a ∙ ap (λ b. cond b (Some (length taken)) (f a)) it) ∙ e) in
           record { request = y; at = ap (slice_get pushed) (sym place) ∙ at_push taken y; passes = it }
@@ -177,10 +177,10 @@ module _ (taken : List Taken) (f f2 : Asker → Option ℕ) (g g2 : ℕ → Opti
           ∙ ap (λ b. cond b (Some (length taken)) (g n)) (ap (λ (z : Taken). is_bound_to n z.outcome) (sym here.1) ∙ it)
           ∙ ap (λ m. Some m) (sym here.0)
 
-  transaction_stands_pushed : AreIndexed taken f g → IsTransactionAdded → (n i : ℕ) → g2 n ≡ Some i → StandsAt pushed (λ x. is_bound_to n x.outcome) i
+  transaction_stands_pushed : AreIndexed taken f g → IsTransactionAdded → (n i : ℕ) → g2 n ≡ Some i → StandsInPlace pushed (λ x. is_bound_to n x.outcome) i
   transaction_stands_pushed h added n i e = go (is_or (is_bound_to n y.outcome))
     where
-      go : (is_bound_to n y.outcome ≡ true) ⊎ (is_bound_to n y.outcome ≡ false) → StandsAt pushed (λ x. is_bound_to n x.outcome) i
+      go : (is_bound_to n y.outcome ≡ true) ⊎ (is_bound_to n y.outcome ≡ false) → StandsInPlace pushed (λ x. is_bound_to n x.outcome) i
       go (inl it) =
           let place : length taken ≡ i = some_is (length taken) i (sym (added n ∙ ap (λ b. cond b (Some (length taken)) (g n)) it) ∙ e) in
           record { request = y; at = ap (slice_get pushed) (sym place) ∙ at_push taken y; passes = it }
@@ -188,7 +188,7 @@ module _ (taken : List Taken) (f f2 : Asker → Option ℕ) (g g2 : ℕ → Opti
           let s = h.transaction_stands n i (sym (added n ∙ ap (λ b. cond b (Some (length taken)) (g n)) it) ∙ e) in
           record { request = s.request; at = before_push taken (y ∷ []) i s.request s.at; passes = s.passes }
 
-  pub indexed_pushed : AreIndexed taken f g → outcome_of taken y.asker ≡ None → ((n : ℕ) → is_bound_to n y.outcome ≡ true → bound_to taken n ≡ None) → IsAskerAdded → IsTransactionAdded → AreIndexed pushed f2 g2
+  pub indexed_pushed : AreIndexed taken f g → outcome_for taken y.asker ≡ None → ((n : ℕ) → is_bound_to n y.outcome ≡ true → bound_to taken n ≡ None) → IsAskerAdded → IsTransactionAdded → AreIndexed pushed f2 g2
   indexed_pushed h new free askers transactions = record {
     asker = asker_pushed h new askers;
     asker_stands = asker_stands_pushed h askers;
@@ -235,7 +235,7 @@ kept_at (y ∷ ys) (suc i) x t b at passes only =
     front (inl e) = absurd (let wrong : zero ≡ suc i = only zero y refl e in omega arith)
     front (inr e) = e
 
-number_of : (o : Outcome) (n : ℕ) → is_number (open_transaction o) n ≡ is_bound_to n o
+number_of : (o : Outcome) (n : ℕ) → is_transaction (open_transaction o) n ≡ is_bound_to n o
 number_of (outcome.Open t) n = refl
 number_of (outcome.Kept b) n = refl
 
@@ -253,7 +253,7 @@ module _ (taken : List Taken) (f : Asker → Option ℕ) (g g2 : ℕ → Option 
   replied = set taken i reply
 
   abbrev IsForgotten : Type 0
-  IsForgotten = (n : ℕ) → g2 n ≡ cond (is_number (open_transaction x.outcome) n) None (g n)
+  IsForgotten = (n : ℕ) → g2 n ≡ cond (is_transaction (open_transaction x.outcome) n) None (g n)
 
   still : IsForgotten → (n : ℕ) → is_bound_to n x.outcome ≡ false → g2 n ≡ g n
   still forgot n e = forgot n ∙ ap (λ c. cond c None (g n)) (number_of x.outcome n ∙ e)
@@ -267,10 +267,10 @@ module _ (taken : List Taken) (f : Asker → Option ℕ) (g g2 : ℕ → Option 
           ap (λ (u : Taken). f u.asker) (sym same) ∙ h.asker i x at ∙ ap (λ n. Some n) (sym e.1)
       go (inr e) = h.asker j z (sym (set_other taken i j reply e.1) ∙ there)
 
-  asker_stands_replied : AreIndexed taken f g → slice_get taken i ≡ Some x → (a : Asker) (j : ℕ) → f a ≡ Some j → StandsAt replied (λ u. same_asker u.asker a) j
+  asker_stands_replied : AreIndexed taken f g → slice_get taken i ≡ Some x → (a : Asker) (j : ℕ) → f a ≡ Some j → StandsInPlace replied (λ u. same_asker u.asker a) j
   asker_stands_replied h at a j e = go (eqb_tells j i) (h.asker_stands a j e)
     where
-      go : ((j == i) ≡ true) × (j ≡ i) ⊎ ((j == i) ≡ false) × (j ≡ i → ⊥) → StandsAt taken (λ u. same_asker u.asker a) j → StandsAt replied (λ u. same_asker u.asker a) j
+      go : ((j == i) ≡ true) × (j ≡ i) ⊎ ((j == i) ≡ false) × (j ≡ i → ⊥) → StandsInPlace taken (λ u. same_asker u.asker a) j → StandsInPlace replied (λ u. same_asker u.asker a) j
       go (inl k) s =
           let same : s.request ≡ x = some_is s.request x (sym s.at ∙ ap (slice_get taken) k.1 ∙ at) in
           record {
@@ -293,16 +293,16 @@ module _ (taken : List Taken) (f : Asker → Option ℕ) (g g2 : ℕ → Option 
           absurd (let wrong : false ≡ true = ap (λ (u : Taken). is_bound_to n u.outcome) same ∙ it in cc)
       go (inr k) = other k.1 (h.transaction j z n (sym (set_other taken i j reply k.1) ∙ there) it) (is_or (is_bound_to n x.outcome))
 
-  transaction_stands_replied : AreIndexed taken f g → slice_get taken i ≡ Some x → IsForgotten → (n j : ℕ) → g2 n ≡ Some j → StandsAt replied (λ u. is_bound_to n u.outcome) j
+  transaction_stands_replied : AreIndexed taken f g → slice_get taken i ≡ Some x → IsForgotten → (n j : ℕ) → g2 n ≡ Some j → StandsInPlace replied (λ u. is_bound_to n u.outcome) j
   transaction_stands_replied h at forgot n j e = go (is_or (is_bound_to n x.outcome))
     where
-      there : is_bound_to n x.outcome ≡ false → StandsAt taken (λ u. is_bound_to n u.outcome) j → ((j == i) ≡ true) × (j ≡ i) ⊎ ((j == i) ≡ false) × (j ≡ i → ⊥) → StandsAt replied (λ u. is_bound_to n u.outcome) j
+      there : is_bound_to n x.outcome ≡ false → StandsInPlace taken (λ u. is_bound_to n u.outcome) j → ((j == i) ≡ true) × (j ≡ i) ⊎ ((j == i) ≡ false) × (j ≡ i → ⊥) → StandsInPlace replied (λ u. is_bound_to n u.outcome) j
       there its s (inl k) =
           let same : s.request ≡ x = some_is s.request x (sym s.at ∙ ap (slice_get taken) k.1 ∙ at) in
           absurd (let wrong : true ≡ false = sym s.passes ∙ ap (λ (u : Taken). is_bound_to n u.outcome) same ∙ its in cc)
       there its s (inr k) = record { request = s.request; at = set_other taken i j reply k.1 ∙ s.at; passes = s.passes }
 
-      go : (is_bound_to n x.outcome ≡ true) ⊎ (is_bound_to n x.outcome ≡ false) → StandsAt replied (λ u. is_bound_to n u.outcome) j
+      go : (is_bound_to n x.outcome ≡ true) ⊎ (is_bound_to n x.outcome ≡ false) → StandsInPlace replied (λ u. is_bound_to n u.outcome) j
       go (inl its) = absurd (let wrong : None ≡ Some j = sym (forgot n ∙ ap (λ c. cond c None (g n)) (number_of x.outcome n ∙ its)) ∙ e in cc)
       go (inr its) = there its (h.transaction_stands n j (sym (still forgot n its) ∙ e)) (eqb_tells j i)
 
@@ -316,11 +316,11 @@ module _ (taken : List Taken) (f : Asker → Option ℕ) (g g2 : ℕ → Option 
 
 -- ---- a table as it is after a call
 
-pub place_or : (taken : List Taken) (f : Asker → Option ℕ) (g : ℕ → Option ℕ) → AreIndexed taken f g → (a : Asker) (r : Option ℕ) → r ≡ f a → MatchOption r (outcome_of taken a ≡ None) (IsPlaceOf taken a)
+pub place_or : (taken : List Taken) (f : Asker → Option ℕ) (g : ℕ → Option ℕ) → AreIndexed taken f g → (a : Asker) (r : Option ℕ) → r ≡ f a → MatchOption r (outcome_for taken a ≡ None) (IsPlaceOfAsker taken a)
 place_or taken f g h a None e = outcome_none taken f g h a (sym e)
 place_or taken f g h a (Some i) e = is_place taken f g h a i (sym e)
 
-pub pushed_is : (taken new : List Taken) (f f2 : Asker → Option ℕ) (g g2 : ℕ → Option ℕ) (y : Taken) (n : ℕ) → new ≡ taken ++ y ∷ [] → n ≡ length taken → AreIndexed taken f g → outcome_of taken y.asker ≡ None
+pub pushed_is : (taken new : List Taken) (f f2 : Asker → Option ℕ) (g g2 : ℕ → Option ℕ) (y : Taken) (n : ℕ) → new ≡ taken ++ y ∷ [] → n ≡ length taken → AreIndexed taken f g → outcome_for taken y.asker ≡ None
     → ((m : ℕ) → is_bound_to m y.outcome ≡ true → bound_to taken m ≡ None)
     → ((q : Asker) → f2 q ≡ cond (same_asker y.asker q) (Some n) (f q)) → ((m : ℕ) → g2 m ≡ cond (is_bound_to m y.outcome) (Some n) (g m)) → AreIndexed new f2 g2
 pushed_is taken new f f2 g g2 y n e place h free unbound askers transactions =
@@ -330,10 +330,10 @@ pushed_is taken new f f2 g g2 y n e place h free unbound askers transactions =
     (λ m. transactions m ∙ ap (λ k. cond (is_bound_to m y.outcome) (Some k) (g m)) place))
 
 pub replied_is : (taken : List Taken) (f : Asker → Option ℕ) (g g2 : ℕ → Option ℕ) (i : ℕ) (x : Taken) (b : ReplyBody) (o : Outcome) (t : Option ℕ) → o ≡ outcome.Kept b → t ≡ open_transaction x.outcome → AreIndexed taken f g → slice_get taken i ≡ Some x
-    → ((n : ℕ) → g2 n ≡ cond (is_number t n) None (g n)) → AreIndexed (set taken i (record { asker = x.asker; outcome = o })) f g2
+    → ((n : ℕ) → g2 n ≡ cond (is_transaction t n) None (g n)) → AreIndexed (set taken i (record { asker = x.asker; outcome = o })) f g2
 replied_is taken f g g2 i x b o t e was h at forgot =
     subst (λ (p : Outcome). AreIndexed (set taken i (record { asker = x.asker; outcome = p })) f g2) (sym e)
-    (indexed_replied taken f g g2 i x b h at (λ n. forgot n ∙ ap (λ u. cond (is_number u n) None (g n)) was))
+    (indexed_replied taken f g g2 i x b h at (λ n. forgot n ∙ ap (λ u. cond (is_transaction u n) None (g n)) was))
 
 pub same_index : (taken new : List Taken) (f f2 : Asker → Option ℕ) (g g2 : ℕ → Option ℕ) → new ≡ taken → ((a : Asker) → f2 a ≡ f a) → ((n : ℕ) → g2 n ≡ g n) → AreIndexed taken f g → AreIndexed new f2 g2
 same_index taken new f f2 g g2 same e k h = record {

@@ -12,7 +12,7 @@ pub record TakenWithRoom : Type 0 where
   pub spare : ℕ
 
 -- all but the room is the same
-pub record IsSameButRoom (old new : TakenWithRoom) : Type 0 where
+pub record KeepsTaken (old new : TakenWithRoom) : Type 0 where
   pub taken : new.taken ≡ old.taken
 
 -- the transaction that is open
@@ -21,9 +21,9 @@ open_transaction (outcome.Open t) = Some t
 open_transaction (outcome.Kept b) = None
 
 -- whether that is the transaction, if there is one
-abbrev pub is_number : Option ℕ → ℕ → Bool
-is_number None n = false
-is_number (Some t) n = t == n
+abbrev pub is_transaction : Option ℕ → ℕ → Bool
+is_transaction None n = false
+is_transaction (Some t) n = t == n
 
 -- whether the transaction of a request is open, if it was taken up
 abbrev pub is_open : Option Outcome → Bool
@@ -32,7 +32,7 @@ is_open (Some (outcome.Open t)) = true
 is_open (Some (outcome.Kept b)) = false
 
 -- what is told of a request says what became of it
-abbrev pub Tells : Known → Option Outcome → Type 0
-Tells known.New o = o ≡ None
-Tells known.Open o = is_open o ≡ true
-Tells (known.Kept b) o = o ≡ Some (outcome.Kept b.now)
+abbrev pub TellsOutcome : Known → Option Outcome → Type 0
+TellsOutcome known.New o = o ≡ None
+TellsOutcome known.Open o = is_open o ≡ true
+TellsOutcome (known.Kept b) o = o ≡ Some (outcome.Kept b.now)

@@ -3,10 +3,10 @@ ghost use Rattle.std.specs.Prelude.{◌≡◌, ◌≢◌, ◌↔◌, ◌<◌, �
 ghost use Rattle.std.specs.HashMap.{get, spare};
 ghost use Rattle.wire_messages.specs.declared.reply.ReplyBody.{ReplyBody};
 ghost use Rattle.request_rules.specs.declared.taken.Outcome.TheVariants as outcome;
-ghost use Rattle.request_rules.specs.TakenUp.{bound_to, keeping, outcome_of, taking_up};
+ghost use Rattle.request_rules.specs.TakenUp.{bound_to, keeping, outcome_for, taking_up};
 ghost use Rattle.request_rules.specs.declared.taken.Taken.{Taken};
-ghost use Rattle.reply_table.specs.Kept.{IsSameButRoom, Tells, is_number, open_transaction};
-ghost use Rattle.reply_table.specs.Places.{IsPlaceOf};
+ghost use Rattle.reply_table.specs.Kept.{KeepsTaken, TellsOutcome, is_transaction, open_transaction};
+ghost use Rattle.reply_table.specs.Places.{IsPlaceOfAsker};
 
 use cluster_types::NoMemory;
 use request_rules::{Asker, Outcome, Taken};
@@ -66,7 +66,7 @@ impl ReplyTable {
     /// What became of the asker's request: it has a reply, its transaction is open, or it wasn't
     /// taken up.
     pub fn known(&self, asker: Asker) -> Known<'_>
-        ensures { Tells result (outcome_of self.now.taken asker) }
+        ensures { TellsOutcome result (outcome_for self.now.taken asker) }
     {
         match self.place_of(asker) {
             Some(place) => told(&self.taken[place].outcome),
@@ -76,8 +76,8 @@ impl ReplyTable {
 
     /// The place of the asker's request, if it was taken up.
     fn place_of(&self, asker: Asker) -> Option<usize>
-        ensures { MatchOption result (outcome_of self.now.taken asker ≡ None)
-            (IsPlaceOf self.now.taken asker) }
+        ensures { MatchOption result (outcome_for self.now.taken asker ≡ None)
+            (IsPlaceOfAsker self.now.taken asker) }
     {
         self.by_asker.get(&asker).copied()
     }
@@ -92,7 +92,7 @@ impl ReplyTable {
 
     /// Makes room for so many requests: as many times `bind` or `keep` then wants no memory.
     pub fn reserve(&mut self, additional: usize) -> Result<(), NoMemory>
-        ensures same { IsSameButRoom self.old self.new }
+        ensures same { KeepsTaken self.old self.new }
         ensures enough { OnOk result (additional ≤ self.new.spare) }
         ensures kept { self.old.spare ≤ self.new.spare }
         ensures reserved { additional ≤ self.old.spare → IsOk result }
@@ -106,7 +106,7 @@ impl ReplyTable {
     /// is no other's, and there is room.
     pub fn bind(&mut self, asker: Asker, transaction: u32)
         requires room { 0 < self.old.spare }
-        requires new { outcome_of self.old.taken asker ≡ None }
+        requires new { outcome_for self.old.taken asker ≡ None }
         requires free { bound_to self.old.taken transaction ≡ None }
         ensures taken { self.new.taken
             ≡ taking_up self.old.taken asker (outcome.Open transaction) }
@@ -126,15 +126,15 @@ impl ReplyTable {
     /// stands in its place and takes no room; where it wasn't taken up, as one that is refused, there
     /// is room.
     pub fn keep(&mut self, asker: Asker, reply: ReplyBody)
-        requires room { outcome_of self.old.taken asker ≡ None → 0 < self.old.spare }
+        requires room { outcome_for self.old.taken asker ≡ None → 0 < self.old.spare }
         requires unreplied { (b : ReplyBody)
-            → outcome_of self.old.taken asker ≢ Some (outcome.Kept b) }
-        ensures bound { (t : ℕ) → outcome_of self.old.taken asker ≡ Some (outcome.Open t)
+            → outcome_for self.old.taken asker ≢ Some (outcome.Kept b) }
+        ensures bound { (t : ℕ) → outcome_for self.old.taken asker ≡ Some (outcome.Open t)
             → self.new.taken ≡ keeping self.old.taken t reply }
-        ensures new { outcome_of self.old.taken asker ≡ None
+        ensures new { outcome_for self.old.taken asker ≡ None
             → self.new.taken ≡ taking_up self.old.taken asker (outcome.Kept reply) }
         ensures spare { self.old.spare ≤ self.new.spare + 1 }
-        ensures placed { (t : ℕ) → outcome_of self.old.taken asker ≡ Some (outcome.Open t)
+        ensures placed { (t : ℕ) → outcome_for self.old.taken asker ≡ Some (outcome.Open t)
             → self.old.spare ≤ self.new.spare }
     {
         match self.place_of(asker) {
@@ -157,7 +157,7 @@ impl ReplyTable {
     /// A request is taken up with its reply, for which there is room.
     fn push_replied(&mut self, asker: Asker, reply: ReplyBody)
         requires room { 0 < self.old.spare }
-        requires new { outcome_of self.old.taken asker ≡ None }
+        requires new { outcome_for self.old.taken asker ≡ None }
         ensures taken { self.new.taken ≡ taking_up self.old.taken asker (outcome.Kept reply) }
         ensures spare { self.old.spare ≤ self.new.spare + 1 }
     {
@@ -183,7 +183,7 @@ impl ReplyTable {
 
 /// What a caller learns of a request that became this.
 fn told(state: &Outcome) -> Known<'_>
-    ensures { Tells result (Some state.now) }
+    ensures { TellsOutcome result (Some state.now) }
 {
     match state {
         Outcome::Open(_) => Known::Open,
@@ -207,7 +207,7 @@ fn close(state: &mut Outcome, reply: ReplyBody) -> Option<u32>
 /// The transaction, if it is one, has no place any more.
 fn forget(places: &mut HashMap<u32, usize>, transaction: Option<u32>)
     ensures places { (n : ℕ) → get nat_eq places.new n
-        ≡ (if is_number transaction n then None else get nat_eq places.old n) }
+        ≡ (if is_transaction transaction n then None else get nat_eq places.old n) }
     ensures spare { spare places.old ≤ spare places.new }
 {
     if let Some(transaction) = transaction {

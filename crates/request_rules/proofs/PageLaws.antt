@@ -7,7 +7,7 @@ use Rattle.conflict_order.specs.Contents.{Record}
 use Rattle.wire_messages.specs.declared.scan.ScanPage.{ScanPage}
 use Rattle.request_rules.specs.declared.scanning.Scanning.{Scanning}
 use Rattle.request_rules.specs.declared.scanning.ScanStep.TheVariants as step
-use Rattle.request_rules.specs.Scans.{IsNextPage, position, records_with, same_position, step_here, step_of, step_on}
+use Rattle.request_rules.specs.Scans.{IsNextPage, position, records_after, same_position, step_here, step_for, step_on}
 
 no_part : {A : Type 0} (n : ℕ) → take {A = A} n [] ≡ []
 no_part zero = refl
@@ -24,22 +24,22 @@ one_position : (a : Option (List ℕ)) → same_position a a ≡ true
 one_position None = refl
 one_position (Some d) = nat_list_eq_equiv.refl d
 
-pub records : (rs : List Record) (so_far most from : ℕ) (x : Scanning) (page : ScanPage) → IsNextPage rs so_far most from x page → records_with x page ≡ take (so_far + most) rs
+pub records : (rs : List Record) (so_far most from : ℕ) (x : Scanning) (page : ScanPage) → IsNextPage rs so_far most from x page → records_after x page ≡ take (so_far + most) rs
 records rs so_far most from x page h = ap₂ (λ a b. a ++ b) h.records h.part ∙ parts rs so_far most
 
 -- where no records follow, the page has all that were left
-whole : (rs : List Record) (so_far most from : ℕ) (x : Scanning) (page : ScanPage) → IsNextPage rs so_far most from x page → page.more ≡ false → records_with x page ≡ rs
+whole : (rs : List Record) (so_far most from : ℕ) (x : Scanning) (page : ScanPage) → IsNextPage rs so_far most from x page → page.more ≡ false → records_after x page ≡ rs
 whole rs so_far most from x page h last =
     let left : length (drop so_far rs) ≤ most = ltb-false most (length (drop so_far rs)) (sym h.more ∙ last) in
     ap₂ (λ a b. a ++ b) h.records (h.part ∙ take_all most (drop so_far rs) left) ∙ take-append-drop so_far rs
 
-pub taken : (rs : List Record) (so_far most from : ℕ) (x : Scanning) (page : ScanPage) → IsNextPage rs so_far most from x page → step_of (Some x) from page ≡ cond page.more (step.More (length page.records)) (step.Whole rs)
+pub taken : (rs : List Record) (so_far most from : ℕ) (x : Scanning) (page : ScanPage) → IsNextPage rs so_far most from x page → step_for (Some x) from page ≡ cond page.more (step.More (length page.records)) (step.Whole rs)
 taken rs so_far most from x page h =
     ap (λ a. cond (same_position a (position x)) (step_here x from page) step.Spent) h.begins
     ∙ ap (λ b. cond b (step_here x from page) step.Spent) (one_position (position x))
     ∙ ap (λ b. cond b (step_on x page) step.Again) h.one_content
     ∙ go page.more (whole rs so_far most from x page h)
   where
-    go : (b : Bool) → (b ≡ false → records_with x page ≡ rs) → cond b (step.More (length page.records)) (step.Whole (records_with x page)) ≡ cond b (step.More (length page.records)) (step.Whole rs)
+    go : (b : Bool) → (b ≡ false → records_after x page ≡ rs) → cond b (step.More (length page.records)) (step.Whole (records_after x page)) ≡ cond b (step.More (length page.records)) (step.Whole rs)
     go true last = refl
     go false last = ap (λ all. step.Whole all) (last refl)

@@ -11,7 +11,7 @@ use Rattle.request_rules.specs.declared.taken.Outcome.{Outcome}
 use Rattle.request_rules.specs.declared.taken.Outcome.TheVariants as outcome
 use Rattle.request_rules.specs.declared.taken.Taken.{Taken}
 use Rattle.request_rules.specs.Replies.{refusal_body}
-use Rattle.request_rules.specs.TakenUp.{AreTakenOnce, bound_to, is_bound_to, keeping, keeping_refusal, note_taken, outcome_of, replied_if, same_asker, taking_up}
+use Rattle.request_rules.specs.TakenUp.{AreTakenOnce, bound_to, is_bound_to, keeping, keeping_refusal, note_taken, outcome_for, replied_if, same_asker, taking_up}
 
 -- ---- askers
 
@@ -24,27 +24,27 @@ itself a = and_both (a.from == a.from) (a.number == a.number) (eq-eqb a.from a.f
 abbrev front_or : Bool → Taken → Option Outcome → Option Outcome
 front_or b x rest = cond b (Some x.outcome) rest
 
-found_front : (x : Taken) (xs : List Taken) (a : Asker) → outcome_of (x ∷ xs) a ≡ front_or (same_asker x.asker a) x (outcome_of xs a)
+found_front : (x : Taken) (xs : List Taken) (a : Asker) → outcome_for (x ∷ xs) a ≡ front_or (same_asker x.asker a) x (outcome_for xs a)
 found_front x xs a = go (same_asker x.asker a)
   where
-    go : (b : Bool) → option_map (λ (y : Taken). y.outcome) (cond b (Some x) (find (λ (y : Taken). same_asker y.asker a) xs)) ≡ front_or b x (outcome_of xs a)
+    go : (b : Bool) → option_map (λ (y : Taken). y.outcome) (cond b (Some x) (find (λ (y : Taken). same_asker y.asker a) xs)) ≡ front_or b x (outcome_for xs a)
     go true = refl
     go false = refl
 
-pub at_end : (taken : List Taken) (a : Asker) (o : Outcome) → outcome_of taken a ≡ None → outcome_of (taking_up taken a o) a ≡ Some o
+pub at_end : (taken : List Taken) (a : Asker) (o : Outcome) → outcome_for taken a ≡ None → outcome_for (taking_up taken a o) a ≡ Some o
 at_end [] a o e = found_front (record { asker = a; outcome = o }) [] a ∙ ap (λ b. cond b (Some o) None) (itself a)
 at_end (x ∷ xs) a o e = go (same_asker x.asker a) refl (sym (found_front x xs a) ∙ e) (at_end xs a o)
   where
-    go : (b : Bool) → same_asker x.asker a ≡ b → front_or (same_asker x.asker a) x (outcome_of xs a) ≡ None → (outcome_of xs a ≡ None → outcome_of (taking_up xs a o) a ≡ Some o) → outcome_of (x ∷ taking_up xs a o) a ≡ Some o
+    go : (b : Bool) → same_asker x.asker a ≡ b → front_or (same_asker x.asker a) x (outcome_for xs a) ≡ None → (outcome_for xs a ≡ None → outcome_for (taking_up xs a o) a ≡ Some o) → outcome_for (x ∷ taking_up xs a o) a ≡ Some o
     go true h i rest = absurd (let wrong : Some x.outcome ≡ None = rw h at i in cc)
     go false h i rest =
-        let behind : outcome_of xs a ≡ None = rw h at i in
-        found_front x (taking_up xs a o) a ∙ ap (λ b. front_or b x (outcome_of (taking_up xs a o) a)) h ∙ rest behind
+        let behind : outcome_for xs a ≡ None = rw h at i in
+        found_front x (taking_up xs a o) a ∙ ap (λ b. front_or b x (outcome_for (taking_up xs a o) a)) h ∙ rest behind
 
-pub refused : (a : Asker) (taken : List Taken) (n : ℕ) (d : List ℕ) (cause : Refusal) (b : ReplyBody) → outcome_of taken a ≡ None → (a.from == client) ≡ false → refusal_body cause ≡ Some b → outcome_of (note_taken (Some a) taken (line.Refused n d cause)) a ≡ Some (outcome.Kept b)
+pub refused : (a : Asker) (taken : List Taken) (n : ℕ) (d : List ℕ) (cause : Refusal) (b : ReplyBody) → outcome_for taken a ≡ None → (a.from == client) ≡ false → refusal_body cause ≡ Some b → outcome_for (note_taken (Some a) taken (line.Refused n d cause)) a ≡ Some (outcome.Kept b)
 refused a taken n d cause b e node told =
-    ap (λ c. outcome_of (keeping_refusal taken a c) a) told
-    ∙ ap (λ c. outcome_of (cond c taken (taking_up taken a (outcome.Kept b))) a) node
+    ap (λ c. outcome_for (keeping_refusal taken a c) a) told
+    ∙ ap (λ c. outcome_for (cond c taken (taking_up taken a (outcome.Kept b))) a) node
     ∙ at_end taken a (outcome.Kept b) e
 
 refusal_of_client : (a : Asker) (taken : List Taken) (b : Option ReplyBody) → (a.from == client) ≡ true → keeping_refusal taken a b ≡ taken
@@ -99,23 +99,23 @@ differs a (x ∷ xs) t b h e = go (is_bound_to t x.outcome) (sym (bound_front x 
 once_later : (x : Taken) (xs : List Taken) → AreTakenOnce (x ∷ xs) → AreTakenOnce xs
 once_later x xs h = record { askers = later AreOthers x xs h.askers; transactions = later HaveOthers x xs h.transactions }
 
-pub ended : (a : Asker) (taken : List Taken) (t : ℕ) (b : ReplyBody) → AreTakenOnce taken → bound_to taken t ≡ Some a → outcome_of (keeping taken t b) a ≡ Some (outcome.Kept b)
+pub ended : (a : Asker) (taken : List Taken) (t : ℕ) (b : ReplyBody) → AreTakenOnce taken → bound_to taken t ≡ Some a → outcome_for (keeping taken t b) a ≡ Some (outcome.Kept b)
 ended a [] t b h e = absurd (let wrong : None ≡ Some a = e in cc)
 ended a (x ∷ xs) t b h e = go (is_bound_to t x.outcome) refl (sym (bound_front x xs t) ∙ e) (ended a xs t b (once_later x xs h))
   where
-    go : (c : Bool) → is_bound_to t x.outcome ≡ c → bound_or (is_bound_to t x.outcome) x (bound_to xs t) ≡ Some a → (bound_to xs t ≡ Some a → outcome_of (keeping xs t b) a ≡ Some (outcome.Kept b)) → outcome_of (keeping (x ∷ xs) t b) a ≡ Some (outcome.Kept b)
+    go : (c : Bool) → is_bound_to t x.outcome ≡ c → bound_or (is_bound_to t x.outcome) x (bound_to xs t) ≡ Some a → (bound_to xs t ≡ Some a → outcome_for (keeping xs t b) a ≡ Some (outcome.Kept b)) → outcome_for (keeping (x ∷ xs) t b) a ≡ Some (outcome.Kept b)
     go true i j rest =
         let here : Some x.asker ≡ Some a = rw i at j in
         let same : x.asker ≡ a = cc in
-        ap (λ c. outcome_of (replied_if b x c ∷ keeping xs t b) a) i
+        ap (λ c. outcome_for (replied_if b x c ∷ keeping xs t b) a) i
         ∙ found_front (replied_if b x true) (keeping xs t b) a
-        ∙ ap (λ c. front_or c (replied_if b x true) (outcome_of (keeping xs t b) a)) (ap (λ o. same_asker o a) same ∙ itself a)
+        ∙ ap (λ c. front_or c (replied_if b x true) (outcome_for (keeping xs t b) a)) (ap (λ o. same_asker o a) same ∙ itself a)
     go false i j rest =
         let behind : bound_to xs t ≡ Some a = rw i at j in
         let other : same_asker x.asker a ≡ false = differs x.asker xs t a (first AreOthers x xs h.askers) behind in
-        ap (λ c. outcome_of (replied_if b x c ∷ keeping xs t b) a) i
+        ap (λ c. outcome_for (replied_if b x c ∷ keeping xs t b) a) i
         ∙ found_front x (keeping xs t b) a
-        ∙ ap (λ c. front_or c x (outcome_of (keeping xs t b) a)) other
+        ∙ ap (λ c. front_or c x (outcome_for (keeping xs t b) a)) other
         ∙ rest behind
 
 -- ---- the others
@@ -127,24 +127,24 @@ unbound (x ∷ xs) t b h =
     ap₂ (λ c ys. replied_if b x c ∷ ys) (head (λ (y : Taken). is_bound_to t y.outcome ≡ false) x xs h)
     (unbound xs t b (tail (λ (y : Taken). is_bound_to t y.outcome ≡ false) x xs h))
 
-pub others : (a other : Asker) (taken : List Taken) (t : ℕ) (b : ReplyBody) → AreTakenOnce taken → bound_to taken t ≡ Some a → same_asker a other ≡ false → outcome_of (keeping taken t b) other ≡ outcome_of taken other
+pub others : (a other : Asker) (taken : List Taken) (t : ℕ) (b : ReplyBody) → AreTakenOnce taken → bound_to taken t ≡ Some a → same_asker a other ≡ false → outcome_for (keeping taken t b) other ≡ outcome_for taken other
 others a other [] t b h e differ = refl
 others a other (x ∷ xs) t b h e differ = go (is_bound_to t x.outcome) refl (sym (bound_front x xs t) ∙ e) (λ i. others a other xs t b (once_later x xs h) i differ)
   where
-    go : (c : Bool) → is_bound_to t x.outcome ≡ c → bound_or (is_bound_to t x.outcome) x (bound_to xs t) ≡ Some a → (bound_to xs t ≡ Some a → outcome_of (keeping xs t b) other ≡ outcome_of xs other) → outcome_of (keeping (x ∷ xs) t b) other ≡ outcome_of (x ∷ xs) other
+    go : (c : Bool) → is_bound_to t x.outcome ≡ c → bound_or (is_bound_to t x.outcome) x (bound_to xs t) ≡ Some a → (bound_to xs t ≡ Some a → outcome_for (keeping xs t b) other ≡ outcome_for xs other) → outcome_for (keeping (x ∷ xs) t b) other ≡ outcome_for (x ∷ xs) other
     go true i j rest =
         let here : Some x.asker ≡ Some a = rw i at j in
         let same : x.asker ≡ a = cc in
         let not_here : same_asker x.asker other ≡ false = ap (λ o. same_asker o other) same ∙ differ in
         let stay : keeping xs t b ≡ xs = unbound xs t b (λ k d lt. first HaveOthers x xs h.transactions k d lt t i) in
-        ap (λ c. outcome_of (replied_if b x c ∷ keeping xs t b) other) i
+        ap (λ c. outcome_for (replied_if b x c ∷ keeping xs t b) other) i
         ∙ found_front (replied_if b x true) (keeping xs t b) other
-        ∙ ap (λ c. front_or c (replied_if b x true) (outcome_of (keeping xs t b) other)) not_here
-        ∙ ap (λ ys. outcome_of ys other) stay
-        ∙ sym (found_front x xs other ∙ ap (λ c. front_or c x (outcome_of xs other)) not_here)
+        ∙ ap (λ c. front_or c (replied_if b x true) (outcome_for (keeping xs t b) other)) not_here
+        ∙ ap (λ ys. outcome_for ys other) stay
+        ∙ sym (found_front x xs other ∙ ap (λ c. front_or c x (outcome_for xs other)) not_here)
     go false i j rest =
         let behind : bound_to xs t ≡ Some a = rw i at j in
-        ap (λ c. outcome_of (replied_if b x c ∷ keeping xs t b) other) i
+        ap (λ c. outcome_for (replied_if b x c ∷ keeping xs t b) other) i
         ∙ found_front x (keeping xs t b) other
         ∙ ap (λ o. front_or (same_asker x.asker other) x o) (rest behind)
         ∙ sym (found_front x xs other)

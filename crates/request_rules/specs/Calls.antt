@@ -14,7 +14,7 @@ use Rattle.node_rules.specs.Notes.{request_want}
 use Rattle.request_rules.specs.declared.call.Call.{Call}
 use Rattle.request_rules.specs.declared.call.CallStep.{CallStep}
 use Rattle.request_rules.specs.declared.call.CallStep.TheVariants as step
-use Rattle.request_rules.specs.Numbered.{item_at, without_number}
+use Rattle.request_rules.specs.ByNumber.{item_under, without_number}
 use Rattle.request_rules.specs.Replies.{is_refusal}
 use Rattle.request_rules.specs.Requests.{Calls}
 
@@ -93,7 +93,7 @@ calling_again_if tables q (Some c) = called_again q c (node_for tables (partitio
 -- what is due where the client is to send a request again: the same message goes to the node that the tables name now.
 -- A request that is open went by a table, so there is one
 abbrev pub calling_again : Tables → Calls → ℕ → Effects
-calling_again tables cs q = calling_again_if tables q (item_at cs.waiting q)
+calling_again tables cs q = calling_again_if tables q (item_under cs.waiting q)
 
 -- the reply from that node, where the request is open, or isn't
 abbrev pub reply_lines : ℕ → ℕ → ReplyBody → CallStep → List Line
@@ -103,4 +103,4 @@ reply_lines from q b step.Spent = line.Spent client ∷ []
 
 -- what is due of a Reply that reaches the client from that node
 abbrev pub on_reply : Calls → ℕ → ℕ → ReplyBody → List Line
-on_reply cs from q b = reply_lines from q b (call_step (item_at cs.waiting q) b)
+on_reply cs from q b = reply_lines from q b (call_step (item_under cs.waiting q) b)

@@ -1,9 +1,9 @@
+pub mod ByNumber
 pub mod Calls
 pub mod Dressing
 pub mod Examples
 pub mod LineNotes
 pub mod NodeMessages
-pub mod Numbered
 pub mod Pages
 pub mod Passing
 pub mod Replies

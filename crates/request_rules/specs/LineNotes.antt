@@ -12,13 +12,13 @@ use Rattle.request_rules.specs.Scans.{note_scan}
 use Rattle.request_rules.specs.TakenUp.{note_taken}
 
 -- what a line of the node adds, with this asker and this want in hand
-abbrev pub note : Option Asker → Option Want → NodeRequests → Line → NodeRequests
-note a w r l = record { passed = note_passed w r.passed l; taken = note_taken a r.taken l }
+abbrev pub note_request : Option Asker → Option Want → NodeRequests → Line → NodeRequests
+note_request a w r l = record { passed = note_passed w r.passed l; taken = note_taken a r.taken l }
 
 -- what lines add, one after another
-abbrev pub noted : Option Asker → Option Want → NodeRequests → List Line → NodeRequests
-noted a w r [] = r
-noted a w r (l ∷ ls) = noted a w (note a w r l) ls
+abbrev pub noted_requests : Option Asker → Option Want → NodeRequests → List Line → NodeRequests
+noted_requests a w r [] = r
+noted_requests a w r (l ∷ ls) = noted_requests a w (note_request a w r l) ls
 
 -- the node for whose requests the line counts, if for any
 abbrev pub node_of_request : Line → Option ℕ
@@ -37,7 +37,7 @@ node_of_request _ = None
 abbrev pub noted_at : Option Asker → Option Want → (ℕ → NodeRequests) → Option ℕ → Line
     → ℕ → NodeRequests
 noted_at a w at None l = at
-noted_at a w at (Some n) l = changed_at at n (note a w (at n) l)
+noted_at a w at (Some n) l = changed_at at n (note_request a w (at n) l)
 
 -- what a line adds to all requests of a world. A page counts at the line that brings it to the client
 abbrev pub requests_noted : Option Asker → Option Want → Requests → Line → Requests

@@ -19,7 +19,7 @@ use Rattle.request_rules.specs.Pages.{on_scan_ask}
 use Rattle.request_rules.specs.Passing.{on_proxy_reply}
 use Rattle.request_rules.specs.Replies.{reply_to}
 use Rattle.request_rules.specs.Requests.{NodeRequests}
-use Rattle.request_rules.specs.TakenUp.{outcome_of}
+use Rattle.request_rules.specs.TakenUp.{outcome_for}
 
 -- a request of the asker, by what became of it: one that the node didn't take up is a request as any, one whose
 -- transaction is open does nothing, and one that was replied to gets the same reply again
@@ -31,7 +31,7 @@ taking_if f clock a d w (Some (outcome.Kept b)) =
 
 -- a request that a message brings from that asker
 abbrev pub taking : List Taken → Facts → ℕ → Asker → List ℕ → Want → Effects
-taking taken f clock a d w = taking_if f clock a d w (outcome_of taken a)
+taking taken f clock a d w = taking_if f clock a d w (outcome_for taken a)
 
 -- what is due of a Proxy from that node: it is stale in another view than the one in which it was passed on
 abbrev pub on_proxy : List Taken → Facts → ℕ → ℕ → ClusterKey → ℕ → List ℕ → Want → Effects

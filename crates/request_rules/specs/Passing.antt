@@ -19,7 +19,7 @@ use Rattle.node_rules.specs.StaleMessages.{stale, spent}
 use Rattle.request_rules.specs.declared.passed.Passed.{Passed}
 use Rattle.request_rules.specs.declared.passed.ReplyStep.{ReplyStep}
 use Rattle.request_rules.specs.declared.passed.ReplyStep.TheVariants as step
-use Rattle.request_rules.specs.Numbered.{Numbered, item_at, without_number}
+use Rattle.request_rules.specs.ByNumber.{ByNumber, item_under, without_number}
 use Rattle.request_rules.specs.Requests.{PassedOn, none_passed}
 
 -- ---- what is known of the requests that were passed on
@@ -113,7 +113,7 @@ proxied_if f x b step.Spent = spent f
 abbrev pub on_proxy_reply : PassedOn → Facts → ℕ → ClusterKey → ℕ → ReplyBody → Effects
 on_proxy_reply r f from key x b =
     if in_view f key
-    then proxied_if f x b (reply_step (waits_for from (item_at r.waiting x)))
+    then proxied_if f x b (reply_step (waits_for from (item_under r.waiting x)))
     else stale f
 
 -- ---- leaving the view
@@ -130,12 +130,12 @@ leaves n _ = false
 
 -- the lines of a step with those of what the node of that number gives up of the view of that key: all that waits, right
 -- before the first line at which it leaves the view
-abbrev pub parted : Numbered Passed → ClusterKey → ℕ → List Line → List Line
-parted ps key n [] = []
-parted ps key n (l ∷ ls) =
-    if leaves n l then map (given_up n key) ps ++ l ∷ ls else l ∷ parted ps key n ls
+abbrev pub with_given_up : ByNumber Passed → ClusterKey → ℕ → List Line → List Line
+with_given_up ps key n [] = []
+with_given_up ps key n (l ∷ ls) =
+    if leaves n l then map (given_up n key) ps ++ l ∷ ls else l ∷ with_given_up ps key n ls
 
 -- whether a line is of a request that the node gives up
-abbrev pub gives_up : ℕ → Line → Bool
-gives_up n (line.Unproxied m key x) = m == n
-gives_up n _ = false
+abbrev pub is_giving_up : ℕ → Line → Bool
+is_giving_up n (line.Unproxied m key x) = m == n
+is_giving_up n _ = false

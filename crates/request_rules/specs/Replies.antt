@@ -66,7 +66,7 @@ asker_of from (message.Call number d w) = Some (record { from = client; number =
 asker_of from _ = None
 
 -- what is wanted by a message, if it is a request
-abbrev pub want_of : Message → Option Want
-want_of (message.Proxy key number d w) = Some w
-want_of (message.Call number d w) = Some w
-want_of _ = None
+abbrev pub want_in_message : Message → Option Want
+want_in_message (message.Proxy key number d w) = Some w
+want_in_message (message.Call number d w) = Some w
+want_in_message _ = None

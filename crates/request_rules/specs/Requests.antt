@@ -5,14 +5,14 @@ use Rattle.request_rules.specs.declared.call.Call.{Call}
 use Rattle.request_rules.specs.declared.passed.Passed.{Passed}
 use Rattle.request_rules.specs.declared.scanning.Scanning.{Scanning}
 use Rattle.request_rules.specs.declared.taken.Taken.{Taken}
-use Rattle.request_rules.specs.Numbered.{Numbered}
+use Rattle.request_rules.specs.ByNumber.{ByNumber}
 
 -- the requests that a node passed on
 pub record PassedOn : Type 0 where
   -- how many numbers were given in the node's view. The next request gets the number after that
   pub given : ℕ
   -- those that aren't replied to
-  pub waiting : Numbered Passed
+  pub waiting : ByNumber Passed
 
 -- the requests of a node
 pub record NodeRequests : Type 0 where
@@ -25,14 +25,14 @@ pub record Calls : Type 0 where
   -- how many numbers were given
   pub given : ℕ
   -- those that are open
-  pub waiting : Numbered Call
+  pub waiting : ByNumber Call
 
 -- the client's scans
 pub record Scans : Type 0 where
   -- how many numbers were given
   pub given : ℕ
   -- those that are open
-  pub running : Numbered Scanning
+  pub running : ByNumber Scanning
 
 -- all requests of a world
 pub record Requests : Type 0 where

@@ -14,7 +14,7 @@ use Rattle.request_rules.specs.declared.scanning.FirstPage.{FirstPage}
 use Rattle.request_rules.specs.declared.scanning.Scanning.{Scanning}
 use Rattle.request_rules.specs.declared.scanning.ScanStep.{ScanStep}
 use Rattle.request_rules.specs.declared.scanning.ScanStep.TheVariants as step
-use Rattle.request_rules.specs.Numbered.{item_at, changing_item, without_number}
+use Rattle.request_rules.specs.ByNumber.{item_under, changing_item, without_number}
 use Rattle.request_rules.specs.Requests.{Scans}
 
 -- ---- what is known of a scan
@@ -52,13 +52,13 @@ stands_with page None = true
 stands_with page (Some first) = are_of_one_content first page
 
 -- all records of the scan with those of the page
-abbrev pub records_with : Scanning → ScanPage → List Record
-records_with x page = x.records ++ page.records
+abbrev pub records_after : Scanning → ScanPage → List Record
+records_after x page = x.records ++ page.records
 
 -- the step of a page that goes on with the scan
 abbrev pub step_on : Scanning → ScanPage → ScanStep
 step_on x page =
-    if page.more then step.More (length page.records) else step.Whole (records_with x page)
+    if page.more then step.More (length page.records) else step.Whole (records_after x page)
 
 -- the step of a page that begins where the scan has come to
 abbrev pub step_here : Scanning → ℕ → ScanPage → ScanStep
@@ -66,14 +66,14 @@ step_here x from page =
     if stands_with (page_front from page) x.first then step_on x page else step.Again
 
 -- the step of a page from that node, if its scan is open
-abbrev pub step_of : Option Scanning → ℕ → ScanPage → ScanStep
-step_of None from page = step.Spent
-step_of (Some x) from page =
+abbrev pub step_for : Option Scanning → ℕ → ScanPage → ScanStep
+step_for None from page = step.Spent
+step_for (Some x) from page =
     if same_position page.after (position x) then step_here x from page else step.Spent
 
 -- what a page from that node is
 abbrev pub scan_step : Scans → ℕ → ScanPage → ScanStep
-scan_step ss from page = step_of (item_at ss.running page.scan) from page
+scan_step ss from page = step_for (item_under ss.running page.scan) from page
 
 -- the scan has the first so many of those records, and the page is the next part of them, with so many at most
 pub record IsNextPage (rs : List Record) (so_far most from : ℕ) (x : Scanning) (page : ScanPage) : Type 0 where
@@ -86,8 +86,8 @@ pub record IsNextPage (rs : List Record) (so_far most from : ℕ) (x : Scanning)
 -- ---- what changes
 
 -- a scan of the partition begins, with the next number
-abbrev pub beginning : Scans → ℕ → Scans
-beginning ss p = record {
+abbrev pub with_new_scan : Scans → ℕ → Scans
+with_new_scan ss p = record {
   given = ss.given + 1;
   running =
       ss.running ++ (ss.given + 1, record { partition = p; first = None; records = [] }) ∷ [];
@@ -95,7 +95,7 @@ beginning ss p = record {
 
 -- what a line adds: an asking of a number that wasn't given yet begins its scan
 abbrev pub note_scan : Scans → Line → Scans
-note_scan ss (line.Scan s n p) = if nat_lt ss.given s then beginning ss p else ss
+note_scan ss (line.Scan s n p) = if nat_lt ss.given s then with_new_scan ss p else ss
 note_scan ss _ = ss
 
 -- the first page of a scan that has none yet
@@ -107,7 +107,7 @@ first_with page (Some first) = first
 abbrev pub going_on : ℕ → ScanPage → Scanning → Scanning
 going_on from page x = record x {
   first = Some (first_with (page_front from page) x.first);
-  records = records_with x page;
+  records = records_after x page;
 }
 
 -- the scan at the partition's start again
@@ -136,8 +136,8 @@ took_page ss from page = taking_step ss from page (scan_step ss from page)
 -- ---- what is due
 
 -- the client asks that node for the page of the scan behind the position
-abbrev pub asked_for : ℕ → ℕ → Option (List ℕ) → ℕ → Effects
-asked_for s p after n = record {
+abbrev pub page_asked_for : ℕ → ℕ → Option (List ℕ) → ℕ → Effects
+page_asked_for s p after n = record {
   lines = line.Scan s n p ∷ [];
   sends = to_one n (message.ScanAsk s p after);
 }
@@ -145,7 +145,7 @@ asked_for s p after n = record {
 -- a scan begins at the node that the tables name, or at none
 abbrev pub scanning_named : Scans → ℕ → Option ℕ → Effects
 scanning_named ss p None = lines_only (line.NoMap p ∷ [])
-scanning_named ss p (Some n) = asked_for (ss.given + 1) p None n
+scanning_named ss p (Some n) = page_asked_for (ss.given + 1) p None n
 
 -- what is due where a scan of the partition is to begin: without a table none does
 abbrev pub scanning : Tables → Scans → ℕ → Effects
@@ -154,7 +154,7 @@ scanning tables ss p = scanning_named ss p (node_for tables p)
 -- the scan goes on at the node that the tables name
 abbrev pub asked_on : ℕ → Scanning → Option ℕ → Effects
 asked_on s x None = nothing
-asked_on s x (Some n) = asked_for s x.partition (position x) n
+asked_on s x (Some n) = page_asked_for s x.partition (position x) n
 
 -- the scan of that number, if it is open, goes on
 abbrev pub scanning_on_if : Tables → ℕ → Option Scanning → Effects
@@ -164,7 +164,7 @@ scanning_on_if tables s (Some x) = asked_on s x (node_for tables x.partition)
 -- what is due where a scan is to go on, also where its last asking or its page was lost. A scan that is open went by a
 -- table, so there is one
 abbrev pub scanning_on : Tables → Scans → ℕ → Effects
-scanning_on tables ss s = scanning_on_if tables s (item_at ss.running s)
+scanning_on tables ss s = scanning_on_if tables s (item_under ss.running s)
 
 -- the partition of the scan, if it is open
 abbrev pub partition_of_scan : Option Scanning → ℕ
@@ -186,7 +186,7 @@ page_lines p from page (step.Whole rs) =
 -- what is due of a ScanPage that reaches the client from that node
 abbrev pub on_page : Scans → ℕ → ScanPage → List Line
 on_page ss from page =
-    page_lines (partition_of_scan (item_at ss.running page.scan)) from page
+    page_lines (partition_of_scan (item_under ss.running page.scan)) from page
     (scan_step ss from page)
 
 -- the refusal, where the scan is open
@@ -196,4 +196,4 @@ unscanned_if s cause (Some x) = line.Unscanned s cause ∷ []
 
 -- what is due of a ScanNo that reaches the client. A scan that is open keeps its position
 abbrev pub on_no_page : Scans → ℕ → ScanRefusal → List Line
-on_no_page ss s cause = unscanned_if s cause (item_at ss.running s)
+on_no_page ss s cause = unscanned_if s cause (item_under ss.running s)

@@ -22,8 +22,8 @@ abbrev pub same_asker : Asker → Asker → Bool
 same_asker a b = (a.from == b.from) && (a.number == b.number)
 
 -- what became of the asker's request; none where the node didn't take it up
-abbrev pub outcome_of : List Taken → Asker → Option Outcome
-outcome_of taken a = option_map (λ x. x.outcome) (find (λ x. same_asker x.asker a) taken)
+abbrev pub outcome_for : List Taken → Asker → Option Outcome
+outcome_for taken a = option_map (λ x. x.outcome) (find (λ x. same_asker x.asker a) taken)
 
 -- whether the request's transaction is the open one of that number
 abbrev pub is_bound_to : ℕ → Outcome → Bool
@@ -100,13 +100,13 @@ refusal_for key a None = []
 refusal_for key a (Some b) = reply_for key a b
 
 -- the reply that a line owes: a transaction ends that was taken up for an asker, or the asker in hand is refused
-abbrev pub owed_by : ClusterKey → Option Asker → List Taken → Line → List (ℕ × Message)
-owed_by key a taken (line.Value n k t d v) = reply_for key (bound_to taken t) (found_body v)
-owed_by key a taken (line.Done n k t) = reply_for key (bound_to taken t) reply.Done
-owed_by key a taken (line.Refused n d cause) = refusal_for key a (refusal_body cause)
-owed_by key a taken _ = []
+abbrev pub owed_by_line : ClusterKey → Option Asker → List Taken → Line → List (ℕ × Message)
+owed_by_line key a taken (line.Value n k t d v) = reply_for key (bound_to taken t) (found_body v)
+owed_by_line key a taken (line.Done n k t) = reply_for key (bound_to taken t) reply.Done
+owed_by_line key a taken (line.Refused n d cause) = refusal_for key a (refusal_body cause)
+owed_by_line key a taken _ = []
 
 -- the replies that the lines of a step owe, in their order
 abbrev pub owed : ClusterKey → Option Asker → List Taken → List Line → List (ℕ × Message)
 owed key a taken [] = []
-owed key a taken (l ∷ ls) = owed_by key a taken l ++ owed key a (note_taken a taken l) ls
+owed key a taken (l ∷ ls) = owed_by_line key a taken l ++ owed key a (note_taken a taken l) ls

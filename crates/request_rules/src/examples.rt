@@ -17,15 +17,15 @@ ghost use Rattle.request_rules.specs.declared.call.CallStep.TheVariants as call;
 ghost use Rattle.request_rules.specs.declared.scanning.ScanStep.TheVariants as scan;
 ghost use Rattle.request_rules.specs.declared.taken.Outcome.TheVariants as outcome;
 ghost use Rattle.request_rules.specs.Calls.{calling_named, calling_again, called_again, on_reply, note_call, call_limit};
-ghost use Rattle.request_rules.specs.Dressing.{served};
+ghost use Rattle.request_rules.specs.Dressing.{with_requests};
 ghost use Rattle.request_rules.specs.Examples.{last_digest, last_partition, version_of, joined_one, joined_two, proxy_of_read, having_passed, having_reply, first_of_one, having_read, having_replied, reading_two, alone, first_put, calls_with_put, calls_without_put, open_calls, first_of_client, having_put, record_at, records_at, scan_begun, page_with, first_page, second_page, having_page};
-ghost use Rattle.request_rules.specs.LineNotes.{noted};
+ghost use Rattle.request_rules.specs.LineNotes.{noted_requests};
 ghost use Rattle.request_rules.specs.NodeMessages.{due_at_node_of};
 ghost use Rattle.request_rules.specs.Pages.{on_scan_ask};
 ghost use Rattle.request_rules.specs.Passing.{passing, passing_again};
 ghost use Rattle.request_rules.specs.Requests.{no_requests, none_passed, no_calls, no_scans};
 ghost use Rattle.request_rules.specs.Scans.{scanning_named, scanning_on, scan_step, note_scan, on_page, on_no_page};
-ghost use Rattle.request_rules.specs.TakenUp.{outcome_of};
+ghost use Rattle.request_rules.specs.TakenUp.{outcome_for};
 
 /// A node that doesn't act passes a read on. The node that acts opens a transaction for it, and sends
 /// what it read behind the transaction's end; the first node then writes the reply.
@@ -34,19 +34,19 @@ pub fn a_read_is_passed_on()
       lines = line.Proxy 1 (key 2 2) 1 last_digest action.Get 2 ∷ [];
       sends = to_one 2 proxy_of_read;
     } }
-    ensures kept { noted None (Some want.Get) no_requests
+    ensures kept { noted_requests None (Some want.Get) no_requests
         (line.Proxy 1 (key 2 2) 1 last_digest action.Get 2 ∷ [])
         ≡ having_passed }
-    ensures taken { served no_requests joined_two (Some first_of_one)
+    ensures taken { with_requests no_requests joined_two (Some first_of_one)
         (due_at_node_of partition_count no_requests joined_two 0 1 proxy_of_read)
         ≡ record {
           lines = line.Opened 2 (key 2 2) 1 last_digest action.Get ∷ [];
           sends = to_one 1 (message.Ask (key 2 2) 1 last_digest);
         } }
-    ensures bound { noted (Some first_of_one) (Some want.Get) no_requests
+    ensures bound { noted_requests (Some first_of_one) (Some want.Get) no_requests
         (line.Opened 2 (key 2 2) 1 last_digest action.Get ∷ [])
         ≡ having_read }
-    ensures ended { served having_read reading_two None
+    ensures ended { with_requests having_read reading_two None
         (due_at_node_of partition_count having_read reading_two 0 1
         (message.Answer (key 2 2) 1 (Some (version_of 1 97))))
         ≡ record {
@@ -54,13 +54,13 @@ pub fn a_read_is_passed_on()
           sends = to_one 1
               (message.ProxyReply (key 2 2) 1 (reply.Found (version_of 1 98)));
         } }
-    ensures replied { noted None None having_read
+    ensures replied { noted_requests None None having_read
         (line.Value 2 (key 2 2) 1 last_digest (Some (version_of 1 98)) ∷ [])
         ≡ having_replied }
     ensures proxied { due_at_node_of partition_count having_passed joined_one 0 2
         (message.ProxyReply (key 2 2) 1 (reply.Found (version_of 1 98)))
         ≡ lines_only (line.Proxied 1 (key 2 2) 1 (reply.Found (version_of 1 98)) ∷ []) }
-    ensures closed { noted None None having_passed
+    ensures closed { noted_requests None None having_passed
         (line.Proxied 1 (key 2 2) 1 (reply.Found (version_of 1 98)) ∷ [])
         ≡ having_reply }
 {}
@@ -92,41 +92,41 @@ pub fn what_waits_goes_again_or_is_given_up()
         ≡ sends_only (to_one 2 proxy_of_read) }
     ensures down { passing_again none_passed (record joined_one { up = false })
         ≡ lines_only (line.Down 1 ∷ []) }
-    ensures stopped { served having_passed joined_one None (lines_only (line.Stop 1 ∷ []))
+    ensures stopped { with_requests having_passed joined_one None (lines_only (line.Stop 1 ∷ []))
         ≡ lines_only (line.Unproxied 1 (key 2 2) 1 ∷ line.Stop 1 ∷ []) }
-    ensures entered { served having_passed joined_one None
+    ensures entered { with_requests having_passed joined_one None
         (lines_only
         (line.Promise 1 (key 3 1) ∷ line.Enter 1 (key 3 1) two ∷ line.Tick 1 ∷ []))
         ≡ lines_only
         (line.Promise 1 (key 3 1) ∷ line.Unproxied 1 (key 2 2) 1 ∷ line.Enter 1 (key 3 1) two
         ∷ line.Tick 1 ∷ []) }
-    ensures forgotten { noted None None having_replied (line.Stop 2 ∷ []) ≡ no_requests }
+    ensures forgotten { noted_requests None None having_replied (line.Stop 2 ∷ []) ≡ no_requests }
 {}
 
 /// A refusal of a node's request is sent at once and kept; one of the client's is sent and not kept.
 pub fn refusals_are_sent_at_once()
-    ensures node { served no_requests joined_two (Some first_of_one)
+    ensures node { with_requests no_requests joined_two (Some first_of_one)
         (lines_only (line.Refused 2 last_digest (refusal.Busy 7) ∷ []))
         ≡ record {
           lines = line.Refused 2 last_digest (refusal.Busy 7) ∷ [];
           sends = to_one 1 (message.ProxyReply (key 2 2) 1 (reply.Busy 7));
         } }
-    ensures kept { outcome_of
-        (noted (Some first_of_one) None no_requests
+    ensures kept { outcome_for
+        (noted_requests (Some first_of_one) None no_requests
         (line.Refused 2 last_digest (refusal.Busy 7) ∷ [])).taken
         first_of_one
         ≡ Some (outcome.Kept (reply.Busy 7)) }
-    ensures client { served no_requests lone (Some first_of_client)
+    ensures client { with_requests no_requests lone (Some first_of_client)
         (due_at_node_of partition_count no_requests lone 0 client
         (message.Call 1 last_digest want.Get))
         ≡ record {
           lines = line.Refused 1 last_digest refusal.NoView ∷ [];
           sends = to_one client (message.Reply none 1 reply.NoView);
         } }
-    ensures not_kept { noted (Some first_of_client) None no_requests
+    ensures not_kept { noted_requests (Some first_of_client) None no_requests
         (line.Refused 1 last_digest refusal.NoView ∷ [])
         ≡ no_requests }
-    ensures plain { served no_requests joined_two None
+    ensures plain { with_requests no_requests joined_two None
         (lines_only (line.Refused 2 last_digest (refusal.Busy 7) ∷ []))
         ≡ lines_only (line.Refused 2 last_digest (refusal.Busy 7) ∷ []) }
 {}
@@ -140,7 +140,7 @@ pub fn a_call_is_applied_once()
     ensures kept { note_call (Some (want.Put (97 ∷ []))) no_calls
         (line.Call 1 1 last_digest action.Put)
         ≡ calls_with_put }
-    ensures applied { served no_requests alone (Some first_of_client)
+    ensures applied { with_requests no_requests alone (Some first_of_client)
         (due_at_node_of partition_count no_requests alone 0 client
         (message.Call 1 last_digest (want.Put (97 ∷ []))))
         ≡ record {
@@ -149,7 +149,7 @@ pub fn a_call_is_applied_once()
               ∷ line.Done 1 (key 1 1) 1 ∷ [];
           sends = to_one client (message.Reply (key 1 1) 1 reply.Done);
         } }
-    ensures known { noted (Some first_of_client) (Some (want.Put (97 ∷ []))) no_requests
+    ensures known { noted_requests (Some first_of_client) (Some (want.Put (97 ∷ []))) no_requests
         (line.Opened 1 (key 1 1) 1 last_digest action.Put
         ∷ line.Apply 1 (key 1 1) 1 last_digest (version_of 1 97) ∷ line.Done 1 (key 1 1) 1 ∷ [])
         ≡ having_put }
