@@ -1,0 +1,6 @@
+//! What a node keeps of the requests that it took up for others.
+#![tactic(auto)]
+
+mod reply_table;
+
+pub use reply_table::ReplyTable;

@@ -1,0 +1,4 @@
+mod DressingLaws
+mod PageLaws
+mod TakenLaws
+mod WorkedExamples

@@ -1,0 +1,12 @@
+pub mod ByNumber
+pub mod Calls
+pub mod Dressing
+pub mod Examples
+pub mod LineNotes
+pub mod NodeMessages
+pub mod Pages
+pub mod Passing
+pub mod Replies
+pub mod Requests
+pub mod Scans
+pub mod TakenUp
