@@ -1,4 +1,6 @@
 """usage: ./replay [--summary] [FILE]     plays the script in FILE, or on standard input, and writes its transcript
+       ./replay --tell [--all] [FILE]  plays a script, and says what each line of it brought about
+       ./replay --explain KEY [FILE] plays a script, and says what became of the record of a key or digest
        ./replay --audit [FILE]       says whether a transcript keeps the laws, and what it has of lines and views
        ./replay --generate NUMBER    plays the script that the number stands for, and writes its summary
        ./replay --build              proves and builds the program
@@ -10,7 +12,8 @@ drop, settle and send. Where no proved program of these sources is built, they a
 
 The exit status is the program's: 0 where all was played and written, 1 no memory, 2 bad words, 3 a bad line of the
 script, 4 and 5 a fault of reading or writing, 6 to 8 a script, run or transcript that is too long, 9 no transcript, and
-10 a transcript that breaks a law. 66 says that FILE can't be read, and 125 that there is no program to start.
+10 a transcript that breaks a law. 66 says that FILE can't be read, 67 that no line of the script names KEY, 70 that a run
+couldn't be told, and 125 that there is no program to start.
 """
 from __future__ import annotations
 
@@ -25,12 +28,16 @@ import kept_programs
 BAD_WORDS = 2
 BAD_SCRIPT = 3
 NO_INPUT = 66
+NOT_NAMED = 67
+NOT_TOLD = 70
 NO_ANSWER = 125
 # The program takes no script and no transcript beyond these.
 SCRIPT_LIMIT = 16_777_216
 TRANSCRIPT_LIMIT = 134_217_728
 # How the program ends with a verdict: all laws hold, or one is broken.
 JUDGED = (0, 10)
+# Its words that tell a run, as they may stand together.
+TELLING = (["--tell"], ["--tell", "--all"], ["--all", "--tell"], ["--explain"])
 # The command's own words, each of which stands alone.
 ALONE = ("--build", "--version", "--help", "-h")
 
@@ -44,6 +51,8 @@ class Asked:
 
     def __init__(self) -> None:
         self.words: list[str] = []
+        self.telling: list[str] = []
+        self.key: bytes | None = None
         self.file: str | None = None
 
     @property
@@ -53,10 +62,14 @@ class Asked:
     def take(self, word: str, more: list[str]) -> None:
         """Takes a word, and for --generate also the next one."""
         name, equals, number = word.partition("=")
-        if name in [taken.partition("=")[0] for taken in self.words]:
+        if name in [taken.partition("=")[0] for taken in self.words + self.telling]:
             raise Refused(f"{name} stands twice")
         if word in ("--summary", "--audit"):
             self.words.append(word)
+        elif word in ("--tell", "--all"):
+            self.telling.append(word)
+        elif name == "--explain":
+            self.take_key(number if equals else more.pop(0) if more else "")
         elif name == "--generate":
             number = number if equals else more.pop(0) if more else ""
             if not (number.isascii() and number.isdigit() and len(number) <= 20 and int(number) < 1 << 64):
@@ -68,6 +81,14 @@ class Asked:
             raise Refused(f"{word} is one FILE too many")
         else:
             self.file = word
+
+    def take_key(self, word: str) -> None:
+        import tell
+
+        self.telling.append("--explain")
+        self.key = tell.key_of(word)
+        if self.key is None:
+            raise Refused("--explain takes a key as a script writes it, or a digest of forty hexadecimal digits")
 
 
 def say(text: str) -> None:
@@ -92,6 +113,8 @@ def read_words(words: list[str]) -> Asked:
         asked.take(word, left)
     if "--audit" in asked.words and len(asked.words) > 1:
         raise Refused("--audit stands alone, or with a FILE")
+    if asked.telling and (asked.words or asked.telling not in TELLING):
+        raise Refused("--tell stands alone or with --all, and --explain with its KEY, before a FILE")
     if asked.file is not None and not asked.reads_script and "--audit" not in asked.words:
         raise Refused("--generate takes no FILE")
     return asked
@@ -167,6 +190,8 @@ def start(asked: Asked) -> None:
     import play_script
 
     program = program_to_start(not asked.words)
+    if asked.telling:
+        raise SystemExit(told(program, asked))
     if asked.words == ["--audit"]:
         import audit_transcript
 
@@ -174,6 +199,17 @@ def start(asked: Asked) -> None:
     if not asked.reads_script:
         play_script.become(program, asked.words)
     raise SystemExit(play_script.play(program, asked.words, SCRIPT_LIMIT, BAD_SCRIPT))
+
+
+def told(program: str, asked: Asked) -> int:
+    """Tells the run of a script, or what became of one record in it."""
+    import tell
+    import tell_run
+
+    limits = tell_run.Limits(SCRIPT_LIMIT, BAD_SCRIPT, NOT_TOLD)
+    if asked.key is not None:
+        return tell.explain(program, limits, asked.key, NOT_NAMED)
+    return tell.tell(program, limits, "--all" in asked.telling)
 
 
 def main(words: list[str]) -> None:

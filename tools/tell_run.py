@@ -1,0 +1,201 @@
+"""Has the program play the script on standard input, and gives its transcript by what each command brought about.
+
+The program plays the script, and then a copy of it with marks (tell_script). Without the lines of the marks the copy's
+transcript is to be that of the script, byte for byte; otherwise nothing is told. Behind the last mark the copy asks for
+what no line of the script may have asked: the digest of each key, and what the stores hold at the end.
+"""
+from __future__ import annotations
+
+import os
+import signal
+import sys
+from typing import BinaryIO, Iterator, NamedTuple
+
+import play_script
+import tell_script
+
+# Kinds of lines that are passed over unless all are asked for: ticks, messages, and what becomes of messages.
+QUIET = ("tick", "sent", "full", "deliver", "repeat", "cut", "lost", "blocked", "nomessage", "short", "stale", "spent")
+# Where a command is about one message, its lines of these kinds are passed over alone.
+OF_ONE_MESSAGE = ("deliver", "repeat", "lose", "cut")
+QUIET_OF_ONE = ("tick", "sent", "full")
+
+
+class Line(NamedTuple):
+    """A line of the transcript: its number from 1, and its fields."""
+
+    number: int
+    fields: list[str]
+
+    @property
+    def kind(self) -> str:
+        return self.fields[0]
+
+
+class Block(NamedTuple):
+    """A line of the script, with the lines of the transcript that it brought about and that aren't passed over."""
+
+    entry: tell_script.Entry
+    lines: list[Line]
+
+
+class Name(NamedTuple):
+    """A key as it is written, its digest and its partition."""
+
+    key: bytes
+    digest: str
+    partition: str
+
+
+class Held(NamedTuple):
+    """What the store of a node holds of a record at the end, as the program says it: a version or `none`."""
+
+    node: str
+    digest: str
+    version: str
+
+
+class Run(NamedTuple):
+    blocks: list[Block]
+    names: list[Name]
+    held: list[Held]
+
+
+class Stopped(Exception):
+    """The run can't be told: the status to end with, and why where the program hasn't said it."""
+
+    def __init__(self, status: int, why: str = ""):
+        super().__init__(why)
+        self.status = status
+
+
+class Limits(NamedTuple):
+    """What ./replay knows of the program and of its own statuses."""
+
+    script: int
+    bad_script: int
+    not_told: int
+
+
+def output_of(program: str) -> tuple[int, bytes, BinaryIO]:
+    """Runs the program on standard input; gives how it ended, what it said of faults, and its transcript."""
+    made = os.memfd_create("transcript")
+    ended, said = play_script.run(program, [], made)
+    for number in play_script.PASSED_ON:
+        signal.signal(number, signal.default_int_handler if number == signal.SIGINT else signal.SIG_DFL)
+    os.lseek(made, 0, os.SEEK_SET)
+    return ended, said, os.fdopen(made, "rb")
+
+
+def played(program: str, limits: Limits) -> tuple[bytes, BinaryIO]:
+    """The script on standard input and its transcript. A bad line is shown as ./replay shows it."""
+    if os.isatty(0):
+        print("replay: reads a script from the terminal, up to its end (Ctrl-D)", file=sys.stderr)
+    try:
+        script = play_script.Script(limits.script)
+    except OSError:
+        # Standard input is closed, say: the program has a status for that.
+        play_script.become(program, [])
+    ended, said, transcript = output_of(program)
+    if os.WIFEXITED(ended) and os.WEXITSTATUS(ended) == limits.bad_script:
+        play_script.explain(script, said)
+    if ended:
+        raise Stopped(play_script.end_as(ended))
+    return script.text(), transcript
+
+
+def played_copy(program: str, copy: bytes) -> BinaryIO:
+    os.dup2(play_script.file_of(copy), 0)
+    ended, _, transcript = output_of(program)
+    if ended:
+        raise Stopped(play_script.end_as(ended), "the script can be played, but is too long to be told")
+    return transcript
+
+
+def run_of(program: str, limits: Limits, is_all: bool, key: bytes | None = None) -> Run:
+    """The run of the script on standard input. Where a key is given, its name comes first, and all nodes show it."""
+    script, transcript = played(program, limits)
+    entries = tell_script.entries_of(script)
+    keys = tell_script.keys_of(entries)
+    asked_keys = keys if key is None else [key, *keys]
+    pairs = holders_in(transcript)
+    shows = [b"show %b #%b" % pair for pair in pairs]
+    if key is not None:
+        shows += [b"show %b %b" % (node.encode(), key) for node in tell_script.nodes_of(entries)]
+    mark = tell_script.mark_for(script)
+    asked = [b"hash " + key for key in asked_keys] + shows
+    with played_copy(program, tell_script.marked(entries, mark, asked)) as copy:
+        reader = Reader(transcript, copy, mark, limits, is_all)
+        blocks = list(reader.blocks(entries))
+        names = [Name(key, *reader.answer("hash")) for key in asked_keys]
+        held = [Held(*reader.answer("holds")) for _ in shows]
+        reader.expect_end()
+    return Run(blocks, names, held)
+
+
+def holders_in(transcript: BinaryIO) -> list[tuple[bytes, bytes]]:
+    """Each node and digest of an `apply` or `merge` line: no other node ever held anything of a record."""
+    found = {}
+    for line in transcript:
+        if line.startswith(b"apply "):
+            fields = line.split(b" ")
+            found[fields[1], fields[4]] = True
+        elif line.startswith(b"merge "):
+            fields = line.split(b" ")
+            found[fields[1], fields[3]] = True
+    transcript.seek(0)
+    return list(found)
+
+
+class Reader:
+    """Goes along both transcripts at once: that of the script, and that of its copy with the marks."""
+
+    def __init__(self, transcript: BinaryIO, copy: BinaryIO, mark: tell_script.Mark, limits: Limits, is_all: bool):
+        self.transcript, self.copy, self.mark = transcript, copy, mark
+        self.limits, self.is_all = limits, is_all
+        self.number = 0
+
+    def part(self) -> Stopped:
+        return Stopped(self.limits.not_told, "the marks changed the run, so nothing is told: a fault of ./replay")
+
+    def blocks(self, entries: list[tell_script.Entry]) -> Iterator[Block]:
+        header = [entry for entry in entries if entry.is_header]
+        lines = list(self.until_mark(()))
+        if len(lines) != len(header):
+            raise self.part()
+        yield from (Block(entry, [line]) for entry, line in zip(header, lines))
+        for entry in entries[len(header) :]:
+            yield Block(entry, list(self.until_mark(self.passed_over(entry))))
+        if self.transcript.readline():
+            raise self.part()
+
+    def passed_over(self, entry: tell_script.Entry) -> tuple[str, ...]:
+        if self.is_all:
+            return ()
+        if entry.word in OF_ONE_MESSAGE:
+            return QUIET_OF_ONE
+        return tuple(kind for kind in QUIET if kind != entry.word)
+
+    def until_mark(self, passed_over: tuple[str, ...]) -> Iterator[Line]:
+        """The lines before the next mark, each of which stands in both transcripts."""
+        begins = tuple(b"%b " % kind.encode() for kind in passed_over)
+        mark, transcript = self.mark.line, self.transcript
+        for line in self.copy:
+            if line.startswith(mark):
+                return
+            if line != transcript.readline():
+                raise self.part()
+            self.number += 1
+            if not line.startswith(begins):
+                yield Line(self.number, line.decode().split())
+        raise self.part()
+
+    def answer(self, kind: str) -> list[str]:
+        fields = self.copy.readline().decode().split()
+        if fields[:1] != [kind]:
+            raise self.part()
+        return fields[1:]
+
+    def expect_end(self) -> None:
+        if self.copy.readline():
+            raise self.part()
