@@ -19,12 +19,12 @@ JOINED = {
 }
 MOST_NAMES = 3
 LEGEND = "`line 1:` is a line of the script, and `[1]` a line of its transcript."
+# The kinds of messages that a run sends, by their first byte.
 MESSAGES = {
-    1: "a heartbeat", 2: "a proposal of a view", 3: "an acceptance of a view", 4: "a refusal of a view",
-    5: "a commit of a view", 6: "a state of copies", 7: "a batch of records", 8: "an acknowledgement of a batch",
-    9: "a progress", 10: "a replica of a write", 11: "an acknowledgement of a write", 12: "a question for a version",
-    13: "an answer with a version", 14: "the client's question for a table", 15: "a table for the client",
-    16: "a heartbeat with a role", 17: "a proposal of a view with roles", 18: "a commit of a view with roles",
+    1: "heartbeat", 2: "propose", 3: "accept", 4: "refuse", 5: "commit", 6: "state", 7: "batch",
+    8: "acknowledgement of a batch", 9: "progress", 10: "replica of a write", 11: "acknowledgement of a replica",
+    12: "ask", 13: "answer", 14: "the client asks for the map", 15: "map table",
+    16: "heartbeat with a role", 17: "propose with roles", 18: "commit with roles",
 }
 REFUSALS = {
     "down": "it is stopped (down)",
@@ -146,15 +146,16 @@ class Words:
             return f"{nodes} enter{s} the view {key} of the members {lines[0].fields[3].replace(',', ', ')}"
         if kind == "exchanged":
             return f"{nodes} know{s} all copies of the view {key}, and take{s} requests"
+        be, copies = ("is", "copy") if s else ("are", "copies")
         partitions = self.names.partitions_of([line.fields[3] for line in lines])
         if kind == "handed":
-            return f"node {node} has handed on all of {partitions}, and acts there no more"
+            return f"node {node} has handed on all that it had of {partitions}, and acts there no more"
         if kind == "settled":
-            return f"{partitions} {'is' if s else 'are'} settled, and node {node} acts there"
+            return f"{partitions} {be} settled, and node {node} acts there"
         if kind == "learn":
-            return f"node {node}, a replica, has {partitions} whole"
+            return f"node {node}, a replica, notes that its {copies} of {partitions} {be} whole"
         losses = [self.loss(change) for line in lines for change in self.reading.changes.get(line.number, ())]
-        return f"node {node}, no replica, drops its copy of {partitions}{''.join(losses)}"
+        return f"node {node}, no replica, drops its {copies} of {partitions}{''.join(losses)}"
 
     def loss(self, change: Change) -> str:
         """What goes with a copy that is dropped, where no store has it any more."""
@@ -207,7 +208,7 @@ class Words:
 
     def say_nomap(self, block: Block, line: Line, partition: str) -> str:
         where = self.names.partition(partition)
-        return f"nobody is asked: the client has no table that names a node for {where}, and gets one by `ask N`"
+        return f"nobody is asked: no table, which would name a node for {where}, has reached the client (`ask N`)"
 
     def say_opened(
         self, block: Block, line: Line, node: str, view: str, number: str, digest: str, want: str
@@ -310,9 +311,9 @@ class Words:
         return f"node {node} has a tick"
 
     def say_sent(self, block: Block, line: Line, message: str, sender: str, receiver: str, spelled: str) -> str:
-        kind = MESSAGES.get(int(spelled[:2], 16), "a message")
+        kind = MESSAGES.get(int(spelled[:2], 16), "another message")
         size = f"{len(spelled) // 2} byte{'s' if len(spelled) > 2 else ''}"
-        return f"message {message} leaves {end_of(sender)} for {end_of(receiver)}: {kind}, of {size}"
+        return f"message {message} of {end_of(sender)} leaves for {end_of(receiver)}: {kind}, {size}"
 
     def say_full(self, block: Block, line: Line, message: str) -> str:
         return f"message {message} is lost at once, since too many are in flight"
@@ -342,7 +343,7 @@ class Words:
         return f"it is of another view or proposal, and {end_of(receiver)} passes it over"
 
     def say_spent(self, block: Block, line: Line, receiver: str) -> str:
-        return f"{end_of(receiver)} awaits it no more"
+        return f"nothing at {end_of(receiver)} awaits it"
 
 
 def joins(line: Line) -> tuple[str, ...] | None:
