@@ -19,6 +19,7 @@ class Story:
         self.words = tell_words.Words(reading)
         self.record = reading.record(self.name.digest)
         self.given_up = self.record.given_up()
+        self.past_of_best = self.record.past(self.record.best)
         self.keys = {name.key for name in run.names[1:] if name.digest == self.name.digest}
 
     @property
@@ -89,7 +90,7 @@ class Story:
         if version in self.given_up:
             return self.giving_up(version, self.given_up[version])
         newest = self.words.version(record, best)
-        if record.follows(best, version):
+        if version in self.past_of_best:
             return f"overwritten: the newest version at the end, {newest}, follows from it{held}"
         why = why_newer(best, version, record.policy)
         return f"to be given up{held}: the newest version at the end, {newest}, doesn't follow from it, and {why}"

@@ -113,9 +113,9 @@ class Record:
 
     # ---- at the end
 
-    def kept(self) -> set[Version]:
-        """The versions that some store has, or has one that follows from them."""
-        left, found = [held for held in self.held.values() if held is not None], set()
+    def past(self, *versions: Version | None) -> set[Version]:
+        """These versions, and all that they follow from."""
+        left, found = [version for version in versions if version is not None], set()
         while left:
             version = left.pop()
             if version not in found:
@@ -125,7 +125,7 @@ class Record:
 
     def given_up(self) -> dict[Version, Change]:
         """The versions that no store has, nor one that follows from them, each with the change by which that came."""
-        kept = self.kept()
+        kept = self.past(*self.held.values())
         last = dict(self.last_change)
         for version in sorted({*self.makers, *last}, key=lambda version: version.generation, reverse=True):
             for before in self.parents(version) if version in last else ():

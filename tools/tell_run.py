@@ -9,6 +9,7 @@ from __future__ import annotations
 import os
 import signal
 import sys
+from functools import cache
 from typing import BinaryIO, Iterator, NamedTuple
 
 import play_script
@@ -147,6 +148,13 @@ def holders_in(transcript: BinaryIO) -> list[tuple[bytes, bytes]]:
     return list(found)
 
 
+@cache
+def passed_over(word: str) -> tuple[bytes, ...]:
+    """How the lines begin that are passed over below a command of that word."""
+    kinds = QUIET_OF_ONE if word in OF_ONE_MESSAGE else [kind for kind in QUIET if kind != word]
+    return tuple(b"%b " % kind.encode() for kind in kinds)
+
+
 class Reader:
     """Goes along both transcripts at once: that of the script, and that of its copy with the marks."""
 
@@ -165,20 +173,12 @@ class Reader:
             raise self.part()
         yield from (Block(entry, [line]) for entry, line in zip(header, lines))
         for entry in entries[len(header) :]:
-            yield Block(entry, list(self.until_mark(self.passed_over(entry))))
+            yield Block(entry, list(self.until_mark(() if self.is_all else passed_over(entry.word))))
         if self.transcript.readline():
             raise self.part()
 
-    def passed_over(self, entry: tell_script.Entry) -> tuple[str, ...]:
-        if self.is_all:
-            return ()
-        if entry.word in OF_ONE_MESSAGE:
-            return QUIET_OF_ONE
-        return tuple(kind for kind in QUIET if kind != entry.word)
-
-    def until_mark(self, passed_over: tuple[str, ...]) -> Iterator[Line]:
-        """The lines before the next mark, each of which stands in both transcripts."""
-        begins = tuple(b"%b " % kind.encode() for kind in passed_over)
+    def until_mark(self, begins: tuple[bytes, ...]) -> Iterator[Line]:
+        """The lines before the next mark, each of which stands in both transcripts, but those that begin so."""
         mark, transcript = self.mark.line, self.transcript
         for line in self.copy:
             if line.startswith(mark):

@@ -16,14 +16,11 @@ END = b"\r\n"
 
 
 class Entry(NamedTuple):
-    """A line of the script that isn't passed over: its number from 1, and its fields."""
+    """A line of the script that isn't passed over: its number from 1, its first field, and all its fields."""
 
     number: int
+    word: str
     fields: list[bytes]
-
-    @property
-    def word(self) -> str:
-        return self.fields[0].decode()
 
     @property
     def is_header(self) -> bool:
@@ -57,7 +54,7 @@ def read_entries(script: bytes) -> Iterator[Entry]:
         fields = text.replace(b"\t", b" ").split(b" ")
         fields = [field for field in fields if field]
         if fields and not fields[0].startswith(b";"):
-            yield Entry(number, fields)
+            yield Entry(number, fields[0].decode(), fields)
 
 
 def keys_of(entries: list[Entry]) -> list[bytes]:
