@@ -1,5 +1,5 @@
 """usage: ./replay [--summary] [FILE]     plays the script in FILE, or on standard input, and writes its transcript
-       ./replay --tell [--all] [FILE]  plays a script, and says what each line of it brought about
+       ./replay --tell [FILE]        plays a script, and says what each line of it brought about
        ./replay --explain KEY [FILE] plays a script, and says what became of the record of a key or digest
        ./replay --audit [FILE]       says whether a transcript keeps the laws, and what it has of lines and views
        ./replay --generate NUMBER    plays the script that the number stands for, and writes its summary
@@ -8,7 +8,8 @@
        ./replay --help               shows this
 
 --summary writes a line of JSON behind the transcript: how many lines and nodes it has, and how many lines apply, merge,
-drop, settle and send. Where no proved program of these sources is built, they are compiled without proof, once.
+drop, settle and send. --tell passes ticks and messages over, and with --all it tells those too. Where no proved
+program of these sources is built, they are compiled without proof, once.
 
 The exit status is the program's: 0 where all was played and written, 1 no memory, 2 bad words, 3 a bad line of the
 script, 4 and 5 a fault of reading or writing, 6 to 8 a script, run or transcript that is too long, 9 no transcript, and

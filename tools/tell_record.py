@@ -20,6 +20,10 @@ class Story:
         self.record = reading.record(self.name.digest)
         self.given_up = self.record.given_up()
         self.past_of_best = self.record.past(self.record.best)
+        # Of each version that isn't given up one that some store has: itself, or one that follows from it.
+        held = [version for version in self.record.held.values() if version is not None]
+        self.held_for = {past: version for version in held for past in self.record.past(version)}
+        self.held_for |= {version: version for version in held}
         self.keys = {name.key for name in run.names[1:] if name.digest == self.name.digest}
 
     @property
@@ -92,8 +96,12 @@ class Story:
         newest = self.words.version(record, best)
         if version in self.past_of_best:
             return f"overwritten: the newest version at the end, {newest}, follows from it{held}"
-        why = why_newer(best, version, record.policy)
-        return f"to be given up{held}: the newest version at the end, {newest}, doesn't follow from it, and {why}"
+        rival = self.held_for[version]
+        what = f"to be given up{held}"
+        if rival != version:
+            what = f"overwritten by {self.words.version(record, rival)}, and to be given up with that"
+        why = why_newer(best, rival, record.policy)
+        return f"{what}: the newest version at the end, {newest}, doesn't follow from it: {why}"
 
     def giving_up(self, version: Version, change: Change) -> str:
         record = self.record

@@ -134,7 +134,7 @@ class Record:
         return {version: last[version] for version in self.makers if version not in kept}
 
     def holders(self, version: Version) -> list[str]:
-        return [node for node, held in self.held.items() if held == version]
+        return sorted((node for node, held in self.held.items() if held == version), key=int)
 
 
 def given_up_though_done(records: Iterable[Record]) -> list[tuple[Request, Change]]:
