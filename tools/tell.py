@@ -72,8 +72,8 @@ def show_record(run: tell_run.Run, not_named: int) -> int:
 
 
 def write(lines: Iterable[str]) -> int:
-    """Writes the lines, and gives the status that the program has for that. A reader that has gone ends this, as it does
-    the program."""
+    """Writes the lines, and gives the program's status for that. A reader that has gone ends this as it ends the
+    program."""
     signal.signal(signal.SIGPIPE, signal.SIG_DFL)
     text = "".join(f"{line}\n" for line in lines).encode()
     try:

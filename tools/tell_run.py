@@ -6,17 +6,23 @@ what no line of the script may have asked: the digest of each key, and what the 
 """
 from __future__ import annotations
 
+import mmap
 import os
+import re
 import signal
 import sys
 from functools import cache
-from typing import BinaryIO, Iterator, NamedTuple
+from typing import Iterator, NamedTuple, Union
 
 import play_script
 import tell_script
 
+# A transcript: two of them may take a gigabyte, of which only what is looked at is read.
+Text = Union[mmap.mmap, bytes]
+# A line behind which a node may hold another version: the node of either kind, and the digest.
+CHANGE = re.compile(rb"\n(?:apply (\d+) \S+ \d+|merge (\d+) \S+) ([0-9a-f]{40}) ")
 # Kinds of lines that are passed over unless all are asked for: ticks, messages, and what becomes of messages.
-QUIET = ("tick", "sent", "full", "deliver", "repeat", "cut", "lost", "blocked", "nomessage", "short", "stale", "spent")
+QUIET = ("sent", "deliver", "tick", "blocked", "full", "repeat", "cut", "lost", "nomessage", "short", "stale", "spent")
 # Where a command is about one message, its lines of these kinds are passed over alone.
 OF_ONE_MESSAGE = ("deliver", "repeat", "lose", "cut")
 QUIET_OF_ONE = ("tick", "sent", "full")
@@ -78,17 +84,19 @@ class Limits(NamedTuple):
     not_told: int
 
 
-def output_of(program: str) -> tuple[int, bytes, BinaryIO]:
+def output_of(program: str) -> tuple[int, bytes, Text]:
     """Runs the program on standard input; gives how it ended, what it said of faults, and its transcript."""
     made = os.memfd_create("transcript")
     ended, said = play_script.run(program, [], made)
     for number in play_script.PASSED_ON:
         signal.signal(number, signal.default_int_handler if number == signal.SIGINT else signal.SIG_DFL)
-    os.lseek(made, 0, os.SEEK_SET)
-    return ended, said, os.fdopen(made, "rb")
+    # An empty file can't be mapped.
+    text = mmap.mmap(made, 0, access=mmap.ACCESS_READ) if os.fstat(made).st_size else b""
+    os.close(made)
+    return ended, said, text
 
 
-def played(program: str, limits: Limits) -> tuple[bytes, BinaryIO]:
+def played(program: str, limits: Limits) -> tuple[bytes, Text]:
     """The script on standard input and its transcript. A bad line is shown as ./replay shows it."""
     if os.isatty(0):
         print("replay: reads a script from the terminal, up to its end (Ctrl-D)", file=sys.stderr)
@@ -105,11 +113,12 @@ def played(program: str, limits: Limits) -> tuple[bytes, BinaryIO]:
     return script.text(), transcript
 
 
-def played_copy(program: str, copy: bytes) -> BinaryIO:
+def played_copy(program: str, copy: bytes) -> Text:
     os.dup2(play_script.file_of(copy), 0)
     ended, _, transcript = output_of(program)
     if ended:
-        raise Stopped(play_script.end_as(ended), "the script can be played, but is too long to be told")
+        why = "the script can be played, but its copy with marks, which is longer, can't: nothing is told"
+        raise Stopped(play_script.end_as(ended), why)
     return transcript
 
 
@@ -125,27 +134,19 @@ def run_of(program: str, limits: Limits, is_all: bool, key: bytes | None = None)
         shows += [b"show %b %b" % (node.encode(), key) for node in tell_script.nodes_of(entries)]
     mark = tell_script.mark_for(script)
     asked = [b"hash " + key for key in asked_keys] + shows
-    with played_copy(program, tell_script.marked(entries, mark, asked)) as copy:
-        reader = Reader(transcript, copy, mark, limits, is_all)
-        blocks = list(reader.blocks(entries))
-        names = [Name(key, *reader.answer("hash")) for key in asked_keys]
-        held = [Held(*reader.answer("holds")) for _ in shows]
-        reader.expect_end()
+    copy = played_copy(program, tell_script.marked(entries, mark, asked))
+    reader = Reader(transcript, copy, mark, limits, is_all)
+    blocks = list(reader.blocks(entries))
+    names = [Name(key, *reader.answer("hash")) for key in asked_keys]
+    held = [Held(*reader.answer("holds")) for _ in shows]
+    reader.expect_end()
     return Run(blocks, names, held)
 
 
-def holders_in(transcript: BinaryIO) -> list[tuple[bytes, bytes]]:
+def holders_in(transcript: Text) -> list[tuple[bytes, bytes]]:
     """Each node and digest of an `apply` or `merge` line: no other node ever held anything of a record."""
-    found = {}
-    for line in transcript:
-        if line.startswith(b"apply "):
-            fields = line.split(b" ")
-            found[fields[1], fields[4]] = True
-        elif line.startswith(b"merge "):
-            fields = line.split(b" ")
-            found[fields[1], fields[3]] = True
-    transcript.seek(0)
-    return list(found)
+    found = (match.groups() for match in CHANGE.finditer(transcript))
+    return list(dict.fromkeys((applied or merged, digest) for applied, merged, digest in found))
 
 
 @cache
@@ -158,10 +159,11 @@ def passed_over(word: str) -> tuple[bytes, ...]:
 class Reader:
     """Goes along both transcripts at once: that of the script, and that of its copy with the marks."""
 
-    def __init__(self, transcript: BinaryIO, copy: BinaryIO, mark: tell_script.Mark, limits: Limits, is_all: bool):
-        self.transcript, self.copy, self.mark = transcript, copy, mark
+    def __init__(self, transcript: Text, copy: Text, mark: tell_script.Mark, limits: Limits, is_all: bool):
+        self.transcript, self.copy, self.mark = transcript, copy, mark.line
         self.limits, self.is_all = limits, is_all
-        self.number = 0
+        # How far both are read, and how many lines of the transcript.
+        self.place = self.place_in_copy = self.number = 0
 
     def part(self) -> Stopped:
         return Stopped(self.limits.not_told, "the marks changed the run, so nothing is told: a fault of ./replay")
@@ -174,28 +176,43 @@ class Reader:
         yield from (Block(entry, [line]) for entry, line in zip(header, lines))
         for entry in entries[len(header) :]:
             yield Block(entry, list(self.until_mark(() if self.is_all else passed_over(entry.word))))
-        if self.transcript.readline():
+        if self.place != len(self.transcript):
             raise self.part()
 
     def until_mark(self, begins: tuple[bytes, ...]) -> Iterator[Line]:
         """The lines before the next mark, each of which stands in both transcripts, but those that begin so."""
-        mark, transcript = self.mark.line, self.transcript
-        for line in self.copy:
-            if line.startswith(mark):
-                return
-            if line != transcript.readline():
-                raise self.part()
-            self.number += 1
+        text = self.copy[self.place_in_copy : self.next_mark()]
+        if self.transcript[self.place : self.place + len(text)] != text:
+            raise self.part()
+        self.place += len(text)
+        self.place_in_copy += len(text)
+        self.next_line()
+        for self.number, line in enumerate(text.split(b"\n")[:-1], self.number + 1):
             if not line.startswith(begins):
                 yield Line(self.number, line.decode().split())
-        raise self.part()
+
+    def next_mark(self) -> int:
+        """Where the next mark's line begins."""
+        if self.copy[self.place_in_copy : self.place_in_copy + len(self.mark)] == self.mark:
+            return self.place_in_copy
+        found = self.copy.find(b"\n" + self.mark, self.place_in_copy)
+        if found < 0:
+            raise self.part()
+        return found + 1
+
+    def next_line(self) -> bytes:
+        """The copy's next line, which is then read."""
+        end = self.copy.find(b"\n", self.place_in_copy) + 1
+        line = self.copy[self.place_in_copy : end]
+        self.place_in_copy = end or len(self.copy)
+        return line
 
     def answer(self, kind: str) -> list[str]:
-        fields = self.copy.readline().decode().split()
+        fields = self.next_line().decode().split()
         if fields[:1] != [kind]:
             raise self.part()
         return fields[1:]
 
     def expect_end(self) -> None:
-        if self.copy.readline():
+        if self.place_in_copy != len(self.copy):
             raise self.part()
