@@ -60,10 +60,12 @@ def file_of(held: bytes) -> int:
     return made
 
 
-def run(program: str, words: list[str]) -> tuple[int, bytes]:
-    """Runs the program to its end; gives how it ended, and its standard error, which is passed on too."""
+def run(program: str, words: list[str], output: int = 1) -> tuple[int, bytes]:
+    """Runs the program to its end, with its standard output there; gives how it ended, and its standard error, which is
+    passed on too."""
     read_end, write_end = os.pipe()
-    how = {"file_actions": [(os.POSIX_SPAWN_DUP2, write_end, 2)], "setsigdef": PASSED_ON + IGNORED}
+    ends = [(os.POSIX_SPAWN_DUP2, write_end, 2), (os.POSIX_SPAWN_DUP2, output, 1)]
+    how = {"file_actions": ends, "setsigdef": PASSED_ON + IGNORED}
     process = os.posix_spawn(program, [program, *words], os.environ, **how)
     os.close(write_end)
     for number in PASSED_ON:

@@ -1,4 +1,6 @@
 """usage: ./replay [--summary] [FILE]     plays the script in FILE, or on standard input, and writes its transcript
+       ./replay --tell [FILE]        plays a script, and says what each line of it brought about
+       ./replay --explain KEY [FILE] plays a script, and says what became of the record of a key or digest
        ./replay --audit [FILE]       says whether a transcript keeps the laws, and else which line breaks which law
        ./replay --generate NUMBER    plays the script that the number stands for, and writes its summary
        ./replay --build              proves and builds the program
@@ -6,13 +8,14 @@
        ./replay --help               shows this
 
 --summary writes a line of JSON behind the transcript: how many lines and nodes it has, and how many lines apply, merge,
-drop, settle and send. `tail -n 1` takes it; a transcript with it isn't one to audit. Where no proved program of these
-sources is built, they are compiled without proof, once; that such a program isn't proved is told once a day.
+drop, settle and send. `tail -n 1` takes it; a transcript with it isn't one to audit. --tell passes ticks and messages
+over, and with --all it tells those too. Where no proved program of these sources is built, they are compiled without
+proof, once; that such a program isn't proved is told once a day.
 
 The exit status is the program's: 0 where all was played and written, 1 no memory, 2 bad words, 3 a bad line of the
 script, 4 and 5 a fault of reading or writing, 6 to 8 a script, run or transcript that is too long, 9 no transcript, and
-10 a transcript that breaks a law, of which the program says `refuted`. 66 says that FILE can't be read, and 125 that
-there is no program to start.
+10 a transcript that breaks a law, of which the program says `refuted`. 66 says that FILE can't be read, 67 that no line
+of the script names KEY, 70 that a run couldn't be told, and 125 that there is no program to start.
 """
 from __future__ import annotations
 
@@ -28,6 +31,8 @@ import kept_programs
 BAD_WORDS = 2
 BAD_SCRIPT = 3
 NO_INPUT = 66
+NOT_NAMED = 67
+NOT_TOLD = 70
 NO_ANSWER = 125
 # The program takes no script and no transcript beyond these.
 SCRIPT_LIMIT = 16_777_216
@@ -37,6 +42,10 @@ HOLDS = 0
 FAILS = 10
 # How long what is told of an unproved program isn't told again, in seconds.
 DAY = 24 * 60 * 60
+# Its words that tell a run, as they may stand together.
+TELLING = (["--tell"], ["--tell", "--all"], ["--all", "--tell"], ["--explain"])
+# The words that may stand together, or with a FILE.
+TAKEN = ("--summary", "--audit", "--generate", "--tell", "--all", "--explain")
 # The command's own words, each of which stands alone.
 ALONE = ("--build", "--version", "--help", "-h")
 
@@ -50,6 +59,8 @@ class Asked:
 
     def __init__(self) -> None:
         self.words: list[str] = []
+        self.telling: list[str] = []
+        self.key: bytes | None = None
         self.file: str | None = None
 
     @property
@@ -59,10 +70,14 @@ class Asked:
     def take(self, word: str, more: list[str]) -> None:
         """Takes a word, and for --generate also the next one."""
         name, equals, number = word.partition("=")
-        if name in [taken.partition("=")[0] for taken in self.words]:
+        if name in [taken.partition("=")[0] for taken in self.words + self.telling]:
             raise Refused(f"{name} stands twice")
         if word in ("--summary", "--audit"):
             self.words.append(word)
+        elif word in ("--tell", "--all"):
+            self.telling.append(word)
+        elif name == "--explain":
+            self.take_key(number if equals else more.pop(0) if more else "")
         elif name == "--generate":
             number = number if equals else more.pop(0) if more else ""
             if not (number.isascii() and number.isdigit() and len(number) <= 20 and int(number) < 1 << 64):
@@ -74,6 +89,14 @@ class Asked:
             raise Refused(f"{word} is one FILE too many")
         else:
             self.file = word
+
+    def take_key(self, word: str) -> None:
+        import tell
+
+        self.telling.append("--explain")
+        self.key = tell.key_of(word)
+        if self.key is None:
+            raise Refused("--explain takes a key as a script writes it, or a digest of forty hexadecimal digits")
 
 
 def say(text: str) -> None:
@@ -89,7 +112,7 @@ def nearest(word: str) -> str:
     """The word that may be meant, if one is near."""
     import difflib
 
-    near = difflib.get_close_matches(word, ("--summary", "--audit", "--generate", *ALONE), 1, 0.75)
+    near = difflib.get_close_matches(word, (*TAKEN, *ALONE), 1, 0.75)
     return f"; {near[0]} is the nearest" if near else ""
 
 
@@ -102,6 +125,8 @@ def read_words(words: list[str]) -> Asked:
         asked.take(word, left)
     if "--audit" in asked.words and len(asked.words) > 1:
         raise Refused("--audit stands alone, or with a FILE")
+    if asked.telling and (asked.words or asked.telling not in TELLING):
+        raise Refused("--tell stands alone or with --all, and --explain with its KEY, before a FILE")
     if asked.file is not None and not asked.reads_script and "--audit" not in asked.words:
         raise Refused("--generate takes no FILE")
     return asked
@@ -197,6 +222,8 @@ def start(asked: Asked) -> None:
     import play_script
 
     program = program_to_start(not asked.words)
+    if asked.telling:
+        raise SystemExit(told(program, asked))
     if asked.words == ["--audit"]:
         import audit_transcript
 
@@ -204,6 +231,17 @@ def start(asked: Asked) -> None:
     if not asked.reads_script:
         play_script.become(program, asked.words)
     raise SystemExit(play_script.play(program, asked.words, SCRIPT_LIMIT, BAD_SCRIPT))
+
+
+def told(program: str, asked: Asked) -> int:
+    """Tells the run of a script, or what became of one record in it."""
+    import tell
+    import tell_run
+
+    limits = tell_run.Limits(SCRIPT_LIMIT, BAD_SCRIPT, NOT_TOLD)
+    if asked.key is not None:
+        return tell.explain(program, limits, asked.key, NOT_NAMED)
+    return tell.tell(program, limits, "--all" in asked.telling)
 
 
 def main(words: list[str]) -> None:
