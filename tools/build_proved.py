@@ -21,9 +21,10 @@ import sources
 
 # What of a crate `rt ci` reads and writes that isn't needed here: what it makes, and the edits that it must refuse.
 LEFT_OUT = ("out", "must-fail", "edits", "definition-edits")
-# How many lines of code a processor proves in a minute, with what is said and proved of them, and what a check of a
-# crate takes besides, in lines.
-LINES_A_MINUTE = 500
+# How many lines of code a processor proves in a minute, with what is said and proved of them, as bench/README.md has it, and
+# by the kits that take another time; and what a check of a crate takes besides, in lines.
+LINES_A_MINUTE = 290
+OF_OTHER_KITS = {"rattle-kit-13b": 500}
 LINES_A_CHECK = 200
 # What a check takes of memory, at most.
 BYTES_A_CRATE = 4_000_000_000
@@ -51,7 +52,8 @@ def build_in(root: str, copy: str, say: Say) -> int:
     copy_crates(root, copy, place.names)
     digest = sources.digest_of(copy, place.names, sources.PROVED)
     lanes = lanes_here()
-    progress = Progress(place.names, usual_minutes(copy, place.names, lanes), say)
+    kit = kept_programs.kit_of(command)
+    progress = Progress(place.names, usual_minutes(copy, place.names, lanes, kit), say)
     say(f"proves {len(place.names)} crates, {lanes} at a time: usually {progress.usual} min in all here, from nothing")
     log = pathlib.Path(place.program).with_name("replay.log")
     log.parent.mkdir(exist_ok=True)
@@ -60,7 +62,7 @@ def build_in(root: str, copy: str, say: Say) -> int:
         say(f"the program isn't proved and built; {log} has all that rt said")
         return 1
     put_program(f"{copy}/crates/{kept_programs.WHOLE}/out/{kept_programs.WHOLE}", place.program)
-    place.note(digest=digest, kit=kept_programs.kit_of(command), command=kept_programs.mark_of(command), state=state)
+    place.note(digest=digest, kit=kit, command=kept_programs.mark_of(command), state=state)
     say(f"proved and built in {progress.minutes()} min; ./replay now starts the program itself")
     return 0
 
@@ -88,15 +90,16 @@ def lines_of(copy: str, name: str) -> int:
     return LINES_A_CHECK + sum(pathlib.Path(file.path).read_bytes().count(b"\n") for file in files)
 
 
-def usual_minutes(copy: str, names: list[str], lanes: int) -> int:
-    """What so many lines usually take: the longest chain of crates that stand on one another, or all of them side by
-    side, whichever is more."""
+def usual_minutes(copy: str, names: list[str], lanes: int, kit: str) -> int:
+    """What so many lines usually take the kit: the longest chain of crates that stand on one another, or all of them side
+    by side, whichever is more."""
     crates = sources.crates_of(copy)
     lines = {name: lines_of(copy, name) for name in names}
     chain: dict[str, int] = {}
     for name in names:
         chain[name] = lines[name] + max((chain[used] for used in crates[name] if used in chain), default=0)
-    return -(-max(sum(lines.values()) // lanes, *chain.values()) // LINES_A_MINUTE)
+    most = max(sum(lines.values()) // lanes, *chain.values())
+    return -(-most // OF_OTHER_KITS.get(kit.split(" ")[0], LINES_A_MINUTE))
 
 
 class Progress:
