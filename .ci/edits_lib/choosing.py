@@ -9,7 +9,9 @@ from edits_lib.record import Digests, Record
 MINUTES = 40
 # Of the edits that stand by record, one of so many is tried again, and never fewer than the least.
 SHARE, LEAST = 20, 10
-# The seconds of a processor that a check of a crate takes for each of its lines, where the record says nothing.
+# The seconds of a processor that a check of a crate takes, and further ones for each of its lines, where the record says
+# nothing.
+SECONDS_A_CHECK = 20
 SECONDS_A_LINE = 0.1
 # What the check of one edit takes of the check of its crate from nothing, likewise.
 OF_SEED = 0.3
@@ -27,7 +29,7 @@ class Costs:
             self.known.setdefault(label.split("/")[0], []).append(refusal.seconds)
 
     def seed(self, crate):
-        return self.kept.seeds.get(crate) or SECONDS_A_LINE * self.tree.crates[crate].lines()
+        return self.kept.seeds.get(crate) or SECONDS_A_CHECK + SECONDS_A_LINE * self.tree.crates[crate].lines()
 
     def edit(self, edit):
         refusal = self.kept.refusals.get(edit.label)
