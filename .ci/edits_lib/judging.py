@@ -19,10 +19,9 @@ def without_places(why):
 class Judgement:
     """What came of the edits that were tried: the record holds those that are refused, and tells those for what they mean."""
 
-    def __init__(self, state, tried, log, taken, looks=None):
+    def __init__(self, state, tried, log, taken):
         self.state, self.tried = state, tried
-        # what rt said of each, and where somebody looked again, what was found then
-        self.said = verdicts.verdicts(log) | (looks or {})
+        self.said = verdicts.verdicts(log)
         self.seconds, self.seeds = times.read(taken, tried)
         # each thing that fails, and each that is only told
         self.faults, self.notes = [], []
@@ -33,7 +32,7 @@ class Judgement:
 
     def is_refused(self, edit):
         verdict = self.said.get(edit.label)
-        if verdict is None or self.was_looked_at(edit, verdict):
+        if verdict is None:
             return False
         is_told = verdict.is_untried or verdict.is_weak
         if is_told:
@@ -42,10 +41,6 @@ class Judgement:
             self.faults.append(f"edit {edit.label}: {verdict.why}")
             self.state.record.refusals.pop(edit.label, None)
         return verdict.is_weak or bool(verdict.goal)
-
-    def was_looked_at(self, edit, verdict):
-        """Whether a second look at the same texts has found the goal that the edit leaves open: this stands."""
-        return verdict.is_weak and self.state.stands(edit) and not self.state.is_weak(edit)
 
     def keep(self, edit):
         verdict, known = self.said[edit.label], self.state.record.refusals.get(edit.label)

@@ -3,8 +3,7 @@
 rt also passes an edit that nothing judged: one where a proof names what went, one whose function the borrow checker
 doesn't cover, one beside whose goal an old proof no longer fits, one at which the prover came to a limit. Refused for
 what it means is an edit only where the first thing that rt tells of it is a goal left open: of a clause, an invariant
-or a law. rt cuts that line at 160 characters. Where it tells of an old proof that no longer fits, second_look.py finds
-out more.
+or a law. rt cuts that line at 160 characters.
 """
 import dataclasses
 import re
@@ -24,8 +23,6 @@ LEFT_OPEN = (
     "`omega`: the goal does not follow",
     "no proof of",
 )
-# A proof that names what the edit took away.
-NAME_GONE = re.compile(r"(?:note: )?(?:\./)?proofs/.*(has no field|is not in scope|has no `|was not admitted)")
 # What a goal of the sources is called, where it has a name.
 CALLED = re.compile(r"\(`([^`]+)(?:`|$)")
 
@@ -39,8 +36,6 @@ class Verdict:
     is_untried: bool = False
     # rt takes it for refused, though for no goal left open
     is_weak: bool = False
-    # that is since a proof by hand no longer fits its goal
-    is_misfit: bool = False
 
 
 def verdicts(log):
@@ -58,10 +53,7 @@ def verdict(said):
         return Verdict(why=f"refused {refused['but']}", is_weak=True)
     told = refused["told"] or "nothing that rt tells"
     goal = goal_in(told)
-    if goal:
-        return Verdict(goal=goal)
-    is_misfit = AT_PROOF.match(told) is not None
-    return Verdict(why=f"refused for no goal left open, but: {told}", is_weak=True, is_misfit=is_misfit)
+    return Verdict(goal=goal) if goal else Verdict(why=f"refused for no goal left open, but: {told}", is_weak=True)
 
 
 def goal_in(told):
