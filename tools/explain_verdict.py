@@ -1,4 +1,5 @@
-"""Says what an audit's answer means: how the line that it names breaks a law, or why the bytes are no transcript.
+"""Says what an audit's answer means: how the line that it names breaks a law and what parts there, or why the bytes are no
+transcript.
 
 The program says `fails LAW LINE`, or `line L: not a transcript`. The laws are those of docs/AUDIT.md.
 """
@@ -7,9 +8,9 @@ from __future__ import annotations
 import re
 
 import explain_fault
+import explain_lines
 
 FAILS = re.compile(r"fails (\w+) (\d+)\n")
-MOST_SHOWN = 100
 
 # How a line breaks each law; of `shape` it is said by the line's word.
 BROKEN = {
@@ -35,14 +36,8 @@ WHY_NONE = {
 }
 
 
-def line_of(transcript: bytes, number: int) -> bytes:
-    parts = transcript.split(b"\n", number)
-    return parts[number - 1] if len(parts) >= number else b""
-
-
 def shown(transcript: bytes, number: int) -> str:
-    text = explain_fault.printable(line_of(transcript, number))
-    return f"    line {number}: {text if len(text) <= MOST_SHOWN else text[:MOST_SHOWN] + '..'}"
+    return f"    {explain_lines.shown(number, explain_lines.line_at(transcript, number))}"
 
 
 def is_of_script(line: bytes) -> bool:
@@ -54,7 +49,7 @@ def is_of_script(line: bytes) -> bool:
 
 def why_none(transcript: bytes, number: int) -> str | None:
     """Why the line of that number isn't one of a transcript, by a word of WHY_NONE, where one is sure."""
-    line = line_of(transcript, number)
+    line = explain_lines.line_at(transcript, number)
     if line.startswith(b'{"'):
         return "summary"
     if line.endswith(b"\r"):
@@ -83,7 +78,10 @@ def explain_law(transcript: bytes, verdict: str) -> list[str]:
     found = FAILS.fullmatch(verdict)
     if not found:
         return []
+    import explain_law
+
     law, number = found[1], int(found[2])
-    said = MISPLACED[misplaced(line_of(transcript, number))] if law == "shape" else BROKEN[law]
+    said = MISPLACED[misplaced(explain_lines.line_at(transcript, number))] if law == "shape" else BROKEN[law]
     lines = [shown(transcript, number), f"replay: this line breaks the law {law}: {said}"]
+    lines += explain_law.what_parts(transcript, law, number)
     return lines + ([f"replay: {LEFT_OUT}"] if law == "shape" else [])
