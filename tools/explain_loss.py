@@ -44,9 +44,10 @@ def of_drop(frame: Frame, before: Stores, line: Line) -> Finding | None:
 
 
 def is_lost(frame: Frame, before: Stores, held: Held) -> bool:
-    """Whether what the node holds is the newest of the record, and no other node holds it."""
-    other = newest_elsewhere(frame, before, held)
-    return other is None or before.order(other) < before.order(held)
+    """Whether what the node holds is the newest that was applied of the record, and no other node holds it."""
+    applied, other = before.applied.get(held.line.digest), newest_elsewhere(frame, before, held)
+    is_newest = applied is not None and applied.version == held.version
+    return is_newest and (other is None or before.order(other) < before.order(held))
 
 
 def newest_elsewhere(frame: Frame, before: Stores, held: Held) -> Held | None:

@@ -69,9 +69,9 @@ class Settling:
         return bool(self.writes.get((place, master), set()) - self.done.get((place.key, master), set()))
 
     def is_empty_everywhere(self, place: Place) -> bool:
-        view = self.view(place)
-        stores = [self.stores.entries.get((place.key, node), {}) for node in view.entered]
-        return not view.absent() and not any(store.get(place.partition) for store in stores)
+        """Whether no member had a record. All have entered, since one of them has finished the exchange."""
+        stores = [self.stores.entries.get((place.key, node), {}) for node in self.view(place).entered]
+        return not any(store.get(place.partition) for store in stores)
 
     def replicas(self, place: Place) -> list[str]:
         """The replicas that are in the view."""
