@@ -55,14 +55,14 @@ class Settling:
         master = self.view(place).master(place.partition)
         if self.frame.view_of.get(master) != place.key or self.has_open_write(place, master):
             return None
-        calm = f"node {master}, its list master, is in the view, and has no open write there"
+        rest = f"node {master}, its list master, is in the view, and has no open write there"
         settled = self.settled.get((place, master))
         if settled:
-            return Fact(f"partition {place.partition} is settled; {calm}", [settled])
+            return Fact(f"partition {place.partition} is settled; {rest}", [settled])
         exchanged = self.exchanged.get((place.key, master))
         if exchanged and self.is_empty_everywhere(place):
             none = "no member had a record of it as it entered"
-            return Fact(f"partition {place.partition} counts as settled, since {none}; {calm}", [exchanged])
+            return Fact(f"partition {place.partition} counts as settled, since {none}; {rest}", [exchanged])
         return None
 
     def has_open_write(self, place: Place, master: str) -> bool:

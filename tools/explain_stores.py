@@ -1,7 +1,7 @@
 """What nodes hold and what was applied, read along a transcript, each version with the line that brought it."""
 from __future__ import annotations
 
-from typing import Container, Iterable, NamedTuple
+from typing import Collection, Iterable, NamedTuple
 
 from explain_lines import Line
 from explain_lists import partition_of
@@ -27,7 +27,7 @@ class Stores:
     """The stores of all nodes, what was applied of each record, in all and in each of some views, and what nodes held as
     they entered these views; of one partition alone, if one is named."""
 
-    def __init__(self, policy: str, keys: Container[str] = (), only: int | None = None):
+    def __init__(self, policy: str, keys: Collection[str] = (), only: int | None = None):
         self.policy, self.keys, self.only = policy, keys, only
         self.stores: dict[str, Store] = {}
         self.entries: dict[tuple[str, str], Store] = {}
@@ -72,10 +72,6 @@ class Stores:
 
     def content(self, node: str, digest: str) -> Held | None:
         return self.stores.get(node, {}).get(partition_of(digest), {}).get(digest)
-
-    def entry(self, key: str, node: str, digest: str) -> Held | None:
-        """What the node held of the record as it entered the view."""
-        return self.entries.get((key, node), {}).get(partition_of(digest), {}).get(digest)
 
 
 def in_words(held: Held | None) -> str:

@@ -72,10 +72,6 @@ class Frame:
     def replicas(self, view: View, partition: int) -> list[str]:
         return view.nodes(partition)[: self.factor]
 
-    def in_view(self, key: str) -> list[str]:
-        """The nodes whose view is that of the key."""
-        return [node for node, view in self.view_of.items() if view == key]
-
 
 def key_order(key: str) -> tuple[int, ...]:
     """Keys compare by the number of their round, and then by their principal."""
