@@ -7,10 +7,12 @@ import contextlib
 import json
 import os
 import pathlib
+import queue
 import signal
 import stat
 import subprocess
 import sys
+import threading
 from typing import Callable, NamedTuple
 
 REPLAY = pathlib.Path(__file__).resolve().parent.parent / "replay"
@@ -21,8 +23,11 @@ BY_SIGNAL = 128
 # Where standard error is no terminal, there are at most so many lines of the count.
 MOST_COUNTS = 10
 NOTE = "replay: "
-# What ./replay is started as, while it runs.
+# Nothing is waited for longer at once, in seconds: a signal that comes just before a wait is met only behind it.
+PATIENCE = 0.5
+# Each ./replay that runs, and whether all are to end, which one that starts just then has to ask.
 running: set[subprocess.Popen] = set()
+is_ending = threading.Event()
 
 # Takes a file, and gives what is wrong with it, if anything is.
 Take = Callable[[pathlib.Path], "str | None"]
@@ -108,9 +113,15 @@ def files_of(folder: str, ending: str) -> list[pathlib.Path]:
 
 def begin(words: list[str]) -> None:
     """Has ./replay run once alone with nothing to read: where it has no program, it compiles one now and says so."""
-    with subprocess.Popen([REPLAY, *words], stdin=subprocess.DEVNULL, stdout=subprocess.DEVNULL) as process:
+    try:
+        process = subprocess.Popen([REPLAY, *words], stdin=subprocess.DEVNULL, stdout=subprocess.DEVNULL)
+    except OSError as error:
+        raise Stopped(NO_ANSWER, f"./replay can't be started: {error.strerror}") from None
+    with process:
         try:
-            process.wait()
+            while process.returncode is None:
+                with contextlib.suppress(subprocess.TimeoutExpired):
+                    process.wait(PATIENCE)
         except BaseException:
             process.terminate()
             raise
@@ -128,6 +139,8 @@ def ask(words: list[str], file: pathlib.Path, output: int = subprocess.PIPE) -> 
         return Ended(NO_INPUT, b"", error.strerror)
     try:
         return asked(words, opened, output)
+    except OSError as error:
+        return Ended(NO_ANSWER, b"", f"it can't be started: {error.strerror}")
     finally:
         os.close(opened)
 
@@ -135,6 +148,8 @@ def ask(words: list[str], file: pathlib.Path, output: int = subprocess.PIPE) -> 
 def asked(words: list[str], opened: int, output: int) -> Ended:
     with subprocess.Popen([REPLAY, *words], stdin=opened, stdout=output, stderr=subprocess.PIPE) as process:
         running.add(process)
+        if is_ending.is_set():
+            process.terminate()
         written, said = process.communicate()
     running.discard(process)
     return Ended(process.returncode, written or b"", said.decode(errors="replace"))
@@ -144,20 +159,34 @@ def faults_of(name: str, files: list[pathlib.Path], take: Take) -> dict[str, str
     """What is wrong with each file that failed, by its name. The largest are taken first, so that none of them is left
     over at the end."""
     faults: dict[str, str] = {}
-    count = Count(name, len(files))
+    count, ended = Count(name, len(files)), queue.SimpleQueue()
     with concurrent.futures.ThreadPoolExecutor(len(os.sched_getaffinity(0))) as pool:
-        taken = {pool.submit(take, file): file.name for file in sorted(files, key=size_of, reverse=True)}
         try:
-            for future in concurrent.futures.as_completed(taken):
-                fault = future.result()
-                faults.update({taken[future]: fault} if fault else {})
+            taken = {pool.submit(take, file): file.name for file in sorted(files, key=size_of, reverse=True)}
+            for future in taken:
+                future.add_done_callback(ended.put)
+            for _ in files:
+                future = next_of(ended)
+                faults.update({taken[future]: future.result()} if future.result() else {})
                 count.rise(len(faults))
         except BaseException:
             pool.shutdown(wait=False, cancel_futures=True)
-            for process in list(running):
-                process.terminate()
+            end_running()
             raise
     return faults
+
+
+def next_of(ended: queue.SimpleQueue) -> concurrent.futures.Future:
+    """The next one that has ended."""
+    while True:
+        with contextlib.suppress(queue.Empty):
+            return ended.get(timeout=PATIENCE)
+
+
+def end_running() -> None:
+    is_ending.set()
+    for process in list(running):
+        process.terminate()
 
 
 def size_of(file: pathlib.Path) -> int:
