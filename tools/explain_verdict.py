@@ -78,10 +78,10 @@ def explain_law(transcript: bytes, verdict: str) -> list[str]:
     found = FAILS.fullmatch(verdict)
     if not found:
         return []
-    import explain_law
+    from explain_law import what_parts
 
     law, number = found[1], int(found[2])
     said = MISPLACED[misplaced(explain_lines.line_at(transcript, number))] if law == "shape" else BROKEN[law]
     lines = [shown(transcript, number), f"replay: this line breaks the law {law}: {said}"]
-    lines += explain_law.what_parts(transcript, law, number)
+    lines += what_parts(transcript, law, number)
     return lines + ([f"replay: {LEFT_OUT}"] if law == "shape" else [])
