@@ -10,14 +10,11 @@ use Rattle.cluster_types.specs.Distinct.{AreDistinct}
 use Rattle.cluster_types.specs.Groups.{AreGroups}
 use Rattle.script_lang.specs.declared.before.Before.{Before}
 use Rattle.script_lang.specs.declared.fault.Cause.{Cause}
-use Rattle.script_lang.specs.declared.fault.LineFault.{LineFault}
-use Rattle.script_lang.specs.declared.fault.LineFault.TheVariants.{Bad, NoMemory}
-use Rattle.script_lang.specs.declared.script.Command.{Command}
 use Rattle.script_lang.specs.declared.script.Command.TheVariants.{Groups}
 use Rattle.script_lang.specs.declared.fault.Cause.TheVariants.{BadGroups}
 use Rattle.script_lang.specs.Outcomes.{and_then, ok_if}
 use Rattle.script_lang.specs.Forms.{is_bar, group_ids, groups, are_distinct, are_whole}
-use Rattle.script_lang.specs.Reading.{GroupsIds, ReadsOutcome}
+use Rattle.script_lang.specs.Reading.{GroupsIds}
 use Rattle.script_lang.specs.Values.{declared_node, is_one_of}
 use Rattle.script_lang.proofs.Groups.{can_read, joined, Continues, from_map, after_id, at_bar, at_end}
 
@@ -182,6 +179,15 @@ are_groups closed last seen s distinct limit filled some =
       distinct = subst AreDistinct (sym ids) distinct;
     }
 
+-- each closed group has an id and so has the one that is closed next, so there is a place for it
+pub room_for : (closed : List (List ℕ)) (last seen : List ℕ) → seen ≡ concat closed ++ last → length seen ≤ 16
+    → list_all is_some closed ≡ true → is_some last ≡ true → length closed < 16
+room_for closed last seen s limit filled some =
+    let few : length closed ≤ length (concat closed) = few_groups closed filled in
+    let first : 0 < length last = ltb-true 0 (length last) some in
+    let size : length seen ≡ length (concat closed) + length last = ap length s ∙ length-append (concat closed) last in
+    omega (arith, few, first, size, limit)
+
 -- ids that a test for none refused
 pub is_some_by : (ids : List ℕ) (t : Bool) → t ≡ false → (ids ≡ [] → t ≡ true) → is_some ids ≡ true
 is_some_by [] t e none = let k = none refl in cc
@@ -209,12 +215,11 @@ some_fields : (before : Before) (first : List ℕ) (fields all : List (List ℕ)
 some_fields before first fields all lists e read =
     ap (groups before) e ∙ ap (λ r. and_then r (λ ls. ok_if (are_whole before.nodes ls) (Groups ls) BadGroups)) (ap (group_ids before) (sym e) ∙ read)
 
-pub groups_refused : (before : Before) (first : List ℕ) (fields all : List (List ℕ)) (fault : LineFault) (u : Unit {0}) → all ≡ first ∷ fields → Ok u ≡ can_read before all
-    → GroupsIds before.nodes (Err fault) (group_ids before all) → ReadsOutcome {Y = Command} (Err fault) (groups before all)
-groups_refused before first fields all (Bad cause) u e ok told =
+pub groups_refused : (before : Before) (first : List ℕ) (fields all : List (List ℕ)) (cause : Cause) (u : Unit {0}) → all ≡ first ∷ fields → Ok u ≡ can_read before all
+    → GroupsIds before.nodes (Err cause) (group_ids before all) → groups before all ≡ Err cause
+groups_refused before first fields all cause u e ok told =
     let r = all_read before all u ok in
     some_fields before first fields all r.0 e r.1 ∙ moved (are_whole before.nodes r.0) r.0 cause (told r.0 r.1)
-groups_refused before first fields all NoMemory u e ok told = tt
 
 pub groups_made : (before : Before) (first : List ℕ) (fields all : List (List ℕ)) (gs : List (List ℕ)) (u : Unit {0}) → all ≡ first ∷ fields → Ok u ≡ can_read before all
     → GroupsIds before.nodes (Ok gs) (group_ids before all) → groups before all ≡ Ok (Groups gs)

@@ -14,6 +14,7 @@ mod Said
 mod Ids
 mod SpelledGroups
 mod Spelled
+mod Spoken
 mod Texts
 mod Whole
 mod Written

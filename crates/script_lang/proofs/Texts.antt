@@ -12,7 +12,7 @@ use Rattle.script_lang.specs.declared.words.Word.{Word}
 use Rattle.script_lang.specs.Grammar.{line_of, line_of_fields, line_of_word, known_word}
 use Rattle.script_lang.specs.Layout.{line_fields, is_comment, is_passed_over}
 use Rattle.script_lang.specs.Outcomes.{and_then}
-use Rattle.script_lang.specs.Reading.{ReadsOutcome}
+use Rattle.script_lang.specs.Reading.{ReadsLine}
 
 -- a line that isn't passed over begins with this field
 pub record BeginsWith (text first : List ℕ) (rest : List (List ℕ)) : Type 0 where
@@ -46,8 +46,8 @@ pub no_word : (before : Before) (text first : List ℕ) (rest : List (List ℕ))
 no_word before text first rest cause b good e = good_text before text first rest b good ∙ ap (λ r. and_then r (λ w. line_of_word before w rest)) (sym e)
 
 pub a_word : (before : Before) (text first : List ℕ) (rest : List (List ℕ)) (w : Word) (r : Result Line LineFault) → BeginsWith text first rest → IsUtf8 text → Ok w ≡ known_word before first
-    → ReadsOutcome r (line_of_word before w rest) → ReadsOutcome r (line_of before text)
+    → ReadsLine r (line_of_word before w rest) → ReadsLine r (line_of before text)
 a_word before text first rest w r b good e said =
     let due : line_of_word before w rest ≡ line_of before text =
     sym (good_text before text first rest b good ∙ ap (λ k. and_then k (λ w. line_of_word before w rest)) (sym e)) in
-    subst (λ (d : Result Line Cause). ReadsOutcome r d) due said
+    subst (λ (d : Result Line Cause). ReadsLine r d) due said

@@ -6,8 +6,10 @@ use Rattle.script_lang.specs.declared.fault.Cause.{Cause}
 use Rattle.script_lang.specs.declared.fault.ScriptFault.{ScriptFault}
 use Rattle.script_lang.specs.declared.fault.ScriptFault.TheVariants.{At, NoMemory}
 use Rattle.script_lang.specs.declared.script.Script.{Script}
-use Rattle.script_lang.specs.Grammar.{Fault, script_from, script_after}
+use Rattle.script_lang.specs.Before.{before_next}
+use Rattle.script_lang.specs.Grammar.{Fault, line_of, script_from, script_after, with_line}
 use Rattle.script_lang.specs.Layout.{ended, lines_of, without_return, ends_in_return}
+use Rattle.script_lang.specs.Outcomes.{map_ok}
 use Rattle.script_lang.specs.Reading.{CutAt, Refuses, RefusesAt}
 use Rattle.script_lang.proofs.Parts.{cut_off, sole_part}
 
@@ -72,16 +74,16 @@ one_bad line script bytes text behind taken cause all c t so_far e =
     ∙ ap (λ (x : Result Script Cause). elim x [ Ok s ↦ script_from (line + 1) s (lines_of behind) | Err cause ↦ Err (record { line = line; cause = cause }) ]) (ap (script_after script) (sym t) ∙ e)
 
 pub refused : (line : ℕ) (script : Script) (bytes text behind taken : List ℕ) (fault : ScriptFault) (all : Result Script Fault) → CutAt 10 bytes text behind → taken ≡ without_return text
-    → script_from line script (lines_of bytes) ≡ all → RefusesAt line (script_after script taken) fault → Refuses all fault
+    → script_from line script (lines_of bytes) ≡ all → RefusesAt line (line_of (before_next script.header script.commands) taken) fault → Refuses all fault
 refused line script bytes text behind taken (At place cause) all c t so_far r =
-    one_bad line script bytes text behind taken cause all c t so_far r.1 ∙ ap (λ (n : ℕ). Err (record { line = n; cause = cause })) (sym r.0)
+    one_bad line script bytes text behind taken cause all c t so_far (ap (map_ok (with_line script)) r.1) ∙ ap (λ (n : ℕ). Err (record { line = n; cause = cause })) (sym r.0)
 refused line script bytes text behind taken NoMemory all c t so_far r = tt
 
 pub last_refused : (line : ℕ) (script : Script) (bytes : List ℕ) (fault : ScriptFault) (all : Result Script Fault) → length bytes ≤ position_or_len (λ b. b == 10) bytes
-    → script_from line script (lines_of bytes) ≡ all → RefusesAt line (script_after script bytes) fault → Refuses all fault
+    → script_from line script (lines_of bytes) ≡ all → RefusesAt line (line_of (before_next script.header script.commands) bytes) fault → Refuses all fault
 last_refused line script bytes (At place cause) all none so_far r =
     sym so_far ∙ ap (script_from line script) (last_line bytes none)
-    ∙ ap (λ (x : Result Script Cause). elim x [ Ok s ↦ script_from (line + 1) s [] | Err cause ↦ Err (record { line = line; cause = cause }) ]) r.1
+    ∙ ap (λ (x : Result Script Cause). elim x [ Ok s ↦ script_from (line + 1) s [] | Err cause ↦ Err (record { line = line; cause = cause }) ]) (ap (map_ok (with_line script)) r.1)
     ∙ ap (λ (n : ℕ). Err (record { line = n; cause = cause })) (sym r.0)
 last_refused line script bytes NoMemory all none so_far r = tt
 

@@ -55,6 +55,13 @@ line_of before text =
 
 -- ---- all lines
 
+-- what the first line says that isn't passed over; nothing, where all are
+abbrev pub first_said : List (List ℕ) → Result Line Cause
+first_said [] = Ok line.Nothing
+first_said (text ∷ texts) =
+    if is_passed_over (line_fields text) then first_said texts
+    else line_of (before_next [] []) text
+
 -- the script with what one line more says
 abbrev pub with_line : Script → Line → Script
 with_line script line.Nothing = script

@@ -2,6 +2,7 @@
 mod client;
 mod commands;
 mod counts;
+mod group_lists;
 mod groups;
 mod header;
 mod network;

@@ -3,7 +3,7 @@ ghost use Rattle.std.specs.Prelude.{◌≡◌, ◌∷◌};
 ghost use Rattle.script_lang.specs.Fields.{IsShort};
 ghost use Rattle.script_lang.specs.Grammar as grammar;
 ghost use Rattle.script_lang.specs.Layout as layout;
-ghost use Rattle.script_lang.specs.Reading.{ReadsOutcome};
+ghost use Rattle.script_lang.specs.Reading.{ReadsLine};
 
 use crate::before::Before;
 use crate::fault::{Cause, LineFault};
@@ -25,7 +25,7 @@ pub enum Line {
 /// What the line says after the lines before it.
 pub fn line_of(alloc: Global, before: &Before, text: &[u8]) -> Result<Line, LineFault>
     requires { IsShort text.now }
-    ensures { ReadsOutcome result (grammar.line_of before.now text.now) }
+    ensures { ReadsLine result (grammar.line_of before.now text.now) }
 {
     let mut fields = Fields::of(text);
     let Some(first) = fields.take_first() else {
@@ -70,7 +70,7 @@ fn line_of_word(
     word: Word,
     fields: Fields,
 ) -> Result<Line, LineFault>
-    ensures { ReadsOutcome result (grammar.line_of_word before.now word fields.entry) }
+    ensures { ReadsLine result (grammar.line_of_word before.now word fields.entry) }
 {
     match word {
         Word::Header(word) => {

@@ -1,12 +1,12 @@
 //! The script that bytes are.
-ghost use Rattle.std.specs.Prelude.{◌≡◌, ◌≤◌, ◌+◌, length, IfOk, IfErr, OnOk, Ok};
+ghost use Rattle.std.specs.Prelude.{◌≡◌, ◌≤◌, ◌+◌, length, IfOk, IfErr, OnOk, OnErr, IsErrOf, Ok};
 ghost use Rattle.script_lang.specs.Fields.{IsShort};
 ghost use Rattle.script_lang.specs.Grammar as grammar;
 ghost use Rattle.script_lang.specs.Layout as layout;
 ghost use Rattle.script_lang.specs.Proper.{IsProper, IsServed};
-ghost use Rattle.script_lang.specs.Before.{MayDeclare, nodes_of};
+ghost use Rattle.script_lang.specs.Before.{MayDeclare, before_next, nodes_of};
 ghost use Rattle.script_lang.specs.Headers.{IsProperHeaderLine};
-ghost use Rattle.script_lang.specs.Reading.{MayAdd, Refuses, RefusesAt};
+ghost use Rattle.script_lang.specs.Reading.{MayAdd, Refuses, RefusesAt, SaysSomething};
 
 use crate::before::Before;
 use crate::bytes::cut;
@@ -17,11 +17,13 @@ use std::alloc::{AllocError, Global};
 use std::marker::Model;
 
 /// The script that the bytes are. `At` is the first bad line, counted from 1, and its cause. `NoMemory` is the
-/// allocator's refusal.
+/// allocator's refusal, which comes only where the first line that isn't passed over is good.
 pub fn parse(alloc: Global, bytes: &[u8]) -> Result<Script, ScriptFault>
     requires { IsShort bytes.now }
     ensures ok { IfOk result (λ script. grammar.script_of bytes.now ≡ Ok script) }
     ensures err { IfErr result (Refuses (grammar.script_of bytes.now)) }
+    ensures memory { IsErrOf result ScriptFault.NoMemory
+        → SaysSomething (grammar.first_said (layout.lines_of bytes.now)) }
     ensures proper { IfOk result IsProper }
     ensures served { IfOk result IsServed }
     ensures short { IfOk result (λ script. length script.commands ≤ length bytes.now) }
@@ -86,7 +88,8 @@ impl Reader {
     fn read(&mut self, alloc: Global, line: u64, text: &[u8]) -> Result<(), ScriptFault>
         requires { IsShort text.now }
         ensures ok { OnOk result (grammar.script_after self.old text.now ≡ Ok self.new) }
-        ensures err { IfErr result (RefusesAt line (grammar.script_after self.old text.now)) }
+        ensures err { IfErr result (RefusesAt line
+            (grammar.line_of (before_next self.old.header self.old.commands) text.now)) }
         ensures short { OnOk result (length self.new.commands ≤ length self.old.commands + 1) }
     {
         match line_of(alloc, &self.before, text) {
@@ -101,7 +104,8 @@ impl Reader {
     /// Adds what a line says.
     fn add(&mut self, said: Line) -> Result<(), AllocError>
         requires { MayAdd self.old said }
-        ensures { OnOk result (self.new ≡ grammar.with_line self.old said) }
+        ensures ok { OnOk result (self.new ≡ grammar.with_line self.old said) }
+        ensures err { OnErr result (SaysSomething (Ok said)) }
     {
         match said {
             Line::Nothing => Ok(()),

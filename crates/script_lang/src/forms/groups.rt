@@ -4,6 +4,7 @@ ghost use Rattle.script_lang.specs.Forms as forms;
 ghost use Rattle.script_lang.specs.Outcomes.{map_ok};
 ghost use Rattle.script_lang.specs.Reading.{GroupsIds, ReadsOutcome};
 
+use super::group_lists::GroupLists;
 use crate::before::Before;
 use crate::fault::{Cause, LineFault};
 use crate::fields::{Field, Fields};
@@ -20,7 +21,7 @@ pub fn groups(alloc: Global, before: &Before, fields: Fields) -> Result<Command,
         return Err(LineFault::Bad(Cause::MissingField));
     };
     check_ids(before, fields.again())?;
-    let groups = grouped(alloc, before, fields)?;
+    let groups = grouped(before, fields)?;
     let groups = Boxed::new(alloc, groups)?;
     Ok(Command::Groups { groups })
 }
@@ -43,24 +44,25 @@ fn check_ids(before: &Before, mut fields: Fields) -> Result<(), Cause>
     Ok(())
 }
 
-/// The groups of ids that are all declared.
-fn grouped(alloc: Global, before: &Before, mut fields: Fields) -> Result<Groups, LineFault>
+/// The groups of ids that are all declared. They need no memory of their own, so bad ones are told whether
+/// there is some or not.
+fn grouped(before: &Before, mut fields: Fields) -> Result<Groups, Cause>
     ensures { GroupsIds before.now.nodes result (forms.group_ids before.now fields.entry) }
 {
-    let mut groups = Vec::new(alloc);
+    let mut groups = GroupLists::new();
     let mut group = NodeList::new();
     let mut seen = NodeList::new();
     while let Some(field) = fields.take_first() {
         if is_bar(&field) {
             if group.is_empty() {
-                return Err(LineFault::Bad(Cause::BadGroups));
+                return Err(Cause::BadGroups);
             }
-            groups.push(group)?;
+            groups.push(group);
             group = NodeList::new();
         } else {
             let id = declared_node(before, &field)?;
             if seen.len() >= before.nodes.len() || seen.contains(id) {
-                return Err(LineFault::Bad(Cause::BadGroups));
+                return Err(Cause::BadGroups);
             }
             seen.push(id);
             group.push(id);
@@ -68,8 +70,8 @@ fn grouped(alloc: Global, before: &Before, mut fields: Fields) -> Result<Groups,
     }
     let ids = seen.as_slice();
     if group.is_empty() || ids.len() != before.nodes.len() {
-        return Err(LineFault::Bad(Cause::BadGroups));
+        return Err(Cause::BadGroups);
     }
-    groups.push(group)?;
+    groups.push(group);
     Ok(Groups::from_lists(groups.as_slice()))
 }
