@@ -24,12 +24,12 @@ pub(crate) struct Reader<'a> {
 
 impl<'a> Reader<'a> {
     /// So many bytes, or `Short` where fewer are left.
-    pub(crate) fn take(&mut self, count: usize) -> Result<&'a [u8], ReadFault>
+    pub(crate) fn take(&mut self, count: usize) -> Result<&'a [u8], FieldFault>
         ensures front { IfOk result (λ front. front.now ≡ take count self.old.rest.now) }
         ensures rest { OnOk result (self.new.rest.now ≡ drop count self.old.rest.now) }
         ensures whole { OnOk result (count ≤ length self.old.rest.now) }
         ensures cut { OnErr result (length self.old.rest.now < count) }
-        ensures short { IfErr result (λ fault. fault ≡ Field Short) }
+        ensures short { IfErr result (λ fault. fault ≡ Short) }
     {
         if self.rest.len() < count {
             return Err(short());
@@ -40,7 +40,7 @@ impl<'a> Reader<'a> {
     }
 }
 
-/// Why a field isn't read.
+/// Why a field isn't read whose value takes memory.
 #[derive(Debug, Drop)]
 pub enum ReadFault {
     Field(FieldFault),
@@ -48,17 +48,25 @@ pub enum ReadFault {
 }
 
 /// The field that stands first has a value that isn't allowed.
-pub(crate) fn bad(bytes: &[u8]) -> ReadFault
-    ensures { result ≡ Field (Bad (length bytes.now)) }
+pub(crate) fn bad(bytes: &[u8]) -> FieldFault
+    ensures { result ≡ Bad (length bytes.now) }
 {
-    ReadFault::Field(FieldFault::Bad { left: bytes.len() })
+    FieldFault::Bad { left: bytes.len() }
 }
 
 /// The bytes end before the field does.
-pub(crate) fn short() -> ReadFault
-    ensures { result ≡ Field Short }
+pub(crate) fn short() -> FieldFault
+    ensures { result ≡ Short }
 {
-    ReadFault::Field(FieldFault::Short)
+    FieldFault::Short
+}
+
+impl From<FieldFault> for ReadFault {
+    ghost from_gives = { λ field fault. fault ≡ Field field };
+
+    fn from(field: FieldFault) -> ReadFault {
+        ReadFault::Field(field)
+    }
 }
 
 impl From<AllocError> for ReadFault {

@@ -3,8 +3,9 @@ ghost use Rattle.std.specs.Prelude.{◌≡◌};
 ghost use Rattle.wire_messages.specs.Keys as keys;
 ghost use Rattle.wire_codec.specs.Reading.{Reads};
 
-use crate::reading::{ReadFault, Reader, bad};
+use crate::reading::{Reader, bad};
 use cluster_types::ClusterKey;
+use wire_messages::FieldFault;
 
 /// The round is in the six high bytes, and the principal in the two low ones.
 fn key_of(number: u64) -> ClusterKey
@@ -32,7 +33,7 @@ pub(crate) fn is_none(key: ClusterKey) -> bool
 impl<'a> Reader<'a> {
     /// The key of some view.
     #[tactic(auto, unfolding(wire_messages::specs::Fields::field, wire_messages::specs::Numbers::number_at, wire_messages::specs::Keys::key_where, wire_messages::specs::Keys::key_at))]
-    pub(crate) fn key(&mut self) -> Result<ClusterKey, ReadFault>
+    pub(crate) fn key(&mut self) -> Result<ClusterKey, FieldFault>
         ensures { Reads result (keys.key_at self.old.rest.now) self.new.rest.now }
     {
         let bytes = self.rest;
@@ -45,7 +46,7 @@ impl<'a> Reader<'a> {
 
     /// The key of some view, or none.
     #[tactic(auto, unfolding(wire_messages::specs::Fields::field, wire_messages::specs::Numbers::number_at, wire_messages::specs::Keys::key_where, wire_messages::specs::Keys::key_or_none_at))]
-    pub(crate) fn key_or_none(&mut self) -> Result<ClusterKey, ReadFault>
+    pub(crate) fn key_or_none(&mut self) -> Result<ClusterKey, FieldFault>
         ensures { Reads result (keys.key_or_none_at self.old.rest.now) self.new.rest.now }
     {
         let bytes = self.rest;

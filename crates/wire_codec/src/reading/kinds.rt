@@ -1,22 +1,22 @@
 //! Each kind of message is read: its fields, behind the byte of the kind.
-ghost use Rattle.std.specs.Prelude.{◌≡◌, List, ℕ, Result, Some};
+ghost use Rattle.std.specs.Prelude.{◌≡◌, true, List, ℕ, Result, Some, IsErrOf};
 ghost use Rattle.wire_messages.specs.declared.message.Message.{Message};
 ghost use Rattle.wire_messages.specs.declared.fault.FieldFault.{FieldFault};
 ghost use Rattle.wire_messages.specs.Kinds as kinds;
-ghost use Rattle.wire_codec.specs.KindBytes.{byte_of};
-ghost use Rattle.wire_codec.specs.Reading.{Reads};
+ghost use Rattle.wire_codec.specs.KindBytes.{byte_of, takes_memory};
+ghost use Rattle.wire_codec.specs.Reading.{Reads, ReadsUnlessRefused};
 
 use crate::kind::Kind;
 use crate::reading::keys::is_none;
 use crate::reading::{ReadFault, Reader};
 use cluster_types::Role;
 use std::alloc::Global;
-use wire_messages::{Batch, MapTable, Message, ScanPage};
+use wire_messages::{Batch, FieldFault, MapTable, Message, ScanPage};
 
 impl<'a> Reader<'a> {
     /// A heartbeat of a plain role.
     #[tactic(auto, unfolding(wire_messages::specs::Kinds::heartbeat_at))]
-    fn heartbeat(&mut self) -> Result<Message, ReadFault>
+    fn heartbeat(&mut self) -> Result<Message, FieldFault>
         ensures { Reads result (kinds.heartbeat_at self.old.rest.now) self.new.rest.now }
     {
         let view = self.key_or_none()?;
@@ -32,7 +32,7 @@ impl<'a> Reader<'a> {
 
     /// A proposal of plain members.
     #[tactic(auto, unfolding(wire_messages::specs::Kinds::propose_at))]
-    fn propose(&mut self) -> Result<Message, ReadFault>
+    fn propose(&mut self) -> Result<Message, FieldFault>
         ensures { Reads result (kinds.propose_at self.old.rest.now) self.new.rest.now }
     {
         let key = self.key()?;
@@ -42,7 +42,7 @@ impl<'a> Reader<'a> {
 
     /// A proposal is accepted.
     #[tactic(auto, unfolding(wire_messages::specs::Kinds::accept_at))]
-    fn accept(&mut self) -> Result<Message, ReadFault>
+    fn accept(&mut self) -> Result<Message, FieldFault>
         ensures { Reads result (kinds.accept_at self.old.rest.now) self.new.rest.now }
     {
         let key = self.key()?;
@@ -51,7 +51,7 @@ impl<'a> Reader<'a> {
 
     /// A proposal is refused.
     #[tactic(auto, unfolding(wire_messages::specs::Kinds::refuse_at))]
-    fn refuse(&mut self) -> Result<Message, ReadFault>
+    fn refuse(&mut self) -> Result<Message, FieldFault>
         ensures { Reads result (kinds.refuse_at self.old.rest.now) self.new.rest.now }
     {
         let refused = self.key()?;
@@ -61,7 +61,7 @@ impl<'a> Reader<'a> {
 
     /// A view of plain members is entered.
     #[tactic(auto, unfolding(wire_messages::specs::Kinds::commit_at))]
-    fn commit(&mut self) -> Result<Message, ReadFault>
+    fn commit(&mut self) -> Result<Message, FieldFault>
         ensures { Reads result (kinds.commit_at self.old.rest.now) self.new.rest.now }
     {
         let key = self.key()?;
@@ -72,7 +72,7 @@ impl<'a> Reader<'a> {
     /// The states of the copies.
     #[tactic(auto, unfolding(wire_messages::specs::Kinds::state_message_at))]
     fn state_message(&mut self, alloc: Global) -> Result<Message, ReadFault>
-        ensures { Reads result (kinds.state_message_at self.old.rest.now) self.new.rest.now }
+        ensures { ReadsUnlessRefused result (kinds.state_message_at self.old.rest.now) self.new.rest.now }
     {
         let key = self.key()?;
         let wants = self.flag()?;
@@ -83,7 +83,7 @@ impl<'a> Reader<'a> {
     /// A batch of records.
     #[tactic(auto, unfolding(wire_messages::specs::Kinds::batch_at))]
     fn batch(&mut self, alloc: Global) -> Result<Message, ReadFault>
-        ensures { Reads result (kinds.batch_at self.old.rest.now) self.new.rest.now }
+        ensures { ReadsUnlessRefused result (kinds.batch_at self.old.rest.now) self.new.rest.now }
     {
         let key = self.key()?;
         let number = self.positive()?;
@@ -97,7 +97,7 @@ impl<'a> Reader<'a> {
 
     /// A batch came.
     #[tactic(auto, unfolding(wire_messages::specs::Kinds::batch_ack_at))]
-    fn batch_ack(&mut self) -> Result<Message, ReadFault>
+    fn batch_ack(&mut self) -> Result<Message, FieldFault>
         ensures { Reads result (kinds.batch_ack_at self.old.rest.now) self.new.rest.now }
     {
         let key = self.key()?;
@@ -108,7 +108,7 @@ impl<'a> Reader<'a> {
     /// How far the copies have come.
     #[tactic(auto, unfolding(wire_messages::specs::Kinds::progress_at))]
     fn progress(&mut self, alloc: Global) -> Result<Message, ReadFault>
-        ensures { Reads result (kinds.progress_at self.old.rest.now) self.new.rest.now }
+        ensures { ReadsUnlessRefused result (kinds.progress_at self.old.rest.now) self.new.rest.now }
     {
         let key = self.key()?;
         let wants = self.flag()?;
@@ -127,7 +127,7 @@ impl<'a> Reader<'a> {
     /// A write is replicated.
     #[tactic(auto, unfolding(wire_messages::specs::Kinds::repl_at))]
     fn repl(&mut self, alloc: Global) -> Result<Message, ReadFault>
-        ensures { Reads result (kinds.repl_at self.old.rest.now) self.new.rest.now }
+        ensures { ReadsUnlessRefused result (kinds.repl_at self.old.rest.now) self.new.rest.now }
     {
         let key = self.key()?;
         let transaction = self.positive()?;
@@ -145,7 +145,7 @@ impl<'a> Reader<'a> {
 
     /// A write came.
     #[tactic(auto, unfolding(wire_messages::specs::Kinds::repl_ack_at))]
-    fn repl_ack(&mut self) -> Result<Message, ReadFault>
+    fn repl_ack(&mut self) -> Result<Message, FieldFault>
         ensures { Reads result (kinds.repl_ack_at self.old.rest.now) self.new.rest.now }
     {
         let key = self.key()?;
@@ -155,7 +155,7 @@ impl<'a> Reader<'a> {
 
     /// A version is asked for.
     #[tactic(auto, unfolding(wire_messages::specs::Kinds::ask_at))]
-    fn ask(&mut self) -> Result<Message, ReadFault>
+    fn ask(&mut self) -> Result<Message, FieldFault>
         ensures { Reads result (kinds.ask_at self.old.rest.now) self.new.rest.now }
     {
         let key = self.key()?;
@@ -171,7 +171,7 @@ impl<'a> Reader<'a> {
     /// The version that was asked for.
     #[tactic(auto, unfolding(wire_messages::specs::Kinds::answer_at))]
     fn answer(&mut self, alloc: Global) -> Result<Message, ReadFault>
-        ensures { Reads result (kinds.answer_at self.old.rest.now) self.new.rest.now }
+        ensures { ReadsUnlessRefused result (kinds.answer_at self.old.rest.now) self.new.rest.now }
     {
         let key = self.key()?;
         let transaction = self.positive()?;
@@ -185,7 +185,7 @@ impl<'a> Reader<'a> {
 
     /// The table is asked for.
     #[tactic(auto, unfolding(wire_messages::specs::Kinds::map_ask_at))]
-    fn map_ask(&mut self) -> Result<Message, ReadFault>
+    fn map_ask(&mut self) -> Result<Message, FieldFault>
         ensures { Reads result (kinds.map_ask_at self.old.rest.now) self.new.rest.now }
     {
         Ok(Message::MapAsk)
@@ -194,7 +194,7 @@ impl<'a> Reader<'a> {
     /// The table of acting nodes.
     #[tactic(auto, unfolding(wire_messages::specs::Kinds::map_table_at))]
     fn map_table(&mut self, alloc: Global) -> Result<Message, ReadFault>
-        ensures { Reads result (kinds.map_table_at self.old.rest.now) self.new.rest.now }
+        ensures { ReadsUnlessRefused result (kinds.map_table_at self.old.rest.now) self.new.rest.now }
     {
         let key = self.key()?;
         let ids = self.table(alloc)?;
@@ -204,7 +204,7 @@ impl<'a> Reader<'a> {
 
     /// A heartbeat of another role.
     #[tactic(auto, unfolding(wire_messages::specs::Kinds::heartbeat_with_role_at))]
-    fn heartbeat_with_role(&mut self) -> Result<Message, ReadFault>
+    fn heartbeat_with_role(&mut self) -> Result<Message, FieldFault>
         ensures { Reads result (kinds.heartbeat_with_role_at self.old.rest.now) self.new.rest.now }
     {
         let view = self.key_or_none()?;
@@ -221,7 +221,7 @@ impl<'a> Reader<'a> {
 
     /// A proposal of members that aren't all plain.
     #[tactic(auto, unfolding(wire_messages::specs::Kinds::propose_with_roles_at))]
-    fn propose_with_roles(&mut self) -> Result<Message, ReadFault>
+    fn propose_with_roles(&mut self) -> Result<Message, FieldFault>
         ensures { Reads result (kinds.propose_with_roles_at self.old.rest.now) self.new.rest.now }
     {
         let key = self.key()?;
@@ -231,7 +231,7 @@ impl<'a> Reader<'a> {
 
     /// A view of members that aren't all plain is entered.
     #[tactic(auto, unfolding(wire_messages::specs::Kinds::commit_with_roles_at))]
-    fn commit_with_roles(&mut self) -> Result<Message, ReadFault>
+    fn commit_with_roles(&mut self) -> Result<Message, FieldFault>
         ensures { Reads result (kinds.commit_with_roles_at self.old.rest.now) self.new.rest.now }
     {
         let key = self.key()?;
@@ -242,7 +242,7 @@ impl<'a> Reader<'a> {
     /// A request is passed on.
     #[tactic(auto, unfolding(wire_messages::specs::Kinds::proxy_at))]
     fn proxy(&mut self, alloc: Global) -> Result<Message, ReadFault>
-        ensures { Reads result (kinds.proxy_at self.old.rest.now) self.new.rest.now }
+        ensures { ReadsUnlessRefused result (kinds.proxy_at self.old.rest.now) self.new.rest.now }
     {
         let key = self.key()?;
         let number = self.positive()?;
@@ -259,7 +259,7 @@ impl<'a> Reader<'a> {
     /// The reply to a request that was passed on.
     #[tactic(auto, unfolding(wire_messages::specs::Kinds::proxy_reply_at))]
     fn proxy_reply(&mut self, alloc: Global) -> Result<Message, ReadFault>
-        ensures { Reads result (kinds.proxy_reply_at self.old.rest.now) self.new.rest.now }
+        ensures { ReadsUnlessRefused result (kinds.proxy_reply_at self.old.rest.now) self.new.rest.now }
     {
         let key = self.key()?;
         let number = self.positive()?;
@@ -270,7 +270,7 @@ impl<'a> Reader<'a> {
     /// A request of the client.
     #[tactic(auto, unfolding(wire_messages::specs::Kinds::call_at))]
     fn call(&mut self, alloc: Global) -> Result<Message, ReadFault>
-        ensures { Reads result (kinds.call_at self.old.rest.now) self.new.rest.now }
+        ensures { ReadsUnlessRefused result (kinds.call_at self.old.rest.now) self.new.rest.now }
     {
         let number = self.positive()?;
         let digest = self.digest()?;
@@ -285,7 +285,7 @@ impl<'a> Reader<'a> {
     /// The reply to the client.
     #[tactic(auto, unfolding(wire_messages::specs::Kinds::reply_message_at))]
     fn reply_message(&mut self, alloc: Global) -> Result<Message, ReadFault>
-        ensures { Reads result (kinds.reply_message_at self.old.rest.now) self.new.rest.now }
+        ensures { ReadsUnlessRefused result (kinds.reply_message_at self.old.rest.now) self.new.rest.now }
     {
         let key = self.key_or_none()?;
         let number = self.positive()?;
@@ -295,7 +295,7 @@ impl<'a> Reader<'a> {
 
     /// A page of a scan is asked for.
     #[tactic(auto, unfolding(wire_messages::specs::Kinds::scan_ask_at))]
-    fn scan_ask(&mut self) -> Result<Message, ReadFault>
+    fn scan_ask(&mut self) -> Result<Message, FieldFault>
         ensures { Reads result (kinds.scan_ask_at self.old.rest.now) self.new.rest.now }
     {
         let scan = self.positive()?;
@@ -311,7 +311,7 @@ impl<'a> Reader<'a> {
     /// A page of a scan.
     #[tactic(auto, unfolding(wire_messages::specs::Kinds::scan_page_at))]
     fn scan_page(&mut self, alloc: Global) -> Result<Message, ReadFault>
-        ensures { Reads result (kinds.scan_page_at self.old.rest.now) self.new.rest.now }
+        ensures { ReadsUnlessRefused result (kinds.scan_page_at self.old.rest.now) self.new.rest.now }
     {
         let key = self.key()?;
         let scan = self.positive()?;
@@ -331,7 +331,7 @@ impl<'a> Reader<'a> {
 
     /// There is no page.
     #[tactic(auto, unfolding(wire_messages::specs::Kinds::scan_no_at))]
-    fn scan_no(&mut self) -> Result<Message, ReadFault>
+    fn scan_no(&mut self) -> Result<Message, FieldFault>
         ensures { Reads result (kinds.scan_no_at self.old.rest.now) self.new.rest.now }
     {
         let scan = self.positive()?;
@@ -341,36 +341,37 @@ impl<'a> Reader<'a> {
 
     /// The fields of a message of that kind.
     pub(crate) fn message(&mut self, alloc: Global, kind: Kind) -> Result<Message, ReadFault>
-        ensures { (read : List ℕ → Result (Message × List ℕ) FieldFault)
+        ensures reads { (read : List ℕ → Result (Message × List ℕ) FieldFault)
             → kinds.kind_of (byte_of kind) ≡ Some read
-            → Reads result (read self.old.rest.now) self.new.rest.now }
+            → ReadsUnlessRefused result (read self.old.rest.now) self.new.rest.now }
+        ensures memory { IsErrOf result ReadFault.NoMemory → takes_memory kind ≡ true }
     {
         match kind {
-            Kind::Heartbeat => self.heartbeat(),
-            Kind::Propose => self.propose(),
-            Kind::Accept => self.accept(),
-            Kind::Refuse => self.refuse(),
-            Kind::Commit => self.commit(),
+            Kind::Heartbeat => Ok(self.heartbeat()?),
+            Kind::Propose => Ok(self.propose()?),
+            Kind::Accept => Ok(self.accept()?),
+            Kind::Refuse => Ok(self.refuse()?),
+            Kind::Commit => Ok(self.commit()?),
             Kind::State => self.state_message(alloc),
             Kind::Batch => self.batch(alloc),
-            Kind::BatchAck => self.batch_ack(),
+            Kind::BatchAck => Ok(self.batch_ack()?),
             Kind::Progress => self.progress(alloc),
             Kind::Repl => self.repl(alloc),
-            Kind::ReplAck => self.repl_ack(),
-            Kind::Ask => self.ask(),
+            Kind::ReplAck => Ok(self.repl_ack()?),
+            Kind::Ask => Ok(self.ask()?),
             Kind::Answer => self.answer(alloc),
-            Kind::MapAsk => self.map_ask(),
+            Kind::MapAsk => Ok(self.map_ask()?),
             Kind::MapTable => self.map_table(alloc),
-            Kind::HeartbeatWithRole => self.heartbeat_with_role(),
-            Kind::ProposeWithRoles => self.propose_with_roles(),
-            Kind::CommitWithRoles => self.commit_with_roles(),
+            Kind::HeartbeatWithRole => Ok(self.heartbeat_with_role()?),
+            Kind::ProposeWithRoles => Ok(self.propose_with_roles()?),
+            Kind::CommitWithRoles => Ok(self.commit_with_roles()?),
             Kind::Proxy => self.proxy(alloc),
             Kind::ProxyReply => self.proxy_reply(alloc),
             Kind::Call => self.call(alloc),
             Kind::Reply => self.reply_message(alloc),
-            Kind::ScanAsk => self.scan_ask(),
+            Kind::ScanAsk => Ok(self.scan_ask()?),
             Kind::ScanPage => self.scan_page(alloc),
-            Kind::ScanNo => self.scan_no(),
+            Kind::ScanNo => Ok(self.scan_no()?),
         }
     }
 }

@@ -5,10 +5,10 @@ ghost use Rattle.wire_messages.specs.Nodes as nodes;
 ghost use Rattle.wire_messages.specs.Nodes.{nobody_before, with_member, member_at, plain_members_at, members_at};
 ghost use Rattle.wire_codec.specs.Reading.{Reads, Fills};
 
-use crate::reading::{ReadFault, Reader};
+use crate::reading::Reader;
 use crate::roles::is_plain;
 use cluster_types::{Member, Members, NodeId};
-use wire_messages::Before;
+use wire_messages::{Before, FieldFault};
 
 /// No member stands before the first one.
 fn nobody_before() -> Before
@@ -33,7 +33,7 @@ fn with_member(before: &Before, member: &Member) -> Before
 impl<'a> Reader<'a> {
     /// 1 to 16 members of plain roles.
     #[tactic(auto, unfolding(wire_messages::specs::Nodes::plain_members_at))]
-    pub(crate) fn plain_members(&mut self) -> Result<Members, ReadFault>
+    pub(crate) fn plain_members(&mut self) -> Result<Members, FieldFault>
         ensures { Reads result (plain_members_at self.old.rest.now) self.new.rest.now }
     {
         let ids = self.ids(1, 16)?;
@@ -45,7 +45,7 @@ impl<'a> Reader<'a> {
 
     /// A member behind those before it, with so many after it.
     #[tactic(auto, unfolding(wire_messages::specs::Nodes::member_at))]
-    fn member(&mut self, before: &Before, after: usize) -> Result<Member, ReadFault>
+    fn member(&mut self, before: &Before, after: usize) -> Result<Member, FieldFault>
         ensures { Reads result (member_at before.now after self.old.rest.now) self.new.rest.now }
     {
         let id = self.id_below(before.id)?;
@@ -54,7 +54,7 @@ impl<'a> Reader<'a> {
     }
 
     /// A member for each place.
-    fn fill_members(&mut self, places: &mut [Member]) -> Result<(), ReadFault>
+    fn fill_members(&mut self, places: &mut [Member]) -> Result<(), FieldFault>
         ensures { Fills result places.new
             (items_at member_at with_member (length places.old) nobody_before self.old.rest.now)
             self.new.rest.now }
@@ -69,7 +69,7 @@ impl<'a> Reader<'a> {
     }
 
     /// The members that take these places.
-    fn members_in(&mut self, places: &mut [Member]) -> Result<Members, ReadFault>
+    fn members_in(&mut self, places: &mut [Member]) -> Result<Members, FieldFault>
         requires some { 0 < length places.old }
         requires limit { length places.old ≤ 16 }
         ensures { Reads result
@@ -85,7 +85,7 @@ impl<'a> Reader<'a> {
 
     /// 1 to 16 members with their roles.
     #[tactic(auto, unfolding(wire_messages::specs::Nodes::members_at))]
-    pub(crate) fn members(&mut self) -> Result<Members, ReadFault>
+    pub(crate) fn members(&mut self) -> Result<Members, FieldFault>
         ensures { Reads result (members_at self.old.rest.now) self.new.rest.now }
     {
         let count = usize::from(self.byte(1, 16)?);

@@ -4,13 +4,14 @@ ghost use Rattle.cluster_types.specs.Distinct.{IsDescending};
 ghost use Rattle.wire_messages.specs.Nodes.{id_below_at, falling_ids_at, ids_at, id_at, role_at};
 ghost use Rattle.wire_codec.specs.Reading.{Reads};
 
-use crate::reading::{ReadFault, Reader, bad};
+use crate::reading::{Reader, bad};
 use cluster_types::{NodeId, NodeList, Role};
+use wire_messages::FieldFault;
 
 impl<'a> Reader<'a> {
     /// The id of a node.
     #[tactic(auto, unfolding(wire_messages::specs::Fields::field, wire_messages::specs::Numbers::number_at, wire_messages::specs::Nodes::id_at))]
-    pub(crate) fn id(&mut self) -> Result<NodeId, ReadFault>
+    pub(crate) fn id(&mut self) -> Result<NodeId, FieldFault>
         ensures { Reads result (id_at self.old.rest.now) self.new.rest.now }
     {
         let bytes = self.rest;
@@ -23,7 +24,7 @@ impl<'a> Reader<'a> {
 
     /// An id below the one before it, if there is one.
     #[tactic(auto, unfolding(wire_messages::specs::Fields::field, wire_messages::specs::Numbers::number_at, wire_messages::specs::Nodes::id_at, wire_messages::specs::Nodes::id_below_at))]
-    pub(crate) fn id_below(&mut self, before: Option<NodeId>) -> Result<NodeId, ReadFault>
+    pub(crate) fn id_below(&mut self, before: Option<NodeId>) -> Result<NodeId, FieldFault>
         ensures { Reads result (id_below_at before self.old.rest.now) self.new.rest.now }
     {
         let bytes = self.rest;
@@ -37,7 +38,7 @@ impl<'a> Reader<'a> {
     }
 
     /// So many ids, each below the one before it.
-    fn falling_ids(&mut self, count: u8) -> Result<NodeList, ReadFault>
+    fn falling_ids(&mut self, count: u8) -> Result<NodeList, FieldFault>
         requires { count ≤ 16 }
         ensures reads { Reads result (falling_ids_at count self.old.rest.now) self.new.rest.now }
         ensures count { IfOk result (λ ids. length ids ≡ count) }
@@ -55,7 +56,7 @@ impl<'a> Reader<'a> {
 
     /// `least` to `most` ids in falling order, behind their number.
     #[tactic(auto, unfolding(wire_messages::specs::Nodes::ids_at))]
-    pub(crate) fn ids(&mut self, least: u8, most: u8) -> Result<NodeList, ReadFault>
+    pub(crate) fn ids(&mut self, least: u8, most: u8) -> Result<NodeList, FieldFault>
         requires { most ≤ 16 }
         ensures reads { Reads result (ids_at least most self.old.rest.now) self.new.rest.now }
         ensures count { IfOk result (λ ids. (least ≤ length ids) × (length ids ≤ most)) }
@@ -67,7 +68,7 @@ impl<'a> Reader<'a> {
 
     /// A rack, and a mark that is 0 or 1. Both may be 0 where `plain` says so.
     #[tactic(auto, unfolding(wire_messages::specs::Fields::field, wire_messages::specs::Nodes::role_at))]
-    pub(crate) fn role(&mut self, plain: bool) -> Result<Role, ReadFault>
+    pub(crate) fn role(&mut self, plain: bool) -> Result<Role, FieldFault>
         ensures { Reads result (role_at plain self.old.rest.now) self.new.rest.now }
     {
         let bytes = self.rest;

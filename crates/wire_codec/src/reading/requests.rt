@@ -1,19 +1,19 @@
 //! Wants, replies and refusals are read.
 ghost use Rattle.std.specs.Prelude.{◌≡◌};
 ghost use Rattle.wire_messages.specs.Numbers.{byte_at};
-ghost use Rattle.wire_codec.specs.Reading.{Reads};
+ghost use Rattle.wire_codec.specs.Reading.{Reads, ReadsUnlessRefused};
 ghost use Rattle.wire_messages.specs.Requests.{is_reply_tag, want_at, reply_at, refusal_at};
 
 use crate::reading::{ReadFault, Reader, bad};
 use conflict_order::Want;
 use std::alloc::Global;
-use wire_messages::{ReplyBody, ScanRefusal};
+use wire_messages::{FieldFault, ReplyBody, ScanRefusal};
 
 impl<'a> Reader<'a> {
     /// 0 get, 1 put and the value, 2 del.
     #[tactic(auto, unfolding(wire_messages::specs::Requests::want_at))]
     pub(crate) fn want(&mut self, alloc: Global) -> Result<Want, ReadFault>
-        ensures { Reads result (want_at self.old.rest.now) self.new.rest.now }
+        ensures { ReadsUnlessRefused result (want_at self.old.rest.now) self.new.rest.now }
     {
         match self.byte(0, 2)? {
             0 => Ok(Want::Get),
@@ -24,7 +24,7 @@ impl<'a> Reader<'a> {
 
     /// The tag of a reply: below 6, and 6 too where there may be no view.
     #[tactic(auto, unfolding(wire_messages::specs::Fields::field, wire_messages::specs::Numbers::byte_at))]
-    fn reply_tag(&mut self, no_view: bool) -> Result<u8, ReadFault>
+    fn reply_tag(&mut self, no_view: bool) -> Result<u8, FieldFault>
         ensures { Reads result (byte_at (is_reply_tag no_view) self.old.rest.now)
             self.new.rest.now }
     {
@@ -39,7 +39,7 @@ impl<'a> Reader<'a> {
     /// A reply, which may be that there is no view where `no_view` says so.
     #[tactic(auto, unfolding(wire_messages::specs::Requests::reply_at))]
     pub(crate) fn reply(&mut self, alloc: Global, no_view: bool) -> Result<ReplyBody, ReadFault>
-        ensures { Reads result (reply_at no_view self.old.rest.now) self.new.rest.now }
+        ensures { ReadsUnlessRefused result (reply_at no_view self.old.rest.now) self.new.rest.now }
     {
         match self.reply_tag(no_view)? {
             0 => Ok(ReplyBody::Nothing),
@@ -54,7 +54,7 @@ impl<'a> Reader<'a> {
 
     /// Why there is no page.
     #[tactic(auto, unfolding(wire_messages::specs::Requests::refusal_at))]
-    pub(crate) fn refusal(&mut self) -> Result<ScanRefusal, ReadFault>
+    pub(crate) fn refusal(&mut self) -> Result<ScanRefusal, FieldFault>
         ensures { Reads result (refusal_at self.old.rest.now) self.new.rest.now }
     {
         match self.byte(1, 5)? {

@@ -7,13 +7,13 @@ ghost use Rattle.cluster_types.specs.RowBytes.{bits_of};
 ghost use Rattle.wire_messages.specs.Fields.{items_at};
 ghost use Rattle.wire_messages.specs.Nodes.{any_id_at, with_any_id, table_at};
 ghost use Rattle.wire_messages.specs.Numbers.{between, number_at};
-ghost use Rattle.wire_codec.specs.Reading.{Reads, Fills};
+ghost use Rattle.wire_codec.specs.Reading.{Reads, ReadsUnlessRefused, Fills};
 ghost use Rattle.wire_messages.specs.Rows.{is_above, row_at, state_at, entry_at, with_entry, state_row_at};
 
 use crate::reading::{ReadFault, Reader, bad};
 use cluster_types::{Boxed, CopyState, NodeId, PARTITIONS, PartitionId, Row4096, StateRow};
 use std::alloc::Global;
-use wire_messages::BoxedIds;
+use wire_messages::{BoxedIds, FieldFault};
 
 /// The bytes of a bit row.
 const ROW_BYTES: usize = 512;
@@ -37,7 +37,7 @@ impl<'a> Reader<'a> {
     /// A bit row.
     #[tactic(auto, unfolding(wire_messages::specs::Fields::field, wire_messages::specs::Rows::row_at))]
     pub(crate) fn row(&mut self, alloc: Global) -> Result<Boxed<Row4096>, ReadFault>
-        ensures { Reads result (row_at self.old.rest.now) self.new.rest.now }
+        ensures { ReadsUnlessRefused result (row_at self.old.rest.now) self.new.rest.now }
     {
         let row = row_of(self.take(ROW_BYTES)?);
         Ok(Boxed::new(alloc, row)?)
@@ -45,7 +45,7 @@ impl<'a> Reader<'a> {
 
     /// A partition.
     #[tactic(auto, unfolding(wire_messages::specs::Fields::field, wire_messages::specs::Numbers::number_at))]
-    pub(crate) fn partition(&mut self) -> Result<PartitionId, ReadFault>
+    pub(crate) fn partition(&mut self) -> Result<PartitionId, FieldFault>
         ensures { Reads result (number_at w16 (λ p. nat_lt p partition_count) self.old.rest.now)
             self.new.rest.now }
     {
@@ -59,7 +59,7 @@ impl<'a> Reader<'a> {
 
     /// A partition above the one before it, if there is one.
     #[tactic(auto, unfolding(wire_messages::specs::Fields::field, wire_messages::specs::Numbers::number_at))]
-    fn partition_above(&mut self, before: Option<PartitionId>) -> Result<PartitionId, ReadFault>
+    fn partition_above(&mut self, before: Option<PartitionId>) -> Result<PartitionId, FieldFault>
         ensures reads { Reads result
             (number_at w16 (λ p. nat_lt p partition_count && is_above before p) self.old.rest.now)
             self.new.rest.now }
@@ -77,7 +77,7 @@ impl<'a> Reader<'a> {
 
     /// The state of a copy that isn't empty.
     #[tactic(auto, unfolding(wire_messages::specs::Rows::state_at))]
-    fn state(&mut self) -> Result<CopyState, ReadFault>
+    fn state(&mut self) -> Result<CopyState, FieldFault>
         ensures reads { Reads result (state_at self.old.rest.now) self.new.rest.now }
         ensures some { IfOk result (λ s. s ≢ Empty) }
     {
@@ -92,7 +92,7 @@ impl<'a> Reader<'a> {
 
     /// A partition above the one before it, and the state of its copy.
     #[tactic(auto, unfolding(wire_messages::specs::Rows::entry_at))]
-    fn entry(&mut self, before: Option<PartitionId>) -> Result<(PartitionId, CopyState), ReadFault>
+    fn entry(&mut self, before: Option<PartitionId>) -> Result<(PartitionId, CopyState), FieldFault>
         ensures reads { Reads result (entry_at before 0 self.old.rest.now) self.new.rest.now }
         ensures above { IfOk result (λ e. (b : ℕ) → before ≡ Some b → b < e.0) }
         ensures some { IfOk result (λ e. e.1 ≢ Empty) }
@@ -104,7 +104,7 @@ impl<'a> Reader<'a> {
 
     /// The number of entries.
     #[tactic(auto, unfolding(wire_messages::specs::Fields::field, wire_messages::specs::Numbers::number_at))]
-    fn entry_count(&mut self) -> Result<u16, ReadFault>
+    fn entry_count(&mut self) -> Result<u16, FieldFault>
         ensures { Reads result (number_at w16 (between 0 4096) self.old.rest.now)
             self.new.rest.now }
     {
@@ -118,7 +118,7 @@ impl<'a> Reader<'a> {
 
     /// So many entries.
     fn entries(&mut self, alloc: Global, count: u16) -> Result<StateRow, ReadFault>
-        ensures { Reads result (items_at entry_at with_entry count None self.old.rest.now)
+        ensures { ReadsUnlessRefused result (items_at entry_at with_entry count None self.old.rest.now)
             self.new.rest.now }
     {
         let mut row = StateRow::new(alloc);
@@ -134,14 +134,14 @@ impl<'a> Reader<'a> {
     /// The entries behind their number.
     #[tactic(auto, unfolding(wire_messages::specs::Rows::state_row_at))]
     pub(crate) fn state_row(&mut self, alloc: Global) -> Result<StateRow, ReadFault>
-        ensures { Reads result (state_row_at self.old.rest.now) self.new.rest.now }
+        ensures { ReadsUnlessRefused result (state_row_at self.old.rest.now) self.new.rest.now }
     {
         let count = self.entry_count()?;
         self.entries(alloc, count)
     }
 
     /// An id for each place.
-    fn fill_ids(&mut self, ids: &mut [NodeId]) -> Result<(), ReadFault>
+    fn fill_ids(&mut self, ids: &mut [NodeId]) -> Result<(), FieldFault>
         ensures { Fills result ids.new
             (items_at any_id_at with_any_id (length ids.old) None self.old.rest.now)
             self.new.rest.now }
@@ -156,7 +156,7 @@ impl<'a> Reader<'a> {
     /// An id for each partition.
     #[tactic(auto, unfolding(wire_messages::specs::Nodes::table_at))]
     pub(crate) fn table(&mut self, alloc: Global) -> Result<BoxedIds, ReadFault>
-        ensures { Reads result (table_at self.old.rest.now) self.new.rest.now }
+        ensures { ReadsUnlessRefused result (table_at self.old.rest.now) self.new.rest.now }
     {
         let mut ids = least_ids();
         self.fill_ids(&mut ids)?;

@@ -1,19 +1,19 @@
 //! Digests, values, versions and records are read.
 ghost use Rattle.std.specs.Prelude.{◌≡◌, None};
 ghost use Rattle.wire_messages.specs.Fields.{items_at};
-ghost use Rattle.wire_codec.specs.Reading.{Reads};
+ghost use Rattle.wire_codec.specs.Reading.{Reads, ReadsUnlessRefused};
 ghost use Rattle.wire_messages.specs.Versions.{digest_at, digest_above_at, option_digest_at, value_at, body_at, version_at, option_version_at, record_at, with_record, records_at};
 
 use crate::reading::{ReadFault, Reader, bad};
 use cluster_types::Digest;
 use conflict_order::{Body, ValueBytes, Version};
 use std::alloc::Global;
-use wire_messages::Records;
+use wire_messages::{FieldFault, Records};
 
 impl<'a> Reader<'a> {
     /// A digest.
     #[tactic(auto, unfolding(wire_messages::specs::Fields::field, wire_messages::specs::Versions::bytes_at, wire_messages::specs::Versions::digest_at))]
-    pub(crate) fn digest(&mut self) -> Result<Digest, ReadFault>
+    pub(crate) fn digest(&mut self) -> Result<Digest, FieldFault>
         ensures { Reads result (digest_at self.old.rest.now) self.new.rest.now }
     {
         let mut digest = [0; 20];
@@ -23,7 +23,7 @@ impl<'a> Reader<'a> {
 
     /// A digest above the one before it, if there is one.
     #[tactic(auto, unfolding(wire_messages::specs::Fields::field, wire_messages::specs::Versions::bytes_at, wire_messages::specs::Versions::digest_at, wire_messages::specs::Versions::digest_above_at))]
-    pub(crate) fn digest_above(&mut self, before: Option<Digest>) -> Result<Digest, ReadFault>
+    pub(crate) fn digest_above(&mut self, before: Option<Digest>) -> Result<Digest, FieldFault>
         ensures { Reads result (digest_above_at before self.old.rest.now) self.new.rest.now }
     {
         let bytes = self.rest;
@@ -38,7 +38,7 @@ impl<'a> Reader<'a> {
 
     /// 0, or 1 and a digest.
     #[tactic(auto, unfolding(wire_messages::specs::Versions::option_digest_at))]
-    pub(crate) fn option_digest(&mut self) -> Result<Option<Digest>, ReadFault>
+    pub(crate) fn option_digest(&mut self) -> Result<Option<Digest>, FieldFault>
         ensures { Reads result (option_digest_at self.old.rest.now) self.new.rest.now }
     {
         let tag = self.byte(0, 1)?;
@@ -51,7 +51,7 @@ impl<'a> Reader<'a> {
     /// A value behind the number of its bytes.
     #[tactic(auto, unfolding(wire_messages::specs::Fields::field, wire_messages::specs::Versions::bytes_at, wire_messages::specs::Versions::value_at))]
     pub(crate) fn value(&mut self, alloc: Global) -> Result<ValueBytes, ReadFault>
-        ensures { Reads result (value_at self.old.rest.now) self.new.rest.now }
+        ensures { ReadsUnlessRefused result (value_at self.old.rest.now) self.new.rest.now }
     {
         let count = usize::from(self.byte(0, 128)?);
         let bytes = self.take(count)?;
@@ -61,7 +61,7 @@ impl<'a> Reader<'a> {
     /// 0 for a tombstone, or 1 and a value.
     #[tactic(auto, unfolding(wire_messages::specs::Versions::body_at))]
     pub(crate) fn body(&mut self, alloc: Global) -> Result<Body, ReadFault>
-        ensures { Reads result (body_at self.old.rest.now) self.new.rest.now }
+        ensures { ReadsUnlessRefused result (body_at self.old.rest.now) self.new.rest.now }
     {
         let tag = self.byte(0, 1)?;
         if tag == 0 {
@@ -73,7 +73,7 @@ impl<'a> Reader<'a> {
     /// A version.
     #[tactic(auto, unfolding(wire_messages::specs::Versions::version_at))]
     pub(crate) fn version(&mut self, alloc: Global) -> Result<Version, ReadFault>
-        ensures { Reads result (version_at self.old.rest.now) self.new.rest.now }
+        ensures { ReadsUnlessRefused result (version_at self.old.rest.now) self.new.rest.now }
     {
         let lut = self.u64()?;
         let generation = self.positive()?;
@@ -88,7 +88,7 @@ impl<'a> Reader<'a> {
     /// 0, or 1 and a version.
     #[tactic(auto, unfolding(wire_messages::specs::Versions::option_version_at))]
     pub(crate) fn option_version(&mut self, alloc: Global) -> Result<Option<Version>, ReadFault>
-        ensures { Reads result (option_version_at self.old.rest.now) self.new.rest.now }
+        ensures { ReadsUnlessRefused result (option_version_at self.old.rest.now) self.new.rest.now }
     {
         let tag = self.byte(0, 1)?;
         if tag == 0 {
@@ -104,7 +104,7 @@ impl<'a> Reader<'a> {
         alloc: Global,
         before: Option<Digest>,
     ) -> Result<(Digest, Version), ReadFault>
-        ensures { Reads result (record_at before 0 self.old.rest.now) self.new.rest.now }
+        ensures { ReadsUnlessRefused result (record_at before 0 self.old.rest.now) self.new.rest.now }
     {
         let digest = self.digest_above(before)?;
         let version = self.version(alloc)?;
@@ -113,7 +113,7 @@ impl<'a> Reader<'a> {
 
     /// So many records.
     fn counted_records(&mut self, alloc: Global, count: u8) -> Result<Records, ReadFault>
-        ensures { Reads result (items_at record_at with_record count None self.old.rest.now)
+        ensures { ReadsUnlessRefused result (items_at record_at with_record count None self.old.rest.now)
             self.new.rest.now }
     {
         let mut records = Records::new(alloc);
@@ -129,7 +129,7 @@ impl<'a> Reader<'a> {
     /// `least` to 64 records behind their number.
     #[tactic(auto, unfolding(wire_messages::specs::Versions::records_at))]
     pub(crate) fn records(&mut self, alloc: Global, least: u8) -> Result<Records, ReadFault>
-        ensures { Reads result (records_at least self.old.rest.now) self.new.rest.now }
+        ensures { ReadsUnlessRefused result (records_at least self.old.rest.now) self.new.rest.now }
     {
         let count = self.byte(least, 64)?;
         self.counted_records(alloc, count)

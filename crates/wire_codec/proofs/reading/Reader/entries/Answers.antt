@@ -4,6 +4,7 @@ use Rattle.wire_messages.specs.Fields.{items_at}
 use Rattle.wire_codec.specs.Reading.{Fails}
 use Rattle.wire_messages.specs.Rows.{entry_at, with_entry}
 use Rattle.wire_codec.proofs.Highest.{none_highest, highest_above, highest_more, entry_any}
+use Rattle.wire_codec.specs.declared.reading.ReadFault.TheVariants.{Field}
 use Rattle.wire_codec.proofs.Loops.{items_start, items_more, items_fail, items_done}
 use Rattle.wire_codec.proofs.reading.Reader.entries.Goals as goal
 
@@ -18,7 +19,7 @@ returns-in_err-partition c =
     let p = err_from_is_err_and c.from_residual.result c.from_residual.ensures.1 in
     let k = c.args.count - (c.loop.counter + 1) in
     let total = items_at entry_at with_entry c.args.count None c.args.self.now.rest.now in
-    rw (p.1, p.2) (items_fail entry_at with_entry c.loop.row c.in_err-partition.field-0.0 (c.args.count - c.loop.counter) k c.loop.before c.loop.self.rest.now total (omega (arith, c.loop-test.true)) (subst (Fails c.in_err-partition.field-0.0) (sym (entry_any c.loop.before k c.loop.self.rest.now)) c.in_err-partition.ensures.reads) c.loop.invariant.so_far)
+    rw (p.1, p.2) (items_fail entry_at with_entry c.loop.row (Field c.in_err-partition.field-0.0) (c.args.count - c.loop.counter) k c.loop.before c.loop.self.rest.now total (omega (arith, c.loop-test.true)) (subst (Fails (Field c.in_err-partition.field-0.0)) (sym (entry_any c.loop.before k c.loop.self.rest.now)) c.in_err-partition.ensures.reads) c.loop.invariant.so_far)
 
 pub add-requires-clause-above : goal.add-requires-clause-above
 add-requires-clause-above c = highest_above c.loop.before c.loop.row c.in_ok-partition.partition c.loop.invariant.highest c.in_ok-partition.ensures.above

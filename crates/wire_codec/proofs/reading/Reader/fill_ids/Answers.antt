@@ -3,6 +3,7 @@ use Rattle.std.proofs.lemmas.List.{take_more_set}
 use Rattle.std.proofs.lemmas.Result.{err_from_is_err_and}
 use Rattle.wire_messages.specs.Fields.{items_at}
 use Rattle.wire_messages.specs.Nodes.{any_id_at, with_any_id}
+use Rattle.wire_codec.specs.declared.reading.ReadFault.TheVariants.{Field}
 use Rattle.wire_codec.proofs.Loops.{items_more, items_fail, items_filled}
 use Rattle.wire_codec.proofs.reading.Reader.fill_ids.Goals as goal
 
@@ -11,7 +12,7 @@ returns-in_err-id c =
     let p = err_from_is_err_and c.from_residual.result c.from_residual.ensures.1 in
     let n = length c.args.ids.now in
     let k = n - (c.loop-i.i + 1) in
-    rw (p.1, p.2) (items_fail any_id_at with_any_id (take c.loop-i.i c.loop-i.ids) c.in_err-id.field-0.0 (n - c.loop-i.i) k None c.loop-i.self.rest.now (items_at any_id_at with_any_id n None c.args.self.now.rest.now) (omega (arith, c.loop-i-test.true)) c.in_err-id.ensures c.loop-i.invariant)
+    rw (p.1, p.2) (items_fail any_id_at with_any_id (take c.loop-i.i c.loop-i.ids) (Field c.in_err-id.field-0.0) (n - c.loop-i.i) k None c.loop-i.self.rest.now (items_at any_id_at with_any_id n None c.args.self.now.rest.now) (omega (arith, c.loop-i-test.true)) c.in_err-id.ensures c.loop-i.invariant)
 
 pub loop-i-preserved : goal.loop-i-preserved
 loop-i-preserved c =

@@ -3,6 +3,7 @@ use Rattle.std.proofs.lemmas.List.{take_more_set}
 use Rattle.std.proofs.lemmas.Result.{err_from_is_err_and}
 use Rattle.wire_messages.specs.Fields.{items_at}
 use Rattle.wire_messages.specs.Nodes.{member_at, with_member, nobody_before}
+use Rattle.wire_codec.specs.declared.reading.ReadFault.TheVariants.{Field}
 use Rattle.wire_codec.proofs.Loops.{items_more, items_fail, items_filled}
 use Rattle.wire_codec.proofs.reading.Reader.fill_members.Goals as goal
 
@@ -11,7 +12,7 @@ returns-in_err-member c =
     let p = err_from_is_err_and c.from_residual.result c.from_residual.ensures.1 in
     let n = length c.args.places.now in
     let k = length c.loop-i.places - c.loop-i.i - 1 in
-    rw (p.1, p.2) (items_fail member_at with_member (take c.loop-i.i c.loop-i.places) c.in_err-member.field-0.0 (n - c.loop-i.i) k c.loop-i.before c.loop-i.self.rest.now (items_at member_at with_member n nobody_before c.args.self.now.rest.now) (omega (arith, c.loop-i-test.true, c.loop-i.auto.places)) c.in_err-member.ensures c.loop-i.invariant)
+    rw (p.1, p.2) (items_fail member_at with_member (take c.loop-i.i c.loop-i.places) (Field c.in_err-member.field-0.0) (n - c.loop-i.i) k c.loop-i.before c.loop-i.self.rest.now (items_at member_at with_member n nobody_before c.args.self.now.rest.now) (omega (arith, c.loop-i-test.true, c.loop-i.auto.places)) c.in_err-member.ensures c.loop-i.invariant)
 
 pub loop-i-preserved : goal.loop-i-preserved
 loop-i-preserved c =
