@@ -27,11 +27,13 @@ use Rattle.node_rules.specs.Notes.{all_sent, noted, reached}
 use Rattle.node_rules.specs.Requests.{due_request, due_start, due_stop, map_refusal}
 use Rattle.node_rules.specs.Shows.{due_show, map_if, map_line}
 use Rattle.node_rules.specs.Tick.{due_tick, parts, parts_in_order}
+use Rattle.request_rules.specs.LineNotes.{all_requests_noted}
+use Rattle.request_rules.specs.Replies.{want_in_message}
 use Rattle.journal_readings.specs.Messages.{Posting, arrived, arrived_cut}
 use Rattle.cluster_rules.specs.declared.event.Event.{Event}
 use Rattle.cluster_rules.specs.declared.event.Event.TheVariants as event
 use Rattle.cluster_rules.specs.DueEvents.{arriving, delivery, due_arrival, due_at_client, due_at_named, is_blocked, losing, written}
-use Rattle.cluster_rules.specs.Marks.{Writes, adds, after_all, after_line, event_begun, came, came_to_client, came_to_node, taken_by, want_in}
+use Rattle.cluster_rules.specs.Marks.{Writes, adds, after_all, after_line, event_begun, came, came_to_client, came_to_node, asker_in, arrival_under, taken_by, want_in}
 use Rattle.cluster_rules.specs.Network.{Network, flying_at, landed, posting_at}
 use Rattle.cluster_rules.specs.NodeSteps.{AreOf, AreRead, IsNumbered, Moves, all_sent_in}
 use Rattle.cluster_rules.specs.Steps.{play}
@@ -39,6 +41,7 @@ use Rattle.cluster_rules.specs.World.{World, is_up}
 use Rattle.cluster_rules.proofs.KeptFacts.{num_same}
 use Rattle.cluster_rules.proofs.MarkLaws.{adds_nothing}
 use Rattle.cluster_rules.proofs.NodeLaws.{node_step}
+use Rattle.cluster_rules.proofs.RequestLaws.{want_of_arrival, want_unread}
 use Rattle.cluster_rules.proofs.OwnLines.{message_own, request_own, start_own, stop_own, tick_own}
 use Rattle.cluster_laws.proofs.At.{differ}
 use Rattle.run_laws.specs.Taken.{IsProperEvent}
@@ -98,9 +101,9 @@ module _ (w : World) (named : Named w) (read : SendsAreRead w) (order : InOrder 
   -- ---- what a node does of itself
 
   acts : (e : Event) (a : ℕ) (x : Effects) → taken_by w.network e ≡ w.network → AreOf a x.lines → AreRead x.sends
-      → Moves a (all_sent (noted (want_in e) (w.facts a) x.lines) x.sends) (all_sent_in w.network a x.sends) (event_begun w e) (after_all (event_begun w e) (map Writes (written w.network a x)))
+      → Moves a (all_sent (noted (want_in w e) (w.facts a) x.lines) x.sends) (all_sent_in w.network a x.sends) (all_requests_noted (asker_in w e) (want_in w e) w.requests x.lines) (event_begun w e) (after_all (event_begun w e) (map Writes (written w.network a x)))
   acts e a x same own sends =
-      subst (λ (net : Network). Moves a (all_sent (noted (want_in e) (w.facts a) x.lines) x.sends) (all_sent_in net a x.sends) (event_begun w e) (after_all (event_begun w e) (map Writes (written net a x)))) same
+      subst (λ (net : Network). Moves a (all_sent (noted (want_in w e) (w.facts a) x.lines) x.sends) (all_sent_in net a x.sends) (all_requests_noted (asker_in w e) (want_in w e) w.requests x.lines) (event_begun w e) (after_all (event_begun w e) (map Writes (written net a x)))) same
       (node_step (event_begun w e) a x own sends (subst IsNumbered (sym same) (numbered w order)))
 
   tick_reads : (a : ℕ) (b : Bool) → (w.facts a).up ≡ b → AreRead (if b then parts_in_order (parts partition_count) (w.facts a) else lines_only (line.Down (w.facts a).me ∷ [])).sends
@@ -130,35 +133,40 @@ module _ (w : World) (named : Named w) (read : SendsAreRead w) (order : InOrder 
       let k = acts (event.Start a) a (due_start (w.facts a)) refl (own_at a _ (start_own (w.facts a))) (start_reads (w.facts a) (w.facts a).up) in
       one_acts w (play partition_count (event.Start a) w).world (event.Start a) a m (started k.here) k.elsewhere
 
-  of_request : (e : Event) (a : ℕ) (d : List ℕ) (q : Want) → taken_by w.network e ≡ w.network → want_in e ≡ Some q → IsDigest d → IsWant q
+  of_request : (e : Event) (a : ℕ) (d : List ℕ) (q : Want) → taken_by w.network e ≡ w.network → want_in w e ≡ Some q → IsDigest d → IsWant q
       → (m : ℕ) → Became w e m ((after_all (event_begun w e) (map Writes (written w.network a (due_request (w.facts a) (w.clocks a) d q)))).facts m)
   of_request e a d q same wants digest proper m =
       let x : Effects = due_request (w.facts a) (w.clocks a) d q in
       let k = acts e a x same (own_at a _ (request_own (w.facts a) (w.clocks a) d q)) (read.request a d q digest proper) in
       one_acts w (after_all (event_begun w e) (map Writes (written w.network a x))) e a m (asked d q (k.here ∙ ap (λ (o : Option Want). all_sent (noted o (w.facts a) x.lines) x.sends) wants)) k.elsewhere
 
-  of_client : (e : Event) (d : List ℕ) (q : Want) → taken_by w.network e ≡ w.network → want_in e ≡ Some q → IsDigest d → IsWant q
+  of_client : (e : Event) (d : List ℕ) (q : Want) → taken_by w.network e ≡ w.network → want_in w e ≡ Some q → IsDigest d → IsWant q
       → (m : ℕ) (o : Option ℕ) → Became w e m ((after_all (event_begun w e) (map Writes (due_at_named w d q o))).facts m)
   of_client e d q same wants digest proper m None = stayed refl
   of_client e d q same wants digest proper m (Some a) = of_request e a d q same wants digest proper m
 
   -- ---- messages
 
+  -- the event has the want of the message of that number
+  abbrev Brings : Event → ℕ → Type 0
+  Brings e i = want_in w e ≡ option_and_then (λ x. want_in_message x.message) (arrival_under w.network i)
+
   -- a message reached a node
-  of_message : (e : Event) (i : ℕ) (p : Posting) (x : Message) → want_in e ≡ None → IsNumbered (taken_by w.network e) → posting_at w.network i ≡ Some p → message_of p.bytes ≡ Some x → is_up w p.to ≡ true
+  of_message : (e : Event) (i : ℕ) (p : Posting) (x : Message) → Brings e i → IsNumbered (taken_by w.network e) → posting_at w.network i ≡ Some p → message_of p.bytes ≡ Some x → is_up w p.to ≡ true
       → (m : ℕ) → Became w e m ((after_all (came_to_node (event_begun w e) (record { from = p.from; to = p.to; message = x })) (map Writes (written (taken_by w.network e) p.to (due_message (w.facts p.to) (w.clocks p.to) p.from x)))).facts m)
-  of_message e i p x none numbers stands is up m =
+  of_message e i p x brings numbers stands is up m =
       let a : ℕ = p.to in
       let u : World = came_to_node (event_begun w e)
       (record { from = p.from; to = a; message = x }) in
       let y : Effects = due_message (w.facts a) (w.clocks a) p.from x in
       let v : World = after_all u (map Writes (written (taken_by w.network e) a y)) in
-      let k : Moves a (all_sent (noted u.want (u.facts a) y.lines) y.sends) (all_sent_in u.network a y.sends) u v =
+      let k : Moves a (all_sent (noted u.want (u.facts a) y.lines) y.sends) (all_sent_in u.network a y.sends) (all_requests_noted u.asker u.want u.requests y.lines) u v =
       node_step u a y (own_at a _ (message_own partition_count (w.facts a) (w.clocks a) p.from x)) (read.message i p x stands is up) numbers in
       one_acts w v e a m
       (heard i p x stands is refl
       (k.here
-      ∙ ap (λ (o : Option Want). all_sent (noted o (u.facts a) y.lines) y.sends) none
+      ∙ ap (λ (o : Option Want). all_sent (noted o (u.facts a) y.lines) y.sends) (brings ∙ want_of_arrival w i p x stands is)
+      ∙ ap (λ (f : Facts). all_sent f y.sends) (want_unread partition_count (w.facts a) (u.facts a) (w.clocks a) p.from x)
       ∙ ap (λ (f : Facts). all_sent (noted None f y.lines) y.sends) (at_itself w.facts a (reached (w.facts a) p.from x))))
       (λ n d. k.elsewhere n d ∙ at_other w.facts a (reached (w.facts a) p.from x) n d)
 
@@ -167,10 +175,10 @@ module _ (w : World) (named : Named w) (read : SendsAreRead w) (order : InOrder 
   at_client e b x same m = stayed (ap (λ (f : ℕ → Facts). f m) same)
 
   -- a message that isn't blocked arrives whole
-  arrives : (e : Event) (i : ℕ) (p : Posting) → want_in e ≡ None → IsNumbered (taken_by w.network e) → posting_at w.network i ≡ Some p → is_blocked w p ≡ false → (m : ℕ) (o : Option Message) → message_of p.bytes ≡ o
+  arrives : (e : Event) (i : ℕ) (p : Posting) → Brings e i → IsNumbered (taken_by w.network e) → posting_at w.network i ≡ Some p → is_blocked w p ≡ false → (m : ℕ) (o : Option Message) → message_of p.bytes ≡ o
       → Became w e m ((after_all (came (event_begun w e) (option_map (λ x. record { from = p.from; to = p.to; message = x }) o)) (map Writes (due_arrival partition_count w (taken_by w.network e) p o))).facts m)
-  arrives e i p none numbers stands free m None is = stayed refl
-  arrives e i p none numbers stands free m (Some x) is = go (p.to == client) refl
+  arrives e i p brings numbers stands free m None is = stayed refl
+  arrives e i p brings numbers stands free m (Some x) is = go (p.to == client) refl
     where
       up_there : (a b c : Bool) → (a || (not b && not c)) ≡ false → b ≡ false → c ≡ true
       up_there a b c h i = grind arith
@@ -178,7 +186,7 @@ module _ (w : World) (named : Named w) (read : SendsAreRead w) (order : InOrder 
       go : (b : Bool) → (p.to == client) ≡ b
           → Became w e m ((after_all (if b then came_to_client (event_begun w e) x else came_to_node (event_begun w e) (record { from = p.from; to = p.to; message = x })) (map Writes (if b then due_at_client x else written (taken_by w.network e) p.to (due_message_of partition_count (w.facts p.to) (w.clocks p.to) p.from x)))).facts m)
       go true c = at_client e (event_begun w e) x refl m
-      go false c = of_message e i p x none numbers stands is (up_there _ (p.to == client) (is_up w p.to) free c) m
+      go false c = of_message e i p x brings numbers stands is (up_there _ (p.to == client) (is_up w p.to) free c) m
 
   landed_at : (i : ℕ) → posting_at (landed w.network i) i ≡ posting_at w.network i
   landed_at i = go (nat_lt 0 i)

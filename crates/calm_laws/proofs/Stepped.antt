@@ -2,6 +2,7 @@
 use Rattle.std.proofs.Common.{◌≡◌, ℕ, ◌==◌, Bool, true, false, List, ◌∷◌, ◌++◌, map, length, Option, Some, None, refl, sym, ap, subst, ◌∙◌, append-nil}
 use Rattle.std.specs.List.{list_any}
 use Rattle.std.specs.Prelude.{option_and_then, option_map, nat_lt, [], if◌then◌else◌, slice_get, ◌-◌}
+use Rattle.conflict_order.specs.declared.want.Want.{Want}
 use Rattle.cluster_types.specs.Distinct.{without}
 use Rattle.wire_messages.specs.declared.message.Message.{Message}
 use Rattle.wire_messages.specs.declared.message.Message.TheVariants as message
@@ -12,7 +13,7 @@ use Rattle.partition_lists.proofs.InOrderLaws.{equal}
 use Rattle.node_rules.specs.Effects.{Effects}
 use Rattle.node_rules.specs.Facts.{Facts}
 use Rattle.node_rules.specs.Messages.{due_message_of, client}
-use Rattle.node_rules.specs.Notes.{reached}
+use Rattle.node_rules.specs.Notes.{noted, reached}
 use Rattle.node_rules.specs.Tick.{tick_of}
 use Rattle.cluster_rules.specs.declared.event.Event.TheVariants as event
 use Rattle.cluster_rules.specs.CalmBound.{is_full_line}
@@ -23,6 +24,7 @@ use Rattle.cluster_rules.specs.Network.{Network, posting_at, flying_at, landed}
 use Rattle.cluster_rules.specs.Steps.{play}
 use Rattle.cluster_rules.specs.World.{World}
 use Rattle.cluster_rules.proofs.KeptFacts.{num_same}
+use Rattle.cluster_rules.proofs.RequestLaws.{want_of_arrival, want_unread}
 use Rattle.cluster_laws.proofs.At.{differ}
 use Rattle.calm_laws.specs.Acts.{Input, Ticks, Gets, carried, acted, served}
 use Rattle.calm_laws.specs.Letters.{postings, new_numbers, arriving_input, unblocked, input_of, given, given_if, outs}
@@ -90,15 +92,17 @@ client_idle : (n : ℕ) (w b : World) (m : Message) (left : List ℕ) → b.fact
 client_idle n w b (message.MapTable t) left facts nodes clocks net = stepped_idle n w _ left facts nodes clocks (ap (λ (x : Network). x.groups) net) (ap (λ (x : Network). x.sent) net) (ap (λ (x : Network). x.flying) net)
 client_idle n w b m left facts nodes clocks net = stepped_idle n w _ left facts nodes clocks (ap (λ (x : Network). x.groups) net) (ap (λ (x : Network). x.sent) net) (ap (λ (x : Network). x.flying) net)
 
-node_acts : (n : ℕ) (w : World) (i : ℕ) (p : Posting) (m : Message) → Named w → list_any is_full_line (written (landed w.network i) p.to (due_message_of n (w.facts p.to) (w.clocks p.to) p.from m)) ≡ false
+node_acts : (n : ℕ) (w : World) (i : ℕ) (p : Posting) (m : Message) → posting_at w.network i ≡ Some p → message_of p.bytes ≡ Some m → Named w → list_any is_full_line (written (landed w.network i) p.to (due_message_of n (w.facts p.to) (w.clocks p.to) p.from m)) ≡ false
     → Stepped n w (after_all (came_to_node (event_begun w (event.Deliver i)) (record { from = p.from; to = p.to; message = m })) (map Writes (written (landed w.network i) p.to (due_message_of n (w.facts p.to) (w.clocks p.to) p.from m)))) (Some (p.to, Gets p.from m)) (without w.network.flying i)
-node_acts n w i p m named full =
+node_acts n w i p m stands is named full =
     let a : ℕ = p.to in
     let e : Effects = due_message_of n (w.facts a) (w.clocks a) p.from m in
     let u : World = came_to_node (event_begun w (event.Deliver i)) (record { from = p.from; to = a; message = m }) in
     let v : World = after_all u (map Writes (written (landed w.network i) a e)) in
     let ns : List ℕ = new_numbers (length w.network.sent) (postings a e.sends) in
-    let t : Took u v a (carried (u.facts a) e) (postings a e.sends) ns = took_written u (landed w.network i) a e refl (subst (λ (x : ℕ). OwnLines x e.lines) (named a) (message_own n (w.facts a) (w.clocks a) p.from m)) full in
+    let unread : noted u.want (u.facts a) e.lines ≡ noted None (u.facts a) e.lines =
+    ap (λ (q : Option Want). noted q (u.facts a) e.lines) (want_of_arrival w i p m stands is) ∙ want_unread n (w.facts a) (u.facts a) (w.clocks a) p.from m in
+    let t : Took u v a (carried (u.facts a) e) (postings a e.sends) ns = took_written u (landed w.network i) a e unread (subst (λ (x : ℕ). OwnLines x e.lines) (named a) (message_own n (w.facts a) (w.clocks a) p.from m)) full in
     stepped_act n w u v a (Gets p.from m) (without w.network.flying i)
     (λ x d. at_other w.facts a (reached (w.facts a) p.from m) x d) refl refl refl
     (subst (λ (f : Facts). Took u v a (carried f e) (postings a e.sends) ns) (at_itself w.facts a (reached (w.facts a) p.from m)) t)
@@ -116,21 +120,21 @@ step_deliver n w i p named flies stands full = start (flying_at w.network i) fli
     idle : Stepped n w b None (without w.network.flying i)
     idle = stepped_idle n w b _ refl refl refl refl refl refl
 
-    at_end : (m : Message) (c : Bool) → list_any is_full_line (if c then due_at_client m else written (landed w.network i) p.to (due_message_of n (w.facts p.to) (w.clocks p.to) p.from m)) ≡ false
+    at_end : (m : Message) (c : Bool) → message_of p.bytes ≡ Some m → list_any is_full_line (if c then due_at_client m else written (landed w.network i) p.to (due_message_of n (w.facts p.to) (w.clocks p.to) p.from m)) ≡ false
         → Stepped n w (after_all (if c then came_to_client b m else came_to_node b (record { from = p.from; to = p.to; message = m })) (map Writes (if c then due_at_client m else written (landed w.network i) p.to (due_message_of n (w.facts p.to) (w.clocks p.to) p.from m)))) (arriving_input p (Some m) c) (without w.network.flying i)
-    at_end m true f = client_idle n w b m (without w.network.flying i) refl refl refl refl
-    at_end m false f = node_acts n w i p m named f
+    at_end m true is f = client_idle n w b m (without w.network.flying i) refl refl refl refl
+    at_end m false is f = node_acts n w i p m stands is named f
 
-    arrives : (o : Option Message) → list_any is_full_line (due_arrival n w (landed w.network i) p o) ≡ false
+    arrives : (o : Option Message) → message_of p.bytes ≡ o → list_any is_full_line (due_arrival n w (landed w.network i) p o) ≡ false
         → Stepped n w (after_all (came b (option_map (λ m. record { from = p.from; to = p.to; message = m }) o)) (map Writes (due_arrival n w (landed w.network i) p o))) (arriving_input p o (p.to == client)) (without w.network.flying i)
-    arrives None f = idle
-    arrives (Some m) f = at_end m (p.to == client) f
+    arrives None is f = idle
+    arrives (Some m) is f = at_end m (p.to == client) is f
 
     opens : (c : Bool) → list_any is_full_line (if c then line.Blocked i ∷ [] else lines p) ≡ false → Stepped n w (after_all b (map Writes (if c then line.Blocked i ∷ [] else lines p))) (unblocked p c) (without w.network.flying i)
     opens true f = idle
     opens false f =
         subst (λ (o : Option Posting). Stepped n w (after_all (came b (option_and_then (arrived p.to) o)) (map Writes (arriving n w (landed w.network i) p))) (unblocked p false) (without w.network.flying i))
-        (sym (landed_at w.network i ∙ stands)) (arrives (message_of p.bytes) f)
+        (sym (landed_at w.network i ∙ stands)) (arrives (message_of p.bytes) refl f)
 
     start : (o : Option Posting) → o ≡ Some p → list_any is_full_line (delivery w i lines o) ≡ false → Stepped n w (after_all b (map Writes (delivery w i lines o))) (input_of w (Some p)) (without w.network.flying i)
     start o e f =

@@ -11,9 +11,10 @@ use Rattle.partition_lists.proofs.InOrderLaws.{equal}
 use Rattle.node_rules.specs.Effects.{Effects}
 use Rattle.node_rules.specs.Facts.{Facts}
 use Rattle.node_rules.specs.Notes.{note, noted, sent, all_sent}
+use Rattle.request_rules.specs.Requests.{Requests}
 use Rattle.cluster_rules.specs.CalmBound.{is_full_line}
 use Rattle.cluster_rules.specs.DueEvents.{sent_lines, written}
-use Rattle.cluster_rules.specs.Marks.{Mark, Writes, after_line, after_all, by_node, sent_by}
+use Rattle.cluster_rules.specs.Marks.{Mark, Writes, after_line, after_all, by_node, with_requests_if, sent_by}
 use Rattle.journal_readings.specs.Messages.{Posting}
 use Rattle.cluster_rules.specs.Network.{Network, has_place, posting}
 use Rattle.cluster_rules.specs.World.{World, changed_at, new_if}
@@ -58,6 +59,10 @@ took_nothing w a = record {
   flying = sym (append-nil w.network.flying);
 }
 
+-- the requests are other ones besides
+requested : (w v : World) (a : ℕ) (f : Facts) (ps : List Posting) (is : List ℕ) (kept : Requests) → Took w v a f ps is → Took w (record v { requests = kept }) a f ps is
+requested w v a f ps is kept h = record { here = h.here; others = h.others; nodes = h.nodes; clocks = h.clocks; want = h.want; groups = h.groups; sent = h.sent; flying = h.flying }
+
 pub took_on : (w u v : World) (a : ℕ) (f g : Facts) (ps qs : List Posting) (is js : List ℕ) → Took w u a f ps is → Took u v a g qs js → Took w v a g (ps ++ qs) (is ++ js)
 took_on w u v a f g ps qs is js h i = record {
   here = i.here;
@@ -87,6 +92,14 @@ own_here w a l = record {
 own_at : (w : World) (a n : ℕ) (l : Line) → n ≡ a → Took w (by_node w n l) a (note w.want (w.facts a) l) [] []
 own_at w a n l e = subst (λ (x : ℕ). Took w (by_node w x l) a (note w.want (w.facts a) l) [] []) (sym e) (own_here w a l)
 
+-- a line that counts for the requests as well
+own_both : (w : World) (a n : ℕ) (l : Line) → n ≡ a → Took w (with_requests_if (by_node w n l) l true) a (note w.want (w.facts a) l) [] []
+own_both w a n l e = requested w (by_node w n l) a (note w.want (w.facts a) l) [] [] _ (own_at w a n l e)
+
+-- a line that counts for the requests alone
+asked : (w : World) (a : ℕ) (l : Line) → Took w (with_requests_if w l true) a (w.facts a) [] []
+asked w a l = requested w w a (w.facts a) [] [] _ (took_nothing w a)
+
 took_own_line : (w : World) (a : ℕ) (l : Line) → OwnLine a l → Took w (after_line w l) a (note w.want (w.facts a) l) [] []
 took_own_line w a (line.Clock n time) h = absurd h
 took_own_line w a (line.Groups groups) h = absurd h
@@ -101,12 +114,12 @@ took_own_line w a (line.Quiesce n) h = absurd h
 took_own_line w a (line.Unquiesce n) h = absurd h
 took_own_line w a (line.Tick n) h = own_at w a n (line.Tick n) h
 took_own_line w a (line.Promise n k) h = own_at w a n (line.Promise n k) h
-took_own_line w a (line.Enter n k ms) h = own_at w a n (line.Enter n k ms) h
+took_own_line w a (line.Enter n k ms) h = own_both w a n (line.Enter n k ms) h
 took_own_line w a (line.Exchanged n k) h = own_at w a n (line.Exchanged n k) h
 took_own_line w a (line.Opened n k t d x) h = absurd h
-took_own_line w a (line.Value n k t d v) h = own_at w a n (line.Value n k t d v) h
+took_own_line w a (line.Value n k t d v) h = own_both w a n (line.Value n k t d v) h
 took_own_line w a (line.Apply n k t d v) h = own_at w a n (line.Apply n k t d v) h
-took_own_line w a (line.Done n k t) h = own_at w a n (line.Done n k t) h
+took_own_line w a (line.Done n k t) h = own_both w a n (line.Done n k t) h
 took_own_line w a (line.Aborted n k t) h = own_at w a n (line.Aborted n k t) h
 took_own_line w a (line.Doubt n k t) h = own_at w a n (line.Doubt n k t) h
 took_own_line w a (line.Merge n k d v) h = own_at w a n (line.Merge n k d v) h
@@ -114,6 +127,13 @@ took_own_line w a (line.Handed n k p) h = own_at w a n (line.Handed n k p) h
 took_own_line w a (line.Settled n k p) h = own_at w a n (line.Settled n k p) h
 took_own_line w a (line.Learn n k p) h = own_at w a n (line.Learn n k p) h
 took_own_line w a (line.Drop n k p) h = own_at w a n (line.Drop n k p) h
+took_own_line w a (line.Refused n d cause) h = asked w a (line.Refused n d cause)
+took_own_line w a (line.Proxy n k x d b to) h = asked w a (line.Proxy n k x d b to)
+took_own_line w a (line.Proxied n k x b) h = asked w a (line.Proxied n k x b)
+took_own_line w a (line.Unproxied n k x) h = asked w a (line.Unproxied n k x)
+took_own_line w a (line.Call q n d b) h = asked w a (line.Call q n d b)
+took_own_line w a (line.Reply q n b) h = asked w a (line.Reply q n b)
+took_own_line w a (line.Scan s n p) h = asked w a (line.Scan s n p)
 took_own_line w a _ h = took_nothing w a
 
 pub took_own : (ls : List Line) (w : World) (a : ℕ) → OwnLines a ls → Took w (after_all w (map Writes ls)) a (noted w.want (w.facts a) ls) [] []
@@ -186,16 +206,16 @@ writes_append : (a b : List Line) → map Writes (a ++ b) ≡ map Writes a ++ ma
 writes_append [] b = refl
 writes_append (l ∷ a) b = ap (λ (ms : List Mark). Writes l ∷ ms) (writes_append a b)
 
--- what an endpoint does, where no message lacks a place
-pub took_written : (w : World) (net : Network) (a : ℕ) (e : Effects) → w.want ≡ None → OwnLines a e.lines → list_any is_full_line (written net a e) ≡ false
+-- what an endpoint does, where no message lacks a place and its lines count the want in hand for nothing
+pub took_written : (w : World) (net : Network) (a : ℕ) (e : Effects) → noted w.want (w.facts a) e.lines ≡ noted None (w.facts a) e.lines → OwnLines a e.lines → list_any is_full_line (written net a e) ≡ false
     → Took w (after_all w (map Writes (written net a e))) a (carried (w.facts a) e) (postings a e.sends) (new_numbers (length net.sent) (postings a e.sends))
-took_written w net a e want own full =
+took_written w net a e unread own full =
     let ls : List Line = sent_lines a (length net.sent) (length net.flying) e.sends in
     let u : World = after_all w (map Writes e.lines) in
     let v : World = after_all u (map Writes ls) in
     let f : Facts = noted None (w.facts a) e.lines in
     let ns : List ℕ = new_numbers (length net.sent) (postings a e.sends) in
-    let first : Took w u a f [] [] = subst (λ (q : Option Want). Took w u a (noted q (w.facts a) e.lines) [] []) want (took_own e.lines w a own) in
+    let first : Took w u a f [] [] = subst (λ (g : Facts). Took w u a g [] []) unread (took_own e.lines w a own) in
     let rest : Took u v a (all_sent (u.facts a) (as_read e.sends)) (postings a e.sends) ns = took_sents e.sends u a (length net.sent) (length net.flying) (any_behind is_full_line e.lines ls full) in
     subst (λ (x : World). Took w x a (carried (w.facts a) e) (postings a e.sends) ns) (sym (ap (λ ms. after_all w ms) (writes_append e.lines ls) ∙ after_all-append w (map Writes e.lines) (map Writes ls)))
     (took_on w u v a f (carried (w.facts a) e) [] (postings a e.sends) [] ns first

@@ -1,5 +1,6 @@
 pub mod MarkLaws
 pub mod NodeLaws
+pub mod RequestLaws
 pub mod OwnLines
 pub mod RunLaws
 pub mod BegunLaws

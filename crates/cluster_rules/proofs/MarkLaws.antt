@@ -68,6 +68,13 @@ adds_nothing w (line.Handed n k p) e = cc
 adds_nothing w (line.Settled n k p) e = cc
 adds_nothing w (line.Learn n k p) e = cc
 adds_nothing w (line.Drop n k p) e = cc
+adds_nothing w (line.Refused n d cause) e = cc
+adds_nothing w (line.Proxy n k x d a to) e = cc
+adds_nothing w (line.Proxied n k x b) e = cc
+adds_nothing w (line.Unproxied n k x) e = cc
+adds_nothing w (line.Call q n d a) e = cc
+adds_nothing w (line.Reply q n b) e = cc
+adds_nothing w (line.Scan s n p) e = cc
 adds_nothing w l e = refl
 
 -- nor does a header

@@ -1,5 +1,5 @@
 -- What happens to a world, mark by mark: each step begins with its event, and then come its lines.
-use Rattle.std.specs.Prelude.{ℕ, ◌==◌, Bool, true, false, List, [], ◌∷◌, ◌++◌, filter_map, Option, Some, None, option_and_then, is_some, if◌then◌else◌}
+use Rattle.std.specs.Prelude.{ℕ, ◌==◌, Bool, true, false, List, [], ◌∷◌, ◌++◌, ◌||◌, filter_map, Option, Some, None, option_and_then, is_some, if◌then◌else◌}
 use Rattle.conflict_order.specs.declared.want.Want.{Want}
 use Rattle.conflict_order.specs.declared.want.Want.TheVariants as want
 use Rattle.wire_messages.specs.declared.message.Message.{Message}
@@ -9,6 +9,9 @@ use Rattle.journal_lines.specs.declared.line.Line.{Line}
 use Rattle.journal_lines.specs.declared.line.Line.TheVariants as line
 use Rattle.node_rules.specs.Notes.{note, reached, sent}
 use Rattle.node_rules.specs.Messages.{client}
+use Rattle.request_rules.specs.declared.taken.Asker.{Asker}
+use Rattle.request_rules.specs.LineNotes.{counts_for_requests, requests_noted}
+use Rattle.request_rules.specs.Replies.{asker_of, want_in_message}
 use Rattle.cluster_rules.specs.declared.event.Event.{Event}
 use Rattle.cluster_rules.specs.declared.event.Event.TheVariants as event
 use Rattle.journal_readings.specs.Messages.{Posting, Arrival, arrived, arrived_cut}
@@ -23,15 +26,36 @@ pub data Mark : Type 0 where
 
 -- ---- a step begins
 
--- what a request wants, which no line tells of a put; none of another event
-abbrev pub want_in : Event → Option Want
-want_in (event.Put n d v) = Some (want.Put v)
-want_in (event.Get n d) = Some want.Get
-want_in (event.Del n d) = Some want.Del
-want_in (event.ClientPut d v) = Some (want.Put v)
-want_in (event.ClientGet d) = Some want.Get
-want_in (event.ClientDel d) = Some want.Del
-want_in _ = None
+-- what the message of that number brings to the end that it was sent to, if it is a message
+abbrev pub arrival_under : Network → ℕ → Option Arrival
+arrival_under net i = option_and_then (λ p. arrived p.to p) (posting_at net i)
+
+-- what the event brings, also where it turns out to be blocked or comes short; none of an event that delivers nothing
+abbrev pub arrival_in : Network → Event → Option Arrival
+arrival_in net (event.Deliver i) = arrival_under net i
+arrival_in net (event.Repeat i) = arrival_under net i
+arrival_in net (event.Cut i size) = arrival_under net i
+arrival_in net _ = None
+
+-- what a request wants, which no line tells of a put: that of the event, or of the message that the event brings
+abbrev pub want_in : World → Event → Option Want
+want_in w (event.Put n d v) = Some (want.Put v)
+want_in w (event.Get n d) = Some want.Get
+want_in w (event.Del n d) = Some want.Del
+want_in w (event.ClientPut d v) = Some (want.Put v)
+want_in w (event.ClientGet d) = Some want.Get
+want_in w (event.ClientDel d) = Some want.Del
+want_in w (event.ProxyPut n d v) = Some (want.Put v)
+want_in w (event.ProxyGet n d) = Some want.Get
+want_in w (event.ProxyDel n d) = Some want.Del
+want_in w (event.CallPut d v) = Some (want.Put v)
+want_in w (event.CallGet d) = Some want.Get
+want_in w (event.CallDel d) = Some want.Del
+want_in w e = option_and_then (λ x. want_in_message x.message) (arrival_in w.network e)
+
+-- who asks by the message that the event brings, if it is a request
+abbrev pub asker_in : World → Event → Option Asker
+asker_in w e = option_and_then (λ x. asker_of x.from x.message) (arrival_in w.network e)
 
 -- a message that is delivered, lost or cut is no longer in flight, also where it turns out to be blocked; one
 -- that is repeated stays
@@ -41,9 +65,14 @@ taken_by net (event.Lose i) = landed net i
 taken_by net (event.Cut i size) = landed net i
 taken_by net _ = net
 
--- the event's step is in progress, with its want in hand
+-- the event's step is in progress, with the want and the asker of its request in hand
 abbrev pub event_begun : World → Event → World
-event_begun w e = record w { network = taken_by w.network e; event = Some e; want = want_in e }
+event_begun w e = record w {
+  network = taken_by w.network e;
+  event = Some e;
+  want = want_in w e;
+  asker = asker_in w e;
+}
 
 -- ---- a line of a node
 
@@ -108,9 +137,16 @@ abbrev pub posted_by : World → ℕ → Posting → World
 posted_by w i p =
     sent_by (record w { network = posting w.network i p }) p.from p.to (message_of p.bytes)
 
+-- ---- requests
+
+-- the world, where the test says whether the line counts for its requests
+abbrev pub with_requests_if : World → Line → Bool → World
+with_requests_if w l false = w
+with_requests_if w l true = record w { requests = requests_noted w.asker w.want w.requests l }
+
 -- ---- a line
 
--- what a line adds. One of another word that is no node's adds nothing
+-- what a line adds. One of another word that is no node's adds to the requests alone, if to anything
 abbrev pub after_line : World → Line → World
 after_line w (line.Clock n time) = record w { clocks = changed_at w.clocks n time }
 after_line w (line.Groups groups) = record w { network = record w.network { groups = groups } }
@@ -120,7 +156,7 @@ after_line w (line.Cut i a b size) =
     came w (option_and_then (arrived_cut b size) (posting_at w.network i))
 after_line w (line.Sent i a b bytes) = posted_by w i (record { from = a; to = b; bytes = bytes })
 after_line w (line.Full i) = record w { network = landed w.network i }
-after_line w l = by_node_of w (node_of_line l) l
+after_line w l = with_requests_if (by_node_of w (node_of_line l) l) l (counts_for_requests l)
 
 -- whether a line of that word may add something
 abbrev pub adds : Line → Bool
@@ -131,7 +167,7 @@ adds (line.Repeat i a b) = true
 adds (line.Cut i a b size) = true
 adds (line.Sent i a b bytes) = true
 adds (line.Full i) = true
-adds l = is_some (node_of_line l)
+adds l = is_some (node_of_line l) || counts_for_requests l
 
 -- ---- marks
 

@@ -7,6 +7,7 @@ use Rattle.wire_messages.specs.Spelling.{spelling}
 use Rattle.journal_lines.specs.declared.line.Line.{Line}
 use Rattle.journal_lines.specs.declared.line.Line.TheVariants as line
 use Rattle.node_rules.specs.Facts.{Facts}
+use Rattle.request_rules.specs.Requests.{Requests}
 use Rattle.cluster_rules.specs.declared.event.Event.{Event}
 use Rattle.cluster_rules.specs.DueEvents.{due_of}
 use Rattle.cluster_rules.specs.Marks.{node_of_line, after_all}
@@ -20,7 +21,7 @@ abbrev pub IsNoOther : ℕ → Option ℕ → Type 0
 IsNoOther n None = Unit {0}
 IsNoOther n (Some m) = m ≡ n
 
--- the line is one of that node, or adds nothing
+-- the line is one of that node, or adds to requests alone, if to anything
 abbrev pub IsOf : ℕ → Line → Type 0
 IsOf n (line.Clock m time) = ⊥
 IsOf n (line.Groups groups) = ⊥
@@ -44,15 +45,17 @@ AreRead (m ∷ ms) = (message_of (spelling m.1) ≡ Some m.1) × AreRead ms
 pub record IsNumbered (net : Network) : Type 0 where
   pub upto : All (λ j. j ≤ length net.sent) net.flying
 
--- one world and the next, where that node's facts and the network are other ones, and all else is the same
-pub record Moves (n : ℕ) (new : Facts) (net : Network) (w v : World) : Type 0 where
+-- one world and the next, where that node's facts, the network and the requests are other ones, and all else is the same
+pub record Moves (n : ℕ) (new : Facts) (net : Network) (kept : Requests) (w v : World) : Type 0 where
   pub here : v.facts n ≡ new
   pub elsewhere : (m : ℕ) → (n ≡ m → ⊥) → v.facts m ≡ w.facts m
   pub network : v.network ≡ net
+  pub requests : v.requests ≡ kept
   pub nodes : v.nodes ≡ w.nodes
   pub clocks : v.clocks ≡ w.clocks
   pub tables : v.tables ≡ w.tables
   pub want : v.want ≡ w.want
+  pub asker : v.asker ≡ w.asker
 
 -- ---- what is sent
 

@@ -5,6 +5,8 @@ use Rattle.cluster_types.specs.declared.member.Member.{Member}
 pub use Rattle.cluster_types.specs.Changed.{at_number as changed_at}
 use Rattle.partition_lists.specs.Lists.{in_order}
 use Rattle.node_rules.specs.Facts.{Facts, fresh}
+use Rattle.request_rules.specs.declared.taken.Asker.{Asker}
+use Rattle.request_rules.specs.Requests.{Requests, no_requests_yet}
 use Rattle.cluster_rules.specs.declared.event.Event.{Event}
 use Rattle.node_rules.specs.Client.{Tables}
 use Rattle.journal_readings.specs.Lines.{has_node}
@@ -32,8 +34,12 @@ pub record World : Type 0 where
   pub tables : Tables
   -- the event whose step is in progress; none before the first
   pub event : Option Event
-  -- what the request wants that is in hand: that of the event
+  -- what the request wants that is in hand: that of the event, or of the message that the event brings
   pub want : Option Want
+  -- who asks for the request that is in hand, where a message brings it
+  pub asker : Option Asker
+  -- what is kept of requests that come or go as messages
+  pub requests : Requests
 
 -- a node as the header declares it; a number that it doesn't declare is down
 abbrev pub declared : Header → ℕ → Facts
@@ -51,6 +57,8 @@ opened h = record {
   tables = [];
   event = None;
   want = None;
+  asker = None;
+  requests = no_requests_yet;
 }
 
 -- the world with these facts of one node

@@ -8,7 +8,9 @@ ghost use Rattle.cluster_types.specs.declared.cluster_key.ClusterKey.{ClusterKey
 ghost use Rattle.cluster_types.specs.declared.member.Member.{Member};
 ghost use Rattle.cluster_types.specs.Members.{plain_role, plain_member};
 ghost use Rattle.wire_messages.specs.declared.message.MapTable.{MapTable};
+ghost use Rattle.wire_messages.specs.declared.message.Message.{Message};
 ghost use Rattle.wire_messages.specs.declared.message.Message.TheVariants as message;
+ghost use Rattle.wire_messages.specs.Decoding.{message_of};
 ghost use Rattle.journal_lines.specs.declared.line.Line.{Line};
 ghost use Rattle.journal_lines.specs.declared.line.Line.TheVariants as line;
 ghost use Rattle.journal_lines.specs.declared.refusal.Refusal.{Refusal};
@@ -38,19 +40,25 @@ ghost use Rattle.cluster_rules.specs.Allowed.{AreAllowed, may_come, is_playable}
 ghost use Rattle.cluster_rules.specs.Begun.{ComesNext, AllBegun, BegunRunOf, BegunRun};
 ghost use Rattle.cluster_rules.specs.Runs.{ComesToCalm, PlaysAll, RunOf, Run, run_marks};
 ghost use Rattle.cluster_rules.specs.Steps.{Step, Played, AreDue, all_marks, all_lines, play, play_all, round, rounds};
+ghost use Rattle.journal_readings.specs.Messages.{Posting};
+ghost use Rattle.request_rules.specs.LineNotes.{requests_noted};
+ghost use Rattle.request_rules.specs.Replies.{asker_of, want_in_message};
+ghost use Rattle.cluster_rules.specs.Network.{posting_at};
+ghost use Rattle.cluster_rules.specs.declared.event.Event.{Event};
 ghost use Rattle.cluster_rules.specs.World.{World, opened, is_up, up_nodes};
 ghost use Rattle.cluster_rules.specs.WalkExamples.{older, newer, side, batch_of, ack, handing_on, being_done, resting, acking, one_sent, two_sent, merge, one_has, two_has, one_done, two_done, two_knows, settle, two_rests, one_knows, learn, one_rests, one_again, one_third, one_acked};
 ghost use Rattle.cluster_rules.specs.WorldExamples.{one_node, one_node_journal, entering_lines, put_lines, two_nodes, beat, beats, agreeing, beaten, split, halved, calm_twice, calm_twice_journal, table, told, racked, leaving, parted, hearing, proposing, proposed, committing, committed, parted_and_quiet, unticked, alone, next, accepting, wants};
 
 /// A line adds nothing unless its word is one of those that count: it only tells, as one of the header or one that
-/// shows something.
+/// shows something. A refusal counts only where somebody asks by a message.
 pub fn a_line_that_only_tells_adds_nothing()
     ensures nothing { (w : World) → (l : Line) → adds l ≡ false → after w (Writes l) ≡ w }
     ensures header { (w : World) → (h : Header) → after_all w (map Writes (header_lines h)) ≡ w }
-    ensures refusals { (n : ℕ) → (d : List ℕ) → (cause : Refusal) → (k : ClusterKey) → (p : ℕ)
-        → (ms : List Member) → (a : ℕ)
-        → (adds (line.Refused n d cause) ≡ false) × (adds (line.Mapless n cause) ≡ false)
-        × (adds (line.Map n k p ms a) ≡ false) }
+    ensures maps { (n : ℕ) → (cause : Refusal) → (k : ClusterKey) → (p : ℕ) → (ms : List Member)
+        → (a : ℕ)
+        → (adds (line.Mapless n cause) ≡ false) × (adds (line.Map n k p ms a) ≡ false) }
+    ensures unasked { (w : World) → (n : ℕ) → (d : List ℕ) → (cause : Refusal) → w.asker ≡ None
+        → after w (Writes (line.Refused n d cause)) ≡ w }
     ensures messages { (i : ℕ)
         → (adds (line.Lost i) ≡ false) × (adds (line.Blocked i) ≡ false)
         × (adds (line.NoMessage i) ≡ false) }
@@ -63,6 +71,14 @@ pub fn a_line_that_only_tells_adds_nothing()
         × (adds (line.NoMap p) ≡ false) × (adds (line.Calm rounds) ≡ false)
         × (adds (line.Table k) ≡ false) × (adds (line.Client n d) ≡ false)
         × (adds (line.Holds n d v) ≡ false) }
+{}
+
+/// The requests of a world are what its lines make of them, with the want and the asker that are in hand. A step that
+/// begins leaves them.
+pub fn requests_are_what_lines_make_of_them()
+    ensures lines { (w : World) → (l : Line)
+        → (after w (Writes l)).requests ≡ requests_noted w.asker w.want w.requests l }
+    ensures begins { (w : World) → (e : Event) → (after w (Begins e)).requests ≡ w.requests }
 {}
 
 /// The journal of a run is the lines among its marks, and each front of it is the lines among a front
@@ -230,15 +246,25 @@ pub fn a_message_without_a_place_is_lost()
     ensures kept { (after beaten (Writes (line.Full 1))).network.sent ≡ beaten.network.sent }
 {}
 
-/// A request's want is in hand as its transaction opens, also that of the client; other events
-/// have none.
+/// A request's want is in hand as its transaction opens, also that of the client. A delivery has the want of its
+/// message, and who asks by it; other events have none.
 pub fn a_request_has_its_want_in_hand()
     ensures put { wants (accepting (event.Put 1 zeros hi)) ≡ want.Put hi ∷ [] }
     ensures client_put { wants (accepting (event.ClientPut zeros hi)) ≡ want.Put hi ∷ [] }
     ensures client_del { wants (accepting (event.ClientDel zeros)) ≡ want.Del ∷ [] }
+    ensures message { (w : World) → (i : ℕ) → (p : Posting) → (m : Message)
+        → posting_at w.network i ≡ Some p → message_of p.bytes ≡ Some m
+        → ((after w (Begins (event.Deliver i))).want ≡ want_in_message m)
+        × ((after w (Begins (event.Deliver i))).asker ≡ asker_of p.from m) }
+    ensures unsent { (w : World) → (i : ℕ) → posting_at w.network i ≡ None
+        → ((after w (Begins (event.Deliver i))).want ≡ None)
+        × ((after w (Begins (event.Deliver i))).asker ≡ None) }
     ensures others { (w : World) → (n : ℕ) → (i : ℕ)
         → ((after w (Begins (event.Tick n))).want ≡ None)
-        × ((after w (Begins (event.Deliver i))).want ≡ None) }
+        × ((after w (Begins (event.Lose i))).want ≡ None) }
+    ensures unasked { (w : World) → (n : ℕ) → (d : List ℕ) → (v : List ℕ)
+        → ((after w (Begins (event.Put n d v))).asker ≡ None)
+        × ((after w (Begins (event.ClientPut d v))).asker ≡ None) }
 {}
 
 /// What an event writes that is one line, and what a clock that is set changes.

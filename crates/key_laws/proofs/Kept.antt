@@ -22,6 +22,7 @@ use Rattle.node_rules.specs.Standing.{others}
 use Rattle.node_rules.specs.Tables.{changed_if}
 use Rattle.wire_messages.specs.declared.message.Batch.{Batch}
 use Rattle.node_rules.specs.Notes.{sent, target_for, exchanged}
+use Rattle.request_rules.specs.Requests.{Requests}
 use Rattle.cluster_rules.specs.declared.event.Event.{Event}
 use Rattle.cluster_rules.specs.declared.event.Event.TheVariants as event
 use Rattle.journal_readings.specs.Messages.{Posting, Arrival, arrived, arrived_cut}
@@ -288,6 +289,13 @@ beside t u facts lists sent tables entered h =
       grows = g;
     }
 
+-- nor do the requests
+with_requests : (t u : Traced) (kept : Requests) → Keeps t u → Keeps t (record { world = record u.world { requests = kept }; lists = u.lists; entered = u.entered })
+with_requests t u kept h =
+    let v : Traced = record { world = record u.world { requests = kept }; lists = u.lists; entered = u.entered } in
+    let more : Keeps u v = beside u v refl refl refl refl refl h.sound in
+    record { sound = more.sound; grows = grows_on t u v h.grows more.grows }
+
 quiet : (t : Traced) (n : ℕ) (new : Facts) → SameKeys t (facts_of t n) new → Sound t → Keeps t (moved t n new)
 quiet t n new s h = record { sound = kept_same t n new s h; grows = same_moved_grows t n new s }
 
@@ -319,17 +327,17 @@ kept_line t (line.Repeat i a b) ok h = kept_arrival t _ (told_at t b i h) h
 kept_line t (line.Cut i a b size) ok h = kept_arrival t _ (told_cut t b size i h) h
 kept_line t (line.Sent i a b bytes) ok h = kept_sent t i a b bytes ok.0 ok.1 h
 kept_line t (line.Tick n) ok h = record { sound = kept_tick t n h; grows = moved_grows t n _ (at_most_refl _) }
-kept_line t (line.Stop n) ok h = record { sound = kept_stop t n h; grows = moved_grows t n _ (at_most_refl _) }
+kept_line t (line.Stop n) ok h = with_requests t _ _ (record { sound = kept_stop t n h; grows = moved_grows t n _ (at_most_refl _) })
 kept_line t (line.Promise n k) ok h = kept_promise t n k ok h
-kept_line t (line.Enter n k ms) ok h = record { sound = kept_enter t n k ms h (entered_as t n k ms h ok); grows = enter_grows t n k ms }
+kept_line t (line.Enter n k ms) ok h = with_requests t _ _ (record { sound = kept_enter t n k ms h (entered_as t n k ms h ok); grows = enter_grows t n k ms })
 kept_line t (line.Start n) ok h = quiet t n _ (record { me = refl; agreement = refl; view = refl; heard = refl; exchanged = refl; outs = λ u g h. h; rows = λ u g h. h; stamps = λ u g h. h }) h
 kept_line t (line.Quiesce n) ok h = quiet t n _ (record { me = refl; agreement = refl; view = refl; heard = refl; exchanged = refl; outs = λ u g h. h; rows = λ u g h. h; stamps = λ u g h. h }) h
 kept_line t (line.Unquiesce n) ok h = quiet t n _ (record { me = refl; agreement = refl; view = refl; heard = refl; exchanged = refl; outs = λ u g h. h; rows = λ u g h. h; stamps = λ u g h. h }) h
 kept_line t (line.Exchanged n k) ok h = kept_exchanged t n k ok h
-kept_line t (line.Opened n k number d a) ok h = quiet t n _ (record { me = refl; agreement = refl; view = refl; heard = refl; exchanged = refl; outs = λ u g h. h; rows = λ u g h. h; stamps = λ u g h. h }) h
-kept_line t (line.Value n k number d v) ok h = quiet t n _ (record { me = refl; agreement = refl; view = refl; heard = refl; exchanged = refl; outs = λ u g h. h; rows = λ u g h. h; stamps = λ u g h. h }) h
+kept_line t (line.Opened n k number d a) ok h = with_requests t _ _ (quiet t n _ (record { me = refl; agreement = refl; view = refl; heard = refl; exchanged = refl; outs = λ u g h. h; rows = λ u g h. h; stamps = λ u g h. h }) h)
+kept_line t (line.Value n k number d v) ok h = with_requests t _ _ (quiet t n _ (record { me = refl; agreement = refl; view = refl; heard = refl; exchanged = refl; outs = λ u g h. h; rows = λ u g h. h; stamps = λ u g h. h }) h)
 kept_line t (line.Apply n k number d v) ok h = quiet t n _ (record { me = refl; agreement = refl; view = refl; heard = refl; exchanged = refl; outs = λ u g h. h; rows = λ u g h. h; stamps = λ u g h. stamps_changed u (storing (facts_of t n).store d v) (partition_of d) _ (λ x i. recounted_known u k _ (spoiled k x) (known_grows t u g k ok.known) (spoiled_known u k x i)) h }) h
-kept_line t (line.Done n k number) ok h = quiet t n _ (record { me = refl; agreement = refl; view = refl; heard = refl; exchanged = refl; outs = λ u g h. h; rows = λ u g h. h; stamps = λ u g h. h }) h
+kept_line t (line.Done n k number) ok h = with_requests t _ _ (quiet t n _ (record { me = refl; agreement = refl; view = refl; heard = refl; exchanged = refl; outs = λ u g h. h; rows = λ u g h. h; stamps = λ u g h. h }) h)
 kept_line t (line.Aborted n k number) ok h = quiet t n _ (record { me = refl; agreement = refl; view = refl; heard = refl; exchanged = refl; outs = λ u g h. h; rows = λ u g h. h; stamps = λ u g h. h }) h
 kept_line t (line.Doubt n k number) ok h = quiet t n _ (record { me = refl; agreement = refl; view = refl; heard = refl; exchanged = refl; outs = λ u g h. h; rows = λ u g h. h; stamps = λ u g h. h }) h
 kept_line t (line.Merge n k d v) ok h = quiet t n _ (record { me = refl; agreement = refl; view = refl; heard = refl; exchanged = refl; outs = λ u g h. h; rows = λ u g h. h; stamps = λ u g h. stamps_changed u (storing (facts_of t n).store d v) (partition_of d) _ (λ x i. spoiled_known u k x i) h }) h

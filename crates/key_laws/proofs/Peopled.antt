@@ -26,6 +26,7 @@ use Rattle.node_rules.specs.Map.{list_master}
 use Rattle.node_rules.specs.Notes as notes
 use Rattle.node_rules.specs.Notes.{note, neighbours, reached, sent, in_view}
 use Rattle.node_rules.specs.Tables.{Table}
+use Rattle.request_rules.specs.Requests.{Requests}
 use Rattle.cluster_rules.specs.declared.event.Event.{Event}
 use Rattle.cluster_rules.specs.declared.event.Event.TheVariants as event
 use Rattle.cluster_rules.specs.Marks as marks
@@ -289,6 +290,10 @@ posted_peopled ns t i p entered g h = go (message_of p.bytes)
 noted_peopled : (ns : List ℕ) (t : Traced) (n : ℕ) (l : Line) (entered : ℕ → ClusterKey → Bool) → ((m : ℕ) → l ≡ line.Start m → IsOneOf ns n) → Peopled ns t → Peopled ns (record { world = marks.by_node t.world n l; lists = t.lists; entered = entered })
 noted_peopled ns t n l entered s h = record { nodes = one ns t.world.facts n (note t.world.want (facts_of t n) l) h.nodes (note_ends ns n t.world.want (facts_of t n) l s (h.nodes n)); lists = h.lists; racks = h.racks; sent = h.sent; tables = h.tables }
 
+-- the requests are other ones besides
+requested : (ns : List ℕ) (t : Traced) (kept : Requests) → Peopled ns t → Peopled ns (record { world = record t.world { requests = kept }; lists = t.lists; entered = t.entered })
+requested ns t kept h = record { nodes = h.nodes; lists = h.lists; racks = h.racks; sent = h.sent; tables = h.tables }
+
 abbrev is_start : Line → Bool
 is_start (line.Start n) = true
 is_start _ = false
@@ -340,19 +345,19 @@ line_peopled ns t (line.Repeat i a b) go d h = arrived_peopled ns t (option_and_
 line_peopled ns t (line.Cut i a b size) go d h = arrived_peopled ns t (option_and_then (arrived_cut b size) (posting_at t.world.network i)) _ (cut_stays ns t b size (posting_at t.world.network i) (goes_to t i b go) (posted_right ns t i h) h) h
 line_peopled ns t (line.Sent i a b bytes) go d h = posted_peopled ns t i (record { from = a; to = b; bytes = bytes }) _ d h
 line_peopled ns t (line.Tick n) go d h = noted_peopled ns t n (line.Tick n) _ (no_start ns n (line.Tick n) refl) h
-line_peopled ns t (line.Stop n) go d h = noted_peopled ns t n (line.Stop n) _ (no_start ns n (line.Stop n) refl) h
+line_peopled ns t (line.Stop n) go d h = requested ns _ _ (noted_peopled ns t n (line.Stop n) _ (no_start ns n (line.Stop n) refl) h)
 line_peopled ns t (line.Start n) go d h = noted_peopled ns t n (line.Start n) _ (λ m e. d) h
 line_peopled ns t (line.Quiesce n) go d h = noted_peopled ns t n (line.Quiesce n) _ (no_start ns n (line.Quiesce n) refl) h
 line_peopled ns t (line.Unquiesce n) go d h = noted_peopled ns t n (line.Unquiesce n) _ (no_start ns n (line.Unquiesce n) refl) h
 line_peopled ns t (line.Promise n k) go d h =
     let u : Peopled ns (record { world = marks.by_node t.world n (line.Promise n k); lists = t.lists; entered = t.entered }) = noted_peopled ns t n (line.Promise n k) t.entered (no_start ns n (line.Promise n k) refl) h in
     record { nodes = u.nodes; lists = promised_lists ns t n k d h; racks = promised_racks ns t n k h; sent = u.sent; tables = u.tables }
-line_peopled ns t (line.Enter n k ms) go d h = noted_peopled ns t n (line.Enter n k ms) _ (no_start ns n (line.Enter n k ms) refl) h
+line_peopled ns t (line.Enter n k ms) go d h = requested ns _ _ (noted_peopled ns t n (line.Enter n k ms) _ (no_start ns n (line.Enter n k ms) refl) h)
 line_peopled ns t (line.Exchanged n k) go d h = noted_peopled ns t n (line.Exchanged n k) _ (no_start ns n (line.Exchanged n k) refl) h
-line_peopled ns t (line.Opened n k number e a) go d h = noted_peopled ns t n (line.Opened n k number e a) _ (no_start ns n (line.Opened n k number e a) refl) h
-line_peopled ns t (line.Value n k number e v) go d h = noted_peopled ns t n (line.Value n k number e v) _ (no_start ns n (line.Value n k number e v) refl) h
+line_peopled ns t (line.Opened n k number e a) go d h = requested ns _ _ (noted_peopled ns t n (line.Opened n k number e a) _ (no_start ns n (line.Opened n k number e a) refl) h)
+line_peopled ns t (line.Value n k number e v) go d h = requested ns _ _ (noted_peopled ns t n (line.Value n k number e v) _ (no_start ns n (line.Value n k number e v) refl) h)
 line_peopled ns t (line.Apply n k number e v) go d h = noted_peopled ns t n (line.Apply n k number e v) _ (no_start ns n (line.Apply n k number e v) refl) h
-line_peopled ns t (line.Done n k number) go d h = noted_peopled ns t n (line.Done n k number) _ (no_start ns n (line.Done n k number) refl) h
+line_peopled ns t (line.Done n k number) go d h = requested ns _ _ (noted_peopled ns t n (line.Done n k number) _ (no_start ns n (line.Done n k number) refl) h)
 line_peopled ns t (line.Aborted n k number) go d h = noted_peopled ns t n (line.Aborted n k number) _ (no_start ns n (line.Aborted n k number) refl) h
 line_peopled ns t (line.Doubt n k number) go d h = noted_peopled ns t n (line.Doubt n k number) _ (no_start ns n (line.Doubt n k number) refl) h
 line_peopled ns t (line.Merge n k e v) go d h = noted_peopled ns t n (line.Merge n k e v) _ (no_start ns n (line.Merge n k e v) refl) h

@@ -13,7 +13,7 @@ use Rattle.journal_lines.specs.declared.line.Line.{Line}
 use Rattle.journal_lines.specs.declared.line.Line.TheVariants as line
 use Rattle.node_rules.specs.Facts.{Facts}
 use Rattle.node_rules.specs.Notes.{note, reached, sent}
-use Rattle.cluster_rules.specs.Marks.{Mark, Begins, Writes, sent_by, lines_among, by_node, came_to_client, came_to_node}
+use Rattle.cluster_rules.specs.Marks.{Mark, Begins, Writes, sent_by, lines_among, by_node, with_requests_if, came_to_client, came_to_node}
 use Rattle.journal_readings.specs.Lines.{is_enter, same_key}
 use Rattle.journal_readings.specs.Messages.{Arrival}
 use Rattle.cluster_rules.specs.Network.{posting}
@@ -76,6 +76,11 @@ by_line t m l n p q =
     moved_stay t.world m (note t.world.want (facts_of t m) l) p q n in
     record { promised = moved.0; last = moved.1 }
 
+-- the line counts for the requests as well
+by_both : (t : Traced) (m : ℕ) (l : Line) (n : ℕ) → (facts_of t m).agreement.promised ≡ (note t.world.want (facts_of t m) l).agreement.promised → (facts_of t m).agreement.last ≡ (note t.world.want (facts_of t m) l).agreement.last
+    → Stay t (record { world = with_requests_if (by_node t.world m l) l true; lists = t.lists; entered = t.entered }) n
+by_both t m l n p q = let s = by_line t m l n p q in record { promised = s.promised; last = s.last }
+
 stays : (t u : Traced) (l : Line) (n : ℕ) → promise_step n (facts_of t n).agreement.promised l ≡ (facts_of t n).agreement.promised → last_step n (facts_of t n).agreement.last l ≡ (facts_of t n).agreement.last → Stay t u n → Reads t u l n
 stays t u l n p q s = record { promised = p ∙ s.promised; last = q ∙ s.last }
 
@@ -116,15 +121,15 @@ reads_line t (line.Sent i a b bytes) s n =
     stays t _ (line.Sent i a b bytes) n refl refl
     (sent_stay t (record t.world { network = posting t.world.network i (record { from = a; to = b; bytes = bytes }) }) a b refl (message_of bytes) n)
 reads_line t (line.Tick m) s n = stays t _ (line.Tick m) n refl refl (by_line t m (line.Tick m) n refl refl)
-reads_line t (line.Stop m) s n = stays t _ (line.Stop m) n refl refl (by_line t m (line.Stop m) n refl refl)
+reads_line t (line.Stop m) s n = stays t _ (line.Stop m) n refl refl (by_both t m (line.Stop m) n refl refl)
 reads_line t (line.Start m) s n = stays t _ (line.Start m) n refl refl (by_line t m (line.Start m) n refl refl)
 reads_line t (line.Quiesce m) s n = stays t _ (line.Quiesce m) n refl refl (by_line t m (line.Quiesce m) n refl refl)
 reads_line t (line.Unquiesce m) s n = stays t _ (line.Unquiesce m) n refl refl (by_line t m (line.Unquiesce m) n refl refl)
 reads_line t (line.Exchanged m k) s n = stays t _ (line.Exchanged m k) n refl refl (by_line t m (line.Exchanged m k) n refl refl)
-reads_line t (line.Opened m k number d a) s n = stays t _ (line.Opened m k number d a) n refl refl (by_line t m (line.Opened m k number d a) n refl refl)
-reads_line t (line.Value m k number d v) s n = stays t _ (line.Value m k number d v) n refl refl (by_line t m (line.Value m k number d v) n refl refl)
+reads_line t (line.Opened m k number d a) s n = stays t _ (line.Opened m k number d a) n refl refl (by_both t m (line.Opened m k number d a) n refl refl)
+reads_line t (line.Value m k number d v) s n = stays t _ (line.Value m k number d v) n refl refl (by_both t m (line.Value m k number d v) n refl refl)
 reads_line t (line.Apply m k number d v) s n = stays t _ (line.Apply m k number d v) n refl refl (by_line t m (line.Apply m k number d v) n refl refl)
-reads_line t (line.Done m k number) s n = stays t _ (line.Done m k number) n refl refl (by_line t m (line.Done m k number) n refl refl)
+reads_line t (line.Done m k number) s n = stays t _ (line.Done m k number) n refl refl (by_both t m (line.Done m k number) n refl refl)
 reads_line t (line.Aborted m k number) s n = stays t _ (line.Aborted m k number) n refl refl (by_line t m (line.Aborted m k number) n refl refl)
 reads_line t (line.Doubt m k number) s n = stays t _ (line.Doubt m k number) n refl refl (by_line t m (line.Doubt m k number) n refl refl)
 reads_line t (line.Merge m k d v) s n = stays t _ (line.Merge m k d v) n refl refl (by_line t m (line.Merge m k d v) n refl refl)

@@ -1,5 +1,5 @@
 -- What a line adds to what is kept of requests.
-use Rattle.std.specs.Prelude.{ℕ, List, [], ◌∷◌, Option, Some, None}
+use Rattle.std.specs.Prelude.{ℕ, Bool, true, List, [], ◌∷◌, Option, Some, None, is_some}
 use Rattle.conflict_order.specs.declared.want.Want.{Want}
 use Rattle.cluster_types.specs.Changed.{at_number as changed_at}
 use Rattle.journal_lines.specs.declared.line.Line.{Line}
@@ -33,6 +33,13 @@ node_of_request (line.Proxied n key x b) = Some n
 node_of_request (line.Unproxied n key x) = Some n
 node_of_request _ = None
 
+-- whether the line counts for the requests of a node or of the client
+abbrev pub counts_for_requests : Line → Bool
+counts_for_requests (line.Call q n d a) = true
+counts_for_requests (line.Reply q n b) = true
+counts_for_requests (line.Scan s n p) = true
+counts_for_requests l = is_some (node_of_request l)
+
 -- the line counts for the node's requests, if there is one
 abbrev pub noted_at : Option Asker → Option Want → (ℕ → NodeRequests) → Option ℕ → Line
     → ℕ → NodeRequests
@@ -46,3 +53,8 @@ requests_noted a w r l = record {
   calls = note_call w r.calls l;
   scans = note_scan r.scans l;
 }
+
+-- what lines add, one after another
+abbrev pub all_requests_noted : Option Asker → Option Want → Requests → List Line → Requests
+all_requests_noted a w r [] = r
+all_requests_noted a w r (l ∷ ls) = all_requests_noted a w (requests_noted a w r l) ls

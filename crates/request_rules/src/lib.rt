@@ -3,8 +3,8 @@
 //! partition page by page.
 //!
 //! The rules are definitions, one file a subject, in this crate's specs/. Beside them stand the
-//! types that the rules and their tables share, and laws whose clauses are computed examples. No
-//! rule of a run stands on this crate yet.
+//! types that the rules and their tables share, and laws whose clauses are computed examples. A
+//! world keeps its requests by these rules; no rule reads them yet.
 #![tactic(auto)]
 
 mod call;

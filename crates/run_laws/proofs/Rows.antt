@@ -223,6 +223,10 @@ enter_rowed c n k ms me ok h =
 stop_keeps : (c : Chronicle) (f : Facts) → Keeps c (stopped f)
 stop_keeps c f v e = no_some e
 
+-- the facts of one node are these, and what doesn't count is other than before
+moved_on : (c d : Chronicle) (n : ℕ) (new : Facts) → Longer c d → (moved c n new).traced.world.facts ≡ d.traced.world.facts → c.traced.world.network.sent ≡ d.traced.world.network.sent → Rowed c → Keeps c new → Rowed d
+moved_on c d n new g fs ss h k = beside (moved c n new) d (record { entered = g.entered; lists = g.lists; rows = g.rows }) fs ss (rowed_moved c n new h k)
+
 -- lists after a promise
 pub rowed_line : (c : Chronicle) (l : Line) → ((n : ℕ) → (facts_of c.traced n).me ≡ n) → Longer c (chronicle_after c (Writes l)) → RowOk c (Writes l) → Rowed c → Rowed (chronicle_after c (Writes l))
 rowed_line c (line.Deliver i a b) me g ok h = arrival_rowed c i b h
@@ -230,7 +234,7 @@ rowed_line c (line.Repeat i a b) me g ok h = arrival_rowed c i b h
 rowed_line c (line.Cut i a b size) me g ok h = cut_rowed c i b size h
 rowed_line c (line.Sent i a b bytes) me g ok h = sent_rowed c i (record { from = a; to = b; bytes = bytes }) ok h
 rowed_line c (line.Enter n k ms) me g ok h = enter_rowed c n k ms (me n) ok h
-rowed_line c (line.Stop n) me g ok h = rowed_moved c n (stopped (facts_of c.traced n)) h (stop_keeps c (facts_of c.traced n))
+rowed_line c (line.Stop n) me g ok h = moved_on c _ n (stopped (facts_of c.traced n)) g refl refl h (stop_keeps c (facts_of c.traced n))
 rowed_line c (line.Promise n k) me g ok h =
     let f : Facts = note c.traced.world.want (facts_of c.traced n) (line.Promise n k) in
     beside (moved c n f) (chronicle_after c (Writes (line.Promise n k))) (record { entered = g.entered; lists = g.lists; rows = g.rows }) refl refl (rowed_moved c n f h (h.kept n))
@@ -239,10 +243,10 @@ rowed_line c (line.Start n) me g ok h = rowed_moved c n _ h (h.kept n)
 rowed_line c (line.Quiesce n) me g ok h = rowed_moved c n _ h (h.kept n)
 rowed_line c (line.Unquiesce n) me g ok h = rowed_moved c n _ h (h.kept n)
 rowed_line c (line.Exchanged n k) me g ok h = rowed_moved c n _ h (h.kept n)
-rowed_line c (line.Opened n k t d a) me g ok h = rowed_moved c n _ h (h.kept n)
-rowed_line c (line.Value n k t d v) me g ok h = rowed_moved c n _ h (h.kept n)
+rowed_line c (line.Opened n k t d a) me g ok h = moved_on c _ n (note c.traced.world.want (facts_of c.traced n) (line.Opened n k t d a)) g refl refl h (h.kept n)
+rowed_line c (line.Value n k t d v) me g ok h = moved_on c _ n (note c.traced.world.want (facts_of c.traced n) (line.Value n k t d v)) g refl refl h (h.kept n)
 rowed_line c (line.Apply n k t d v) me g ok h = rowed_moved c n _ h (h.kept n)
-rowed_line c (line.Done n k t) me g ok h = rowed_moved c n _ h (h.kept n)
+rowed_line c (line.Done n k t) me g ok h = moved_on c _ n (note c.traced.world.want (facts_of c.traced n) (line.Done n k t)) g refl refl h (h.kept n)
 rowed_line c (line.Aborted n k t) me g ok h = rowed_moved c n _ h (h.kept n)
 rowed_line c (line.Doubt n k t) me g ok h = rowed_moved c n _ h (h.kept n)
 rowed_line c (line.Merge n k d v) me g ok h = rowed_moved c n _ h (h.kept n)

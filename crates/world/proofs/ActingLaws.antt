@@ -1,6 +1,6 @@
 -- Steps of an endpoint that sends messages: its lines, and the parts of the world after it.
 use Rattle.std.proofs.Common.{◌≡◌, ◌≢◌, ℕ, zero, suc, Bool, true, false, List, [], ◌∷◌, ◌++◌, AllPairs, length, map, Option, Some, None, refl, sym, ap, ap₂, subst, ◌∙◌, set}
-use Rattle.std.specs.Prelude.{slice_get, is_some, if◌then◌else◌}
+use Rattle.std.specs.Prelude.{slice_get, is_some, option_and_then, if◌then◌else◌}
 use Rattle.std.proofs.lemmas.List.{length-map}
 use Rattle.conflict_order.specs.declared.want.Want.{Want}
 use Rattle.conflict_order.specs.declared.want.Want.TheVariants as want
@@ -23,16 +23,19 @@ use Rattle.node_rules.specs.Requests.{due_request, due_stop, due_start}
 use Rattle.node_rules.specs.Steps.{Planning, after_message, after_request, after_start, after_stop, after_tick}
 use Rattle.node_rules.specs.Tick.{due_tick}
 use Rattle.node_steps.specs.Spelled.{spelled_sends}
+use Rattle.request_rules.specs.LineNotes.{all_requests_noted}
+use Rattle.request_rules.specs.Replies.{want_in_message}
 use Rattle.cluster_rules.specs.declared.event.Event.{Event}
 use Rattle.cluster_rules.specs.declared.event.Event.TheVariants as event
 use Rattle.cluster_rules.specs.DueEvents.{due_at_named, sent_lines, written, is_blocked}
-use Rattle.cluster_rules.specs.Marks.{Writes, after_all, after_line, event_begun, came_to_node, taken_by}
+use Rattle.cluster_rules.specs.Marks.{Writes, after_all, after_line, event_begun, arrival_under, came_to_node, taken_by, want_in}
 use Rattle.journal_readings.specs.Messages.{Posting}
 use Rattle.cluster_rules.specs.Network.{Network, flying_at}
 use Rattle.cluster_rules.specs.NodeSteps.{AreOf, AreRead, IsNumbered, Moves, all_sent_in, after_step}
 use Rattle.cluster_rules.specs.World.{World}
 use Rattle.cluster_rules.proofs.NodeLaws.{node_step}
 use Rattle.cluster_rules.proofs.OwnLines.{message_own, request_own, stop_own, tick_own}
+use Rattle.cluster_rules.proofs.RequestLaws.{want_of_arrival, want_unread}
 use Rattle.world.specs.declared.delivery.Delivery.{Delivery}
 use Rattle.world.specs.declared.delivery.Delivery.TheVariants as delivery_of
 use Rattle.world.specs.Arriving.{delivering, is_short_of, landed_if, landing_of, line_of_delivery}
@@ -101,7 +104,7 @@ stands_acted r e n effects new ids nodes clocks net now entries place node h dis
     let w : World = standing r in
     let u : World = event_begun w e in
     let lines : written w.network n effects ≡ written u.network n effects = ap (λ (x : Network). written x n effects) (sym still) in
-    let moves : Moves n (all_sent (noted u.want (u.facts n) effects.lines) effects.sends) (all_sent_in u.network n effects.sends) u (after_all u (map Writes (written u.network n effects))) =
+    let moves : Moves n (all_sent (noted u.want (u.facts n) effects.lines) effects.sends) (all_sent_in u.network n effects.sends) (all_requests_noted u.asker u.want u.requests effects.lines) u (after_all u (map Writes (written u.network n effects))) =
     node_step u n effects own read (subst IsNumbered (sym still) (numbered net w.network h.network numbers)) in
     subst (λ (v : World). Stands v ids (set nodes place node) clocks now entries) (sym (steps ∙ ap (λ (ls : List Line). after_all u (map Writes ls)) lines))
     (stands_moved w (after_all u (map Writes (written u.network n effects))) n new u.network ids nodes clocks net now entries place node h distinct there is
@@ -230,7 +233,7 @@ pub ask_stands : (r : RunSoFar) (n : ℕ) (ids : List ℕ) (nodes : List Plannin
     → Stands (after_step (standing r) (event.Ask n)) ids nodes clocks now entries
 ask_stands r n ids nodes clocks net now entries h numbers same =
     let w : World = standing r in
-    let moves : Moves client (w.facts client) (all_sent_in w.network client (to_one n message.MapAsk)) (event_begun w (event.Ask n)) (after_step w (event.Ask n)) =
+    let moves : Moves client (w.facts client) (all_sent_in w.network client (to_one n message.MapAsk)) w.requests (event_begun w (event.Ask n)) (after_step w (event.Ask n)) =
     node_step (event_begun w (event.Ask n)) client (sends_only (to_one n message.MapAsk)) tt (read_back message.MapAsk tt, tt) (numbered net w.network h.network numbers) in
     record {
       declared = h.declared ∙ ap (λ (ns : List ℕ). Rattle.partition_lists.specs.Lists.in_order Rattle.std.specs.Prelude.nat_lt ns) (sym moves.nodes);
@@ -272,7 +275,7 @@ arrival_stands r i how p m ids nodes clocks net now entries place node flies fre
     subst (λ (x : Network). IsNetwork (landing_from net (landing_of i how)) x) (sym taken)
     (landed_network net (landing_from net (landing_of i how)) w.network (landing_of i how) h.network (record { flying = refl; sent = refl; groups = refl })) in
     let end : World = after_all u (map Writes (written (event_begun w e).network p.to effects)) in
-    let moves : Moves p.to (all_sent (noted u.want (u.facts p.to) effects.lines) effects.sends) (all_sent_in u.network p.to effects.sends) u end =
+    let moves : Moves p.to (all_sent (noted u.want (u.facts p.to) effects.lines) effects.sends) (all_sent_in u.network p.to effects.sends) (all_requests_noted u.asker u.want u.requests effects.lines) u end =
     node_step u p.to effects (subst (λ x. AreOf x effects.lines) me (message_own partition_count (w.facts p.to) (w.clocks p.to) p.from m)) sends
     (numbered (landing_from net (landing_of i how)) (event_begun w e).network left (numbers_left net (landing_of i how) numbers)) in
     let here : u.facts p.to ≡ reached (w.facts p.to) p.from m = at_itself w.facts p.to (reached (w.facts p.to) p.from m) in
@@ -282,12 +285,15 @@ arrival_stands r i how p m ids nodes clocks net now entries place node flies fre
     subst (λ (v : World). Stands v ids (set nodes place node) clocks now entries) (sym steps)
     (stands_moved w end p.to (after_message (w.facts p.to) (w.clocks p.to) p.from m) u.network ids nodes clocks net now entries place node h distinct there is
     moves.nodes moves.clocks moves.tables
-    (moves.here ∙ ap₂ (λ (q : Option Want) (f : Facts). all_sent (noted q f effects.lines) effects.sends) (no_want i how) here)
+    (moves.here
+    ∙ ap (λ (q : Option Want). all_sent (noted q (u.facts p.to) effects.lines) effects.sends) (want_under i how ∙ want_of_arrival w i p m (flying_sent w.network i p flies) read)
+    ∙ ap (λ (f : Facts). all_sent f effects.sends) (want_unread partition_count (w.facts p.to) (u.facts p.to) (w.clocks p.to) p.from m)
+    ∙ ap (λ (f : Facts). all_sent (noted None f effects.lines) effects.sends) here)
     (λ k d. moves.elsewhere k d ∙ at_another w.facts p.to (reached (w.facts p.to) p.from m) k d)
     (subst (λ (x : Network). IsNetwork now x) (sym (moves.network ∙ ap (λ (x : Network). all_sent_in x p.to effects.sends) taken))
     (sent_network net now w.network p.to (landing_of i how) effects.sends h.network numbers same)))
   where
-    no_want : (i : ℕ) (how : Delivery) → Rattle.cluster_rules.specs.Marks.want_in (delivering i how) ≡ None
-    no_want i delivery_of.Whole = refl
-    no_want i delivery_of.Repeated = refl
-    no_want i (delivery_of.Cut size) = refl
+    want_under : (i : ℕ) (how : Delivery) → want_in (standing r) (delivering i how) ≡ option_and_then (λ x. want_in_message x.message) (arrival_under (standing r).network i)
+    want_under i delivery_of.Whole = refl
+    want_under i delivery_of.Repeated = refl
+    want_under i (delivery_of.Cut size) = refl
