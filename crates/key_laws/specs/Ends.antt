@@ -6,6 +6,10 @@ use Rattle.cluster_types.specs.Partitions.{partition_count}
 use Rattle.wire_messages.specs.declared.message.MapTable.{MapTable}
 use Rattle.wire_messages.specs.declared.message.Message.{Message}
 use Rattle.wire_messages.specs.declared.message.Message.TheVariants as message
+use Rattle.wire_messages.specs.declared.reply.ReplyBody.{ReplyBody}
+use Rattle.wire_messages.specs.declared.reply.ReplyBody.TheVariants as reply
+use Rattle.wire_messages.specs.declared.scan.ScanRefusal.{ScanRefusal}
+use Rattle.wire_messages.specs.declared.scan.ScanRefusal.TheVariants as scan_refusal
 use Rattle.wire_messages.specs.Decoding.{message_of}
 use Rattle.journal_lines.specs.declared.refusal.Refusal.{Refusal}
 use Rattle.journal_lines.specs.declared.refusal.Refusal.TheVariants as refusal
@@ -70,8 +74,17 @@ CauseNames P (refusal.Exchanging n) = P n
 CauseNames P (refusal.NotMaster n) = P n
 CauseNames P _ = Unit {0}
 
--- a line that is due names such nodes alone, and the message that it sends goes right. A header's lines, and those of
--- words that aren't served yet, aren't due
+abbrev pub ReplyNames : (ℕ → Type 0) → ReplyBody → Type 0
+ReplyNames P (reply.Exchanging n) = P n
+ReplyNames P (reply.NotMaster n) = P n
+ReplyNames P _ = Unit {0}
+
+abbrev pub ScanCauseNames : (ℕ → Type 0) → ScanRefusal → Type 0
+ScanCauseNames P (scan_refusal.Exchanging n) = P n
+ScanCauseNames P (scan_refusal.NotMaster n) = P n
+ScanCauseNames P _ = Unit {0}
+
+-- a line that is due names such nodes alone, and the message that it sends goes right. A header's lines aren't due
 abbrev pub LineNames : (ℕ → Type 0) → Line → Type 0
 LineNames P (line.Clock n time) = P n
 LineNames P (line.Groups groups) = AllNodes P (concat groups)
@@ -117,6 +130,21 @@ LineNames P (line.Client n d) = P n
 LineNames P (line.NoMap p) = Unit {0}
 LineNames P (line.Table k) = Unit {0}
 LineNames P (line.Calm rounds) = Unit {0}
+LineNames P (line.Proxy n k x d a acting) = P n × P acting
+LineNames P (line.Proxied n k x body) = P n × ReplyNames P body
+LineNames P (line.Unproxied n k x) = P n
+LineNames P line.CallFull = Unit {0}
+LineNames P (line.Call q n d a) = P n
+LineNames P (line.NoOpen q) = Unit {0}
+LineNames P (line.Again q n) = P n
+LineNames P (line.Reply q n body) = P n × ReplyNames P body
+LineNames P (line.Scan s n p) = P n
+LineNames P (line.NoScan s) = Unit {0}
+LineNames P (line.Rescan s) = Unit {0}
+LineNames P (line.Page s count) = Unit {0}
+LineNames P (line.Scanned s n k p count) = P n
+LineNames P (line.Record s d v) = Unit {0}
+LineNames P (line.Unscanned s cause) = ScanCauseNames P cause
 LineNames P _ = ⊥
 
 abbrev pub AllName : (ℕ → Type 0) → List Line → Type 0

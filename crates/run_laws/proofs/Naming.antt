@@ -8,16 +8,20 @@ use Rattle.script_lang.specs.declared.script.HeaderLine.{HeaderLine}
 use Rattle.script_lang.specs.declared.script.HeaderLine.TheVariants as header
 use Rattle.journal_lines.specs.declared.refusal.Refusal.{Refusal}
 use Rattle.journal_lines.specs.declared.refusal.Refusal.TheVariants as refusal
+use Rattle.wire_messages.specs.declared.reply.ReplyBody.{ReplyBody}
+use Rattle.wire_messages.specs.declared.reply.ReplyBody.TheVariants as reply
+use Rattle.wire_messages.specs.declared.scan.ScanRefusal.{ScanRefusal}
+use Rattle.wire_messages.specs.declared.scan.ScanRefusal.TheVariants as scan_refusal
 use Rattle.journal_lines.specs.declared.line.Line.{Line}
 use Rattle.journal_lines.specs.declared.line.Line.TheVariants as line
 use Rattle.journal_readings.specs.Lines.{has_node}
 use Rattle.cluster_rules.specs.Opening.{Header, declared_nodes, journal_header_line, header_lines}
-use Rattle.journal_readings.specs.Shape.{Shape, end_nodes, named_nodes, names_declared, refusal_nodes}
+use Rattle.journal_readings.specs.Shape.{Shape, end_nodes, named_nodes, names_declared, refusal_nodes, reply_nodes, scan_refusal_nodes}
 use Rattle.cluster_rules.specs.Steps.{Step, all_lines}
 use Rattle.cluster_rules.proofs.WorldReadings.{nodes_agree}
 use Rattle.cluster_laws.specs.Journals.{journal}
 use Rattle.cluster_laws.proofs.At.{and_both, and_left, and_right, differ, some_same, no_some}
-use Rattle.key_laws.specs.Ends.{IsOneOf, AllName, AllNodes, CauseNames, IsEnd, LineNames}
+use Rattle.key_laws.specs.Ends.{IsOneOf, AllName, AllNodes, CauseNames, IsEnd, LineNames, ReplyNames, ScanCauseNames}
 use Rattle.key_laws.proofs.Addressed.{or_left, or_right}
 use Rattle.key_laws.proofs.Frames.{num_eq}
 use Rattle.key_laws.proofs.NamedSteps.{allowed_named}
@@ -59,6 +63,16 @@ pass_cause : (ns : List ℕ) (cause : Refusal) → CauseNames (IsOneOf ns) cause
 pass_cause ns (refusal.Exchanging n) h = pass_one ns n h
 pass_cause ns (refusal.NotMaster n) h = pass_one ns n h
 pass_cause ns _ h = refl
+
+pass_reply : (ns : List ℕ) (body : ReplyBody) → ReplyNames (IsOneOf ns) body → Pass ns (reply_nodes body)
+pass_reply ns (reply.Exchanging n) h = pass_one ns n h
+pass_reply ns (reply.NotMaster n) h = pass_one ns n h
+pass_reply ns _ h = refl
+
+pass_scan_cause : (ns : List ℕ) (cause : ScanRefusal) → ScanCauseNames (IsOneOf ns) cause → Pass ns (scan_refusal_nodes cause)
+pass_scan_cause ns (scan_refusal.Exchanging n) h = pass_one ns n h
+pass_scan_cause ns (scan_refusal.NotMaster n) h = pass_one ns n h
+pass_scan_cause ns _ h = refl
 
 pass_more : (ns : List ℕ) (n : ℕ) (ms : List ℕ) → IsOneOf ns n → Pass ns ms → Pass ns (n ∷ ms)
 pass_more ns n ms h i = and_both (has_node ns n) _ h i
@@ -109,6 +123,21 @@ line_passes ns (line.Client n d) h = pass_one ns n h
 line_passes ns (line.NoMap p) h = refl
 line_passes ns (line.Table k) h = refl
 line_passes ns (line.Calm rounds) h = refl
+line_passes ns (line.Proxy n k x d a acting) h = pass_more ns n (acting ∷ []) h.0 (pass_one ns acting h.1)
+line_passes ns (line.Proxied n k x body) h = pass_more ns n (reply_nodes body) h.0 (pass_reply ns body h.1)
+line_passes ns (line.Unproxied n k x) h = pass_one ns n h
+line_passes ns line.CallFull h = refl
+line_passes ns (line.Call q n d a) h = pass_one ns n h
+line_passes ns (line.NoOpen q) h = refl
+line_passes ns (line.Again q n) h = pass_one ns n h
+line_passes ns (line.Reply q n body) h = pass_more ns n (reply_nodes body) h.0 (pass_reply ns body h.1)
+line_passes ns (line.Scan s n p) h = pass_one ns n h
+line_passes ns (line.NoScan s) h = refl
+line_passes ns (line.Rescan s) h = refl
+line_passes ns (line.Page s count) h = refl
+line_passes ns (line.Scanned s n k p count) h = pass_one ns n h
+line_passes ns (line.Record s d v) h = refl
+line_passes ns (line.Unscanned s cause) h = pass_scan_cause ns cause h
 line_passes ns _ h = absurd h
 
 -- ---- a journal
