@@ -190,7 +190,36 @@ RunsOn S ts = (y : Transaction) → Among ts y → S y.digest
 abbrev pub AllRunOn : (List ℕ → Type 0) → World → Type 0
 AllRunOn S w = (m : ℕ) → RunsOn S (w.facts m).transactions.running
 
+-- a transaction that the line opens is on such a digest, and the line doesn't divide the network
+abbrev pub OpensOn : (List ℕ → Type 0) → Line → Type 0
+OpensOn S (line.Opened n k t d a) = S d
+OpensOn S (line.Groups groups) = ⊥
+OpensOn S l = Unit {0}
+
+-- each of the lines among the marks is such a one
+abbrev pub MarksOpenOn : (List ℕ → Type 0) → List Mark → Type 0
+MarksOpenOn S [] = Unit {0}
+MarksOpenOn S (Begins e ∷ ms) = MarksOpenOn S ms
+MarksOpenOn S (Writes l ∷ ms) = OpensOn S l × MarksOpenOn S ms
+
+unopened_on : (S : List ℕ → Type 0) (l : Line) → Unopened l → OpensOn S l
+unopened_on S (line.Opened n k t d a) h = absurd h
+unopened_on S (line.Groups groups) h = absurd h
+unopened_on S l h = tt
+
+-- marks of which none opens a transaction are such ones
+pub quiet_on : (S : List ℕ → Type 0) (ms : List Mark) → QuietMarks ms → MarksOpenOn S ms
+quiet_on S [] h = tt
+quiet_on S (Begins e ∷ ms) h = quiet_on S ms h
+quiet_on S (Writes l ∷ ms) h = (unopened_on S l h.0, quiet_on S ms h.1)
+
 module _ (S : List ℕ → Type 0) where
+  opening_runs : (xs : List Transaction) (x : Transaction) → S x.digest → RunsOn S xs → RunsOn S (xs ++ x ∷ [])
+  opening_runs [] x s h y (inl e) = subst (λ (z : Transaction). S z.digest) e s
+  opening_runs [] x s h y (inr i) = absurd i
+  opening_runs (z ∷ xs) x s h y (inl e) = h y (inl e)
+  opening_runs (z ∷ xs) x s h y (inr i) = opening_runs xs x s (λ v j. h v (inr j)) y i
+
   changing_runs : (ts : Transactions) (number : ℕ) (change : Transaction → Transaction) → ((y : Transaction) → (change y).digest ≡ y.digest) → RunsOn S ts.running → RunsOn S (changing ts number change).running
   changing_runs ts number change same h = go ts.running h
     where
@@ -219,8 +248,8 @@ module _ (S : List ℕ → Type 0) where
   abbrev FactsRun : Facts → Type 0
   FactsRun f = RunsOn S f.transactions.running
 
-  note_runs : (q : Option Want) (f : Facts) (l : Line) → Unopened l → FactsRun f → FactsRun (note q f l)
-  note_runs q f (line.Opened n k t d a) u h = absurd u
+  note_runs : (q : Option Want) (f : Facts) (l : Line) → OpensOn S l → FactsRun f → FactsRun (note q f l)
+  note_runs q f (line.Opened n k t d a) u h = opening_runs f.transactions.running _ u h
   note_runs q f (line.Groups groups) u h = absurd u
   note_runs q f (line.Stop n) u h = λ y i. absurd i
   note_runs q f (line.Enter n k ms) u h = λ y i. absurd i
@@ -289,7 +318,7 @@ module _ (S : List ℕ → Type 0) where
       go true = h
       go false = all m
 
-  node_runs : (w : World) (n : ℕ) (l : Line) → Unopened l → AllRunOn S w → AllRunOn S (by_node w n l)
+  node_runs : (w : World) (n : ℕ) (l : Line) → OpensOn S l → AllRunOn S w → AllRunOn S (by_node w n l)
   node_runs w n l u h = at_runs w.facts n (note w.want (w.facts n) l) (note_runs w.want (w.facts n) l u (h n)) h
 
   came_runs : (w : World) (o : Option Arrival) → AllRunOn S w → AllRunOn S (came w o)
@@ -308,13 +337,13 @@ module _ (S : List ℕ → Type 0) where
   posted_runs w a b None h = h
   posted_runs w a b (Some m) h = at_runs w.facts a (sent (w.facts a) b m) (sent_runs (w.facts a) b m (h a)) h
 
-  -- a line that opens none leaves it so
-  pub line_runs : (w : World) (l : Line) → Unopened l → AllRunOn S w → AllRunOn S (after_line w l)
+  -- a line that opens none on another digest leaves it so
+  pub line_runs : (w : World) (l : Line) → OpensOn S l → AllRunOn S w → AllRunOn S (after_line w l)
   line_runs w (line.Deliver i a b) u h = came_runs w (option_and_then (arrived b) (posting_at w.network i)) h
   line_runs w (line.Repeat i a b) u h = came_runs w (option_and_then (arrived b) (posting_at w.network i)) h
   line_runs w (line.Cut i a b size) u h = came_runs w (option_and_then (arrived_cut b size) (posting_at w.network i)) h
   line_runs w (line.Sent i a b bytes) u h = posted_runs (record w { network = posting w.network i (record { from = a; to = b; bytes = bytes }) }) a b (message_of bytes) h
-  line_runs w (line.Opened n k t d a) u h = absurd u
+  line_runs w (line.Opened n k t d a) u h = node_runs w n (line.Opened n k t d a) u h
   line_runs w (line.Groups groups) u h = absurd u
   line_runs w (line.Tick n) u h = node_runs w n (line.Tick n) u h
   line_runs w (line.Stop n) u h = node_runs w n (line.Stop n) u h

@@ -55,7 +55,7 @@ use Rattle.calm_laws.proofs.Onward.{may_here}
 use Rattle.calm_laws.proofs.Parted.{nodes_are}
 use Rattle.calm_laws.proofs.Premises.{to_front}
 use Rattle.calm_laws.proofs.Provided.{held_there, ranged_there, rests_there}
-use Rattle.calm_laws.proofs.Shrinking.{AllRunOn, QuietMarks, found_among, line_runs, rounds_quiet}
+use Rattle.calm_laws.proofs.Shrinking.{AllRunOn, MarksOpenOn, found_among, line_runs, quiet_on, rounds_quiet}
 use Rattle.calm_laws.proofs.Stretch.{may_at}
 
 -- ---- more items than places
@@ -162,7 +162,7 @@ applies_run : (G : Ground) (S : List ℕ → Type 0) (z : Front) (l : Line) → 
 applies_run G S z (line.Apply n k t d v) ok r = subst S ok.1.resolves.digest (r n ok.1.item (found_among (facts_at z n).transactions.running t ok.1.item ok.1.resolves.running))
 applies_run G S z l ok r = tt
 
-each_applies : (G : Ground) (S : List ℕ → Type 0) (z : Front) (ms : List Mark) → Goes G z ms → QuietMarks ms → AllRunOn S (world_of z) → EachApplies S (lines_among ms)
+each_applies : (G : Ground) (S : List ℕ → Type 0) (z : Front) (ms : List Mark) → Goes G z ms → MarksOpenOn S ms → AllRunOn S (world_of z) → EachApplies S (lines_among ms)
 each_applies G S z [] g q r = tt
 each_applies G S z (Begins e ∷ ms) g q r = each_applies G S (front_after z (Begins e)) ms g q r
 each_applies G S z (Writes l ∷ ms) g q r = (applies_run G S z l g.1 r, each_applies G S (front_after z (Writes l)) ms g.2 q.1 (line_runs S (world_of z) l q.0 r))
@@ -228,8 +228,8 @@ runs_declared {w} may n y i = subst (λ (ns : List ℕ). has_node ns n ≡ true)
 lines_parts : (ss ts : List Step) → lines_among (all_marks (ss ++ ts)) ≡ lines_among (all_marks ss) ++ lines_among (all_marks ts)
 lines_parts ss ts = ap lines_among (flat_map-append marks_of ss ts) ∙ filter_map-append line_in (all_marks ss) (all_marks ts)
 
-module _ (h : Header) (ss run more : List Step) (w u : World) (leads : world_after h ss ≡ w) (ends : world_after h (ss ++ run) ≡ u) (t : Taken h (ss ++ (run ++ more))) (quiet : QuietMarks (all_marks run))
-    (S : List ℕ → Type 0) (runs : AllRunOn S w) (holds : (n : ℕ) (d : List ℕ) → has_node (declared_nodes h) n ≡ true → is_some (finite.get (w.facts n).store.content d) ≡ true → S d) where
+module _ (h : Header) (ss run more : List Step) (w u : World) (leads : world_after h ss ≡ w) (ends : world_after h (ss ++ run) ≡ u) (t : Taken h (ss ++ (run ++ more)))
+    (S : List ℕ → Type 0) (opens : MarksOpenOn S (all_marks run)) (runs : AllRunOn S w) (holds : (n : ℕ) (d : List ℕ) → has_node (declared_nodes h) n ≡ true → is_some (finite.get (w.facts n).store.content d) ≡ true → S d) where
   abbrev G : Ground
   G = ground_of h (ss ++ (run ++ more))
 
@@ -245,7 +245,7 @@ module _ (h : Header) (ss run more : List Step) (w u : World) (leads : world_aft
   lines : EachApplies S (lines_among (all_marks run))
   lines = each_applies G S (front_after_all (first h) (all_marks ss)) (all_marks run)
       (goes_front G (front_after_all (first h) (all_marks ss)) (all_marks run) (all_marks more) (subst (Goes G (front_after_all (first h) (all_marks ss))) (flat_map-append marks_of run more) (goes_behind h ss (run ++ more) t)))
-      quiet (subst (AllRunOn S) (sym (world_all (first h) (all_marks ss) ∙ leads)) runs)
+      opens (subst (AllRunOn S) (sym (world_all (first h) (all_marks ss) ∙ leads)) runs)
 
   -- what a node holds after these steps some node held before them, or a transaction was open on it
   witnessed : (m : ℕ) (d : List ℕ) → is_some (finite.get (u.facts m).store.content d) ≡ true → S d
@@ -276,7 +276,8 @@ few_pending w k most le may gs m e t i =
     subst (λ (x : ℕ). length t.pending ≤ x) (counted w w.nodes)
     (fit_in t.pending (digests_in w w.nodes) ((ranged_there later m).each_target t (to_front t _ i)).rises
     (λ d j. witnessed may.header may.before (rounds partition_count k w).steps (rounds partition_count (most - k) (world_at partition_count w k)).steps w (world_at partition_count w k) may.leads (world_on may.header may.before w (rounds partition_count k w) (rounds_follow partition_count k w) may.leads) taken
-    (rounds_quiet partition_count k w) (λ (c : List ℕ). Among (digests_in w w.nodes) c) runs holds m d (held_there later gs m e t i d j)))
+    (λ (c : List ℕ). Among (digests_in w w.nodes) c)
+    (quiet_on (λ (c : List ℕ). Among (digests_in w w.nodes) c) (all_marks (rounds partition_count k w).steps) (rounds_quiet partition_count k w)) runs holds m d (held_there later gs m e t i d j)))
   where
     start : MayTake w []
     start = may_here w _ may
