@@ -30,7 +30,7 @@ ANOTHER = "another ./replay began it"
 EARLIER = "an earlier ./replay began it in the background"
 # How far each is optimised. The lighter one is waited for: without any of it, clang takes half of the time. It then runs some
 # forty times slower, until the whole program stands beside it.
-OPTIMISED = {LIGHT: ("-O0",), WHOLE: ("-O2",)}
+OPTIMISED = {LIGHT: ("-O0",), WHOLE: ("-O3",)}
 Say = Callable[[str], None]
 
 

@@ -5,11 +5,10 @@ The program runs beside this one, which passes on its standard error, its end an
 from __future__ import annotations
 
 import os
-import re
 import signal
 import sys
 
-BAD_LINE = re.compile(rb"^line (\d+): (\w+)\n", re.M)
+BAD_LINE = rb"^line (\d+): (\w+)\n"
 PASSED_ON = (signal.SIGINT, signal.SIGTERM, signal.SIGHUP, signal.SIGQUIT)
 # Python ignores these, and the program isn't to.
 IGNORED = (signal.SIGPIPE, signal.SIGXFSZ)
@@ -98,7 +97,9 @@ def end_as(ended: int) -> int:
 
 
 def explain(script: Script, said: bytes) -> None:
-    found = BAD_LINE.search(said)
+    import re
+
+    found = re.search(BAD_LINE, said, re.M)
     if found:
         import explain_fault
 

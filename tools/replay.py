@@ -19,7 +19,6 @@ of the script names KEY, 70 that a run couldn't be told, and 125 that there is n
 """
 from __future__ import annotations
 
-import contextlib
 import os
 import sys
 
@@ -192,9 +191,12 @@ def is_to_tell(program: str) -> bool:
     except OSError:
         is_told = False
     if not is_told:
-        # Where that can't be noted it is told each time.
-        with contextlib.suppress(OSError), open(note, "w", encoding="utf-8") as file:
-            file.write(mark)
+        try:
+            with open(note, "w", encoding="utf-8") as file:
+                file.write(mark)
+        except OSError:
+            # Where that can't be noted it is told each time.
+            pass
     return not is_told
 
 
