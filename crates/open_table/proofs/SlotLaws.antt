@@ -1,9 +1,11 @@
 -- The items in slots, by their numbers.
-use Rattle.std.proofs.Common.{◌≡◌, ◌==◌, ◌<◌, ◌≤◌, ◌+◌, ◌-◌, ℕ, zero, suc, Bool, true, false, cond, not, List, [], ◌∷◌, ◌++◌, All, AllPairs, length, get_or, set, Option, Some, None, IsTrue, refl, sym, ap, ◌∙◌, ◌⊎◌, inl, inr, arith}
+use Rattle.std.proofs.Common.{◌≡◌, ◌==◌, ◌<◌, ◌≤◌, ◌+◌, ◌-◌, ℕ, zero, suc, Bool, true, false, cond, not, List, [], ◌∷◌, ◌++◌, All, AllPairs, length, get_or, set, Option, Some, None, IsTrue, refl, sym, ap, ap₂, ◌∙◌, ◌⊎◌, inl, inr, arith}
 use Rattle.std.proofs.lemmas.Bool.Decides.{nat_tests}
+use Rattle.std.proofs.lemmas.List.{length-map}
 use Rattle.std.proofs.lemmas.List.Elements.{All-nil, All-cons}
 use Rattle.std.proofs.lemmas.List.Kept.{AllPairs-cons}
-use Rattle.open_table.specs.Open.{HaveRisingNumbers, item_at, without_item}
+use Rattle.request_rules.specs.ByNumber.{changed_under, changing_item, item_under, without_number}
+use Rattle.open_table.specs.Open.{HaveRisingNumbers}
 use Rattle.open_table.specs.Slots.{items_from, starts_with_item}
 
 same_number : (a b : ℕ) → a ≡ b → (a == b) ≡ true
@@ -13,32 +15,32 @@ other_number : (a b : ℕ) → (a ≡ b → ⊥) → (a == b) ≡ false
 other_number a b l = grind (arith, nat_tests)
 
 -- what stands behind a front of that number, or not
-here : {X : Type 0} (a n : ℕ) (x : X) (xs : List (ℕ × X)) → a ≡ n → item_at ((a, x) ∷ xs) n ≡ Some x
-here a n x xs e = ap (λ c. cond c (Some x) (item_at xs n)) (same_number a n e)
+here : {X : Type 0} (a n : ℕ) (x : X) (xs : List (ℕ × X)) → a ≡ n → item_under ((a, x) ∷ xs) n ≡ Some x
+here a n x xs e = ap (λ c. cond c (Some x) (item_under xs n)) (same_number a n e)
 
-behind : {X : Type 0} (a n : ℕ) (x : X) (xs : List (ℕ × X)) → (a ≡ n → ⊥) → item_at ((a, x) ∷ xs) n ≡ item_at xs n
-behind a n x xs e = ap (λ c. cond c (Some x) (item_at xs n)) (other_number a n e)
+behind : {X : Type 0} (a n : ℕ) (x : X) (xs : List (ℕ × X)) → (a ≡ n → ⊥) → item_under ((a, x) ∷ xs) n ≡ item_under xs n
+behind a n x xs e = ap (λ c. cond c (Some x) (item_under xs n)) (other_number a n e)
 
-kept : {X : Type 0} (a n : ℕ) (x : X) (xs : List (ℕ × X)) → (a ≡ n → ⊥) → without_item ((a, x) ∷ xs) n ≡ (a, x) ∷ without_item xs n
-kept a n x xs e = ap (λ c. cond (not c) ((a, x) ∷ without_item xs n) (without_item xs n)) (other_number a n e)
+kept : {X : Type 0} (a n : ℕ) (x : X) (xs : List (ℕ × X)) → (a ≡ n → ⊥) → without_number ((a, x) ∷ xs) n ≡ (a, x) ∷ without_number xs n
+kept a n x xs e = ap (λ c. cond (not c) ((a, x) ∷ without_number xs n) (without_number xs n)) (other_number a n e)
 
-gone : {X : Type 0} (a n : ℕ) (x : X) (xs : List (ℕ × X)) → a ≡ n → without_item ((a, x) ∷ xs) n ≡ without_item xs n
-gone a n x xs e = ap (λ c. cond (not c) ((a, x) ∷ without_item xs n) (without_item xs n)) (same_number a n e)
+gone : {X : Type 0} (a n : ℕ) (x : X) (xs : List (ℕ × X)) → a ≡ n → without_number ((a, x) ∷ xs) n ≡ without_number xs n
+gone a n x xs e = ap (λ c. cond (not c) ((a, x) ∷ without_number xs n) (without_number xs n)) (same_number a n e)
 
 -- a number up to those before the first slot has no item
-pub early : {X : Type 0} (b : ℕ) (s : List (Option X)) (n : ℕ) → n ≤ b → item_at (items_from b s) n ≡ None
+pub early : {X : Type 0} (b : ℕ) (s : List (Option X)) (n : ℕ) → n ≤ b → item_under (items_from b s) n ≡ None
 early b [] n l = refl
 early b (None ∷ s) n l = early (b + 1) s n (omega arith)
 early b (Some x ∷ s) n l = behind (b + 1) n x (items_from (b + 1) s) (λ e. omega arith) ∙ early (b + 1) s n (omega arith)
 
 -- nor has one past the last slot
-pub late : {X : Type 0} (b : ℕ) (s : List (Option X)) (n : ℕ) → b + length s < n → item_at (items_from b s) n ≡ None
+pub late : {X : Type 0} (b : ℕ) (s : List (Option X)) (n : ℕ) → b + length s < n → item_under (items_from b s) n ≡ None
 late b [] n l = refl
 late b (None ∷ s) n l = late (b + 1) s n (omega arith)
 late b (Some x ∷ s) n l = behind (b + 1) n x (items_from (b + 1) s) (λ e. omega arith) ∙ late (b + 1) s n (omega arith)
 
 -- a slot's number has that slot's item
-pub in_slot : {X : Type 0} (b : ℕ) (s : List (Option X)) (i n : ℕ) (d : Option X) → i < length s → n ≡ b + 1 + i → item_at (items_from b s) n ≡ get_or s i d
+pub in_slot : {X : Type 0} (b : ℕ) (s : List (Option X)) (i n : ℕ) (d : Option X) → i < length s → n ≡ b + 1 + i → item_under (items_from b s) n ≡ get_or s i d
 in_slot b [] i n d l e = absurd (omega arith)
 in_slot b (None ∷ s) zero n d l e = early (b + 1) s n (omega arith)
 in_slot b (Some x ∷ s) zero n d l e = here (b + 1) n x (items_from (b + 1) s) (omega arith)
@@ -46,21 +48,21 @@ in_slot b (None ∷ s) (suc i) n d l e = in_slot (b + 1) s i n d (omega arith) (
 in_slot b (Some x ∷ s) (suc i) n d l e = behind (b + 1) n x (items_from (b + 1) s) (λ h. omega arith) ∙ in_slot (b + 1) s i n d (omega arith) (omega arith)
 
 -- of so many slots, of the last numbers given, none has this number
-pub in_no_slot : {X : Type 0} (given m : ℕ) (s : List (Option X)) (n : ℕ) → m ≡ length s → m ≤ given → (n ≤ given - m) ⊎ (given < n) → item_at (items_from (given - m) s) n ≡ None
+pub in_no_slot : {X : Type 0} (given m : ℕ) (s : List (Option X)) (n : ℕ) → m ≡ length s → m ≤ given → (n ≤ given - m) ⊎ (given < n) → item_under (items_from (given - m) s) n ≡ None
 in_no_slot given m s n e l (inl k) = early (given - m) s n k
 in_no_slot given m s n e l (inr k) = late (given - m) s n (omega arith)
 
 -- where none has the number, all stay
-pub missing : {X : Type 0} (xs : List (ℕ × X)) (n : ℕ) → item_at xs n ≡ None → without_item xs n ≡ xs
+pub missing : {X : Type 0} (xs : List (ℕ × X)) (n : ℕ) → item_under xs n ≡ None → without_number xs n ≡ xs
 missing [] n h = refl
 missing (x ∷ xs) n h = go (x.0 == n) h (missing xs n)
   where
-    go : (c : Bool) → cond c (Some x.1) (item_at xs n) ≡ None → (item_at xs n ≡ None → without_item xs n ≡ xs) → cond (not c) (x ∷ without_item xs n) (without_item xs n) ≡ x ∷ xs
+    go : (c : Bool) → cond c (Some x.1) (item_under xs n) ≡ None → (item_under xs n ≡ None → without_number xs n ≡ xs) → cond (not c) (x ∷ without_number xs n) (without_number xs n) ≡ x ∷ xs
     go true i rest = absurd (let wrong : Some x.1 ≡ None = i in cc)
     go false i rest = ap (λ ys. x ∷ ys) (rest i)
 
 -- a slot that is emptied leaves the items of the others
-pub emptied : {X : Type 0} (b : ℕ) (s : List (Option X)) (i n : ℕ) → i < length s → n ≡ b + 1 + i → items_from b (set s i None) ≡ without_item (items_from b s) n
+pub emptied : {X : Type 0} (b : ℕ) (s : List (Option X)) (i n : ℕ) → i < length s → n ≡ b + 1 + i → items_from b (set s i None) ≡ without_number (items_from b s) n
 emptied b [] i n l e = absurd (omega arith)
 emptied b (None ∷ s) zero n l e = sym (missing (items_from (b + 1) s) n (early (b + 1) s n (omega arith)))
 emptied b (Some x ∷ s) zero n l e =
@@ -77,6 +79,39 @@ one_less b (None ∷ s) zero x e = cc
 one_less b (Some y ∷ s) zero x e = omega arith
 one_less b (None ∷ s) (suc i) x e = one_less (b + 1) s i x e
 one_less b (Some y ∷ s) (suc i) x e = omega (arith, one_less (b + 1) s i x e)
+
+-- where none has the number, none gets another item
+pub unmoved : {X : Type 0} (xs : List (ℕ × X)) (n : ℕ) (item : X) → item_under xs n ≡ None → changing_item xs n (λ v. item) ≡ xs
+unmoved [] n item h = refl
+unmoved (x ∷ xs) n item h = go (x.0 == n) h (unmoved xs n item)
+  where
+    go : (c : Bool) → cond c (Some x.1) (item_under xs n) ≡ None → (item_under xs n ≡ None → changing_item xs n (λ v. item) ≡ xs) → changed_under (λ v. item) x c ∷ changing_item xs n (λ v. item) ≡ x ∷ xs
+    go true i rest = absurd (let wrong : Some x.1 ≡ None = i in cc)
+    go false i rest = ap (λ ys. x ∷ ys) (rest i)
+
+-- a slot whose item is another one has that under its number
+pub replaced : {X : Type 0} (b : ℕ) (s : List (Option X)) (i n : ℕ) (x y : X) → get_or s i None ≡ Some x → n ≡ b + 1 + i → items_from b (set s i (Some y)) ≡ changing_item (items_from b s) n (λ v. y)
+replaced b [] i n x y e l = absurd cc
+replaced b (None ∷ s) zero n x y e l = absurd cc
+replaced b (Some z ∷ s) zero n x y e l =
+    sym (ap₂ (λ c ys. changed_under (λ v. y) (b + 1, z) c ∷ ys) (same_number (b + 1) n (omega arith)) (unmoved (items_from (b + 1) s) n y (early (b + 1) s n (omega arith))))
+replaced b (None ∷ s) (suc i) n x y e l = replaced (b + 1) s i n x y e (omega arith)
+replaced b (Some z ∷ s) (suc i) n x y e l =
+    ap (λ ys. (b + 1, z) ∷ ys) (replaced (b + 1) s i n x y e (omega arith))
+    ∙ sym (ap (λ c. changed_under (λ v. y) (b + 1, z) c ∷ changing_item (items_from (b + 1) s) n (λ v. y)) (other_number (b + 1) n (λ h. omega arith)))
+
+pub starts_replaced : {X : Type 0} (s : List (Option X)) (i : ℕ) (y : X) → IsTrue (starts_with_item s) → IsTrue (starts_with_item (set s i (Some y)))
+starts_replaced [] i y h = h
+starts_replaced (None ∷ s) zero y h = cc
+starts_replaced (None ∷ s) (suc i) y h = h
+starts_replaced (Some x ∷ s) zero y h = h
+starts_replaced (Some x ∷ s) (suc i) y h = h
+
+-- as many are open then
+pub as_many : {X : Type 0} (b : ℕ) (s : List (Option X)) (i : ℕ) (x y : X) → get_or s i None ≡ Some x → length (items_from b (set s i (Some y))) ≡ length (items_from b s)
+as_many b s i x y e =
+    ap length (replaced b s i (b + 1 + i) x y e refl)
+    ∙ length-map (items_from b s) (λ z. changed_under (λ v. y) z (z.0 == b + 1 + i))
 
 -- a slot that was empty already stays so
 pub same_slots : {X : Type 0} (s : List (Option X)) (i : ℕ) → get_or s i None ≡ None → set s i None ≡ s

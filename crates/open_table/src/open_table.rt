@@ -2,7 +2,8 @@
 ghost use Rattle.std.specs.Prelude.{◌≡◌, ◌≢◌, ◌↔◌, ◌<◌, ◌≤◌, ◌+◌, ◌-◌, ◌^◌, ◌∷◌, ◌++◌, [], ◌⊎◌, ℕ, Some, None, IsTrue, IsOk, IfOk, OnOk, MatchOption, length, map, slice_index_or, slice_set};
 ghost use Rattle.std.specs.Option.{option_copied};
 ghost use Rattle.std.specs.VecDeque.{deque_len, deque_capacity};
-ghost use Rattle.open_table.specs.Open.{HaveRisingNumbers, KeepsItems, item_at, without_item};
+ghost use Rattle.request_rules.specs.ByNumber.{changing_item, item_under, without_number};
+ghost use Rattle.open_table.specs.Open.{HaveRisingNumbers, KeepsItems};
 ghost use Rattle.open_table.specs.Slots.{items_from, starts_with_item};
 
 use cluster_types::NoMemory;
@@ -106,7 +107,7 @@ impl<T: Drop> OpenTable<T> {
 
     /// The item of that number, if it is open.
     pub fn get(&self, n: u32) -> Option<&T>
-        ensures { option_copied result ≡ item_at self.now.items n }
+        ensures { option_copied result ≡ item_under self.now.items n }
     {
         let place = place_of(n, self.given, self.slots.len())?;
         self.slots[place].as_ref()
@@ -114,9 +115,9 @@ impl<T: Drop> OpenTable<T> {
 
     /// Takes the item of that number out, if it is open. The room stays.
     pub fn take(&mut self, n: u32) -> Option<T>
-        ensures item { result ≡ item_at self.old.items n }
+        ensures item { result ≡ item_under self.old.items n }
         ensures given { self.new.given ≡ self.old.given }
-        ensures items { self.new.items ≡ without_item self.old.items n }
+        ensures items { self.new.items ≡ without_number self.old.items n }
         ensures spare { self.old.spare ≤ self.new.spare }
     {
         let place = place_of(n, self.given, self.slots.len())?;
@@ -124,6 +125,21 @@ impl<T: Drop> OpenTable<T> {
         drop_taken(&mut self.slots);
         self.count -= 1;
         Some(item)
+    }
+
+    /// Puts an item in the place of the one of that number, if that is open, and answers the one that
+    /// was there. The number stays.
+    pub fn replace(&mut self, n: u32, item: T) -> Option<T>
+        ensures item { result ≡ item_under self.old.items n }
+        ensures given { self.new.given ≡ self.old.given }
+        ensures items { self.new.items ≡ changing_item self.old.items n (λ _. item) }
+        ensures spare { self.new.spare ≡ self.old.spare }
+        ensures numbers { HaveRisingNumbers self.old.given self.old.items }
+    {
+        let place = place_of(n, self.given, self.slots.len())?;
+        let slot = &self.slots[place];
+        slot.as_ref()?;
+        replace_at(&mut self.slots, place, item)
     }
 
     /// The numbers of the open items, in rising order.
@@ -177,6 +193,17 @@ fn take_at<T: Drop>(slots: &mut VecDeque<Option<T>>, place: usize) -> Option<T>
     ensures capacity { deque_capacity slots.new ≡ deque_capacity slots.old }
 {
     slots[place].take()
+}
+
+/// Puts an item into a slot, and answers the one that was there.
+fn replace_at<T: Drop>(slots: &mut VecDeque<Option<T>>, place: usize, item: T) -> Option<T>
+    requires { place < deque_len slots.old }
+    ensures item { result ≡ slice_index_or slots.old.items place None }
+    ensures items { slots.new.items ≡ slice_set slots.old.items place (Some item) }
+    ensures len { deque_len slots.new ≡ deque_len slots.old }
+    ensures capacity { deque_capacity slots.new ≡ deque_capacity slots.old }
+{
+    slots[place].replace(item)
 }
 
 /// Drops the slots before the first item.
