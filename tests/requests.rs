@@ -1,16 +1,17 @@
 //! Tests of what is kept of requests that go as messages, by its public calls.
 
-use cluster_types::{Digest, NodeId};
+use cluster_types::{ClusterKey, Digest, NodeId, PartitionId};
 use conflict_order::{Body, ValueBytes, ValueFault, Version, Want};
 use once_client::{CallStep, OnceClient, OpenFault};
 use open_table::OpenTable;
+use part_scan::{PageStep, Scans};
 use proxy_path::{Proxies, ReplyStep};
 use reply_table::ReplyTable;
 use request_rules::Asker;
 use std::alloc::Global;
 use std::process::Abort;
 use std::test::Fail;
-use wire_messages::{Known, ReplyBody};
+use wire_messages::{Known, Records, ReplyBody, ScanPage};
 
 /// Node 1 with its first request.
 const FIRST: Asker = Asker { from: 1, number: 1 };
@@ -109,6 +110,10 @@ fn numbers_rise_whatever_is_closed(rt: HostRuntime) -> Result<(), Fail> {
     assert_eq!(rt; open.given(), 4);
     assert_eq!(rt; open.len(), 2);
 
+    assert!(rt; open.replace(3, b'e') == Some(b'c'));
+    assert!(rt; open.replace(2, b'f') == None);
+    assert!(rt; open.get(3) == Some(&b'e'));
+
     open.clear();
     assert!(rt; open.is_empty());
     assert_eq!(rt; open.given(), 0);
@@ -184,5 +189,115 @@ fn at_most_1024_calls_are_open(rt: HostRuntime) -> Result<(), Fail> {
     assert!(rt; calls.open(digest(), Want::Get) == Err(OpenFault::Full));
     assert!(rt; calls.on_reply(7, &ReplyBody::Nothing) == CallStep::Closed);
     assert!(rt; calls.open(digest(), Want::Get) == Ok(1025));
+    Ok(())
+}
+
+/// A digest of partition 4095 with this last byte.
+fn digest_with(last: u8) -> Digest {
+    let mut bytes = [0; 20];
+    bytes[0] = 0xff;
+    bytes[1] = 0xff;
+    bytes[19] = last;
+    Digest::new(bytes)
+}
+
+/// A page of scan 1 behind the digest, with a record of each of these last bytes.
+fn page(
+    alloc: Global,
+    after: Option<Digest>,
+    lasts: &[u8],
+    more: bool,
+    writes: u32,
+) -> Result<ScanPage, ValueFault> {
+    let mut records = Records::new(alloc);
+    for last in lasts {
+        records.push((digest_with(*last), version(alloc)?))?;
+    }
+    let key = ClusterKey {
+        round: 1,
+        principal: 1,
+    };
+    Ok(ScanPage {
+        key,
+        scan: 1,
+        after,
+        writes,
+        records,
+        more,
+    })
+}
+
+/// How many records a scan has.
+fn records_of(scans: &Scans, number: u32) -> usize {
+    let Some(scan) = scans.get(number) else {
+        return 0;
+    };
+    let mut count = 0;
+    for page in scan.pages() {
+        count += page.len();
+    }
+    count
+}
+
+/// A scan of three records in two pages, of which the second comes twice.
+#[test]
+fn a_scan_is_whole_with_its_last_page(rt: HostRuntime) -> Result<(), Fail> {
+    let alloc = rt.alloc();
+    let one = node(&rt, 1);
+    let partition = PartitionId::new(4095).expect(&rt, "a partition");
+    let mut scans = Scans::new(alloc);
+    assert_eq!(rt; scans.next(), 1);
+    assert_eq!(rt; scans.begin(alloc, partition)?, 1);
+    assert_eq!(rt; scans.next(), 2);
+    assert!(rt; scans.get(1).map(|scan| scan.partition() == partition) == Some(true));
+    assert!(rt; scans.get(1).map(|scan| scan.position().is_none()) == Some(true));
+
+    let first = page(alloc, None, &[1, 2], true, 3)?;
+    assert!(rt; scans.step_of(one, &first) == PageStep::More);
+    assert!(rt; scans.on_page(alloc, one, first) == Ok(PageStep::More));
+    assert_eq!(rt; records_of(&scans, 1), 2);
+    assert!(rt;
+        scans
+            .get(1)
+            .map(|scan| scan.position() == Some(digest_with(2)))
+            == Some(true)
+    );
+
+    let behind = Some(digest_with(2));
+    let last = page(alloc, behind, &[3], false, 3)?;
+    assert!(rt; scans.step_of(one, &last) == PageStep::Whole);
+    assert!(rt; scans.on_page(alloc, one, last) == Ok(PageStep::Whole));
+    assert!(rt; !scans.is_open(1));
+    assert!(rt;
+        scans.on_page(alloc, one, page(alloc, behind, &[3], false, 3)?) == Ok(PageStep::Spent)
+    );
+    Ok(())
+}
+
+/// A page of another node, or after a further write, begins the scan again; one that begins
+/// elsewhere is spent.
+#[test]
+fn a_scan_begins_again(rt: HostRuntime) -> Result<(), Fail> {
+    let alloc = rt.alloc();
+    let one = node(&rt, 1);
+    let partition = PartitionId::new(4095).expect(&rt, "a partition");
+    let behind = Some(digest_with(1));
+    let mut scans = Scans::new(alloc);
+    scans.begin(alloc, partition)?;
+    assert!(rt; scans.on_page(alloc, one, page(alloc, None, &[1], true, 3)?) == Ok(PageStep::More));
+    assert!(rt;
+        scans.on_page(alloc, one, page(alloc, None, &[1], true, 3)?) == Ok(PageStep::Spent)
+    );
+    assert!(rt;
+        scans.step_of(node(&rt, 2), &page(alloc, behind, &[2], true, 3)?) == PageStep::Again
+    );
+    assert!(rt;
+        scans.on_page(alloc, one, page(alloc, behind, &[2], true, 4)?) == Ok(PageStep::Again)
+    );
+    assert!(rt; scans.is_open(1));
+    assert_eq!(rt; records_of(&scans, 1), 0);
+    assert!(rt;
+        scans.on_page(alloc, one, page(alloc, None, &[], false, 4)?) == Ok(PageStep::Whole)
+    );
     Ok(())
 }

@@ -1,0 +1,4 @@
+mod CutLaws
+mod NumberLaws
+mod ReadLaws
+mod RecordLaws
