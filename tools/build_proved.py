@@ -54,10 +54,10 @@ def build_in(root: str, copy: str, say: Say) -> int:
     lanes = lanes_here()
     kit = kept_programs.kit_of(command)
     progress = Progress(place.names, usual_minutes(copy, place.names, lanes, kit), say)
-    say(f"proves {len(place.names)} crates, {lanes} at a time: usually {progress.usual} min in all here, from nothing")
+    say(f"proves {len(place.names)} crates, at most {lanes} at a time: usually {progress.usual} min in all here, from nothing")
     log = pathlib.Path(place.program).with_name("replay.log")
     log.parent.mkdir(exist_ok=True)
-    if not prove(copy, lanes, log, progress):
+    if not prove(copy, log, progress):
         print(*log.read_text(errors="replace").splitlines()[-20:], sep="\n", file=sys.stderr)
         say(f"the program isn't proved and built; {log} has all that rt said")
         return 1
@@ -131,13 +131,13 @@ class Progress:
                 self.tell("proving")
 
 
-def prove(copy: str, lanes: int, log: pathlib.Path, progress: Progress) -> bool:
+def prove(copy: str, log: pathlib.Path, progress: Progress) -> bool:
     """Whether rt proves, builds and runs everything in the copy."""
     ended = threading.Event()
     watcher = threading.Thread(target=progress.watch, args=[ended])
     watcher.start()
     try:
-        with log.open("w", encoding="utf-8") as written, rt_ci(copy, lanes) as rt:
+        with log.open("w", encoding="utf-8") as written, rt_ci(copy) as rt:
             last = ""
             for last in rt.stdout:
                 written.write(last)
@@ -149,11 +149,11 @@ def prove(copy: str, lanes: int, log: pathlib.Path, progress: Progress) -> bool:
 
 
 @contextlib.contextmanager
-def rt_ci(copy: str, lanes: int) -> Iterator[subprocess.Popen]:
-    """Runs rt ci in the folder, and ends it if this program is ended."""
-    settings = {**os.environ, "RT_JOBS": os.environ.get("RT_JOBS", str(lanes))}
+def rt_ci(copy: str) -> Iterator[subprocess.Popen]:
+    """Runs rt ci in the folder, and ends it if this program is ended. Without RT_JOBS rt proves a crate that all others wait
+    for on several processors."""
     how = {"stdin": subprocess.DEVNULL, "stdout": subprocess.PIPE, "stderr": subprocess.STDOUT}
-    with subprocess.Popen(["rt", "ci"], cwd=copy, env=settings, text=True, errors="replace", **how) as rt:
+    with subprocess.Popen(["rt", "ci"], cwd=copy, text=True, errors="replace", **how) as rt:
         try:
             yield rt
         except BaseException:
