@@ -2,6 +2,7 @@
        ./replay --tell [FILE]        plays a script, and says what each line of it brought about
        ./replay --explain KEY [FILE] plays a script, and says what became of the record of a key or digest
        ./replay --audit [FILE]       says whether a transcript keeps the laws, and else which line breaks which law
+       ./replay --timeline [FILE]    draws a transcript as a page of HTML; with KEY before FILE it draws one record's life
        ./replay --generate NUMBER    plays the script that the number stands for, and writes its summary
        ./replay --build              proves and builds the program
        ./replay --version            says which program of which sources is started
@@ -9,13 +10,15 @@
 
 --summary writes a line of JSON behind the transcript: how many lines and nodes it has, and how many lines apply, merge,
 drop, settle and send. `tail -n 1` takes it; a transcript with it isn't one to audit. --tell passes ticks and messages
-over, and with --all it tells those too. Where no proved program of these sources is built, they are compiled without
-proof, once; that such a program isn't proved is told once a day.
+over, and with --all it tells those too. --timeline starts no program, and with --lines A..B it draws those lines alone. A
+word alone behind it is FILE where there is such a file, or where standard input is a terminal, and otherwise KEY, which
+is also written --timeline=KEY. Where no proved program of these sources is built, they are compiled without proof, once;
+that such a program isn't proved is told once a day.
 
 The exit status is the program's: 0 where all was played and written, 1 no memory, 2 bad words, 3 a bad line of the
 script, 4 and 5 a fault of reading or writing, 6 to 8 a script, run or transcript that is too long, 9 no transcript, and
 10 a transcript that breaks a law, of which the program says `refuted`. 66 says that FILE can't be read, 67 that no line
-of the script names KEY, 70 that a run couldn't be told, and 125 that there is no program to start.
+of the script or transcript names KEY, 70 that a run couldn't be told, and 125 that there is no program to start.
 """
 from __future__ import annotations
 
@@ -41,10 +44,13 @@ HOLDS = 0
 FAILS = 10
 # How long what is told of an unproved program isn't told again, in seconds.
 DAY = 24 * 60 * 60
-# Its words that tell a run, as they may stand together.
-TELLING = (["--tell"], ["--tell", "--all"], ["--all", "--tell"], ["--explain"])
+# Its words that tell a run or draw a transcript, as they may stand together.
+TELLING = (
+    ["--tell"], ["--tell", "--all"], ["--all", "--tell"], ["--explain"],
+    ["--timeline"], ["--timeline", "--lines"], ["--lines", "--timeline"],
+)
 # The words that may stand together, or with a FILE.
-TAKEN = ("--summary", "--audit", "--generate", "--tell", "--all", "--explain")
+TAKEN = ("--summary", "--audit", "--generate", "--tell", "--all", "--explain", "--timeline", "--lines")
 # The command's own words, each of which stands alone.
 ALONE = ("--build", "--version", "--help", "-h")
 
@@ -54,17 +60,25 @@ class Refused(Exception):
 
 
 class Asked:
-    """What the words ask for: the program's own words, and the file that it is to read."""
+    """What the words ask for: the program's own words, and the file that it is to read. Where a word alone stands for a KEY,
+    since there is no file of that name, `is_key_alone`."""
 
     def __init__(self) -> None:
         self.words: list[str] = []
         self.telling: list[str] = []
+        self.names: list[str] = []
         self.key: bytes | None = None
+        self.is_key_alone = False
+        self.lines: tuple[int, int] | None = None
         self.file: str | None = None
 
     @property
     def reads_script(self) -> bool:
         return not any(word.startswith(("--audit", "--generate")) for word in self.words)
+
+    @property
+    def draws(self) -> bool:
+        return "--timeline" in self.telling
 
     def take(self, word: str, more: list[str]) -> None:
         """Takes a word, and for --generate also the next one."""
@@ -76,26 +90,58 @@ class Asked:
         elif word in ("--tell", "--all"):
             self.telling.append(word)
         elif name == "--explain":
-            self.take_key(number if equals else more.pop(0) if more else "")
+            self.telling.append(name)
+            self.take_key(name, number if equals else more.pop(0) if more else "")
+        elif name == "--timeline":
+            self.telling.append(name)
+            if equals:
+                self.take_key(name, number)
+        elif name == "--lines":
+            self.telling.append(name)
+            self.take_lines(number if equals else more.pop(0) if more else "")
         elif name == "--generate":
             number = number if equals else more.pop(0) if more else ""
-            if not (number.isascii() and number.isdigit() and len(number) <= 20 and int(number) < 1 << 64):
+            if not is_number(number):
                 raise Refused("--generate takes a number of at most 20 digits, below 2^64")
             self.words.append(f"--generate={number}")
         elif word.startswith("-"):
             raise Refused(f"{word} is no word of it{nearest(word)}")
-        elif self.file is not None:
-            raise Refused(f"{word} is one FILE too many")
         else:
-            self.file = word
+            self.names.append(word)
 
-    def take_key(self, word: str) -> None:
+    def take_key(self, name: str, word: str) -> None:
         import tell
 
-        self.telling.append("--explain")
         self.key = tell.key_of(word)
         if self.key is None:
-            raise Refused("--explain takes a key as a script writes it, or a digest of forty hexadecimal digits")
+            raise Refused(f"{name} takes a key as a script writes it, or a digest of forty hexadecimal digits")
+
+    def take_lines(self, word: str) -> None:
+        first, dots, last = word.partition("..")
+        if dots and is_number(first) and is_number(last) and 1 <= int(first) <= int(last):
+            self.lines = int(first), int(last)
+        else:
+            raise Refused("--lines takes the numbers of two lines, as in 1..100, of which the first isn't above the second")
+
+    def take_names(self) -> None:
+        """Takes the words that name a FILE, or before it a KEY for --timeline."""
+        if self.draws and self.key is None:
+            if len(self.names) > 1:
+                self.take_key("--timeline", self.names.pop(0))
+            elif self.names and not (os.path.exists(self.names[0]) or os.isatty(0)):
+                self.take_key_alone(self.names[0])
+        if len(self.names) > 1:
+            raise Refused(f"{self.names[1]} is one FILE too many")
+        self.file = self.names[0] if self.names else None
+
+    def take_key_alone(self, word: str) -> None:
+        """The word is a KEY if it can be one."""
+        import tell
+
+        self.key = tell.key_of(word)
+        if self.key is not None:
+            self.is_key_alone = True
+            self.names.clear()
 
 
 def say(text: str) -> None:
@@ -105,6 +151,10 @@ def say(text: str) -> None:
 def stop(status: int, text: str) -> None:
     say(text)
     raise SystemExit(status)
+
+
+def is_number(word: str) -> bool:
+    return word.isascii() and word.isdigit() and len(word) <= 20 and int(word) < 1 << 64
 
 
 def nearest(word: str) -> str:
@@ -122,10 +172,13 @@ def read_words(words: list[str]) -> Asked:
         if word in ALONE:
             raise Refused(f"{word} stands alone")
         asked.take(word, left)
+    asked.take_names()
     if "--audit" in asked.words and len(asked.words) > 1:
         raise Refused("--audit stands alone, or with a FILE")
     if asked.telling and (asked.words or asked.telling not in TELLING):
-        raise Refused("--tell stands alone or with --all, and --explain with its KEY, before a FILE")
+        raise Refused(
+            "--tell stands alone or with --all, --explain with its KEY, and --timeline alone or with --lines, before a FILE"
+        )
     if asked.file is not None and not asked.reads_script and "--audit" not in asked.words:
         raise Refused("--generate takes no FILE")
     return asked
@@ -223,6 +276,8 @@ def start(asked: Asked) -> None:
     """Starts the program in the place of this one, or where it reads a script beside it, to say more of a bad line."""
     import play_script
 
+    if asked.draws:
+        raise SystemExit(drawn(asked))
     program = program_to_start(not asked.words)
     if asked.telling:
         raise SystemExit(told(program, asked))
@@ -233,6 +288,16 @@ def start(asked: Asked) -> None:
     if not asked.reads_script:
         play_script.become(program, asked.words)
     raise SystemExit(play_script.play(program, asked.words, SCRIPT_LIMIT, BAD_SCRIPT))
+
+
+def drawn(asked: Asked) -> int:
+    """Draws a transcript, for which no program is started."""
+    import timeline
+    import timeline_layout
+
+    lines = timeline_layout.Range(*asked.lines) if asked.lines else None
+    wanted = timeline.Asked(asked.file, asked.key, asked.is_key_alone, lines)
+    return timeline.draw(wanted, TRANSCRIPT_LIMIT, timeline.Statuses(NOT_NAMED, BAD_WORDS))
 
 
 def told(program: str, asked: Asked) -> int:
