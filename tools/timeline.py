@@ -59,7 +59,7 @@ def draw(asked: Asked, limit: int, statuses: Statuses) -> int:
     except Stopped as stopped:
         print(*stopped.said, sep="\n", file=sys.stderr)
         return stopped.status
-    return tell.write(page.split("\n"))
+    return tell.write([page])
 
 
 def read(limit: int) -> bytes:
@@ -78,14 +78,13 @@ def read(limit: int) -> bytes:
 def page_of(found: bytes, asked: Asked, statuses: Statuses) -> str:
     transcript = Transcript(found)
     try:
-        reading = Reading(transcript.lines())
+        reading = Reading(transcript)
     except NoTranscript as none:
         raise Stopped(NO_TRANSCRIPT, str(none), *explain_verdict.explain_none(found, none.number))
     if asked.drawn and asked.drawn.first > reading.last:
         first, last = asked.drawn
         said = f"replay: --lines {first}..{last} has no line of the transcript, whose last one is {reading.last}"
         raise Stopped(statuses.bad_words, f"{said}. ./replay --help has the usage")
-    reading.count_missed(transcript.line)
     return page(transcript, reading, asked, statuses).html()
 
 

@@ -1,4 +1,4 @@
-"""Where things stand in the picture of a transcript: which lines are drawn, where a line stands in time, and which marks
+"""Where things stand in the timeline of a transcript: which lines are drawn, where a line stands in time, and which marks
 are drawn as one since they would cover each other."""
 from __future__ import annotations
 
@@ -41,12 +41,15 @@ def drawn_range(reading: Reading, asked: Range | None) -> Range:
     """What is drawn: the lines that are asked for or all, but no more than a page has room for."""
     wanted = asked or Range(1, reading.last)
     wanted = Range(wanted.first, min(wanted.last, reading.last))
-    begins = [span.begin for node in reading.nodes.values() for span in (*node.stays, *node.stops, *node.quiesced)]
-    begins += [division.begin for division in reading.divisions for _ in range(len(reading.nodes))]
-    drawn = sorted(number for number in begins if wanted.has(number))
-    if len(drawn) <= MOST_SPANS:
-        return wanted
-    return Range(wanted.first, max(wanted.first, drawn[MOST_SPANS] - 1))
+    begins = [(span.begin, 1) for node in reading.nodes.values() for span in (*node.stays, *node.stops, *node.quiesced)]
+    rows = min(MOST_ROWS, len(reading.nodes))
+    begins += [(division.begin, rows) for division in reading.divisions]
+    room = MOST_SPANS
+    for begin, count in sorted(begins):
+        room -= count if wanted.has(begin) else 0
+        if room < 0:
+            return Range(wanted.first, max(wanted.first, begin - 1))
+    return wanted
 
 
 class Scale:

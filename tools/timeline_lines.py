@@ -4,7 +4,7 @@
 from __future__ import annotations
 
 import re
-from typing import Callable, Iterator
+from typing import Callable, Collection, Iterator
 
 import tell_run
 
@@ -98,45 +98,52 @@ def are_distinct(nodes: list[int]) -> bool:
     return len(nodes) <= MOST_NODES and len(set(nodes)) == len(nodes)
 
 
-def falls(line: Line) -> bool:
-    nodes = nodes_in(line.fields[3])
+def fall(nodes: list[int]) -> bool:
     return are_distinct(nodes) and nodes == sorted(nodes, reverse=True)
 
 
-CHECKS: dict[str, Callable[[Line], bool]] = {
-    "sent": lambda line: len(line.fields[4]) % 2 == 0,
-    "enter": falls,
-    "map": lambda line: are_distinct(nodes_in(line.fields[4])),
-    "place": lambda line: are_distinct(nodes_in(line.fields[2])),
-    "groups": lambda line: are_distinct([int(field) for field in line.fields[1:] if field != "|"]),
+def field_of(part: bytes, at: int) -> str:
+    return part.split(b" ")[at].decode()
+
+
+CHECKS: dict[bytes, Callable[[bytes], bool]] = {
+    b"sent": lambda part: (len(part) - part.rindex(b" ")) % 2 == 1,
+    b"enter": lambda part: fall(nodes_in(field_of(part, 3))),
+    b"map": lambda part: are_distinct(nodes_in(field_of(part, 4))),
+    b"place": lambda part: are_distinct(nodes_in(field_of(part, 2))),
+    b"groups": lambda part: are_distinct([int(field) for field in part.split(b" ")[1:] if field != b"|"]),
 }
 
 # ---- lines
 
 
 class Transcript:
-    """The lines of a transcript, as bytes without their line feeds. `text` is what it was made of."""
+    """The lines of a transcript, as bytes without their line feeds, and the first word of each that was read. `text` is what
+    it was made of."""
 
     def __init__(self, text: bytes):
         self.text = text
         self.parts = text.split(b"\n")
         self.rest = self.parts.pop()
+        self.words: list[bytes] = []
 
     def __len__(self) -> int:
         return len(self.parts)
 
-    def lines(self) -> Iterator[Line]:
-        """Each line in order. `NoTranscript` where the next one is none."""
-        patterns, checks = PATTERNS, CHECKS
+    def lines(self, quiet: Collection[str] = ()) -> Iterator[Line]:
+        """Each line in order, but those of quiet kinds, which are read and passed over. `NoTranscript` where one is none."""
+        patterns, checks, passed_over = PATTERNS, CHECKS, {kind.encode() for kind in quiet}
+        self.words = []
         for number, part in enumerate(self.parts[:MOST_LINES], 1):
-            pattern = patterns.get(part.partition(b" ")[0])
+            word = part.partition(b" ")[0]
+            pattern = patterns.get(word)
             if pattern is None or not pattern.fullmatch(part):
                 raise NoTranscript(number)
-            line = Line(number, part.decode().split(" "))
-            check = checks.get(line.fields[0])
-            if check and not check(line):
+            if word in checks and not checks[word](part):
                 raise NoTranscript(number)
-            yield line
+            self.words.append(word)
+            if word not in passed_over:
+                yield Line(number, part.decode().split(" "))
         if len(self) > MOST_LINES:
             raise NoTranscript(MOST_LINES + 1)
         if self.rest:

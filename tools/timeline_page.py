@@ -1,4 +1,4 @@
-"""The page of a transcript's picture: what it is of, what it comes to in numbers, the legend, the picture, and tables. All
+"""The page of a transcript's timeline: what it is of, what it comes to in numbers, the legend, the drawing, and tables. All
 that it needs is in it, and a policy in its head keeps a browser from fetching anything."""
 from __future__ import annotations
 
@@ -14,7 +14,7 @@ from timeline_layout import BAR_HEIGHT, MOST_ROWS, MOST_SPANS, Range, drawn_node
 from timeline_lines import Transcript
 from timeline_reading import Lane, Reading
 from timeline_records import Life
-from timeline_svg import MOST_TEXT, SETTLED, Drawing, escaped, rect, text
+from timeline_svg import MOST_TEXT, SETTLED, WHITE, Drawing, escaped, rect, text
 
 # What lines of each kind are, in the order of the table.
 KINDS = {
@@ -73,8 +73,8 @@ class Page:
         self.drawing = Drawing(reading, drawn, drawn_nodes(reading), life)
 
     def html(self) -> str:
-        picture = self.drawing.svg()
-        return "\n".join([*self.head(), *self.body(picture), "</html>"])
+        drawing = self.drawing.svg()
+        return "\n".join([*self.head(), *self.body(drawing), "</html>"])
 
     def head(self) -> Iterator[str]:
         policy = f"default-src 'none'; style-src {hash_of(style.STYLE)}; script-src {hash_of(style.SCRIPT)}"
@@ -88,13 +88,13 @@ class Page:
         of = f"The life of {self.source.key} in " if self.life else "Timeline of "
         return of + self.source.title
 
-    def body(self, picture: str) -> Iterator[str]:
+    def body(self, drawing: str) -> Iterator[str]:
         yield f"<body>\n<main>\n<h1>{escaped(self.title)}</h1>"
         yield from self.facts()
         yield from self.notices()
         yield from self.counts()
         yield from self.legend()
-        yield f'<div class="picture">\n{picture}\n</div>'
+        yield f'<div class="drawing">\n{drawing}\n</div>'
         yield '<p class="facts">Hover over a mark to see its lines; a click pins them here.</p>'
         yield '<section id="pinned" aria-label="pinned marks"></section>'
         if self.life and self.life.is_told:
@@ -156,14 +156,16 @@ class Page:
         causes = ", ".join(f"{cause} {count:,}" for cause, count in sorted(self.reading.causes.items()))
         given_up = of[Lane.GIVEN_UP] if self.is_told else "?"
         cells = [
-            (of[Lane.DONE], "writes acknowledged", ""), (of[Lane.ANSWERED], "reads answered", ""),
-            (of[Lane.REFUSED], f"refused{f' ({causes})' if causes else ''}", ""),
+            (of[Lane.DONE], "writes acknowledged", ""),
             (of[Lane.DOUBT], "writes in doubt", "doubtful" if of[Lane.DOUBT] else ""),
-            (of[Lane.ABORTED], "aborted", ""), (of[Lane.OPEN], "open at the end", ""),
             (given_up, "acknowledged writes given up", "bad" if of[Lane.GIVEN_UP] else ""),
+            (of[Lane.ANSWERED], "reads answered", ""),
+            (of[Lane.REFUSED], f"requests refused{f' ({causes})' if causes else ''}", ""),
         ]
-        if not self.life:
-            cells += [(of[Lane.BLOCKED], "messages blocked", ""), (of[Lane.LOST], "messages lost", "")]
+        # What seldom comes has a cell only where it came.
+        seldom = {Lane.ABORTED: "requests aborted", Lane.OPEN: "requests open at the end", Lane.NO_TABLE: "without a table",
+                  Lane.BLOCKED: "messages blocked", Lane.LOST: "messages lost"}
+        cells += [(of[lane], what, "") for lane, what in seldom.items() if of[lane]]
         yield '<ul class="counts">'
         for count, what, kind in cells:
             number = count if isinstance(count, str) else f"{count:,}"
@@ -177,7 +179,7 @@ class Page:
         heads = ["whole"]
         columns = [whole]
         if is_part:
-            words = [part.partition(b" ")[0].decode() for part in self.transcript.parts]
+            words = [word.decode() for word in self.transcript.words]
             columns = [Counter(words[: drawn.first - 1]), Counter(words[drawn.first - 1 : drawn.last]),
                        Counter(words[drawn.last :]), whole]
             heads = [f"before line {drawn.first:,}", "drawn", f"behind line {drawn.last:,}", "whole"]
@@ -201,16 +203,17 @@ class Page:
         yield entry('<line x1="0" y1="7" x2="30" y2="7" stroke="#8a93a3" stroke-dasharray="1 4" />', "up, in no view")
         if self.drawing.has_splits:
             band = rect(0, 0, 30, 14, style.TINTS[0], f' stroke="{style.EDGES[0]}"') + rect(0, 0, 14, 14, style.EDGES[0])
-            yield entry(band + text(4, 11, "A", 10.5, ' fill="#fff" font-weight="700"'), "nodes of one group of a split")
+            yield entry(band + text(4, 11, "A", 10.5, WHITE), "nodes of one group of a split")
         if any(node.quiesced for node in self.reading.nodes.values()):
             yield entry(rect(0, 5, 30, 3, "#6a3d9a"), "quiesced")
         if self.life and self.life.is_told:
-            held = rect(0, 0, 30, 14, style.PALE[0], ' rx="4" stroke="#39424f"') + text(4, 11, "#1", 10)
+            held = rect(0, 0, 30, 14, style.version_colour(1), ' rx="4"') + text(4, 11, "#1", 10, WHITE)
             yield entry(held, "the version that it holds")
-            yield entry('<path d="M10 2l8 9m0 -9l-8 9" stroke="#b3001b" stroke-width="2" />', "that version is given up")
+            cross = '<path d="M3 2l7 9m0 -9l-7 9" stroke="#b3001b" stroke-width="2" />'
+            yield entry(rect(0, 0, 13, 14, "#fff", ' rx="2" stroke="#b3001b"') + cross, "that version is given up", 14)
         used = {lane for row in self.drawing.rows for lane in row.lanes}
         for lane in (lane for lane in Lane if lane in used):
-            chip = rect(0, 1, 18, 12, style.LANE_COLOURS[lane], ' rx="2.5"') + text(5, 10.6, "3", 10, ' fill="#fff"')
+            chip = rect(0, 1, 18, 12, style.LANE_COLOURS[lane], ' rx="2.5"') + text(5, 10.6, "3", 10, WHITE)
             yield entry(chip, f"{lane.value}: {LANES[lane]}", 20)
         yield "</ul>"
 
@@ -226,8 +229,8 @@ class Page:
         yield '<table class="versions">'
         yield "<tr><th>#</th><th>version</th><th>written</th><th>held by</th><th>what became of it</th></tr>"
         for version in shown:
-            colour = style.PALE[(life.number_of(version) - 1) % len(style.PALE)]
-            swatch = f'<svg class="swatch" width="12" height="12">{rect(0, 0, 12, 12, colour)}</svg>'
+            drawn = rect(0, 0, 12, 12, style.version_colour(life.number_of(version)))
+            swatch = f'<svg class="swatch" width="12" height="12">{drawn}</svg>'
             cells = [f"{swatch} #{life.number_of(version)}", escaped(str(version)), items(self.written(life, version)),
                      items(self.held(life, version)), escaped(life.story.end_of(version))]
             yield "<tr>" + "".join(f"<td>{cell}</td>" for cell in cells) + "</tr>"

@@ -1,4 +1,4 @@
-"""Reads a transcript once, from any program, and keeps what its picture shows: of each node its views and stops and what
+"""Reads a transcript once, from any program, and keeps what its timeline shows: of each node its views and stops and what
 is counted along them, and how the network was divided.
 
 Each word is a reading of docs/READINGS.md. Nothing is asked of the lines but their forms, so a transcript that breaks a law
@@ -9,22 +9,22 @@ from __future__ import annotations
 import enum
 from collections import Counter, defaultdict
 from dataclasses import dataclass, field
-from typing import Callable, Iterable, NamedTuple
+from itertools import accumulate, chain
+from typing import NamedTuple
 
-import tell_run
 import timeline_digest
 import timeline_lines
+from timeline_lines import Transcript
 
-Line = tell_run.Line
 CLIENT = "0"
 # Whom a message goes to that no line sends.
 NOBODY = "?"
 BROKEN = -1
 # A line of one of these kinds says that something happened, with which a step begins.
 BEGINS = frozenset((
-    "clock", "groups", "quiesce", "unquiesce", "tick", "stop", "start", "down", "up", "deliver", "repeat", "cut", "lost",
-    "blocked", "nomessage", "opened", "refused", "client", "nomap", "map", "mapless", "place", "hash", "holds", "calm",
-    "call", "callfull", "again", "noopen", "scan", "noscan", "rescan",
+    b"clock", b"groups", b"quiesce", b"unquiesce", b"tick", b"stop", b"start", b"down", b"up", b"deliver", b"repeat", b"cut",
+    b"lost", b"blocked", b"nomessage", b"opened", b"refused", b"client", b"nomap", b"map", b"mapless", b"place", b"hash",
+    b"holds", b"calm", b"call", b"callfull", b"again", b"noopen", b"scan", b"noscan", b"rescan",
 ))
 
 
@@ -158,9 +158,10 @@ class Request(NamedTuple):
     lines: list[int]
 
 class Reading:
-    """What a transcript's picture shows. Lines are named by their numbers."""
+    """What a transcript's timeline shows. Lines are named by their numbers."""
 
-    def __init__(self, lines: Iterable[Line]):
+    def __init__(self, transcript: Transcript):
+        self.transcript = transcript
         self.counts: Counter[str] = Counter()
         self.settings = {"script": "1", "factor": "1", "policy": "time"}
         self.nodes = Nodes()
@@ -170,7 +171,7 @@ class Reading:
         self.causes: Counter[str] = Counter()
         # The step that each line is in, from line 0 on, which is none; the header is step 0.
         self.steps = [0]
-        # All `sent` lines, and the messages that don't arrive, each with the line that says so.
+        # All `sent` lines; and the messages that don't arrive, each with the line that says so.
         self.sent: list[int] = []
         self.sent_by_message: dict[str, int] | None = None
         self.missed: list[tuple[Lane, int, str]] = []
@@ -187,40 +188,40 @@ class Reading:
         self.drops: defaultdict[int, list[int]] = defaultdict(list)
         self.of_record: defaultdict[str, list[int]] = defaultdict(list)
         self.generations: dict[str, int] = {}
-        self.read(lines)
+        self.read()
+        self.count_steps()
+        self.count_missed()
 
     @property
     def last(self) -> int:
         """The number of the last line."""
         return len(self.steps) - 1
 
-    def read(self, lines: Iterable[Line]) -> None:
-        acts = self.acts()
-        counts, nodes, sent, note_step, step, before = dict.fromkeys(acts, 0), self.nodes, self.sent, self.steps.append, 0, ""
-        for number, line in enumerate(lines, 1):
-            fields = line.fields
+    def read(self) -> None:
+        takes = {kind: getattr(self, f"take_{kind}", None) for kind in timeline_lines.FORMS}
+        quiet = [kind for kind, take in takes.items() if not take and kind not in COUNTED]
+        nodes = self.nodes
+        for number, fields in self.transcript.lines(quiet):
             kind = fields[0]
-            counts[kind] += 1
-            begins, lane, take = acts[kind]
-            if begins and before != "client":
-                step += 1
-            elif kind == "sent":
-                sent.append(number)
-                # The client asks for a table, which no other line says.
-                step += fields[2] == CLIENT
-            note_step(step)
-            before = kind
-            if lane:
-                nodes[fields[1]].events[lane].append(number)
+            if kind in COUNTED:
+                nodes[fields[1]].events[COUNTED[kind]].append(number)
+            take = takes[kind]
             if take:
                 take(number, *fields[1:])
-        self.counts = Counter({kind: count for kind, count in counts.items() if count})
         for request in self.requests.values():
             self.leave_open(request)
 
-    def acts(self) -> dict[str, tuple[bool, Lane | None, Callable[..., None] | None]]:
-        """Of each kind of line whether a step begins with it, where it is counted, and what takes it."""
-        return {kind: (kind in BEGINS, COUNTED.get(kind), getattr(self, f"take_{kind}", None)) for kind in timeline_lines.FORMS}
+    def count_steps(self) -> None:
+        words, parts = self.transcript.words, self.transcript.parts
+        self.counts = Counter({word.decode(): count for word, count in Counter(words).items()})
+        self.sent = [number for number, word in enumerate(words, 1) if word == b"sent"]
+        # What follows `client` is of one step with it.
+        begins = [word in BEGINS and before != b"client" for before, word in zip(chain([b""], words), words)]
+        for number in self.sent:
+            # The client asks for a table, which no other line says.
+            if parts[number - 1].split(b" ", 3)[2] == b"0":
+                begins[number - 1] = True
+        self.steps = [0, *accumulate(begins)]
 
     def count(self, lane: Lane, number: int, node: str) -> None:
         self.nodes[node].events[lane].append(number)
@@ -296,9 +297,11 @@ class Reading:
     def take_settled(self, number: int, node: str, key: str, partition: str) -> None:
         view = self.views.get(key)
         if view:
-            view.settled_partitions.add(int(partition))
-            view.left.discard(int(partition))
-            view.look(number)
+            settled = int(partition)
+            view.settled_partitions.add(settled)
+            view.left.discard(settled)
+            if not view.left:
+                view.look(number)
 
     def take_drop(self, number: int, node: str, key: str, partition: str) -> None:
         self.held[node].discard(int(partition))
@@ -364,25 +367,23 @@ class Reading:
 
     take_full = take_lost
 
-    def count_missed(self, line: Callable[[int], Line]) -> None:
-        """Counts each message that doesn't arrive at the node to which it goes. `line` gives a line by its number."""
+    def count_missed(self) -> None:
+        """Counts each message that doesn't arrive at the node to which it goes."""
+        parts = self.transcript.parts
         for lane, number, message in self.missed:
-            sent = self.sent_line(message, line)
+            sent = self.sent_line(message)
             if sent:
-                self.others[number] = [sent.number]
-            self.count(lane, number, sent.fields[3] if sent else NOBODY)
+                self.others[number] = [sent]
+            self.count(lane, number, parts[sent - 1].split(b" ", 4)[3].decode() if sent else NOBODY)
 
-    def sent_line(self, message: str, line: Callable[[int], Line]) -> Line | None:
+    def sent_line(self, message: str) -> int | None:
         """The line that sends the message. A run numbers its messages from 1 on; other transcripts need not."""
-        at = int(message) - 1
-        if 0 <= at < len(self.sent):
-            found = line(self.sent[at])
-            if found.fields[1] == message:
-                return found
+        parts, at = self.transcript.parts, int(message) - 1
+        if 0 <= at < len(self.sent) and parts[self.sent[at] - 1].startswith(b"sent %b " % message.encode()):
+            return self.sent[at]
         if self.sent_by_message is None:
-            self.sent_by_message = {line(number).fields[1]: number for number in self.sent}
-        number = self.sent_by_message.get(message)
-        return line(number) if number else None
+            self.sent_by_message = {parts[number - 1].split(b" ", 2)[1].decode(): number for number in self.sent}
+        return self.sent_by_message.get(message)
 
 
 def begin(spans: list[Span], number: int) -> None:

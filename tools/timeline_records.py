@@ -32,12 +32,14 @@ def read_records(reading: Reading, line: Callable[[int], Line], names: list[tell
     numbers = set(reading.frame)
     for name in names:
         numbers.update(reading.of_record[name.digest], reading.drops[int(name.partition)])
-    lines = map(line, sorted(numbers))
-    blocks = [tell_run.Block(tell_script.Entry(it.number, it.kind, []), [it]) for it in lines]
+    block = tell_run.Block(tell_script.Entry(0, "", []), [line(number) for number in sorted(numbers)])
     try:
-        return tell_reading.Reading(tell_run.Run(blocks, names, []))
+        records = tell_reading.Reading(tell_run.Run([block], names, []))
     except (tell_reading.Unread, KeyError):
         return None
+    for request in records.requests:
+        request.script_line = request.opened
+    return records
 
 
 def name_of(digest: str, key: bytes | None = None) -> tell_run.Name:

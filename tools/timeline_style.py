@@ -1,12 +1,13 @@
-"""How a picture looks, and what its page does where scripts run: colours, the style sheet, and the script that shows and
+"""How a timeline looks, and what its page does where scripts run: colours, the style sheet, and the script that shows and
 pins the lines of a mark. The script has no `<` and no `&`, so that the page is read as XML too."""
 from __future__ import annotations
 
 from timeline_reading import Lane
 
-# Of views and versions, by the order in which they first stand: pale ones that differ also for colour-blind eyes, on which
-# black is read.
+# Of views, by the order in which they are first entered: pale ones that differ also for colour-blind eyes, on which black is
+# read. Those of versions, by the order in which they were first written, are dark, and white is read on them.
 PALE = ("#77aadd", "#ee8866", "#eedd88", "#ffaabb", "#99ddff", "#44bb99", "#bbcc33", "#c9b3dd", "#dddddd", "#d8b27a")
+DARK = ("#4477aa", "#aa3377", "#228833", "#8c6d00", "#004488", "#994455", "#555555", "#762a83")
 # Of the groups of a split.
 TINTS = ("#e6effa", "#fcefd9", "#e5f4ea", "#f5e6f1")
 EDGES = ("#3a6ea5", "#b3701c", "#2f8f5b", "#a0488c")
@@ -16,6 +17,12 @@ LANE_COLOURS = {
     Lane.DOUBT: "#86329a", Lane.ABORTED: "#5f5f5f", Lane.OPEN: "#3d4785", Lane.NO_TABLE: "#b34700",
     Lane.TABLES: "#4d5666", Lane.GIVEN_UP: "#b3001b", Lane.BLOCKED: "#6d6d6d", Lane.LOST: "#a3195b",
 }
+
+
+def version_colour(number: int) -> str:
+    """The colour of the version with that number, from 1 on."""
+    return DARK[(number - 1) % len(DARK)]
+
 
 STYLE = """
 body { margin: 0; background: #fff; color: #1b2330; font: 14px/1.45 system-ui, "DejaVu Sans", sans-serif; }
@@ -32,7 +39,7 @@ p { margin: 4px 0; }
 .counts .doubtful { border-color: #86329a; background: #f8effa; }
 .legend { list-style: none; display: flex; flex-wrap: wrap; gap: 3px 20px; margin: 8px 0 10px; padding: 0; font-size: 12.5px; }
 .legend svg { vertical-align: -3px; margin-right: 6px; }
-.picture { overflow-x: auto; border: 1px solid #cfd5de; border-radius: 5px; }
+.drawing { overflow-x: auto; border: 1px solid #cfd5de; border-radius: 5px; }
 table { border-collapse: collapse; font-size: 13px; }
 th, td { text-align: left; vertical-align: top; padding: 3px 12px 3px 0; border-bottom: 1px solid #e3e7ed; }
 td.number, th.number { text-align: right; }
@@ -40,7 +47,6 @@ td ul { margin: 0; padding: 0; list-style: none; }
 .versions td:nth-child(1), .versions td:nth-child(4) { white-space: nowrap; }
 .versions td:nth-child(2) { max-width: 300px; overflow-wrap: anywhere; }
 summary { cursor: pointer; font-weight: 600; margin: 16px 0 6px; }
-svg text { font-family: system-ui, "DejaVu Sans", sans-serif; }
 .swatch { display: inline-block; vertical-align: -2px; }
 [data-l] { cursor: pointer; }
 [data-l]:hover > rect:first-of-type, .pin > rect:first-of-type { stroke: #000; stroke-width: 2; }

@@ -1,4 +1,4 @@
-"""Draws the picture of a transcript as SVG: a row for each node, with its views, stops and counts along the time."""
+"""Draws the timeline of a transcript as SVG: a row for each node, with its views, stops and counts along the time."""
 from __future__ import annotations
 
 import html
@@ -15,11 +15,11 @@ from timeline_reading import CLIENT, NOBODY, Division, Lane, Node, Reading, Span
 from timeline_records import Holding, Life
 
 # Of a mark that stands for many lines the first ones are shown, and all marks together show about so many.
-MOST_SHOWN, MOST_SHOWN_IN_ALL = 12, 12_000
+MOST_SHOWN, MOST_SHOWN_IN_ALL = 12, 8_000
 MOST_TEXT = 120
 LETTER = 6.3
-# So far a band begins above its first row: there its letter stands.
-BAND_ABOVE = 17
+# So far a band begins above its first row, where its letter stands; and so far below a row a line parts it from the next.
+BAND_ABOVE, BELOW_ROW = 17, 5
 PATTERNS = """<defs>
 <pattern id="stopped" width="6" height="6" patternUnits="userSpaceOnUse"><path d="M0 6L6 0" stroke="#9aa3b0" /></pattern>
 <pattern id="exchanging" width="5" height="5" patternUnits="userSpaceOnUse"><path d="M0 0L5 5M0 5L5 0" stroke="#fff" \
@@ -28,7 +28,7 @@ stroke-width="1.6" /></pattern>
 <rect width="4" height="5" fill="#a85b00" /></pattern>
 </defs>"""
 SETTLED = "#1f7a3d"
-GREY = ' fill="#4a5363"'
+GREY, WHITE = ' fill="#4a5363"', ' fill="#fff"'
 # What keeps a text legible on a pattern.
 HALO = ' paint-order="stroke" stroke="#fff" stroke-width="3.5" stroke-linejoin="round"'
 
@@ -59,7 +59,7 @@ class Shown:
 
     def mark(self, kind: str, title: str, numbers: Iterable[int | None], inside: str, count: int | None = None) -> str:
         """A mark of that kind with what is said of it, and its lines, of which there are so many in all."""
-        own = [number for number in numbers if number]
+        own = list(dict.fromkeys(number for number in numbers if number))
         first = own[: self.most]
         self.numbers.update(first)
         lines = " ".join(map(str, first))
@@ -78,9 +78,13 @@ def line(x: float, y: float, to_x: float, to_y: float, colour: str, more: str = 
     return f'<line x1="{x:.1f}" y1="{y:.1f}" x2="{to_x:.1f}" y2="{to_y:.1f}" stroke="{colour}"{more} />'
 
 
+def letters(said: str) -> int:
+    return len(said) + sum(not letter.isascii() for letter in said)
+
+
 def fitting(width: float, *ways: str) -> str:
-    """The first of these that fits into that width, or nothing."""
-    return next((way for way in ways if len(way) * LETTER + 8 <= width), "")
+    """The first of these that fits into that width, or nothing. Letters beyond ASCII are taken to be twice as wide."""
+    return next((way for way in ways if letters(way) * LETTER + 8 <= width), "")
 
 
 def label(x: float, y: float, width: float, *ways: str, more: str = "") -> str:
@@ -89,7 +93,7 @@ def label(x: float, y: float, width: float, *ways: str, more: str = "") -> str:
 
 
 class Drawing:
-    """The picture of the lines of a range. Where a life is given, what nodes hold of its record is drawn too."""
+    """The drawing of the lines of a range. Where a life is given, what nodes hold of its record is drawn too."""
 
     def __init__(self, reading: Reading, drawn: Range, nodes: list[Node], life: Life | None = None):
         self.reading, self.drawn, self.nodes, self.life = reading, drawn, nodes, life
@@ -109,11 +113,12 @@ class Drawing:
         parts = [
             f'<svg xmlns="http://www.w3.org/2000/svg" width="{WIDTH}" height="{height:g}" viewBox="0 0 {WIDTH} {height:g}" '
             f'role="img" aria-label="{named}">',
-            PATTERNS, rect(0, 0, WIDTH, height, "#fff"), *self.axis(), *self.network(), *self.bands(),
+            PATTERNS, '<g font-family="system-ui, DejaVu Sans, sans-serif">', rect(0, 0, WIDTH, height, "#fff"),
+            *self.axis(), *self.network(), *self.bands(),
         ]
         for row in self.rows:
             parts += self.row(row)
-        return "\n".join([*parts, "</svg>"])
+        return "\n".join([*parts, "</g>", "</svg>"])
 
     # ---- above the rows
 
@@ -187,7 +192,7 @@ class Drawing:
             yield text(GUTTER - 8, lane_y + 9.5, lane.value, 10, ' text-anchor="end"' + GREY)
             what = f"{name_of(node.id)}: {lane.value}"
             yield from (self.chip(chip, lane_y, what, style.LANE_COLOURS[lane]) for chip in chips)
-        yield line(0, row.bottom + ROW_GAP / 2, WIDTH, row.bottom + ROW_GAP / 2, "#eceff3")
+        yield line(0, row.bottom + BELOW_ROW, WIDTH, row.bottom + BELOW_ROW, "#e3e7ed")
 
     def state(self, node: Node) -> str:
         """The node's rack, and how it ends."""
@@ -235,7 +240,7 @@ class Drawing:
         shown = sorted({other for number in few for other in (*others.get(number, ()), number)})
         count = len(shown) if len(numbers) == 1 else len(numbers)
         inside = rect(chip.x, y, chip.width, CHIP_HEIGHT, colour, ' rx="2.5"')
-        inside += text(chip.x + 4.5, y + 9.6, chip.label, 10, ' fill="#fff"')
+        inside += text(chip.x + 4.5, y + 9.6, chip.label, 10, WHITE)
         return self.shown.mark(kind, f"{what}, {lines_of(numbers)}", shown, inside, count)
 
     # ---- one record
@@ -252,11 +257,12 @@ class Drawing:
     def holding(self, life: Life, row: Row, holding: Holding, y: float) -> str:
         x, width = self.scale.span(holding)
         number = life.number_of(holding.version)
-        fill = style.PALE[(number - 1) % len(style.PALE)]
+        fill = style.version_colour(number)
         inside = rect(x, y, width, HELD_HEIGHT - 4, fill, ' rx="4" stroke="#39424f" stroke-width="0.6"')
-        inside += label(x, y + 11.5, width, f"#{number} {holding.version.body()}", f"#{number}")
+        inside += label(x, y + 11.5, width, f"#{number} {holding.version.body()}", f"#{number}", more=WHITE)
         if holding.is_given_up:
-            inside += f'<path d="M{x + width - 9:.1f} {y + 3:.1f}l7 9m0 -9l-7 9" stroke="#b3001b" stroke-width="2" />'
+            inside += rect(x + width - 12, y, 12, HELD_HEIGHT - 4, "#fff", ' rx="2" stroke="#b3001b"')
+            inside += f'<path d="M{x + width - 9.5:.1f} {y + 3:.1f}l7 9m0 -9l-7 9" stroke="#b3001b" stroke-width="2" />'
         title = f"{name_of(row.node.id)} holds version #{number}, {holding.version}: {span_of(holding)}"
         return self.shown.mark("held", title, [holding.begin, holding.end], inside)
 
