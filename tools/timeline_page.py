@@ -130,8 +130,8 @@ class Page:
     def end(self) -> str:
         calms = self.reading.calms
         if not calms:
-            return "never at rest"
-        return "ends at rest" if calms[-1] == self.reading.last else f"last at rest in line {calms[-1]:,}"
+            return "no calm line"
+        return "ends with a calm" if calms[-1] == self.reading.last else f"last calm in line {calms[-1]:,}"
 
     def notices(self) -> Iterator[str]:
         last, drawn = self.reading.last, self.drawn
@@ -245,13 +245,12 @@ class Page:
             yield f"by node {request.node} in the view {request.view}, line {request.applied}; {ended}{at}"
 
     def held(self, life: Life, version: Version) -> Iterator[str]:
-        holders = sorted(life.holders(version), key=lambda held: held[1].begin)
+        holders = sorted(life.holders[version], key=lambda held: held[1].begin)
         for node, holding in holders[:MOST_HOLDERS]:
             if holding.end is None:
                 yield f"node {node} from line {holding.begin} to the end"
                 continue
-            after = life.replacing(node, holding)
-            then = f"replaced by #{life.number_of(after)}" if after else "its copy is dropped"
+            then = f"replaced by #{life.number_of(holding.after)}" if holding.after else "its copy is dropped"
             yield f"node {node} from line {holding.begin} to {holding.end}: {then}"
         if len(holders) > MOST_HOLDERS:
             yield f"and {len(holders) - MOST_HOLDERS} more times"

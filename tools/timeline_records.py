@@ -4,9 +4,9 @@ given up, and the life of one record. Only the lines that speak of these records
 from __future__ import annotations
 
 import contextlib
-from collections import Counter
+from collections import Counter, defaultdict
 from dataclasses import dataclass
-from typing import Callable, Iterator
+from typing import Callable
 
 import timeline_digest
 import tell_reading
@@ -78,7 +78,8 @@ class Holding(Span):
     """What a node holds of the record, from the line that brought it to the one behind which it holds something else."""
 
     version: Version = Version(0, 1, None)
-    # Whether what stands in its place then doesn't follow from it, and no store has it any more.
+    # What the node holds then; and whether no store has the version any more, nor one that follows from it.
+    after: Version | None = None
     is_given_up: bool = False
 
 
@@ -88,7 +89,9 @@ class Life:
     def __init__(self, reading: Reading, line: Callable[[int], Line], key: bytes, digest: str):
         self.name = name_of(digest, key)
         keep_own(reading, line, self.name)
+        # What each node held, and of each version who held it.
         self.holdings: dict[str, list[Holding]] = {}
+        self.holders: defaultdict[Version, list[tuple[str, Holding]]] = defaultdict(list)
         self.story: tell_record.Story | None = None
         records = read_records(reading, line, [self.name])
         # A transcript that isn't as the rules say may give up what it never had.
@@ -97,6 +100,9 @@ class Life:
                 self.story = tell_record.Story(records.run, records)
                 add_given_up(reading, given_up_though_done([self.story.record]))
                 self.holdings = {node: holdings_of(changes) for node, changes in self.record.changes.items()}
+                for node, holdings in self.holdings.items():
+                    for holding in holdings:
+                        self.holders[holding.version].append((node, holding))
                 self.numbers = {version: at for at, version in enumerate(self.record.makers, 1)}
 
     @property
@@ -112,14 +118,6 @@ class Life:
         """The version's number, by the order in which versions were first written; 0 where no line wrote it."""
         return self.numbers.get(version, 0)
 
-    def holders(self, version: Version) -> Iterator[tuple[str, Holding]]:
-        for node, holdings in self.holdings.items():
-            yield from ((node, holding) for holding in holdings if holding.version == version)
-
-    def replacing(self, node: str, holding: Holding) -> Version | None:
-        """What the node holds behind that."""
-        return next((it.version for it in self.holdings[node] if it.begin == holding.end), None)
-
 
 def holdings_of(changes: list[Change]) -> list[Holding]:
     held: list[Holding] = []
@@ -127,7 +125,7 @@ def holdings_of(changes: list[Change]) -> list[Holding]:
         if change.new == change.old:
             continue
         if change.old is not None:
-            held[-1].end, held[-1].is_given_up = change.number, change.is_last
+            held[-1].end, held[-1].after, held[-1].is_given_up = change.number, change.new, change.is_last
         if change.new is not None:
             held.append(Holding(change.number, version=change.new))
     return held

@@ -2,6 +2,7 @@
 from __future__ import annotations
 
 import html
+from itertools import groupby
 from typing import Iterable, Iterator, Sequence
 
 import explain_fault
@@ -17,7 +18,7 @@ from timeline_records import Holding, Life
 # Of a mark that stands for many lines the first ones are shown, and all marks together show about so many.
 MOST_SHOWN, MOST_SHOWN_IN_ALL = 12, 8_000
 MOST_TEXT = 120
-LETTER = 6.3
+LETTER, LEAST_HELD = 6.3, 5.0
 # So far a band begins above its first row, where its letter stands; and so far below a row a line parts it from the next.
 BAND_ABOVE, BELOW_ROW = 17, 5
 PATTERNS = """<defs>
@@ -105,14 +106,21 @@ class Drawing:
         top = 34 + 22 * self.has_splits + 17 * bool(self.calms) + ROW_GAP
         self.rows = rows_of(nodes, self.scale, top, life is not None and life.is_told)
         self.bottom = self.rows[-1].bottom if self.rows else top
-        self.shown = Shown(sum(len(chips) for row in self.rows for chips in row.lanes.values()) + len(nodes) + 50)
+        # A bar of what a node holds is drawn by itself where it is so wide at least.
+        self.narrow = max(LEAST_HELD, len(self.rows) / 3)
+        self.shown = Shown(sum(len(chips) for row in self.rows for chips in row.lanes.values()) + self.spans())
+
+    def spans(self) -> int:
+        """How many marks there are about besides those of lanes."""
+        held = len(self.rows) * int(PLOT / self.narrow) if self.life else 0
+        return held + sum(self.drawn.meets(it) for node in self.nodes for it in (*node.stays, *node.stops, *node.quiesced))
 
     def svg(self) -> str:
         height = self.bottom + ROW_GAP
         named = f"the nodes of lines {self.drawn.first} to {self.drawn.last} along the time, a row a node"
         parts = [
             f'<svg xmlns="http://www.w3.org/2000/svg" width="{WIDTH}" height="{height:g}" viewBox="0 0 {WIDTH} {height:g}" '
-            f'role="img" aria-label="{named}">',
+            f'role="group" aria-label="{named}">',
             PATTERNS, '<g font-family="system-ui, DejaVu Sans, sans-serif">', rect(0, 0, WIDTH, height, "#fff"),
             *self.axis(), *self.network(), *self.bands(),
         ]
@@ -246,13 +254,33 @@ class Drawing:
     # ---- one record
 
     def held(self, life: Life, row: Row) -> Iterator[str]:
-        """What the node holds of the record."""
-        y = row.record_y
+        """What the node holds of the record. Bars that would be too narrow are drawn as one."""
         holdings = [it for it in life.holdings.get(row.node.id, ()) if self.drawn.meets(it)]
         if holdings:
-            yield text(GUTTER - 8, y + 11, "holds", 10, ' text-anchor="end"' + GREY)
-        for holding in holdings:
-            yield self.holding(life, row, holding, y)
+            yield text(GUTTER - 8, row.record_y + 11, "holds", 10, ' text-anchor="end"' + GREY)
+        for is_narrow, group in groupby(holdings, key=lambda it: self.scale.span(it)[1] < self.narrow):
+            some = list(group)
+            if is_narrow and len(some) > 1:
+                yield from self.many_held(row, some)
+            else:
+                yield from (self.holding(life, row, holding, row.record_y) for holding in some)
+
+    def many_held(self, row: Row, holdings: list[Holding]) -> Iterator[str]:
+        """Narrow bars side by side, as few bars that are wide enough."""
+        begin = 0
+        while begin < len(holdings):
+            x, end = self.scale.x(holdings[begin].begin), begin + 1
+            while end < len(holdings) and self.scale.x(holdings[end].begin) < x + self.narrow:
+                end += 1
+            some = holdings[begin:end]
+            whole = Span(some[0].begin, some[-1].end)
+            width = self.scale.span(whole)[1]
+            inside = rect(x, row.record_y, width, HELD_HEIGHT - 4, "#5b6575")
+            title = f"{name_of(row.node.id)} holds {len(some)} versions one after the other: {span_of(whole)}"
+            given_up = sum(it.is_given_up for it in some)
+            title += f"; {given_up} of them are given up" if given_up else ""
+            yield self.shown.mark("held", title, [it.begin for it in some], inside)
+            begin = end
 
     def holding(self, life: Life, row: Row, holding: Holding, y: float) -> str:
         x, width = self.scale.span(holding)
