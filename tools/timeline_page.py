@@ -169,7 +169,8 @@ class Page:
         yield '<ul class="counts">'
         for count, what, kind in cells:
             number = count if isinstance(count, str) else f"{count:,}"
-            yield f'<li{f" class={chr(34)}{kind}{chr(34)}" if kind else ""}><b>{number}</b> {escaped(what)}</li>'
+            marked = f' class="{kind}"' if kind else ""
+            yield f"<li{marked}><b>{number}</b> {escaped(what)}</li>"
         yield "</ul>"
 
     def table(self) -> Iterator[str]:
@@ -183,9 +184,11 @@ class Page:
             columns = [Counter(words[: drawn.first - 1]), Counter(words[drawn.first - 1 : drawn.last]),
                        Counter(words[drawn.last :]), whole]
             heads = [f"before line {drawn.first:,}", "drawn", f"behind line {drawn.last:,}", "whole"]
-        yield f'<details{" open=" + chr(34) + "open" + chr(34) if is_part else ""}><summary>Lines of each kind</summary>\n<table>'
+        yield '<details open="open">' if is_part else "<details>"
+        yield "<summary>Lines of each kind</summary>\n<table>"
         yield "<tr><th>kind</th>" + "".join(f'<th class="number">{head}</th>' for head in heads) + "<th>they are</th></tr>"
-        for kind in sorted(whole, key=lambda kind: (list(KINDS) + [kind]).index(kind)):
+        order = {kind: at for at, kind in enumerate(KINDS)}
+        for kind in sorted(whole, key=lambda kind: order.get(kind, len(order))):
             numbers = "".join(f'<td class="number">{column[kind]:,}</td>' for column in columns)
             yield f"<tr><td>{escaped(kind)}</td>{numbers}<td>{KINDS.get(kind, 'not drawn')}</td></tr>"
         yield "</table></details>"
@@ -221,7 +224,7 @@ class Page:
 
     def versions(self, life: Life) -> Iterator[str]:
         """Each version of the record: who wrote it, who held it, and what became of it."""
-        versions = list(life.record.makers)
+        versions = list(life.story.record.makers)
         shown = versions if len(versions) <= MOST_VERSIONS else versions[: MOST_VERSIONS // 2] + versions[-MOST_VERSIONS // 2 :]
         yield f"<h2>Its versions, compared by {self.reading.settings['policy']} first</h2>"
         if len(shown) < len(versions):
@@ -239,7 +242,7 @@ class Page:
             yield "<p>No line writes it.</p>"
 
     def written(self, life: Life, version: Version) -> Iterator[str]:
-        for request in life.record.makers[version]:
+        for request in life.story.record.makers[version]:
             ended = {"done": "acknowledged", "doubt": "in doubt"}.get(request.ended or "", "not acknowledged")
             at = f" in line {request.ended_at}" if request.ended in ("done", "doubt") else ""
             yield f"by node {request.node} in the view {request.view}, line {request.applied}; {ended}{at}"

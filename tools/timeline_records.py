@@ -55,10 +55,12 @@ def count_given_up(reading: Reading, line: Callable[[int], Line]) -> bool:
     if not suspects:
         return True
     records = read_records(reading, line, [name_of(digest) for digest in suspects])
-    if records is None:
-        return False
-    add_given_up(reading, given_up_though_done(records.records.values()))
-    return True
+    # A transcript that isn't as the rules say may lack what was never held.
+    with contextlib.suppress(KeyError):
+        if records:
+            add_given_up(reading, given_up_though_done(records.records.values()))
+            return True
+    return False
 
 
 def add_given_up(reading: Reading, given_up: list[tuple[Request, Change]]) -> None:
@@ -89,34 +91,36 @@ class Life:
     def __init__(self, reading: Reading, line: Callable[[int], Line], key: bytes, digest: str):
         self.name = name_of(digest, key)
         keep_own(reading, line, self.name)
-        # What each node held, and of each version who held it.
+        # What each node held, and of each version who held it and its number.
         self.holdings: dict[str, list[Holding]] = {}
         self.holders: defaultdict[Version, list[tuple[str, Holding]]] = defaultdict(list)
-        self.story: tell_record.Story | None = None
-        records = read_records(reading, line, [self.name])
-        # A transcript that isn't as the rules say may give up what it never had.
-        with contextlib.suppress(KeyError):
-            if records:
-                self.story = tell_record.Story(records.run, records)
-                add_given_up(reading, given_up_though_done([self.story.record]))
-                self.holdings = {node: holdings_of(changes) for node, changes in self.record.changes.items()}
-                for node, holdings in self.holdings.items():
-                    for holding in holdings:
-                        self.holders[holding.version].append((node, holding))
-                self.numbers = {version: at for at, version in enumerate(self.record.makers, 1)}
+        self.numbers: dict[Version, int] = {}
+        self.story = story_of(read_records(reading, line, [self.name]))
+        if self.story:
+            self.read(reading, self.story.record)
+
+    def read(self, reading: Reading, record: Record) -> None:
+        add_given_up(reading, given_up_though_done([record]))
+        self.holdings = {node: holdings_of(changes) for node, changes in record.changes.items()}
+        for node, holdings in self.holdings.items():
+            for holding in holdings:
+                self.holders[holding.version].append((node, holding))
+        self.numbers = {version: at for at, version in enumerate(record.makers, 1)}
 
     @property
     def is_told(self) -> bool:
         """Whether the transcript is as the rules say, so that versions and what they follow from can be told."""
         return self.story is not None
 
-    @property
-    def record(self) -> Record:
-        return self.story.record
-
     def number_of(self, version: Version) -> int:
         """The version's number, by the order in which versions were first written; 0 where no line wrote it."""
         return self.numbers.get(version, 0)
+
+
+def story_of(records: tell_reading.Reading | None) -> tell_record.Story | None:
+    """What became of the record. None where the transcript isn't as the rules say, which may lack what was never held."""
+    with contextlib.suppress(KeyError):
+        return tell_record.Story(records.run, records) if records else None
 
 
 def holdings_of(changes: list[Change]) -> list[Holding]:

@@ -3,7 +3,7 @@ from __future__ import annotations
 
 import html
 from itertools import groupby
-from typing import Iterable, Iterator, Sequence
+from typing import Iterable, Iterator, Sequence, TypeVar
 
 import explain_fault
 import timeline_style as style
@@ -18,6 +18,7 @@ from timeline_records import Holding, Life
 # Of a mark that stands for many lines the first ones are shown, and all marks together show about so many.
 MOST_SHOWN, MOST_SHOWN_IN_ALL = 12, 8_000
 MOST_TEXT = 120
+SomeSpan = TypeVar("SomeSpan", bound=Span)
 LETTER, LEAST_HELD = 6.3, 5.0
 # So far a band begins above its first row, where its letter stands; and so far below a row a line parts it from the next.
 BAND_ABOVE, BELOW_ROW = 17, 5
@@ -203,10 +204,11 @@ class Drawing:
         yield line(0, row.bottom + BELOW_ROW, WIDTH, row.bottom + BELOW_ROW, "#e3e7ed")
 
     def state(self, node: Node) -> str:
-        """The node's rack, and how it ends."""
+        """The node's rack, and how it stands behind the last line that is drawn."""
         if not node.is_node:
             return ""
-        ended = "stopped" if is_open(node.stops) else f"in {node.stay.key}" if node.stay else "in no view"
+        stay = at_line(node.stays, self.drawn.last)
+        ended = "stopped" if at_line(node.stops, self.drawn.last) else f"in {stay.key}" if stay else "in no view"
         rack = [f"rack {node.rack}"] if node.rack not in ("", "0") else []
         return ", ".join([*rack, ended if node.is_declared else "not declared"])
 
@@ -314,8 +316,9 @@ def letter_of(group: int) -> str:
     return chr(ord("A") + group)
 
 
-def is_open(spans: list[Span]) -> bool:
-    return bool(spans) and spans[-1].end is None
+def at_line(spans: list[SomeSpan], number: int) -> SomeSpan | None:
+    """The span that lasts behind that line."""
+    return next((span for span in reversed(spans) if span.begin <= number and (span.end is None or span.end > number)), None)
 
 
 def span_of(span: Span) -> str:
