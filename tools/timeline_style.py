@@ -6,7 +6,7 @@ from timeline_reading import Lane
 
 # Of views, by the order in which they are first entered: pale ones that differ also for colour-blind eyes, on which black is
 # read. Those of versions, by the order in which they were first written, are dark, and white is read on them.
-PALE = ("#77aadd", "#ee8866", "#99ddff", "#eedd88", "#44bb99", "#ffaabb", "#aaaa00", "#dddddd", "#bbcc33")
+PALE = ("#77aadd", "#ee8866", "#eedd88", "#99ddff", "#44bb99", "#ffaabb", "#aaaa00", "#dddddd", "#bbcc33")
 DARK = ("#4477aa", "#aa3377", "#228833", "#8c6d00", "#004488", "#994455", "#555555", "#762a83")
 # Of the groups of a split.
 TINTS = ("#e6effa", "#fcefd9", "#e5f4ea", "#f5e6f1")
