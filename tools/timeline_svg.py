@@ -160,7 +160,8 @@ class Drawing:
         said = f"the network is split into {' | '.join(lettered)}" if division.is_split else "all nodes reach each other"
         fill = "#d9dfe8" if division.is_split else "#f4f6f9"
         inside = rect(x, y, width, 18, fill, ' stroke="#8a93a3" stroke-width="0.5"')
-        ways = ["  |  ".join(lettered), f"{len(named)} groups", "split"] if division.is_split else ["joined"]
+        letters_alone = "|".join(letter_of(at) for at in range(len(named)))
+        ways = ["  |  ".join(lettered), f"{len(named)} groups", "split", letters_alone] if division.is_split else ["joined"]
         title = f"{said}: {span_of(division)}"
         return self.shown.mark("network", title, [division.begin, division.end], inside + label(x, y + 13, width, *ways))
 
