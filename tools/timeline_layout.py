@@ -5,7 +5,7 @@ from __future__ import annotations
 import math
 from bisect import bisect_left, bisect_right
 from dataclasses import dataclass
-from typing import Iterator, NamedTuple, Sequence
+from typing import Iterable, Iterator, NamedTuple, Sequence
 
 from timeline_reading import Lane, Node, Reading, Span
 
@@ -13,7 +13,7 @@ from timeline_reading import Lane, Node, Reading, Span
 GUTTER, PLOT, MARGIN = 158, 1120, 40
 WIDTH = GUTTER + PLOT + MARGIN
 BAR_HEIGHT, STRIP_HEIGHT, HELD_HEIGHT, LANE_HEIGHT, CHIP_HEIGHT = 18, 5, 19, 14, 12
-ROW_GAP, LEAST_ROW, LANE_GAP = 24, 34, 4
+ROW_GAP, LEAST_ROW, LANE_GAP = 24, 44, 4
 # A page stays below 5 MB: so many rows, spans, and marks of lanes at most.
 MOST_ROWS, MOST_SPANS, MOST_CHIPS = 64, 4000, 6000
 # Between two labels of the axis there is about as much.
@@ -112,8 +112,9 @@ def label_width(count: int) -> float:
     return 9.0 + 6.5 * (1 if count < 10 else 2 if count < 100 else 3 if count < 1000 else 4)
 
 
-def chips_of(numbers: Sequence[int], scale: Scale, least: float) -> list[Chip]:
-    """Rising lines as marks, none of which covers another: each of at least that width."""
+def chips_of(numbers: Sequence[int], scale: Scale, least: float, edges: Sequence[float] = ()) -> list[Chip]:
+    """Rising lines as marks, none of which covers another: each of at least that width. `edges` are where something else
+    begins in the row, from left to right."""
     chips: list[Chip] = []
     begin = 0
     while begin < len(numbers):
@@ -126,7 +127,22 @@ def chips_of(numbers: Sequence[int], scale: Scale, least: float) -> list[Chip]:
             end = further
         chips.append(Chip(x, list(numbers[begin:end])))
         begin = end
+    place_within(chips, scale, edges)
     return chips
+
+
+def place_within(chips: list[Chip], scale: Scale, edges: Sequence[float]) -> None:
+    """Moves each mark to the left as far as it would lie over what begins behind its lines, or pass the end of the axis. Where
+    there is too little room between two edges it stands over the middle of it."""
+    left = float(GUTTER)
+    for chip in chips:
+        before, behind = bisect_right(edges, chip.x), bisect_right(edges, scale.x(chip.numbers[-1]))
+        begin = edges[before - 1] if before else GUTTER
+        end = edges[behind] if behind < len(edges) else GUTTER + PLOT
+        room = end - chip.width
+        # The mark before it was moved to the left too, if at all.
+        chip.x = max(left, min(chip.x, room if room >= begin else (begin + room) / 2))
+        left = chip.x + chip.width
 
 
 @dataclass
@@ -158,14 +174,22 @@ class Row:
         return max([self.y + LEAST_ROW, self.record_y + HELD_HEIGHT * self.has_record, *lanes[-1:]])
 
 
-def rows_of(nodes: list[Node], scale: Scale, top: float, has_record: bool) -> list[Row]:
-    """A row for each node, one below the other."""
+def edges_of(scale: Scale, spans: Iterable[Span]) -> list[float]:
+    """Where these begin or end within the lines that are drawn, from left to right."""
+    numbers = {number for span in spans for number in (span.begin, span.end) if number and scale.drawn.has(number)}
+    return sorted({scale.x(number) for number in numbers})
+
+
+def rows_of(nodes: list[Node], scale: Scale, top: float, has_record: bool, divisions: Sequence[Span] = ()) -> list[Row]:
+    """A row for each node that has a place for something, one below the other; `divisions` are those that are drawn."""
     held = {node.id: lanes_of(node, scale.drawn) for node in nodes}
+    nodes = [node for node in nodes if node.is_node or held[node.id]]
     count = sum(len(lanes) for lanes in held.values())
     least = PLOT * count / MOST_CHIPS
     rows: list[Row] = []
     for node in nodes:
-        lanes = {lane: chips_of(numbers, scale, least) for lane, numbers in held[node.id].items()}
+        edges = edges_of(scale, (*node.stays, *node.stops, *divisions))
+        lanes = {lane: chips_of(numbers, scale, least, edges) for lane, numbers in held[node.id].items()}
         y = rows[-1].bottom + ROW_GAP if rows else top
         rows.append(Row(node, y, node.is_node, has_record and node.is_node, lanes))
     return rows

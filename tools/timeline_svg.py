@@ -10,7 +10,7 @@ import timeline_style as style
 from tell_words import listed
 from timeline_layout import (
     BAR_HEIGHT, CHIP_HEIGHT, GUTTER, HELD_HEIGHT, PLOT, ROW_GAP, STRIP_HEIGHT, WIDTH,
-    Chip, Range, Row, Scale, chips_of, rows_of,
+    Chip, Range, Row, Scale, chips_of, edges_of, rows_of,
 )
 from timeline_reading import CLIENT, NOBODY, Division, Lane, Node, Reading, Span, Stay
 from timeline_records import Holding, Life
@@ -19,7 +19,7 @@ from timeline_records import Holding, Life
 MOST_SHOWN, MOST_SHOWN_IN_ALL = 12, 8_000
 MOST_TEXT = 120
 SomeSpan = TypeVar("SomeSpan", bound=Span)
-LETTER, LEAST_HELD = 6.3, 5.0
+LETTER, BOLD_LETTER, LEAST_HELD = 6.3, 8.0, 5.0
 # So far a band begins above its first row, where its letter stands; and so far below a row a line parts it from the next.
 BAND_ABOVE, BELOW_ROW = 17, 5
 PATTERNS = """<defs>
@@ -103,9 +103,9 @@ class Drawing:
         self.colours = {key: style.PALE[at % len(style.PALE)] for at, key in enumerate(reading.views)}
         self.divisions = [it for it in reading.divisions if drawn.meets(it)]
         self.has_splits = any(division.is_split for division in self.divisions)
-        self.calms = chips_of(drawn.of(reading.calms), self.scale, 0)
+        self.calms = chips_of(drawn.of(reading.calms), self.scale, 0, edges_of(self.scale, self.divisions))
         top = 34 + 22 * self.has_splits + 17 * bool(self.calms) + ROW_GAP
-        self.rows = rows_of(nodes, self.scale, top, life is not None and life.is_told)
+        self.rows = rows_of(nodes, self.scale, top, life is not None and life.is_told, self.divisions)
         self.bottom = self.rows[-1].bottom if self.rows else top
         # A bar of what a node holds is drawn by itself where it is so wide at least.
         self.narrow = max(LEAST_HELD, len(self.rows) / 3)
@@ -188,9 +188,9 @@ class Drawing:
         node, y = row.node, row.y
         middle = y + BAR_HEIGHT / 2
         yield text(10, y + 14, name_of(node.id), 13, ' font-weight="700"')
-        state = self.state(node)
-        if state:
-            yield text(10, y + 28, state, 10, GREY)
+        if node.rack not in ("", "0"):
+            yield text(10 + BOLD_LETTER * (len(name_of(node.id)) + 1), y + 14, f"rack {node.rack}", 10, GREY)
+        yield from (text(10, y + below, said, 10, GREY) for below, said in zip((27, 39), self.state(node)))
         if row.has_views:
             yield line(GUTTER, middle, GUTTER + PLOT, middle, "#8a93a3", ' stroke-dasharray="1 4"')
         yield from (self.stay(node, stay, y) for stay in node.stays if self.drawn.meets(stay))
@@ -204,14 +204,16 @@ class Drawing:
             yield from (self.chip(chip, lane_y, what, style.LANE_COLOURS[lane]) for chip in chips)
         yield line(0, row.bottom + BELOW_ROW, WIDTH, row.bottom + BELOW_ROW, "#e3e7ed")
 
-    def state(self, node: Node) -> str:
-        """The node's rack, and how it stands behind the last line that is drawn."""
+    def state(self, node: Node) -> list[str]:
+        """How the node stands behind the last line that is drawn, in two lines, the first of which says when that is."""
         if not node.is_node:
-            return ""
+            return []
+        if not node.is_declared:
+            return ["not declared"]
         stay = at_line(node.stays, self.drawn.last)
         ended = "stopped" if at_line(node.stops, self.drawn.last) else f"in {stay.key}" if stay else "in no view"
-        rack = [f"rack {node.rack}"] if node.rack not in ("", "0") else []
-        return ", ".join([*rack, ended if node.is_declared else "not declared"])
+        is_whole = self.drawn.last == self.reading.last
+        return ["at the end:" if is_whole else f"behind line {self.drawn.last:,}:", ended]
 
     def stay(self, node: Node, stay: Stay, y: float) -> str:
         x, width = self.scale.span(stay)
