@@ -16,3 +16,4 @@ pub mod NeverCalm
 pub mod KeptFacts
 pub mod WorldReadings
 pub mod StepCodes
+pub mod RequestWalk

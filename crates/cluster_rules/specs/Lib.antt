@@ -14,3 +14,5 @@ pub mod CalmBound
 pub mod Codes
 pub mod WorldExamples
 pub mod WalkExamples
+pub mod RequestEvents
+pub mod RequestExamples

@@ -9,6 +9,7 @@
 mod event;
 pub mod node_laws;
 pub mod reading_laws;
+pub mod request_laws;
 pub mod world_laws;
 
 pub use event::Event;
