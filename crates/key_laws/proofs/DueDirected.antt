@@ -88,11 +88,11 @@ abbrev pub SendsGo : Traced → ℕ → List (ℕ × Message) → Type 0
 SendsGo t a [] = Unit {0}
 SendsGo t a (m ∷ ms) = GoesIf t a m.0 (message_of (spelling m.1)) × SendsGo t a ms
 
-sends_append : (t : Traced) (a : ℕ) (ms more : List (ℕ × Message)) → SendsGo t a ms → SendsGo t a more → SendsGo t a (ms ++ more)
+pub sends_append : (t : Traced) (a : ℕ) (ms more : List (ℕ × Message)) → SendsGo t a ms → SendsGo t a more → SendsGo t a (ms ++ more)
 sends_append t a [] more h k = k
 sends_append t a (m ∷ ms) more h k = (h.0, sends_append t a ms more h.1 k)
 
-sent_go : (t : Traced) (a sent flying : ℕ) (ms : List (ℕ × Message)) → SendsGo t a ms → AllGo t (sent_lines a sent flying ms)
+pub sent_go : (t : Traced) (a sent flying : ℕ) (ms : List (ℕ × Message)) → SendsGo t a ms → AllGo t (sent_lines a sent flying ms)
 sent_go t a sent flying [] h = tt
 sent_go t a sent flying (m ∷ ms) h = (h.0, go (has_place flying) (λ f. sent_go t a (sent + 1) f ms h.1))
   where

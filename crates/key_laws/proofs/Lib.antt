@@ -7,6 +7,8 @@ pub mod KeptNodes
 pub mod Kept
 pub mod Wire
 pub mod Quiet
+pub mod RequestWire
+pub mod OtherRequests
 pub mod Addressed
 pub mod Directed
 pub mod TableReads
@@ -15,6 +17,7 @@ pub mod DueViews
 pub mod DueTick
 pub mod DueMessages
 pub mod DueDirected
+pub mod Dressed
 pub mod NamedSends
 pub mod Peopled
 pub mod DueSteps

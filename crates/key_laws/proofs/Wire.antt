@@ -48,12 +48,12 @@ Read P m = If P (message_of (spelling m))
 
 -- ---- what is read, if it is
 
-abbrev IfRead : {A : Type 0} → (A → Type 0) → Result A FieldFault → Type 0
+abbrev pub IfRead : {A : Type 0} → (A → Type 0) → Result A FieldFault → Type 0
 IfRead P (Ok x) = P x
 IfRead P (Err e) = Unit {0}
 
 -- what holds of what a kind's fields are read as holds of the message
-from_fields : (P : Message → Type 0) (kind : ℕ) (fields : List ℕ) (read : List ℕ → Result (Message × List ℕ) FieldFault) → kind_of kind ≡ Some read
+pub from_fields : (P : Message → Type 0) (kind : ℕ) (fields : List ℕ) (read : List ℕ → Result (Message × List ℕ) FieldFault) → kind_of kind ≡ Some read
     → IfRead (λ x. P x.0) (read fields) → If P (message_of (kind ∷ fields))
 unfolding message_of decoded
 from_fields P kind fields read known h = bytes (are_bytes (kind ∷ fields))
@@ -72,7 +72,7 @@ from_fields P kind fields read known h = bytes (are_bytes (kind ∷ fields))
     bytes false = tt
 
 -- whatever is read, what follows it holds
-onward : {A B : Type 0} (P : B → Type 0) (r : Result A FieldFault) (f : A → Result B FieldFault) → ((x : A) → IfRead P (f x)) → IfRead P (r >>= f)
+pub onward : {A B : Type 0} (P : B → Type 0) (r : Result A FieldFault) (f : A → Result B FieldFault) → ((x : A) → IfRead P (f x)) → IfRead P (r >>= f)
 onward P (Ok x) f h = h x
 onward P (Err e) f h = tt
 
@@ -95,11 +95,11 @@ unfolding key_at key_where field key_field
 none_fails P rest f = unless_short P (nat_lt (length (key_field none ++ rest)) 8) (whole_field (length (key_field none ++ rest)) None (drop 8 (key_field none ++ rest))) f tt
 
 -- a key is read as itself
-key_first : {B : Type 0} (P : B → Type 0) (k : ClusterKey) → IsKeyOrNone k → (rest : List ℕ) (f : ClusterKey × List ℕ → Result B FieldFault) → IfRead P (f (k, rest)) → IfRead P (key_at (key_field k ++ rest) >>= f)
+pub key_first : {B : Type 0} (P : B → Type 0) (k : ClusterKey) → IsKeyOrNone k → (rest : List ℕ) (f : ClusterKey × List ℕ → Result B FieldFault) → IfRead P (f (k, rest)) → IfRead P (key_at (key_field k ++ rest) >>= f)
 key_first P k (inl e) rest f h = subst (λ q. IfRead P (key_at (key_field q ++ rest) >>= f)) (sym e) (none_fails P rest f)
 key_first P k (inr field) rest f h = subst (λ r. IfRead P (r >>= f)) (sym (key_form.again k rest field)) h
 
-key_or_none_first : {B : Type 0} (P : B → Type 0) (k : ClusterKey) → IsKeyOrNone k → (rest : List ℕ) (f : ClusterKey × List ℕ → Result B FieldFault) → IfRead P (f (k, rest)) → IfRead P (key_or_none_at (key_field k ++ rest) >>= f)
+pub key_or_none_first : {B : Type 0} (P : B → Type 0) (k : ClusterKey) → IsKeyOrNone k → (rest : List ℕ) (f : ClusterKey × List ℕ → Result B FieldFault) → IfRead P (f (k, rest)) → IfRead P (key_or_none_at (key_field k ++ rest) >>= f)
 key_or_none_first P k key rest f h = subst (λ r. IfRead P (r >>= f)) (sym (key_or_none_form.again k rest key)) h
 
 -- ---- kinds of one key
