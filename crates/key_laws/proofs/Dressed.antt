@@ -1,6 +1,6 @@
 -- Steps of nodes that have requests of others: what such a step adds, lines of what is given up and late replies, leaves
 -- licensed, directed and named what is so without them.
-use Rattle.std.proofs.Common.{◌≡◌, ℕ, ◌+◌, ◌==◌, Bool, true, false, cond, List, [], ◌∷◌, ◌++◌, map, length, Option, Some, None, refl, subst, inl}
+use Rattle.std.proofs.Common.{ℕ, ◌+◌, ◌==◌, Bool, true, false, cond, List, [], ◌∷◌, ◌++◌, map, length, Option, Some, None, refl, subst}
 use Rattle.std.specs.Prelude.{if◌then◌else◌}
 use Rattle.cluster_types.specs.declared.cluster_key.ClusterKey.{ClusterKey}
 use Rattle.cluster_types.specs.Endpoints.{client}
@@ -10,7 +10,6 @@ use Rattle.wire_messages.specs.declared.message.Message.{Message}
 use Rattle.wire_messages.specs.declared.message.Message.TheVariants as message
 use Rattle.wire_messages.specs.declared.reply.ReplyBody.{ReplyBody}
 use Rattle.wire_messages.specs.declared.reply.ReplyBody.TheVariants as reply
-use Rattle.wire_messages.specs.Decoding.{message_of}
 use Rattle.wire_messages.specs.Spelling.{spelling}
 use Rattle.node_rules.specs.Effects.{Effects}
 use Rattle.node_rules.specs.Facts.{Facts, view_key}
@@ -34,7 +33,7 @@ use Rattle.key_laws.proofs.Directed.{AllGo}
 use Rattle.key_laws.proofs.DueDirected.{SendsGo, sends_append, sent_go, all_go_append}
 use Rattle.key_laws.proofs.Growth.{same_grows, grows_on, known_grows}
 use Rattle.key_laws.proofs.Kept.{Keeps, kept_all, kept_line}
-use Rattle.key_laws.proofs.OtherRequests.{KeepsOther, same_requests, other_on, after_other, after_all_other, grows_other, licensed_other}
+use Rattle.key_laws.proofs.OtherRequests.{KeepsOther, same_requests, other_on, after_all_other, grows_other, licensed_other}
 use Rattle.key_laws.proofs.Quiet.{writes, writes_append, licensed_both, MayPost, Posts, posts_of, posts_append, posts_ok}
 use Rattle.key_laws.proofs.RequestWire.{read_proxy_reply, read_reply}
 
@@ -77,14 +76,14 @@ lines_after t key n ps (l ∷ ls) = go (leaves n l) (lines_after (traced_after t
 
 -- ---- replies
 
-reply_posts : (t : Traced) (n : ℕ) (key : ClusterKey) (a : Asker) (b : ReplyBody) → IsPromisedKey t key → MayPost t n (reply_to key a b)
+pub reply_posts : (t : Traced) (n : ℕ) (key : ClusterKey) (a : Asker) (b : ReplyBody) → IsPromisedKey t key → MayPost t n (reply_to key a b)
 reply_posts t n key a b k = go (a.from == client)
   where
     go : (c : Bool) → MayPost t n (if c then message.Reply key a.number b else message.ProxyReply key a.number b)
     go true = posts_of t n _ (read_reply (λ x. Says t n x × MaySendKey t n x) key a.number b k.field (λ i c. (k, tt)))
     go false = posts_of t n _ (read_proxy_reply (λ x. Says t n x × MaySendKey t n x) key a.number b k.field (λ i c. (k, tt)))
 
-reply_goes : (t : Traced) (n to : ℕ) (key : ClusterKey) (a : Asker) (b : ReplyBody) → IsPromisedKey t key → SendsGo t n ((to, reply_to key a b) ∷ [])
+pub reply_goes : (t : Traced) (n to : ℕ) (key : ClusterKey) (a : Asker) (b : ReplyBody) → IsPromisedKey t key → SendsGo t n ((to, reply_to key a b) ∷ [])
 reply_goes t n to key a b k = go (a.from == client)
   where
     go : (c : Bool) → SendsGo t n ((to, if c then message.Reply key a.number b else message.ProxyReply key a.number b) ∷ [])

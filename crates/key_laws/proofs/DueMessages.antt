@@ -48,13 +48,13 @@ use Rattle.node_rules.specs.Tick.{progress_message, state}
 
 -- ---- effects without lines or without messages
 
-stale_quiet : (t : Traced) (n : ℕ) (f : Facts) → Quiet t n (stale f)
+pub stale_quiet : (t : Traced) (n : ℕ) (f : Facts) → Quiet t n (stale f)
 stale_quiet t n f = record { lines = (tt, tt); posts = tt }
 
-spent_quiet : (t : Traced) (n : ℕ) (f : Facts) → Quiet t n (spent f)
+pub spent_quiet : (t : Traced) (n : ℕ) (f : Facts) → Quiet t n (spent f)
 spent_quiet t n f = record { lines = (tt, tt); posts = tt }
 
-nothing_quiet : (t : Traced) (n : ℕ) → Quiet t n nothing
+pub nothing_quiet : (t : Traced) (n : ℕ) → Quiet t n nothing
 nothing_quiet t n = record { lines = tt; posts = tt }
 
 if_quiet : (t : Traced) (l : Line) (b : Bool) → QuietLines t (l ∷ []) → QuietLines t (only_if l b)

@@ -1,5 +1,5 @@
 -- What is due of every event may stand.
-use Rattle.std.proofs.Common.{◌≡◌, ℕ, ◌+◌, ◌==◌, nat_lt, nat_le, Bool, true, false, List, [], ◌∷◌, map, length, Option, Some, None, refl, sym, subst, arith, if◌then◌else◌}
+use Rattle.std.proofs.Common.{◌≡◌, ℕ, ◌==◌, nat_lt, nat_le, Bool, true, false, List, [], ◌∷◌, map, length, Option, Some, None, refl, sym, subst, arith, if◌then◌else◌}
 use Rattle.std.specs.Prelude.{option_and_then, option_map, slice_get, ◌++◌, ◌-◌}
 use Rattle.std.proofs.lemmas.Bool.Decides.{nat_tests}
 use Rattle.conflict_order.specs.declared.want.Want.{Want}
@@ -16,11 +16,10 @@ use Rattle.node_rules.specs.Entering.{closing}
 use Rattle.node_rules.specs.Facts.{Facts, view_key, list_at}
 use Rattle.node_rules.specs.Map.{entry_of}
 use Rattle.node_rules.specs.Messages.{due_message_of, client}
-use Rattle.node_rules.specs.Notes.{reached, opening_transaction}
-use Rattle.node_rules.specs.Requests.{map_refusal, request_refusal, asking, opening_effects, request_if, due_request, view_refusal, refusal_after}
+use Rattle.node_rules.specs.Notes.{reached}
+use Rattle.node_rules.specs.Requests.{map_refusal, due_request}
 use Rattle.node_rules.specs.Shows.{map_line, map_if, due_map, due_show}
 use Rattle.node_rules.specs.Tick.{tick_of}
-use Rattle.node_rules.specs.Transactions.{Transaction}
 use Rattle.cluster_rules.specs.declared.event.Event.{Event}
 use Rattle.cluster_rules.specs.declared.event.Event.TheVariants as event
 use Rattle.cluster_rules.specs.DueEvents.{written, due_at_named, due_at_client, due_arrival, arriving, is_blocked, delivery, losing, due_of}
@@ -30,7 +29,6 @@ use Rattle.node_rules.specs.Client.{node_for}
 use Rattle.cluster_rules.specs.Network.{Network, posting_at, flying_at, is_flying, landed}
 use Rattle.cluster_rules.specs.World.{World}
 use Rattle.cluster_types.specs.Partitions.{partition_of}
-use Rattle.node_rules.specs.Exchange.{View}
 use Rattle.key_laws.specs.Traced.{Traced, facts_of, traced_after}
 use Rattle.key_laws.specs.Licences.{IsPromisedKey, Says, MaySendKey, LicensedMarks, Visited}
 use Rattle.key_laws.specs.Sound.{NodeKeys, Sound}
@@ -38,54 +36,11 @@ use Rattle.key_laws.proofs.Growth.{says_grows, node_grows}
 use Rattle.key_laws.proofs.Frames.{at_here}
 use Rattle.key_laws.proofs.Kept.{Keeps, kept_begun, WasPosted, was_posted, arrived_in, kept_node}
 use Rattle.key_laws.proofs.Wire.{read_map_ask}
-use Rattle.key_laws.proofs.Quiet.{writes, licensed_both, QuietLines, Calmly, quietly, posts_of, each_posts, Quiet, quiet_ok, written_ok}
-use Rattle.key_laws.proofs.DueViews.{view_known, ask_posts, view_visited, closing_quiet}
+use Rattle.key_laws.proofs.Quiet.{writes, licensed_both, QuietLines, Calmly, quietly, posts_of, Quiet, quiet_ok, written_ok}
+use Rattle.key_laws.proofs.DueViews.{view_known, closing_quiet}
 use Rattle.key_laws.proofs.DueTick.{tick_ok}
-use Rattle.key_laws.proofs.DueMessages.{resolving_quiet, message_ok}
-use Rattle.journal_lines.specs.declared.refusal.Refusal.TheVariants as refusal
-
--- ---- requests
-
-asking_quiet : (t : Traced) (n : ℕ) (f : Facts) (clock : ℕ) (l : List ℕ) (x : Transaction) (ns : List ℕ) → Visited t f.me (view_key f) → Quiet t n (asking f clock l x ns)
-asking_quiet t n f clock l x [] h = resolving_quiet t n f clock l x h
-asking_quiet t n f clock l x (m ∷ ns) h = record { lines = tt; posts = each_posts t n _ (m ∷ ns) (ask_posts t n (view_key f) x.number x.digest h.known) }
-
-opening_quiet : (t : Traced) (n : ℕ) (f : Facts) (clock : ℕ) (l : List ℕ) (x : Transaction) → Visited t f.me (view_key f) → Quiet t n (opening_effects f clock l x)
-opening_quiet t n f clock l x h =
-    let q : Quiet t n (asking f clock l x x.awaiting) = asking_quiet t n f clock l x x.awaiting h in
-    record { lines = (h, q.lines); posts = q.posts }
-
-request_if_quiet : (t : Traced) (n : ℕ) (f : Facts) (clock : ℕ) (l d : List ℕ) (w : Want) (o : Option Refusal) → (o ≡ None → Visited t f.me (view_key f)) → Quiet t n (request_if f clock l d w o)
-request_if_quiet t n f clock l d w (Some cause) h = record { lines = (tt, tt); posts = tt }
-request_if_quiet t n f clock l d w None h = opening_quiet t n f clock l (opening_transaction f l (f.transactions.opened + 1) d w) (h refl)
-
--- a node with a map is in a view
-mapped : (t : Traced) (f : Facts) → NodeKeys t f.me f → map_refusal f ≡ None → Visited t f.me (view_key f)
-mapped t f h e = up f.up e
-  where
-    some : {A B : Type 0} (a : A) → Some a ≡ None → B
-    some a s = absurd (grind arith)
-
-    view : (o : Option View) → f.exchange.view ≡ o → view_refusal f o ≡ None → Visited t f.me (view_key f)
-    view None s i = some _ i
-    view (Some v) s i = view_visited t f.me f v h s
-
-    up : (b : Bool) → (if b then view_refusal f f.exchange.view else Some refusal.Down) ≡ None → Visited t f.me (view_key f)
-    up true i = view f.exchange.view refl i
-    up false i = some _ i
-
-accepted : (t : Traced) (f : Facts) (l d : List ℕ) → NodeKeys t f.me f → request_refusal f l d ≡ None → Visited t f.me (view_key f)
-accepted t f l d h e = go (map_refusal f) refl e
-  where
-    some : {A B : Type 0} (a : A) → Some a ≡ None → B
-    some a s = absurd (grind arith)
-
-    go : (o : Option Refusal) → map_refusal f ≡ o → refusal_after f l d o ≡ None → Visited t f.me (view_key f)
-    go None s i = mapped t f h s
-    go (Some cause) s i = some cause i
-
-request_quiet : (t : Traced) (n : ℕ) (f : Facts) (clock : ℕ) (d : List ℕ) (w : Want) → NodeKeys t f.me f → Quiet t n (due_request f clock d w)
-request_quiet t n f clock d w h = request_if_quiet t n f clock (list_at f (partition_of d)) d w (request_refusal f (list_at f (partition_of d)) d) (accepted t f (list_at f (partition_of d)) d h)
+use Rattle.key_laws.proofs.DueMessages.{message_ok}
+use Rattle.key_laws.proofs.DueRequests.{mapped, request_quiet}
 
 -- ---- a stop, a start, and what is shown
 

@@ -16,6 +16,9 @@ pub mod NamedLines
 pub mod DueViews
 pub mod DueTick
 pub mod DueMessages
+pub mod DueRequests
+pub mod AskedSteps
+pub mod AskedGo
 pub mod DueDirected
 pub mod Dressed
 pub mod NamedSends

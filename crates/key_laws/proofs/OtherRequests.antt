@@ -1,6 +1,6 @@
 -- What is kept of requests counts for no licence: marks that may stand may stand where other requests are kept. For steps of
 -- nodes that have requests of others.
-use Rattle.std.proofs.Common.{◌≡◌, ℕ, ◌==◌, Bool, true, false, cond, List, [], ◌∷◌, Option, Some, None, refl, sym, ap, subst, ◌∙◌}
+use Rattle.std.proofs.Common.{◌≡◌, ℕ, ◌==◌, Bool, true, false, cond, List, [], ◌∷◌, Option, Some, None, refl, sym, ap, subst, ◌∙◌, inl, inr, ⊎_elim}
 use Rattle.std.specs.Prelude.{option_and_then}
 use Rattle.cluster_types.specs.declared.cluster_key.ClusterKey.{ClusterKey}
 use Rattle.wire_messages.specs.declared.message.Message.{Message}
@@ -12,12 +12,12 @@ use Rattle.journal_readings.specs.Messages.{Arrival, arrived, arrived_cut}
 use Rattle.request_rules.specs.Requests.{Requests}
 use Rattle.cluster_rules.specs.Marks as marks
 use Rattle.cluster_rules.specs.Marks.{Mark, Begins, Writes, came_to_client, came_to_node}
-use Rattle.cluster_rules.specs.Network.{posting_at}
-use Rattle.key_laws.specs.Licences.{Visited, MaySendKey, MaySendKeyIf, MayPromise, MayEnterKey, MayFinishExchange, OkLine, OkMark, LicensedMarks}
+use Rattle.cluster_rules.specs.Network.{posting, posting_at}
+use Rattle.node_rules.specs.Messages.{client}
+use Rattle.key_laws.specs.Licences.{MaySendKeyIf, OkLine, OkMark, LicensedMarks}
 use Rattle.key_laws.specs.Sound.{Grows}
 use Rattle.key_laws.specs.Traced.{Traced, traced_after, traced_after_all}
 use Rattle.key_laws.proofs.Growth.{same_grows, known_grows, visited_grows, says_if_grows}
-use Rattle.std.proofs.Common.{◌⊎◌, inl, inr, ⊎_elim}
 
 -- ---- other requests
 
@@ -44,7 +44,7 @@ other_on t u v a b = record { kept = b.kept; same = b.same ∙ ap (λ (x : Trace
 
 came_other : (t : Traced) (kept : Requests) (x : Option Arrival) (entered : ℕ → ClusterKey → Bool) → KeepsOther (record { world = marks.came t.world x; lists = t.lists; entered = entered }) (record { world = marks.came (keeping t kept).world x; lists = t.lists; entered = entered })
 came_other t kept None entered = record { kept = kept; same = refl }
-came_other t kept (Some x) entered = go (x.to == Rattle.node_rules.specs.Messages.client)
+came_other t kept (Some x) entered = go (x.to == client)
   where
     at_client : (m : Message) → KeepsOther (record { world = came_to_client t.world m; lists = t.lists; entered = entered }) (record { world = came_to_client (keeping t kept).world m; lists = t.lists; entered = entered })
     at_client (message.MapTable table) = record { kept = kept; same = refl }
@@ -57,7 +57,7 @@ came_other t kept (Some x) entered = go (x.to == Rattle.node_rules.specs.Message
 sent_other : (t : Traced) (kept : Requests) (i a b : ℕ) (bytes : List ℕ) → KeepsOther (traced_after t (Writes (line.Sent i a b bytes))) (traced_after (keeping t kept) (Writes (line.Sent i a b bytes)))
 sent_other t kept i a b bytes = go (message_of bytes)
   where
-    go : (o : Option Message) → KeepsOther (record { world = marks.sent_by (record t.world { network = Rattle.cluster_rules.specs.Network.posting t.world.network i (record { from = a; to = b; bytes = bytes }) }) a b o; lists = t.lists; entered = λ n k. t.entered n k }) (record { world = marks.sent_by (record t.world { requests = kept; network = Rattle.cluster_rules.specs.Network.posting t.world.network i (record { from = a; to = b; bytes = bytes }) }) a b o; lists = t.lists; entered = λ n k. t.entered n k })
+    go : (o : Option Message) → KeepsOther (record { world = marks.sent_by (record t.world { network = posting t.world.network i (record { from = a; to = b; bytes = bytes }) }) a b o; lists = t.lists; entered = λ n k. t.entered n k }) (record { world = marks.sent_by (record t.world { requests = kept; network = posting t.world.network i (record { from = a; to = b; bytes = bytes }) }) a b o; lists = t.lists; entered = λ n k. t.entered n k })
     go None = record { kept = kept; same = refl }
     go (Some m) = record { kept = kept; same = refl }
 
