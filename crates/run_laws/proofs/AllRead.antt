@@ -1,5 +1,5 @@
 -- Where at most sixteen nodes are declared, every message that is due of a node is read as it was sent.
-use Rattle.std.proofs.Common.{◌≡◌, ◌⊎◌, ⊎_elim, inl, inr, ℕ, zero, suc, ◌+◌, ◌<◌, ◌≤◌, ◌^◌, ◌==◌, Bool, true, false, not, ◌&&◌, ◌||◌, All, List, [], ◌∷◌, ◌++◌, length, Option, Some, None, refl, sym, ap, ◌∙◌, subst, arith}
+use Rattle.std.proofs.Common.{◌≡◌, ⊎_elim, ℕ, zero, suc, ◌+◌, ◌<◌, ◌≤◌, ◌^◌, ◌==◌, Bool, true, false, not, ◌&&◌, ◌||◌, All, List, [], ◌∷◌, ◌++◌, length, Option, Some, None, refl, sym, ap, ◌∙◌, subst, arith}
 use Rattle.std.specs.Prelude.{filter, filter_map, flat_map, if◌then◌else◌}
 use Rattle.std.specs.List.{cons_option}
 use Rattle.std.proofs.lemmas.Bool.Decides.{nat_tests}
@@ -40,7 +40,7 @@ use Rattle.node_rules.specs.Messages.{due_message, map_table}
 use Rattle.node_rules.specs.Notes as notes
 use Rattle.node_rules.specs.Notes.{noted, note, neighbours, after_ages, reached, in_view, opening_transaction}
 use Rattle.node_rules.specs.Requests.{due_request, asking, request_if, request_refusal}
-use Rattle.node_rules.specs.Resolving.{repl, resolving_want, resolving}
+use Rattle.node_rules.specs.Resolving.{resolving_want, resolving}
 use Rattle.node_rules.specs.Settling.{hand, settle, learn, drop, settling_due, settling_at, settling_from}
 use Rattle.node_rules.specs.Standing.{others, other_replicas, asked, knows_all_settled}
 use Rattle.node_rules.specs.Tick as tick
@@ -66,7 +66,7 @@ use Rattle.run_laws.specs.Spelled.{AreReadInRange, is_ranged}
 use Rattle.run_laws.specs.Tied.{Each}
 use Rattle.run_laws.proofs.Named.{once}
 use Rattle.run_laws.proofs.NodeLaws.{reached_law, set_length}
-use Rattle.run_laws.proofs.Pigeonhole.{Once, Within, no_more}
+use Rattle.run_laws.proofs.Pigeonhole.{Within, no_more}
 use Rattle.run_laws.proofs.ViewSteps.{Viewed, view_of}
 use Rattle.cluster_types.specs.Endpoints.{client}
 use Rattle.node_rules.specs.BatchMessages.{merging, merging_all}

@@ -11,7 +11,6 @@ use Rattle.cluster_types.specs.Partitions.{partition_count, partition_of}
 use Rattle.wire_messages.specs.declared.message.Batch.{Batch}
 use Rattle.wire_messages.specs.declared.message.Message.{Message}
 use Rattle.wire_messages.specs.declared.message.Message.TheVariants as message
-use Rattle.node_rules.specs.Agreement as agreement
 use Rattle.node_rules.specs.Agreement.{Agreement, accepted_by}
 use Rattle.node_rules.specs.Batches.{out_to}
 use Rattle.node_rules.specs.Copies.{Row}

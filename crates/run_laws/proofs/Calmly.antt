@@ -153,7 +153,7 @@ abbrev pub EachPlainly : Front → ℕ → List (ℕ × Message) → Type 0
 EachPlainly z n [] = Unit {0}
 EachPlainly z n (s ∷ ss) = Plainly z n s × EachPlainly z n ss
 
-plainly_calm : (z y : Front) (n : ℕ) (ss : List (ℕ × Message)) → Calm z y → EachPlainly z n ss → EachPlainly y n ss
+pub plainly_calm : (z y : Front) (n : ℕ) (ss : List (ℕ × Message)) → Calm z y → EachPlainly z n ss → EachPlainly y n ss
 plainly_calm z y n [] c h = tt
 plainly_calm z y n (s ∷ ss) c h = (record { plain = h.0.plain; read = h.0.read; due = send_calm z y n s.0 s.1 c h.0.due }, plainly_calm z y n ss c h.1)
 
@@ -171,6 +171,13 @@ plain_alike m x a p = same_test is_plain m x a sorts p
     not_one (message.Commit k ms) c e p i = absurd (omega (arith, some_same e, i))
     not_one message.MapAsk c e p i = absurd (omega (arith, some_same e, i))
     not_one (message.MapTable t) c e p i = absurd (omega (arith, some_same e, i))
+    not_one (message.Proxy k number d w) c e p i = absurd (omega (arith, some_same e, i))
+    not_one (message.ProxyReply k number b) c e p i = absurd (omega (arith, some_same e, i))
+    not_one (message.Call number d w) c e p i = absurd (omega (arith, some_same e, i))
+    not_one (message.Reply k number b) c e p i = absurd (omega (arith, some_same e, i))
+    not_one (message.ScanAsk s q after) c e p i = absurd (omega (arith, some_same e, i))
+    not_one (message.ScanPage page) c e p i = absurd (omega (arith, some_same e, i))
+    not_one (message.ScanNo s cause) c e p i = absurd (omega (arith, some_same e, i))
     not_one _ c e p i = no_some e
 
     sorts : (a b : Message) (c : ℕ) → sort_of a ≡ Some c → sort_of b ≡ Some c → is_plain a ≡ true → is_plain b ≡ true

@@ -11,7 +11,7 @@ use Rattle.cluster_rules.specs.declared.event.Event.{Event}
 use Rattle.cluster_rules.specs.declared.event.Event.TheVariants as event
 use Rattle.cluster_rules.specs.Begun.{MayPlay}
 use Rattle.cluster_rules.specs.FrontRuns.{AreFrontOf}
-use Rattle.cluster_rules.specs.Runs.{Plays, PlaysAll}
+use Rattle.cluster_rules.specs.Runs.{Plays}
 use Rattle.cluster_rules.specs.Steps.{Step, Played, play, play_all, flow, flows, round, rounds}
 use Rattle.cluster_rules.specs.World.{World, opened, up_nodes}
 use Rattle.cluster_rules.proofs.MarkLaws.{round_follows}

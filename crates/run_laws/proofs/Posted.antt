@@ -6,7 +6,6 @@ use Rattle.wire_messages.specs.declared.message.Batch.{Batch}
 use Rattle.wire_messages.specs.declared.message.Message.{Message}
 use Rattle.wire_messages.specs.declared.message.Message.TheVariants as message
 use Rattle.wire_messages.specs.Decoding.{message_of}
-use Rattle.node_rules.specs.Agreement as agreement
 use Rattle.node_rules.specs.Agreement.{Agreement, Proposal}
 use Rattle.node_rules.specs.Notes.{sent}
 use Rattle.cluster_rules.specs.Marks.{posted_by, sent_by}

@@ -19,6 +19,13 @@ sort_of (message.Refuse k promised) = Some 2
 sort_of (message.Commit k ms) = Some 2
 sort_of message.MapAsk = Some 2
 sort_of (message.MapTable t) = Some 2
+sort_of (message.Proxy k number d want) = Some 2
+sort_of (message.ProxyReply k number b) = Some 2
+sort_of (message.Call number d want) = Some 2
+sort_of (message.Reply k number b) = Some 2
+sort_of (message.ScanAsk scan p after) = Some 2
+sort_of (message.ScanPage page) = Some 2
+sort_of (message.ScanNo scan cause) = Some 2
 sort_of _ = None
 
 -- the one is read as the other
@@ -61,6 +68,13 @@ beat_due z n r (message.Refuse k p) e d = absurd (zero_two (some_same e))
 beat_due z n r (message.Commit k ms) e d = absurd (zero_two (some_same e))
 beat_due z n r message.MapAsk e d = absurd (zero_two (some_same e))
 beat_due z n r (message.MapTable t) e d = absurd (zero_two (some_same e))
+beat_due z n r (message.Proxy k number q w) e d = absurd (zero_two (some_same e))
+beat_due z n r (message.ProxyReply k number b) e d = absurd (zero_two (some_same e))
+beat_due z n r (message.Call number q w) e d = absurd (zero_two (some_same e))
+beat_due z n r (message.Reply k number b) e d = absurd (zero_two (some_same e))
+beat_due z n r (message.ScanAsk s p after) e d = absurd (zero_two (some_same e))
+beat_due z n r (message.ScanPage page) e d = absurd (zero_two (some_same e))
+beat_due z n r (message.ScanNo s cause) e d = absurd (zero_two (some_same e))
 beat_due z n r _ e d = no_some e
 
 light_due : (z : Front) (n r : ℕ) (x : Message) (c : ℕ) → sort_of x ≡ Some c → (c ≡ 0 → IsDeclared z n) → SendDue z n r x

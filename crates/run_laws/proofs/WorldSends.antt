@@ -1,26 +1,17 @@
 -- What is due of a node in the world after steps that are taken is read as it was sent.
-use Rattle.std.proofs.Common.{◌≡◌, ℕ, ◌+◌, ◌<◌, ◌≤◌, ◌^◌, Bool, true, List, [], length, Option, Some, None, refl, sym, ap, ◌∙◌, subst, arith}
+use Rattle.std.proofs.Common.{◌≡◌, ℕ, ◌+◌, ◌<◌, ◌≤◌, ◌^◌, List, length, Some, sym, ◌∙◌, subst}
 use Rattle.conflict_order.specs.declared.policy.Policy.{Policy}
-use Rattle.conflict_order.specs.declared.want.Want.{Want}
-use Rattle.cluster_types.specs.declared.cluster_key.ClusterKey.{ClusterKey}
-use Rattle.wire_messages.specs.declared.message.Message.{Message}
-use Rattle.wire_messages.specs.Decoding.{message_of}
 use Rattle.wire_messages.specs.Nodes.{IsId}
-use Rattle.wire_messages.specs.Requests.{IsWant}
-use Rattle.wire_messages.specs.Versions.{IsDigest}
 use Rattle.wire_messages.proofs.DecodingLaws.{what_is_read}
 use Rattle.node_rules.specs.Agreement.{Proposal}
 use Rattle.node_rules.specs.Facts.{Facts}
 use Rattle.node_rules.specs.Hearing.{aged, heard_ids}
 use Rattle.node_rules.specs.Notes.{after_ages, neighbours}
-use Rattle.journal_readings.specs.Messages.{Posting}
-use Rattle.cluster_rules.specs.Network.{posting_at}
 use Rattle.cluster_rules.specs.Opening.{Header, declared_factor, declared_nodes, declared_policy}
 use Rattle.cluster_rules.specs.Steps.{Step, all_marks, all_lines}
-use Rattle.cluster_rules.specs.World.{World, opened}
 use Rattle.key_laws.specs.Ends.{IsOneOf}
-use Rattle.key_laws.specs.Sound.{Sound, Listed, Proposed, ProposalStands, Hears}
-use Rattle.key_laws.specs.Traced.{Traced, facts_of, untouched}
+use Rattle.key_laws.specs.Sound.{Listed, ProposalStands, Hears}
+use Rattle.key_laws.specs.Traced.{Traced}
 use Rattle.key_laws.proofs.AllowedRuns.{declared_id}
 use Rattle.key_laws.proofs.DueSteps.{own_keys}
 use Rattle.key_laws.proofs.DueViews.{view_known}
@@ -35,7 +26,7 @@ use Rattle.run_laws.specs.LineDue.{LawfulFront}
 use Rattle.run_laws.specs.Ranges.{Ranged}
 use Rattle.run_laws.specs.Steps.{Ended}
 use Rattle.run_laws.specs.Taken.{Taken, first, line_bound}
-use Rattle.run_laws.specs.Worlds.{SendsAreRead, SendsRead, world_after}
+use Rattle.run_laws.specs.Worlds.{SendsAreRead, SendsRead}
 use Rattle.run_laws.proofs.AllRead.{ProposalFits, Spells, TicksSpelled, all_read, heard_proper, members_proper, message_free, request_free, tick_free}
 use Rattle.run_laws.proofs.Journal.{Walked, lines_of_taken, traced_all, world_all}
 use Rattle.run_laws.proofs.Premised.{taken_leads, taken_ranged}

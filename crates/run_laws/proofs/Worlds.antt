@@ -1,5 +1,5 @@
 -- The world after steps that are taken: who is declared, between whom messages go, whom the client asks, and how far nodes have counted.
-use Rattle.std.proofs.Common.{◌≡◌, ◌⊎◌, ⊎_elim, inl, inr, ℕ, ◌<◌, ◌≤◌, ◌==◌, nat_lt, Bool, true, false, List, [], ◌∷◌, Option, Some, None, refl, sym, ap, ◌∙◌, subst, if◌then◌else◌, arith}
+use Rattle.std.proofs.Common.{◌≡◌, ⊎_elim, inl, inr, ℕ, ◌<◌, ◌≤◌, ◌==◌, nat_lt, Bool, true, false, List, [], ◌∷◌, Option, Some, None, refl, sym, ap, ◌∙◌, subst, if◌then◌else◌, arith}
 use Rattle.std.specs.Prelude.{All, Contains, slice_get}
 use Rattle.std.proofs.lemmas.List.Elements.{All-nil, All-cons}
 use Rattle.cluster_types.specs.declared.cluster_key.ClusterKey.{ClusterKey}
@@ -32,7 +32,6 @@ use Rattle.key_laws.proofs.Kept.{WasPosted, was_posted}
 use Rattle.key_laws.proofs.NamedSteps.{Named, allowed_named, no_client, asked_is, to_end}
 use Rattle.key_laws.proofs.Peopled.{peers_of, Peopled}
 use Rattle.key_laws.proofs.Runs.{declared_ids, marks_nodes, world_of}
-use Rattle.node_rules.specs.Messages.{client}
 use Rattle.run_laws.specs.Fronts as fronts
 use Rattle.run_laws.specs.Ranges.{Ranged, FitsFacts}
 use Rattle.run_laws.specs.Taken.{Taken, first}

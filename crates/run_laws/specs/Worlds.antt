@@ -1,11 +1,9 @@
 -- What holds of the world after steps that are taken, as its nodes and its client take it.
-use Rattle.std.specs.Prelude.{◌≡◌, ◌<◌, ◌+◌, ◌⊎◌, ℕ, nat_lt, true, List, Option, Some, None, length, All, Contains}
+use Rattle.std.specs.Prelude.{◌≡◌, ◌<◌, ◌+◌, ◌⊎◌, ℕ, nat_lt, true, List, Some, length, All, Contains}
 use Rattle.conflict_order.specs.declared.want.Want.{Want}
-use Rattle.cluster_types.specs.declared.cluster_key.ClusterKey.{ClusterKey}
 use Rattle.cluster_types.specs.Partitions.{partition_count}
 use Rattle.partition_lists.specs.Lists.{in_order}
 use Rattle.wire_messages.specs.declared.message.Message.{Message}
-use Rattle.wire_messages.specs.declared.message.Message.TheVariants as message
 use Rattle.wire_messages.specs.Decoding.{message_of}
 use Rattle.wire_messages.specs.Requests.{IsWant}
 use Rattle.wire_messages.specs.Versions.{IsDigest}
