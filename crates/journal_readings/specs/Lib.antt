@@ -15,4 +15,8 @@ pub mod NamedKeys
 pub mod Claims
 pub mod CalmEnd
 pub mod Shape
+pub mod Replies
+pub mod ProxyClaims
+pub mod CallClaims
+pub mod ScanClaims
 pub mod Examples
