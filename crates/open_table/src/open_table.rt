@@ -89,6 +89,16 @@ impl<T: Drop> OpenTable<T> {
         self.slots.reserve(1)
     }
 
+    /// Makes room for so many items: as many times `push` then wants no memory.
+    pub fn reserve_for(&mut self, additional: usize) -> Result<(), NoMemory>
+        ensures same { KeepsItems self.old self.new }
+        ensures enough { OnOk result (additional ≤ self.new.spare) }
+        ensures kept { self.old.spare ≤ self.new.spare }
+        ensures reserved { additional ≤ self.old.spare → IsOk result }
+    {
+        self.slots.reserve(additional)
+    }
+
     /// Opens an item under the next number, where there is room and fewer than 2^32 - 1 numbers
     /// were given. The answer is the number.
     pub fn push(&mut self, item: T) -> u32

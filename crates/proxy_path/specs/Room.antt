@@ -16,6 +16,11 @@ pub record HasRoomForEach (r : RequestsWithRoom) : Type 0 where
   pub to_pass : 0 < r.to_pass
   pub to_take : 2 ≤ r.to_take
 
+-- so many requests can be passed on, and as many taken up, without memory
+pub record HasRoomFor (n : ℕ) (r : RequestsWithRoom) : Type 0 where
+  pub to_pass : n ≤ r.to_pass
+  pub to_take : n ≤ r.to_take
+
 -- no less room
 pub record HasNoLessRoom (old new : RequestsWithRoom) : Type 0 where
   pub to_pass : old.to_pass ≤ new.to_pass

@@ -9,7 +9,7 @@ ghost use Rattle.request_rules.specs.Passing.{closing_passed, passing_to, reply_
 ghost use Rattle.request_rules.specs.Requests.{none_passed};
 ghost use Rattle.request_rules.specs.TakenUp.{bound_to, keeping, outcome_for, taking_up};
 ghost use Rattle.reply_table.specs.Kept.{TellsOutcome};
-ghost use Rattle.proxy_path.specs.Room.{HasRoomForEach, KeepsRequests, HasNoLessRoom};
+ghost use Rattle.proxy_path.specs.Room.{HasRoomFor, HasRoomForEach, KeepsRequests, HasNoLessRoom};
 
 use cluster_types::{Digest, NoMemory, NodeId};
 use conflict_order::Want;
@@ -74,7 +74,26 @@ impl Proxies {
         self.taken.reserve(2)
     }
 
+    /// Makes room for so many requests of each kind: as many times `open`, and as many times `bind` or
+    /// `keep`, then wants no memory.
+    pub fn reserve_for(&mut self, additional: usize) -> Result<(), NoMemory>
+        ensures same { KeepsRequests self.old self.new }
+        ensures enough { OnOk result (HasRoomFor additional self.new) }
+        ensures kept { HasNoLessRoom self.old self.new }
+        ensures reserved { HasRoomFor additional self.old → IsOk result }
+    {
+        self.passed.reserve_for(additional)?;
+        self.taken.reserve(additional)
+    }
+
     // ---- requests that were passed on
+
+    /// How many requests were passed on in the view.
+    pub fn given(&self) -> u32
+        ensures { result ≡ self.now.passed.given }
+    {
+        self.passed.given()
+    }
 
     /// The number that the next request gets, where fewer than 2^32 - 1 were passed on in the view.
     pub fn next(&self) -> u32
@@ -94,6 +113,7 @@ impl Proxies {
         ensures err { OnErr result (KeepsRequests self.old self.new) }
         ensures reserved { 0 < self.old.to_pass → IsOk result }
         ensures room { self.old.to_take ≤ self.new.to_take }
+        ensures to_pass { self.old.to_pass ≤ self.new.to_pass + 1 }
     {
         self.passed.reserve()?;
         Ok(self.passed.push(Passed { digest, want, to }))
@@ -194,6 +214,16 @@ impl Proxies {
         self.taken.reserve(1)?;
         self.taken.keep(asker, reply);
         Ok(())
+    }
+
+    /// The transaction of that number ended. Where it was taken up for an asker, the reply is kept in
+    /// its place, which takes no room; otherwise nothing changes.
+    pub fn end(&mut self, transaction: u32, reply: ReplyBody)
+        ensures taken { self.new.taken ≡ keeping self.old.taken transaction reply }
+        ensures passed { self.new.passed ≡ self.old.passed }
+        ensures room { HasNoLessRoom self.old self.new }
+    {
+        self.taken.end(transaction, reply);
     }
 
     /// The node leaves its view: all is forgotten, and the next number is 1. The room stays.

@@ -12,7 +12,7 @@ use Rattle.request_rules.specs.declared.taken.Outcome.TheVariants as outcome
 use Rattle.request_rules.specs.declared.taken.Taken.{Taken}
 use Rattle.request_rules.specs.TakenUp.{bound_to, is_bound_to, keeping, outcome_for, replied_if, same_asker}
 use Rattle.reply_table.specs.Kept.{is_transaction, open_transaction}
-use Rattle.reply_table.specs.Places.{AreIndexed, IsPlaceOfAsker, StandsInPlace}
+use Rattle.reply_table.specs.Places.{AreIndexed, IsNobodys, IsPlaceOfAsker, StandsInPlace}
 
 -- ---- askers and numbers
 
@@ -319,6 +319,14 @@ module _ (taken : List Taken) (f : Asker → Option ℕ) (g g2 : ℕ → Option 
 pub place_or : (taken : List Taken) (f : Asker → Option ℕ) (g : ℕ → Option ℕ) → AreIndexed taken f g → (a : Asker) (r : Option ℕ) → r ≡ f a → MatchOption r (outcome_for taken a ≡ None) (IsPlaceOfAsker taken a)
 place_or taken f g h a None e = outcome_none taken f g h a (sym e)
 place_or taken f g h a (Some i) e = is_place taken f g h a i (sym e)
+
+pub transaction_or : (taken : List Taken) (f : Asker → Option ℕ) (g : ℕ → Option ℕ) → AreIndexed taken f g → (t : ℕ) (r : Option ℕ) → r ≡ g t → MatchOption r (IsNobodys taken t) (StandsInPlace taken (λ x. is_bound_to t x.outcome))
+transaction_or taken f g h t None e = λ b. unbound taken t b (λ j y there it. let wrong : None ≡ Some j = e ∙ h.transaction j y t there it in cc)
+transaction_or taken f g h t (Some i) e = h.transaction_stands t i (sym e)
+
+pub open_is : (o : Outcome) (t : ℕ) → is_bound_to t o ≡ true → o ≡ outcome.Open t
+open_is (outcome.Open u) t e = ap outcome.Open (number_is u t e)
+open_is (outcome.Kept b) t e = absurd (let wrong : false ≡ true = e in cc)
 
 pub pushed_is : (taken new : List Taken) (f f2 : Asker → Option ℕ) (g g2 : ℕ → Option ℕ) (y : Taken) (n : ℕ) → new ≡ taken ++ y ∷ [] → n ≡ length taken → AreIndexed taken f g → outcome_for taken y.asker ≡ None
     → ((m : ℕ) → is_bound_to m y.outcome ≡ true → bound_to taken m ≡ None)

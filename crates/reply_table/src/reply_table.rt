@@ -3,10 +3,10 @@ ghost use Rattle.std.specs.Prelude.{◌≡◌, ◌≢◌, ◌↔◌, ◌<◌, �
 ghost use Rattle.std.specs.HashMap.{get, spare};
 ghost use Rattle.wire_messages.specs.declared.reply.ReplyBody.{ReplyBody};
 ghost use Rattle.request_rules.specs.declared.taken.Outcome.TheVariants as outcome;
-ghost use Rattle.request_rules.specs.TakenUp.{bound_to, keeping, outcome_for, taking_up};
+ghost use Rattle.request_rules.specs.TakenUp.{bound_to, is_bound_to, keeping, outcome_for, taking_up};
 ghost use Rattle.request_rules.specs.declared.taken.Taken.{Taken};
 ghost use Rattle.reply_table.specs.Kept.{KeepsTaken, TellsOutcome, is_transaction, open_transaction};
-ghost use Rattle.reply_table.specs.Places.{IsPlaceOfAsker};
+ghost use Rattle.reply_table.specs.Places.{IsNobodys, IsPlaceOfAsker, StandsInPlace};
 
 use cluster_types::NoMemory;
 use request_rules::{Asker, Outcome, Taken};
@@ -90,6 +90,14 @@ impl ReplyTable {
         Some(self.taken[*place].asker)
     }
 
+    /// The place of the open transaction of that number, if it was taken up for anybody.
+    fn place_of_transaction(&self, transaction: u32) -> Option<usize>
+        ensures { MatchOption result (IsNobodys self.now.taken transaction)
+            (StandsInPlace self.now.taken (λ x. is_bound_to transaction x.outcome)) }
+    {
+        self.by_transaction.get(&transaction).copied()
+    }
+
     /// Makes room for so many requests: as many times `bind` or `keep` then wants no memory.
     pub fn reserve(&mut self, additional: usize) -> Result<(), NoMemory>
         ensures same { KeepsTaken self.old self.new }
@@ -140,6 +148,17 @@ impl ReplyTable {
         match self.place_of(asker) {
             Some(place) => self.reply_at(place, reply),
             None => self.push_replied(asker, reply),
+        }
+    }
+
+    /// The transaction of that number ended. Where it was taken up for an asker, the reply is kept in
+    /// its place, which takes no room; otherwise nothing changes.
+    pub fn end(&mut self, transaction: u32, reply: ReplyBody)
+        ensures taken { self.new.taken ≡ keeping self.old.taken transaction reply }
+        ensures spare { self.old.spare ≤ self.new.spare }
+    {
+        if let Some(place) = self.place_of_transaction(transaction) {
+            self.reply_at(place, reply);
         }
     }
 
