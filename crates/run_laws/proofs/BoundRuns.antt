@@ -1,7 +1,7 @@
 -- A request that a node took up for somebody, and whose transaction isn't over, has it running at the node: so a transaction that
 -- opens has a number to which none is bound. For the table of whom a node replies to.
-use Rattle.std.proofs.Common.{◌≡◌, ℕ, ◌==◌, ◌||◌, Bool, true, false, cond, not, List, [], ◌∷◌, ◌++◌, filter, map, Option, Some, None, refl, sym, ap, subst, ◌∙◌, ⊎_elim, inl, inr, ◌⊎◌}
-use Rattle.std.specs.Prelude.{option_and_then, find, option_map}
+use Rattle.std.proofs.Common.{◌≡◌, ◌<◌, ℕ, ◌+◌, ◌==◌, ◌||◌, Bool, true, false, cond, not, List, [], ◌∷◌, ◌++◌, filter, map, Option, Some, None, refl, sym, ap, subst, ◌∙◌, ⊎_elim, inl, inr, ◌⊎◌, arith}
+use Rattle.std.specs.Prelude.{option_and_then, find, is_some, option_map}
 use Rattle.cluster_types.specs.Endpoints.{client}
 use Rattle.cluster_types.specs.Partitions.{partition_of}
 use Rattle.journal_lines.specs.declared.line.Line.{Line}
@@ -29,9 +29,15 @@ use Rattle.request_rules.specs.Requests.{NodeRequests}
 use Rattle.request_rules.specs.TakenUp.{bound_to, is_bound_to, keeping, keeping_refusal, refusing_for, replied_if, taking_up, taking_up_for}
 use Rattle.cluster_rules.specs.Marks.{Mark, Begins, Writes, came, came_to_client, came_to_node, sent_by}
 use Rattle.cluster_rules.specs.Network.{posting, posting_at}
+use Rattle.cluster_rules.specs.Opening.{declared_factor, declared_policy}
+use Rattle.cluster_rules.specs.Steps.{all_marks}
 use Rattle.cluster_rules.specs.World.{World, changed_at, new_if}
 use Rattle.cluster_laws.proofs.At.{number_here, number_same, differ, no_some}
 use Rattle.run_laws.specs.Fronts.{Front, world_of, facts_at, front_after, front_after_all}
+use Rattle.run_laws.specs.Taken.{first}
+use Rattle.run_laws.specs.Worlds.{OfTakenWorlds, BindsWhatRuns}
+use Rattle.run_laws.proofs.Journal.{Walked, world_all}
+use Rattle.run_laws.proofs.Premised.{taken_leads}
 use Rattle.run_laws.proofs.Turns.{here, away}
 
 -- ---- what runs, and what is bound
@@ -338,18 +344,36 @@ mark_bound : (z : Front) (m : Mark) → BoundAll z → BoundAll (front_after z m
 mark_bound z (Begins e) h = h
 mark_bound z (Writes l) h = line_bound z l h
 
-pub all_bound : (z : Front) (ms : List Mark) → BoundAll z → BoundAll (front_after_all z ms)
+all_bound : (z : Front) (ms : List Mark) → BoundAll z → BoundAll (front_after_all z ms)
 all_bound z [] h = h
 all_bound z (m ∷ ms) h = all_bound (front_after z m) ms (mark_bound z m h)
 
 -- behind a step nobody is about to leave, so whoever is bound to runs
-pub bound_runs : (z : Front) → BoundAll z → ((n : ℕ) → z.closing n ≡ false) → (n t : ℕ) (a : Asker) → bound_to ((world_of z).requests.at n).taken t ≡ Some a → (y : Transaction) × (transaction (facts_at z n).transactions t ≡ Some y)
+bound_runs : (z : Front) → BoundAll z → ((n : ℕ) → z.closing n ≡ false) → (n t : ℕ) (a : Asker) → bound_to ((world_of z).requests.at n).taken t ≡ Some a → (y : Transaction) × (transaction (facts_at z n).transactions t ≡ Some y)
 bound_runs z h stays n t a e = running_found (facts_at z n).transactions.running t (h n (stays n) t (bound_awaited ((world_of z).requests.at n).taken t a e))
 
 -- so none is bound to the number of a transaction that opens
-pub free_number : (z : Front) → BoundAll z → ((n : ℕ) → z.closing n ≡ false) → (n t : ℕ) → transaction (facts_at z n).transactions t ≡ None → bound_to ((world_of z).requests.at n).taken t ≡ None
+free_number : (z : Front) → BoundAll z → ((n : ℕ) → z.closing n ≡ false) → (n t : ℕ) → transaction (facts_at z n).transactions t ≡ None → bound_to ((world_of z).requests.at n).taken t ≡ None
 free_number z h stays n t none = go (bound_to ((world_of z).requests.at n).taken t) refl
   where
     go : (o : Option Asker) → bound_to ((world_of z).requests.at n).taken t ≡ o → o ≡ None
     go None e = refl
     go (Some a) e = let y : (y : Transaction) × (transaction (facts_at z n).transactions t ≡ Some y) = bound_runs z h stays n t a e in no_some (sym none ∙ y.1)
+
+-- ---- of the world after steps that are taken
+
+is_there : {A : Type 0} (o : Option A) (y : A) → o ≡ Some y → is_some o ≡ true
+is_there {A} o y e = ap is_some e
+
+above : (n : ℕ) → n < n + 1
+above n = omega arith
+
+pub binds_what_runs : OfTakenWorlds BindsWhatRuns
+binds_what_runs h ss t =
+    let z : Front = front_after_all (first h) (all_marks ss) in
+    let w : Walked (declared_policy h) (declared_factor h) (first h) (all_marks ss) = taken_leads h ss t in
+    let bound : BoundAll z = all_bound (first h) (all_marks ss) (λ m c u i. differ i refl) in
+    subst (BindsWhatRuns h) (world_all (first h) (all_marks ss)) (record {
+      running = λ n u a e. let y : (y : Transaction) × (transaction (facts_at z n).transactions u ≡ Some y) = bound_runs z bound w.ends.stays n u a e in is_there (transaction (facts_at z n).transactions u) y.0 y.1;
+      next = λ n. free_number z bound w.ends.stays n ((facts_at z n).transactions.opened + 1) ((w.lawful.nodes n).counted ((facts_at z n).transactions.opened + 1) (above (facts_at z n).transactions.opened));
+    })

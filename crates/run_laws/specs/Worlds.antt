@@ -1,5 +1,5 @@
 -- What holds of the world after steps that are taken, as its nodes and its client take it.
-use Rattle.std.specs.Prelude.{◌≡◌, ◌<◌, ◌+◌, ◌⊎◌, ℕ, nat_lt, true, List, Some, length, All, Contains}
+use Rattle.std.specs.Prelude.{◌≡◌, ◌<◌, ◌+◌, ◌⊎◌, ℕ, nat_lt, true, List, Some, None, length, is_some, All, Contains}
 use Rattle.conflict_order.specs.declared.want.Want.{Want}
 use Rattle.cluster_types.specs.Partitions.{partition_count}
 use Rattle.partition_lists.specs.Lists.{in_order}
@@ -14,6 +14,9 @@ use Rattle.node_rules.specs.Requests.{due_request}
 use Rattle.node_rules.specs.Senders.{ComesFrom}
 use Rattle.node_rules.specs.Stamps.{applies_at}
 use Rattle.node_rules.specs.Tick.{due_tick}
+use Rattle.node_rules.specs.Transactions.{transaction}
+use Rattle.request_rules.specs.declared.taken.Asker.{Asker}
+use Rattle.request_rules.specs.TakenUp.{bound_to}
 use Rattle.cluster_rules.specs.Marks as marks
 use Rattle.journal_readings.specs.Messages.{Posting}
 use Rattle.cluster_rules.specs.Network.{posting_at}
@@ -61,6 +64,15 @@ HaveReceivers h w =
 abbrev pub AsksDeclared : Header → World → Type 0
 AsksDeclared h w =
     (p n : ℕ) → p < partition_count → node_for w.tables p ≡ Some n → Contains (declared_nodes h) n
+
+-- ---- requests of others
+
+-- each open transaction that a node took up for somebody runs there, and none has the number of the next that opens
+pub record BindsWhatRuns (h : Header) (w : World) : Type 0 where
+  pub running : (n t : ℕ) (a : Asker) → bound_to (w.requests.at n).taken t ≡ Some a
+      → is_some (transaction (w.facts n).transactions t) ≡ true
+  pub next : (n : ℕ)
+      → bound_to (w.requests.at n).taken ((w.facts n).transactions.opened + 1) ≡ None
 
 -- ---- numbers
 
