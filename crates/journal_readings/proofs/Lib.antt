@@ -9,3 +9,6 @@ pub mod Worked
 pub mod WellKept
 pub mod EqualCopies
 pub mod Resting
+pub mod Places
+pub mod ProxiesKept
+pub mod ProxyRefusals

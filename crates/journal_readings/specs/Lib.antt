@@ -20,3 +20,4 @@ pub mod ProxyClaims
 pub mod CallClaims
 pub mod ScanClaims
 pub mod Examples
+pub mod ProxyExamples

@@ -27,7 +27,9 @@ ghost use Rattle.journal_readings.specs.Settled.{is_settled, has_open_write};
 ghost use Rattle.journal_readings.specs.Claims.{OneMap, NoLoss, newest, SettledJoin, ReadJoin, EqualClasses, KeysRise};
 ghost use Rattle.journal_readings.specs.CalmEnd.{CalmEnd};
 ghost use Rattle.journal_readings.specs.Shape.{Shape};
+ghost use Rattle.journal_readings.specs.ProxyClaims.{ProxiesAnswer};
 ghost use Rattle.journal_readings.specs.Examples.{marked, agreed, calmed, misread, unmerged, lost, uneasy, misled, shown, second, first_lost, garbled, reused, unpromised, two_lists, outdated, unsettled, digest, key, version, both, written_and_read, sides, batch, batch_out, batch_merged, batch_acked, settled, applied_once, replicated, met_again, met_unequal};
+ghost use Rattle.journal_readings.specs.ProxyExamples.{passed_again, refused_on, mistaken, renumbered, opened_again, misquoted, misrefused, unasked, taken_twice};
 
 /// What one line more makes of a reading is fixed by the reading before it, the lines before it and
 /// the line.
@@ -239,4 +241,20 @@ pub fn claims_refuse_what_went_wrong()
     ensures two_lists { ¬ (KeysRise two_lists) }
     ensures outdated { ¬ (CalmEnd outdated) }
     ensures unsettled { ¬ (CalmEnd unsettled) }
+{}
+
+/// A request that a node passed on is answered, though the first reply is lost, and one is refused. The
+/// claim is refused by a journal in which the request that was sent is another one, two have one number,
+/// one is opened twice, a reply is another than the read or the refusal that there was, nobody asked for
+/// it, or it is taken twice.
+pub fn passed_on_requests_are_answered()
+    ensures answered { ProxiesAnswer passed_again }
+    ensures refused { ProxiesAnswer refused_on }
+    ensures mistaken { ¬ (ProxiesAnswer mistaken) }
+    ensures renumbered { ¬ (ProxiesAnswer renumbered) }
+    ensures opened_again { ¬ (ProxiesAnswer opened_again) }
+    ensures misquoted { ¬ (ProxiesAnswer misquoted) }
+    ensures misrefused { ¬ (ProxiesAnswer misrefused) }
+    ensures unasked { ¬ (ProxiesAnswer unasked) }
+    ensures taken_twice { ¬ (ProxiesAnswer taken_twice) }
 {}
