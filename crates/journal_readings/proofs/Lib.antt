@@ -12,3 +12,5 @@ pub mod Resting
 pub mod Places
 pub mod ProxiesKept
 pub mod ProxyRefusals
+pub mod CallsKept
+pub mod CallRefusals

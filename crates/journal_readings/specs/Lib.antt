@@ -21,3 +21,4 @@ pub mod CallClaims
 pub mod ScanClaims
 pub mod Examples
 pub mod ProxyExamples
+pub mod CallExamples

@@ -28,8 +28,10 @@ ghost use Rattle.journal_readings.specs.Claims.{OneMap, NoLoss, newest, SettledJ
 ghost use Rattle.journal_readings.specs.CalmEnd.{CalmEnd};
 ghost use Rattle.journal_readings.specs.Shape.{Shape};
 ghost use Rattle.journal_readings.specs.ProxyClaims.{ProxiesAnswer};
+ghost use Rattle.journal_readings.specs.CallClaims.{CallsAnswer};
 ghost use Rattle.journal_readings.specs.Examples.{marked, agreed, calmed, misread, unmerged, lost, uneasy, misled, shown, second, first_lost, garbled, reused, unpromised, two_lists, outdated, unsettled, digest, key, version, both, written_and_read, sides, batch, batch_out, batch_merged, batch_acked, settled, applied_once, replicated, met_again, met_unequal};
 ghost use Rattle.journal_readings.specs.ProxyExamples.{passed_again, refused_on, mistaken, renumbered, opened_again, misquoted, misrefused, unasked, taken_twice};
+ghost use Rattle.journal_readings.specs.CallExamples.{called_again, called_early, called_twice, written_twice, uncalled, answered_early, misheard, misexplained, heard_twice};
 
 /// What one line more makes of a reading is fixed by the reading before it, the lines before it and
 /// the line.
@@ -257,4 +259,21 @@ pub fn passed_on_requests_are_answered()
     ensures misrefused { ¬ (ProxiesAnswer misrefused) }
     ensures unasked { ¬ (ProxiesAnswer unasked) }
     ensures taken_twice { ¬ (ProxiesAnswer taken_twice) }
+{}
+
+/// A call of the client is opened once and answered, though the first reply is lost and the call comes
+/// again; and one that is refused at first is answered later. The claim is refused by a journal in which
+/// two calls have one number, one is opened twice in a view, the client made none, the node replies
+/// before its write is done, the client takes another reply than the one that comes, a refusal has
+/// another cause than there was, or a reply is taken of a call that is closed.
+pub fn calls_are_answered()
+    ensures answered { CallsAnswer called_again }
+    ensures answered_later { CallsAnswer called_early }
+    ensures called_twice { ¬ (CallsAnswer called_twice) }
+    ensures written_twice { ¬ (CallsAnswer written_twice) }
+    ensures uncalled { ¬ (CallsAnswer uncalled) }
+    ensures answered_early { ¬ (CallsAnswer answered_early) }
+    ensures misheard { ¬ (CallsAnswer misheard) }
+    ensures misexplained { ¬ (CallsAnswer misexplained) }
+    ensures heard_twice { ¬ (CallsAnswer heard_twice) }
 {}
