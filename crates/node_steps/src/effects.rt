@@ -38,15 +38,37 @@ impl Effects {
     }
 
     /// Adds a message to an endpoint, 0 for the client.
-    pub fn send(&mut self, alloc: Global, to: u16, m: &Message) -> Result<(), NoMemory>
+    pub fn send(&mut self, alloc: Global, to: u16, m: Message) -> Result<(), NoMemory>
+        requires { IsProper m }
+        ensures { OnOk result (self.new ≡ with_sends self.old ((to, spelling m) ∷ [])) }
+    {
+        self.send_borrowed(alloc, to, &m)
+    }
+
+    /// Adds a message to each of the nodes. It is spelled once.
+    pub fn send_to_each(&mut self, alloc: Global, to: &[NodeId], m: Message) -> Result<(), NoMemory>
+        requires { IsProper m }
+        ensures { OnOk result
+            (self.new ≡ with_sends self.old (map (λ n. (n, spelling m)) to.now)) }
+    {
+        self.send_borrowed_to_each(alloc, to, &m)
+    }
+
+    /// Adds a message that is still wanted to an endpoint, 0 for the client.
+    pub(crate) fn send_borrowed(
+        &mut self,
+        alloc: Global,
+        to: u16,
+        m: &Message,
+    ) -> Result<(), NoMemory>
         requires { IsProper m.now }
         ensures { OnOk result (self.new ≡ with_sends self.old ((to, spelling m.now) ∷ [])) }
     {
         self.sends.push((to, encode(alloc, m)?))
     }
 
-    /// Adds a message to each of the nodes. It is spelled once.
-    pub fn send_to_each(
+    /// Adds a message that is still wanted to each of the nodes. It is spelled once.
+    pub(crate) fn send_borrowed_to_each(
         &mut self,
         alloc: Global,
         to: &[NodeId],

@@ -135,7 +135,7 @@ fn plan_asking(
         transaction: opening.transaction,
         digest: opening.digest,
     };
-    out.send_to_each(alloc, asked.as_slice(), &ask)?;
+    out.send_to_each(alloc, asked.as_slice(), ask)?;
     Ok(None)
 }
 
@@ -232,10 +232,12 @@ fn plan_write(
         digest: *digest,
         version,
     };
-    out.send_to_each(alloc, to.as_slice(), &repl)?;
+    let sent = out.send_borrowed_to_each(alloc, to.as_slice(), &repl);
+    let version = version_in(repl);
+    sent?;
     Ok(Writing {
         clock,
-        version: version_in(repl),
+        version,
         kept,
         to,
     })

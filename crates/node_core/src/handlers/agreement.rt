@@ -64,7 +64,7 @@ impl Node {
     {
         let (agree, vote) = self.agree.copy().on_propose(key, *members);
         let mut out = self.promise(alloc, agree.promised())?;
-        out.send(alloc, from.number(), &message_of(vote))?;
+        out.send(alloc, from.number(), message_of(vote))?;
         self.plan_agreed(alloc, out, agree)
     }
 

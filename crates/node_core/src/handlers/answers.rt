@@ -49,7 +49,7 @@ impl Node {
             version: copy_of(alloc, self.store.get(digest))?,
         };
         let mut out = Effects::new(alloc);
-        out.send(alloc, from.number(), &answer)?;
+        out.send(alloc, from.number(), answer)?;
         Ok(self.plan(out, Planned::Nothing))
     }
 

@@ -30,7 +30,7 @@ pub fn tell_commit(
         key,
         members: *members,
     };
-    out.send_to_each(alloc, to, &commit)
+    out.send_to_each(alloc, to, commit)
 }
 
 /// The message that tells the vote.
@@ -64,5 +64,5 @@ pub fn tell_proposal(
         key,
         members: *members,
     };
-    out.send_to_each(alloc, to, &propose)
+    out.send_to_each(alloc, to, propose)
 }

@@ -34,7 +34,7 @@ pub fn batch_effects(
         key: batch.key,
         number: batch.number,
     };
-    out.send(alloc, from.number(), &ack)?;
+    out.send(alloc, from.number(), ack)?;
     Ok(out)
 }
 

@@ -47,7 +47,7 @@ pub fn progress_effects(
         return Ok(out);
     }
     let answer = answer(alloc, view, handed, settled)?;
-    out.send(alloc, to.number(), &answer)?;
+    out.send(alloc, to.number(), answer)?;
     Ok(out)
 }
 

@@ -41,7 +41,7 @@ pub fn state_effects(
     if !wants {
         return Ok(out);
     }
-    out.send(alloc, to.number(), &view.state(alloc, false)?)?;
+    out.send(alloc, to.number(), view.state(alloc, false)?)?;
     Ok(out)
 }
 

@@ -27,7 +27,7 @@ pub fn tell_table(alloc: Global, view: &View) -> Result<Effects, NoMemory>
     }
     let table = map_table(alloc, view)?;
     ids_fit(table.ids.as_slice());
-    out.send(alloc, CLIENT, &Message::MapTable(table))?;
+    out.send(alloc, CLIENT, Message::MapTable(table))?;
     Ok(out)
 }
 

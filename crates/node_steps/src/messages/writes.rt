@@ -59,7 +59,7 @@ pub fn acknowledge(
         ≡ then_effects out.old (sends_only (to_one to (message.ReplAck key transaction)))) }
 {
     let ack = Message::ReplAck { key, transaction };
-    out.send(alloc, to.number(), &ack)
+    out.send(alloc, to.number(), ack)
 }
 
 /// The version, where it is newer than what the store holds. There is room for it then.

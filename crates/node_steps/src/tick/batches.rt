@@ -50,8 +50,10 @@ fn send_batch(alloc: Global, to: NodeId, batch: Batch, out: &mut Effects) -> Res
     ensures same { IfOk result (λ b. b ≡ batch) }
 {
     let message = Message::Batch(batch);
-    out.send(alloc, to.number(), &message)?;
-    Ok(batch_in(message))
+    let sent = out.send_borrowed(alloc, to.number(), &message);
+    let batch = batch_in(message);
+    sent?;
+    Ok(batch)
 }
 
 /// The batch of the message.

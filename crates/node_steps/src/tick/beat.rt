@@ -22,5 +22,5 @@ pub fn beat(alloc: Global, f: &Ground<'_>, out: &mut Effects) -> Result<(), NoMe
         hears,
         role: f.role,
     };
-    out.send_to_each(alloc, f.peers.as_slice(), &heartbeat)
+    out.send_to_each(alloc, f.peers.as_slice(), heartbeat)
 }

@@ -48,7 +48,7 @@ pub fn progress(
         handed: Boxed::new(alloc, handed_row(view, settlings))?,
         settled: Boxed::new(alloc, settled_row(view, settlings))?,
     };
-    out.send_to_each(alloc, view.others().as_slice(), &message)
+    out.send_to_each(alloc, view.others().as_slice(), message)
 }
 
 /// How many partitions this tick settles.

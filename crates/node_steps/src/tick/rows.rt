@@ -24,7 +24,7 @@ pub fn rows(alloc: Global, f: &Ground<'_>, out: &mut Effects) -> Result<(), NoMe
         return Ok(());
     }
     let state = view.state(alloc, true)?;
-    out.send_to_each(alloc, lacking.as_slice(), &state)
+    out.send_to_each(alloc, lacking.as_slice(), state)
 }
 
 /// The other members whose rows aren't there, in member order.

@@ -53,7 +53,7 @@ fn send_again(alloc: Global, view: &View, txn: &Txn, out: &mut Effects) -> Resul
         None => ask(view, txn),
         Some(write) => repl(alloc, view, txn, write)?,
     };
-    out.send_to_each(alloc, txn.awaiting.as_slice(), &message)
+    out.send_to_each(alloc, txn.awaiting.as_slice(), message)
 }
 
 /// The message that asks for the version that another node holds.

@@ -11,13 +11,13 @@ returns-clause-effects c = λ f h.
     let same = c.in_ok-reserve_apply.ensures.same.alike in
     let to : c.other_replicas-to.result ≡ other_replicas f (list_at f (partition_of c.args.digest.now)) =
     c.other_replicas-to.ensures f h ∙ ap (λ (p : ℕ). other_replicas f (list_at f p)) c.partition_of-p.ensures in
-    rw (c.in_ok-send_to_each.ensures, c.in_ok-write_lines.ensures, c.as_slice.ensures.same, c.key-key.ensures, c.applies_at-nth.ensures, c.partition_of-p.ensures, same.me, same.exchange)
+    rw (c.in_ok-sent.ensures, c.in_ok-write_lines.ensures, c.as_slice.ensures.same, c.key-key.ensures, c.applies_at-nth.ensures, c.partition_of-p.ensures, same.me, same.exchange)
     (told_write c.args.out.now f c.args.view.now c.args.transaction c.args.digest.now c.args.version c.other_replicas-to.result c.is_empty.result h to c.is_empty.ensures)
 
 pub returns-clause-writing : goal.returns-clause-writing
 returns-clause-writing c =
     let v = c.args.view.now in
-    let version : c.version_in.result ≡ c.args.version = cc in
+    let version : c.version_in-version.result ≡ c.args.version = cc in
     let to = c.other_replicas-to.ensures (facts_seen v) (seen_in_view v) ∙ ap (λ (p : ℕ). other_replicas (facts_seen v) (list_at (facts_seen v) p)) c.partition_of-p.ensures in
     rw (version, c.in_ok-kept.ensures, to) refl
 
