@@ -22,6 +22,7 @@ pub mod AskedGo
 pub mod DueDirected
 pub mod Dressed
 pub mod NamedSends
+pub mod Askers
 pub mod Peopled
 pub mod DueSteps
 pub mod Readings

@@ -37,14 +37,14 @@ use Rattle.node_rules.specs.Tick.{tick_of, propose, is_candidate, state, parts, 
 use Rattle.node_rules.specs.Transactions.{Transaction, Write, transaction, answered, awaits_ack, awaits_answer, is_last_awaited}
 use Rattle.node_rules.proofs.TickParts.{alone_is, among_others_is}
 use Rattle.cluster_rules.proofs.OwnLines.{noted_me}
-use Rattle.key_laws.specs.Ends.{is_map_ask, IsEnd, TellsIf}
+use Rattle.key_laws.specs.Ends.{is_map_ask, IsEnd, OtherNode, TellsIf}
 use Rattle.key_laws.specs.Sound.{NodeKeys, Sound}
 use Rattle.key_laws.specs.Traced.{Traced}
 use Rattle.key_laws.proofs.Addressed.{in_filter, in_without, not_gone, member_id, NodeGoes, TargetsGo, AllAwait, Among, asked_among_others, replicas_among_others, or_left, or_right}
 use Rattle.key_laws.proofs.DueDirected.{Alone, alone_in, alone_now, later, nothing_later, same_others, settled_view}
 use Rattle.key_laws.proofs.Frames.{num_eq}
 use Rattle.key_laws.proofs.NamedLines.{Aware, member_is, neighbours_are, heard_aged}
-use Rattle.key_laws.proofs.TableReads.{is_table, others_tell, table_tells}
+use Rattle.key_laws.proofs.TableReads.{is_naming, others_tell, table_tells}
 use Rattle.node_rules.specs.BatchMessages.{merging, merging_all}
 use Rattle.node_rules.specs.ClientMessages.{map_table}
 use Rattle.node_rules.specs.Entering.{closing, entering}
@@ -59,11 +59,6 @@ use Rattle.node_rules.specs.Standing as standing
 
 -- ---- where messages go
 
--- another such node
-pub record Other (P : ℕ → Type 0) (me to : ℕ) : Type 0 where
-  pub node : P to
-  pub differ : me ≡ to → ⊥
-
 -- another end; and a table that goes there names such nodes
 pub record SendsRight (P : ℕ → Type 0) (me to : ℕ) (m : Message) : Type 0 where
   pub receiver : IsEnd P to
@@ -74,25 +69,25 @@ abbrev pub AllRight : (ℕ → Type 0) → ℕ → List (ℕ × Message) → Typ
 AllRight P me [] = Unit {0}
 AllRight P me (m ∷ ms) = SendsRight P me m.0 m.1 × AllRight P me ms
 
-right_append : (P : ℕ → Type 0) (me : ℕ) (ms more : List (ℕ × Message)) → AllRight P me ms → AllRight P me more → AllRight P me (ms ++ more)
+pub right_append : (P : ℕ → Type 0) (me : ℕ) (ms more : List (ℕ × Message)) → AllRight P me ms → AllRight P me more → AllRight P me (ms ++ more)
 right_append P me [] more h k = k
 right_append P me (m ∷ ms) more h k = (h.0, right_append P me ms more h.1 k)
 
-one_right : (P : ℕ → Type 0) (me to : ℕ) (m : Message) → is_table m ≡ false → Other P me to → SendsRight P me to m
+pub one_right : (P : ℕ → Type 0) (me to : ℕ) (m : Message) → is_naming m ≡ false → OtherNode P me to → SendsRight P me to m
 one_right P me to m e h = record { receiver = inr h.node; differ = h.differ; tells = others_tell P m e }
 
-each_right : (P : ℕ → Type 0) (me : ℕ) (m : Message) (ns : List ℕ) → is_table m ≡ false → ((n : ℕ) → contains ns n ≡ true → Other P me n) → AllRight P me (to_each ns m)
+each_right : (P : ℕ → Type 0) (me : ℕ) (m : Message) (ns : List ℕ) → is_naming m ≡ false → ((n : ℕ) → contains ns n ≡ true → OtherNode P me n) → AllRight P me (to_each ns m)
 each_right P me m [] e h = tt
 each_right P me m (n ∷ ns) e h = (one_right P me n m e (h n (or_left (n == n) (contains ns n) (num_eq n n refl))), each_right P me m ns e (λ k i. h k (or_right (n == k) (contains ns k) i)))
 
 -- ---- what a node knows as it sends
 
 pub record Aims (P : ℕ → Type 0) (t : Traced) (f : Facts) : Type 0 where
-  pub others : (to : ℕ) → contains (others f) to ≡ true → Other P f.me to
+  pub others : (to : ℕ) → contains (others f) to ≡ true → OtherNode P f.me to
   pub goes : NodeGoes t f
 
 -- of such members the others are other such nodes
-pub others_are : (P : ℕ → Type 0) (me : ℕ) (ms : List Member) → ((n : ℕ) → is_member ms n ≡ true → P n) → (to : ℕ) → contains (agreement.others_among me ms) to ≡ true → Other P me to
+pub others_are : (P : ℕ → Type 0) (me : ℕ) (ms : List Member) → ((n : ℕ) → is_member ms n ≡ true → P n) → (to : ℕ) → contains (agreement.others_among me ms) to ≡ true → OtherNode P me to
 others_are P me ms h to e = record {
   node = h to (sym (member_id ms to) ∙ in_without (ids_of ms) me to e);
   differ = λ same. not_gone (ids_of ms) me to e (sym same);
@@ -100,7 +95,7 @@ others_are P me ms h to e = record {
 
 pub record Knows (P : ℕ → Type 0) (t : Traced) (f : Facts) : Type 0 where
   pub aware : Aware P f
-  pub peers : (n : ℕ) → contains f.peers n ≡ true → Other P f.me n
+  pub peers : (n : ℕ) → contains f.peers n ≡ true → OtherNode P f.me n
   -- whoever hasn't accepted a proposal is another of its members
   pub missing : (p : Proposal) → f.agreement.proposal ≡ Some p → Among (agreement.others_among f.me p.members) p.missing
   pub goes : NodeGoes t f
@@ -133,14 +128,14 @@ batches_from P t f (x ∷ xs) h a = go (next_batch (view_key f) f.store.content 
     go None rest = rest
     go (Some b) rest = (one_right P f.me x.node (message.Batch b) refl (h.others x.node a.0.other), rest)
 
-progress_right : (P : ℕ → Type 0) (n : ℕ) (f : Facts) (me : ℕ) (b : Bool) → ((to : ℕ) → contains (others f) to ≡ true → Other P me to) → AllRight P me (if b then sends_only (to_each (standing.others f) (progress_message n f true)) else nothing).sends
+progress_right : (P : ℕ → Type 0) (n : ℕ) (f : Facts) (me : ℕ) (b : Bool) → ((to : ℕ) → contains (others f) to ≡ true → OtherNode P me to) → AllRight P me (if b then sends_only (to_each (standing.others f) (progress_message n f true)) else nothing).sends
 progress_right P n f me true h = each_right P me _ (others f) refl h
 progress_right P n f me false h = tt
 
-propose_right : (P : ℕ → Type 0) (f : Facts) → ((p : Proposal) → f.agreement.proposal ≡ Some p → (to : ℕ) → contains p.missing to ≡ true → Other P f.me to) → ((to : ℕ) → contains (agreement.others_among f.me (neighbours f)) to ≡ true → Other P f.me to) → AllRight P f.me (propose f).sends
+propose_right : (P : ℕ → Type 0) (f : Facts) → ((p : Proposal) → f.agreement.proposal ≡ Some p → (to : ℕ) → contains p.missing to ≡ true → OtherNode P f.me to) → ((to : ℕ) → contains (agreement.others_among f.me (neighbours f)) to ≡ true → OtherNode P f.me to) → AllRight P f.me (propose f).sends
 propose_right P f h i = go f.agreement.proposal refl
   where
-    to : (ns : List ℕ) → ((n : ℕ) → contains ns n ≡ true → Other P f.me n) → AllRight P f.me (tick.proposal_effects f (agreement.next_key f.me f.agreement) (neighbours f) ns).sends
+    to : (ns : List ℕ) → ((n : ℕ) → contains ns n ≡ true → OtherNode P f.me n) → AllRight P f.me (tick.proposal_effects f (agreement.next_key f.me f.agreement) (neighbours f) ns).sends
     to [] a = tt
     to (n ∷ ns) a = each_right P f.me _ (n ∷ ns) refl a
 
@@ -161,7 +156,7 @@ later_right P t n g i h me x =
     (right_append P g.me _ _ (batches_from P t g g.batches h h.goes.targets)
     (right_append P g.me (tick.progress n i).sends [] (progress_right P n i g.me _ (λ to e. h.others to (subst (λ ns. contains ns to ≡ true) (same_others g i me x) e))) tt)))
 
-tick_parts_right : (P : ℕ → Type 0) (t : Traced) (n : ℕ) (f : Facts) → Aims P t f → ((n : ℕ) → contains f.peers n ≡ true → Other P f.me n) → AllRight P f.me (propose f).sends
+tick_parts_right : (P : ℕ → Type 0) (t : Traced) (n : ℕ) (f : Facts) → Aims P t f → ((n : ℕ) → contains f.peers n ≡ true → OtherNode P f.me n) → AllRight P f.me (propose f).sends
     → AllRight P f.me ((tick.beat f).sends ++ ((propose f).sends ++ later n (noted None f (propose f).lines) (noted None (noted None f (propose f).lines) (settling_due n (noted None f (propose f).lines)))))
 tick_parts_right P t n f h peers proposed = right_append P f.me _ _ (each_right P f.me _ f.peers refl peers) (right_append P f.me _ _ proposed (go (enters_alone f.me f.agreement (neighbours f) (is_candidate f)) refl))
   where
@@ -218,7 +213,7 @@ resolving_right P t f clock x w h = go w
 -- what is known as a message comes: of all kinds but one its sender is another such node
 pub record Comes (P : ℕ → Type 0) (t : Traced) (f : Facts) (from : ℕ) (m : Message) : Type 0 where
   pub knows : Knows P t f
-  pub from_other : is_map_ask m ≡ false → Other P f.me from
+  pub from_other : is_map_ask m ≡ false → OtherNode P f.me from
   pub sound : Sound t
   pub keys : NodeKeys t f.me f
   -- and the client isn't the node

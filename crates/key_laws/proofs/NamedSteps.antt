@@ -40,7 +40,7 @@ use Rattle.cluster_rules.specs.Network.{Network, landed, flying_at, has_place, a
 use Rattle.cluster_rules.specs.Opening.{Header, declared_nodes, rack_in}
 use Rattle.cluster_rules.specs.Steps.{Step, marks_of, all_marks, all_lines}
 use Rattle.cluster_rules.specs.World.{World, opened, is_up, members_now}
-use Rattle.key_laws.specs.Ends.{IsOneOf, IsEnd, TableNames, FromNode, GoesRight, AllNodes, AllName}
+use Rattle.key_laws.specs.Ends.{IsOneOf, IsEnd, OtherNode, TableNames, FromNode, GoesRight, AllNodes, AllName}
 use Rattle.key_laws.specs.Sound.{Sound, ViewStands, Entered, Proposed, ProposalStands}
 use Rattle.key_laws.specs.Traced.{Traced, facts_of, traced_after, traced_after_all, untouched}
 use Rattle.key_laws.specs.Licences.{Says, LicensedMarks}
@@ -50,7 +50,7 @@ use Rattle.key_laws.proofs.Directed.{Directed, AllGo, all_go_grow, begun_goes}
 use Rattle.key_laws.proofs.DueSteps.{step_ok, own_keys}
 use Rattle.key_laws.proofs.Kept.{Keeps, kept_line, kept_begun, kept_all, WasPosted, after_all-append}
 use Rattle.key_laws.proofs.NamedLines.{Aware, heard_weak, Commits, AllMembers, all_members, name_append, tick_name, map_name, show_name, place_name, message_name, request_name, stop_name, start_name}
-use Rattle.key_laws.proofs.NamedSends.{Other, Knows, AllRight, tick_right, message_right, request_right, stop_right, start_right}
+use Rattle.key_laws.proofs.NamedSends.{Knows, AllRight, tick_right, message_right, request_right, stop_right, start_right}
 use Rattle.key_laws.proofs.Peopled.{Neighbour, peers_of, AllTables, Peopled, sender_of, line_peopled, begun_peopled}
 use Rattle.key_laws.proofs.Quiet.{writes}
 use Rattle.key_laws.proofs.Runs.{of_first, of_others, AreIds, declared_ids, marks_nodes, AllBegun, world_of, start}
@@ -89,7 +89,7 @@ ordered_was (x ∷ xs) m e = ⊎_elim (λ q. left (x == m) _ q) (λ q. right (x 
     right : (a b : Bool) → b ≡ true → (a || b) ≡ true
     right a b e = grind arith
 
-peer_is : (ns : List ℕ) (me n : ℕ) → contains (peers_of ns me) n ≡ true → Other (IsOneOf ns) me n
+peer_is : (ns : List ℕ) (me n : ℕ) → contains (peers_of ns me) n ≡ true → OtherNode (IsOneOf ns) me n
 peer_is ns me n e = let was : contains (without ns me) n ≡ true = ordered_was (without ns me) n e in
     record { node = in_without ns me n was; differ = λ same. not_gone ns me n was (sym same) }
 
@@ -126,7 +126,7 @@ aware_of ns t n s h d = record {
 knows_of : (ns : List ℕ) (t : Traced) (n : ℕ) → Sound t → Directed t → Peopled ns t → IsOneOf ns n → Knows (IsOneOf ns) t (facts_of t n)
 knows_of ns t n s d h one = record {
   aware = aware_of ns t n s h one;
-  peers = λ m e. subst (λ (x : ℕ). Other (IsOneOf ns) x m) (sym (h.nodes n).me) (peer_is ns n m (subst (λ (xs : List ℕ). contains xs m ≡ true) (h.nodes n).peers e));
+  peers = λ m e. subst (λ (x : ℕ). OtherNode (IsOneOf ns) x m) (sym (h.nodes n).me) (peer_is ns n m (subst (λ (xs : List ℕ). contains xs m ≡ true) (h.nodes n).peers e));
   missing = (h.nodes n).missing.each;
   goes = d.nodes n;
 }

@@ -1,5 +1,5 @@
--- Only a table is read as one, and the table of a view names its members.
-use Rattle.std.proofs.Common.{◌≡◌, ℕ, zero, suc, ◌+◌, ◌==◌, ◌<◌, Bool, true, false, cond, List, [], ◌∷◌, length, Option, Some, None, refl, sym, ap, subst, ◌∙◌, ⊎_elim, arith, if◌then◌else◌}
+-- A message that names no nodes is read as none that does, and the table of a view names its members.
+use Rattle.std.proofs.Common.{◌≡◌, ℕ, zero, suc, ◌+◌, ◌==◌, ◌<◌, ◌||◌, Bool, true, false, cond, List, [], ◌∷◌, length, Option, Some, None, refl, sym, ap, subst, ◌∙◌, ⊎_elim, arith, if◌then◌else◌}
 use Rattle.std.specs.Prelude.{All, slice_index, find, unwrap_or}
 use Rattle.std.specs.List.{concat}
 use Rattle.cluster_types.specs.declared.cluster_key.ClusterKey.{ClusterKey}
@@ -44,66 +44,75 @@ of_others P x xs h k d within = h (suc k) d (omega (arith, within))
 
 -- ---- other messages
 
-abbrev pub is_table : Message → Bool
-is_table (message.MapTable t) = true
-is_table _ = false
+-- whether messages of its kind may name nodes
+abbrev pub is_naming : Message → Bool
+is_naming (message.MapTable t) = true
+is_naming (message.ProxyReply key number b) = true
+is_naming (message.Reply key number b) = true
+is_naming (message.ScanNo scan cause) = true
+is_naming _ = false
+
+-- the same of the byte of its kind
+abbrev names_by_kind : ℕ → Bool
+names_by_kind k = (k == 15) || ((k == 20) || ((k == 22) || (k == 25)))
 
 first : List ℕ → ℕ
 first [] = 0
 first (x ∷ xs) = x
 
--- a spelling that begins with another byte is no table's
-kinds_differ : (m : Message) (t : MapTable) → is_table m ≡ false → spelling (message.MapTable t) ≡ spelling m → ⊥
+spelled_kind : (m : Message) → names_by_kind (first (spelling m)) ≡ is_naming m
 unfolding spelling byte_field first
-kinds_differ (message.Heartbeat view promised hears role) t e same = go (is_plain role) same
+spelled_kind (message.Heartbeat view promised hears role) = go (is_plain role)
   where
-    go : (b : Bool) → spelling (message.MapTable t) ≡ concat (if b then byte_field 1 ∷ key_field view ∷ key_field promised ∷ ids_field hears ∷ [] else (byte_field 16 ∷ key_field view ∷ key_field promised ∷ ids_field hears ∷ role_field role ∷ [])) → ⊥
-    go true same = num_differ 15 1 refl (ap first same)
-    go false same = num_differ 15 16 refl (ap first same)
-kinds_differ (message.Propose k ms) t e same = go (all_plain ms) same
+    go : (b : Bool) → names_by_kind (first (concat (if b then byte_field 1 ∷ key_field view ∷ key_field promised ∷ ids_field hears ∷ [] else (byte_field 16 ∷ key_field view ∷ key_field promised ∷ ids_field hears ∷ role_field role ∷ [])))) ≡ false
+    go true = refl
+    go false = refl
+spelled_kind (message.Propose k ms) = go (all_plain ms)
   where
-    go : (b : Bool) → spelling (message.MapTable t) ≡ concat (if b then byte_field 2 ∷ key_field k ∷ plain_members_field ms ∷ [] else (byte_field 17 ∷ key_field k ∷ members_field ms ∷ [])) → ⊥
-    go true same = num_differ 15 2 refl (ap first same)
-    go false same = num_differ 15 17 refl (ap first same)
-kinds_differ (message.Accept k) t e same = num_differ 15 3 refl (ap first same)
-kinds_differ (message.Refuse k promised) t e same = num_differ 15 4 refl (ap first same)
-kinds_differ (message.Commit k ms) t e same = go (all_plain ms) same
+    go : (b : Bool) → names_by_kind (first (concat (if b then byte_field 2 ∷ key_field k ∷ plain_members_field ms ∷ [] else (byte_field 17 ∷ key_field k ∷ members_field ms ∷ [])))) ≡ false
+    go true = refl
+    go false = refl
+spelled_kind (message.Commit k ms) = go (all_plain ms)
   where
-    go : (b : Bool) → spelling (message.MapTable t) ≡ concat (if b then byte_field 5 ∷ key_field k ∷ plain_members_field ms ∷ [] else (byte_field 18 ∷ key_field k ∷ members_field ms ∷ [])) → ⊥
-    go true same = num_differ 15 5 refl (ap first same)
-    go false same = num_differ 15 18 refl (ap first same)
-kinds_differ (message.State k wants row) t e same = num_differ 15 6 refl (ap first same)
-kinds_differ (message.Batch b) t e same = num_differ 15 7 refl (ap first same)
-kinds_differ (message.BatchAck k number) t e same = num_differ 15 8 refl (ap first same)
-kinds_differ (message.Progress k wants done handed settled) t e same = num_differ 15 9 refl (ap first same)
-kinds_differ (message.Repl k number nth d v) t e same = num_differ 15 10 refl (ap first same)
-kinds_differ (message.ReplAck k number) t e same = num_differ 15 11 refl (ap first same)
-kinds_differ (message.Ask k number d) t e same = num_differ 15 12 refl (ap first same)
-kinds_differ (message.Answer k number v) t e same = num_differ 15 13 refl (ap first same)
-kinds_differ message.MapAsk t e same = num_differ 15 14 refl (ap first same)
-kinds_differ (message.MapTable u) t e same = differ refl e
-kinds_differ (message.Proxy k number d w) t e same = num_differ 15 19 refl (ap first same)
-kinds_differ (message.ProxyReply k number r) t e same = num_differ 15 20 refl (ap first same)
-kinds_differ (message.Call number d w) t e same = num_differ 15 21 refl (ap first same)
-kinds_differ (message.Reply k number r) t e same = num_differ 15 22 refl (ap first same)
-kinds_differ (message.ScanAsk scan p d) t e same = num_differ 15 23 refl (ap first same)
-kinds_differ (message.ScanPage page) t e same = num_differ 15 24 refl (ap first same)
-kinds_differ (message.ScanNo scan r) t e same = num_differ 15 25 refl (ap first same)
+    go : (b : Bool) → names_by_kind (first (concat (if b then byte_field 5 ∷ key_field k ∷ plain_members_field ms ∷ [] else (byte_field 18 ∷ key_field k ∷ members_field ms ∷ [])))) ≡ false
+    go true = refl
+    go false = refl
+spelled_kind _ = refl
 
--- what is read as a table says of it what its spelling does
-read_tells : (P : ℕ → Type 0) (m : Message) → ((t : MapTable) → message_of (spelling m) ≡ Some (message.MapTable t) → TableNames P t) → TellsIf P (message_of (spelling m))
-read_tells P m h = go (message_of (spelling m)) refl
+-- what is read has the spelling that it was read from
+read_first : (m x : Message) → message_of (spelling m) ≡ Some x → first (spelling x) ≡ first (spelling m)
+read_first m x r = ap first (what_is_read (spelling m) x r).1
+
+-- what is read as a message of a kind that names no nodes names none
+names_none : (P : ℕ → Type 0) (x : Message) → is_naming x ≡ false → Tells P x
+names_none P (message.MapTable t) e = differ refl e
+names_none P (message.ProxyReply key number b) e = differ refl e
+names_none P (message.Reply key number b) e = differ refl e
+names_none P (message.ScanNo scan cause) e = differ refl e
+names_none P _ e = tt
+
+pub others_tell : (P : ℕ → Type 0) (m : Message) → is_naming m ≡ false → TellsIf P (message_of (spelling m))
+others_tell P m e = go (message_of (spelling m)) refl
   where
-    some : (x : Message) → message_of (spelling m) ≡ Some x → Tells P x
+    go : (o : Option Message) → message_of (spelling m) ≡ o → TellsIf P o
+    go None r = tt
+    go (Some x) r = names_none P x (sym (spelled_kind x) ∙ ap names_by_kind (read_first m x r) ∙ spelled_kind m ∙ e)
+
+-- what is read of a table says of it what its spelling does
+read_tells : (P : ℕ → Type 0) (table : MapTable) → ((t : MapTable) → message_of (spelling (message.MapTable table)) ≡ Some (message.MapTable t) → TableNames P t) → TellsIf P (message_of (spelling (message.MapTable table)))
+unfolding spelling byte_field first
+read_tells P table h = go (message_of (spelling (message.MapTable table))) refl
+  where
+    some : (x : Message) → message_of (spelling (message.MapTable table)) ≡ Some x → Tells P x
     some (message.MapTable t) e = h t e
+    some (message.ProxyReply key number b) e = absurd (num_differ 20 15 refl (read_first (message.MapTable table) (message.ProxyReply key number b) e))
+    some (message.Reply key number b) e = absurd (num_differ 22 15 refl (read_first (message.MapTable table) (message.Reply key number b) e))
+    some (message.ScanNo scan cause) e = absurd (num_differ 25 15 refl (read_first (message.MapTable table) (message.ScanNo scan cause) e))
     some _ e = tt
 
-    go : (o : Option Message) → message_of (spelling m) ≡ o → TellsIf P o
+    go : (o : Option Message) → message_of (spelling (message.MapTable table)) ≡ o → TellsIf P o
     go None e = tt
     go (Some x) e = some x e
-
-pub others_tell : (P : ℕ → Type 0) (m : Message) → is_table m ≡ false → TellsIf P (message_of (spelling m))
-others_tell P m e = read_tells P m (λ t r. absurd (kinds_differ m t e (what_is_read (spelling m) (message.MapTable t) r).1))
 
 -- ---- who stands in a list
 
@@ -216,7 +225,7 @@ table_proper t f s keys v e = record {
     ids n m = id_of v.members n listed.good.fit (sym (ap (λ (o : Option View). is_member (members_of o) n) e) ∙ m)
 
 pub table_tells : (P : ℕ → Type 0) (t : Traced) (f : Facts) → Sound t → NodeKeys t f.me f → ((n : ℕ) → is_member (members_of_view f) n ≡ true → P n) → TellsIf P (message_of (spelling (message.MapTable (map_table f))))
-table_tells P t f s keys h = read_tells P (message.MapTable (map_table f)) (λ u r. go f.exchange.view refl u r)
+table_tells P t f s keys h = read_tells P (map_table f) (λ u r. go f.exchange.view refl u r)
   where
     same_table : {x y : MapTable} → Some (message.MapTable x) ≡ Some (message.MapTable y) → x ≡ y
     same_table {x} {y} e = grind arith

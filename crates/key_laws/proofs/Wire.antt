@@ -77,11 +77,11 @@ onward P (Ok x) f h = h x
 onward P (Err e) f h = tt
 
 -- of what is read more may be known
-with_read : {A B : Type 0} (Q : A → Type 0) (P : B → Type 0) (r : Result A FieldFault) (f : A → Result B FieldFault) → IfRead Q r → ((x : A) → Q x → IfRead P (f x)) → IfRead P (r >>= f)
+pub with_read : {A B : Type 0} (Q : A → Type 0) (P : B → Type 0) (r : Result A FieldFault) (f : A → Result B FieldFault) → IfRead Q r → ((x : A) → Q x → IfRead P (f x)) → IfRead P (r >>= f)
 with_read Q P (Ok x) f q h = h x q
 with_read Q P (Err e) f q h = tt
 
-nested : {A B C : Type 0} (P : C → Type 0) (r : Result A FieldFault) (g : A → Result B FieldFault) (f : B → Result C FieldFault) → IfRead P (r >>= λ x. g x >>= f) → IfRead P ((r >>= g) >>= f)
+pub nested : {A B C : Type 0} (P : C → Type 0) (r : Result A FieldFault) (g : A → Result B FieldFault) (f : B → Result C FieldFault) → IfRead P (r >>= λ x. g x >>= f) → IfRead P ((r >>= g) >>= f)
 nested P (Ok x) g f h = h
 nested P (Err e) g f h = tt
 
@@ -182,7 +182,7 @@ number_first P allowed n rest f h = unless_short P (nat_lt (length (to_be_bytes 
     value (Some x) = h x
     value None = tt
 
-count_first : {B : Type 0} (P : B → Type 0) (allowed : ℕ → Bool) (n : ℕ) (rest : List ℕ) (f : ℕ × List ℕ → Result B FieldFault) → ((x : ℕ) → IfRead P (f (x, rest))) → IfRead P (number_at w32 allowed (number_field w32 n ++ rest) >>= f)
+pub count_first : {B : Type 0} (P : B → Type 0) (allowed : ℕ → Bool) (n : ℕ) (rest : List ℕ) (f : ℕ × List ℕ → Result B FieldFault) → ((x : ℕ) → IfRead P (f (x, rest))) → IfRead P (number_at w32 allowed (number_field w32 n ++ rest) >>= f)
 unfolding number_at number_field field
 count_first P allowed n rest f h = unless_short P (nat_lt (length (to_be_bytes w32 n ++ rest)) 4) (whole_field (length (to_be_bytes w32 n ++ rest)) (if_allowed allowed (from_be_bytes w32 (to_be_bytes w32 n))) rest) f (value (if_allowed allowed (from_be_bytes w32 (to_be_bytes w32 n))))
   where
@@ -190,7 +190,7 @@ count_first P allowed n rest f h = unless_short P (nat_lt (length (to_be_bytes w
     value (Some x) = h x
     value None = tt
 
-byte_first : {B : Type 0} (P : B → Type 0) (allowed : ℕ → Bool) (n : ℕ) (rest : List ℕ) (f : ℕ × List ℕ → Result B FieldFault) → IfRead P (whole_field (length (n ∷ rest)) (if_allowed allowed n) rest >>= f) → IfRead P (byte_at allowed (n ∷ rest) >>= f)
+pub byte_first : {B : Type 0} (P : B → Type 0) (allowed : ℕ → Bool) (n : ℕ) (rest : List ℕ) (f : ℕ × List ℕ → Result B FieldFault) → IfRead P (whole_field (length (n ∷ rest)) (if_allowed allowed n) rest >>= f) → IfRead P (byte_at allowed (n ∷ rest) >>= f)
 unfolding byte_at field
 byte_first P allowed n rest f h = unless_short P (nat_lt (length (n ∷ rest)) 1) (whole_field (length (n ∷ rest)) (if_allowed allowed n) rest) f h
 

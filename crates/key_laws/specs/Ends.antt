@@ -37,15 +37,35 @@ IsEnd P n = (n ≡ client) ⊎ P n
 abbrev pub TableNames : (ℕ → Type 0) → MapTable → Type 0
 TableNames P t = (p : ℕ) → p < partition_count → P (slice_index t.ids p)
 
--- a message that is a table does so
+-- the reply names such a node, if any
+abbrev pub ReplyNames : (ℕ → Type 0) → ReplyBody → Type 0
+ReplyNames P (reply.Exchanging n) = P n
+ReplyNames P (reply.NotMaster n) = P n
+ReplyNames P _ = Unit {0}
+
+-- and so does the refusal of a scan
+abbrev pub ScanCauseNames : (ℕ → Type 0) → ScanRefusal → Type 0
+ScanCauseNames P (scan_refusal.Exchanging n) = P n
+ScanCauseNames P (scan_refusal.NotMaster n) = P n
+ScanCauseNames P _ = Unit {0}
+
+-- what a message tells of nodes is of such nodes
 abbrev pub Tells : (ℕ → Type 0) → Message → Type 0
 Tells P (message.MapTable t) = TableNames P t
+Tells P (message.ProxyReply key number b) = ReplyNames P b
+Tells P (message.Reply key number b) = ReplyNames P b
+Tells P (message.ScanNo scan cause) = ScanCauseNames P cause
 Tells P _ = Unit {0}
 
 -- what the bytes are read as, if anything
 abbrev pub TellsIf : (ℕ → Type 0) → Option Message → Type 0
 TellsIf P None = Unit {0}
 TellsIf P (Some m) = Tells P m
+
+-- such a node, and another than that one
+pub record OtherNode (P : ℕ → Type 0) (n other : ℕ) : Type 0 where
+  pub node : P other
+  pub differ : n ≡ other → ⊥
 
 -- such a node sent it to another end
 pub record FromNode (P : ℕ → Type 0) (a b : ℕ) : Type 0 where
@@ -73,16 +93,6 @@ abbrev pub CauseNames : (ℕ → Type 0) → Refusal → Type 0
 CauseNames P (refusal.Exchanging n) = P n
 CauseNames P (refusal.NotMaster n) = P n
 CauseNames P _ = Unit {0}
-
-abbrev pub ReplyNames : (ℕ → Type 0) → ReplyBody → Type 0
-ReplyNames P (reply.Exchanging n) = P n
-ReplyNames P (reply.NotMaster n) = P n
-ReplyNames P _ = Unit {0}
-
-abbrev pub ScanCauseNames : (ℕ → Type 0) → ScanRefusal → Type 0
-ScanCauseNames P (scan_refusal.Exchanging n) = P n
-ScanCauseNames P (scan_refusal.NotMaster n) = P n
-ScanCauseNames P _ = Unit {0}
 
 -- a line that is due names such nodes alone, and the message that it sends goes right. A header's lines aren't due
 abbrev pub LineNames : (ℕ → Type 0) → Line → Type 0
@@ -130,7 +140,7 @@ LineNames P (line.Client n d) = P n
 LineNames P (line.NoMap p) = Unit {0}
 LineNames P (line.Table k) = Unit {0}
 LineNames P (line.Calm rounds) = Unit {0}
-LineNames P (line.Proxy n k x d a acting) = P n × P acting
+LineNames P (line.Proxy n k x d a acting) = P n × OtherNode P n acting
 LineNames P (line.Proxied n k x body) = P n × ReplyNames P body
 LineNames P (line.Unproxied n k x) = P n
 LineNames P line.CallFull = Unit {0}
