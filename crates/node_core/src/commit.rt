@@ -104,7 +104,6 @@ fn take_view_step(view: &mut Option<Box<View>>, store: &mut RecordStore, step: V
     requires ready { ForSome view.old (λ v. IsReady v.value store.old step) }
     ensures { HasStepped view.old store.old step view.new store.new }
 {
-    if let Some(view) = view {
-        view.take_step(store, step);
-    }
+    let Some(view) = view else { unreachable!() };
+    view.take_step(store, step);
 }

@@ -175,9 +175,10 @@ impl Node {
             (self.new ≡ planning self.old.now (view.view_taken self.old.now step)) }
         ensures err { OnErr result (self.new ≡ self.old) }
     {
+        let step = Box::new(alloc, step)?;
         let endpoint = self.me.number();
         let out = Effects::of_line(alloc, Line::Spent { endpoint })?;
-        self.plan_step(alloc, out, step)
+        Ok(self.plan(out, Planned::View(step)))
     }
 
     /// Plans the step of a message without effects of its own. One that isn't awaited is spent.

@@ -1,17 +1,19 @@
 //! What transactions ask of other nodes, and the answers.
-ghost use Rattle.std.specs.Prelude.{◌≡◌, None, true, IsSome, IfSome, IfOk, OnErr, OnOk};
+ghost use Rattle.std.specs.Prelude.{◌≡◌, None, true, IsSome, IfSome, IfOk, OnErr, OnOk, if◌then◌else◌};
 ghost use Rattle.std.specs.Option.{option_copied};
 ghost use Rattle.wire_messages.specs.declared.message.Message.TheVariants as message;
 ghost use Rattle.wire_messages.specs.Proper.{IsProper};
 ghost use Rattle.wire_messages.specs.Versions.{IsOptionVersion};
 ghost use Rattle.node_rules.specs.ByParts.{resolved_with};
-ghost use Rattle.node_rules.specs.Messages.{answer_of, due_answer, due_ask};
+ghost use Rattle.node_rules.specs.Effects.{nothing};
+ghost use Rattle.node_rules.specs.Messages.{answer_of, due_answer, due_ask, spent};
 ghost use Rattle.node_rules.specs.Notes.{answer_came};
 ghost use Rattle.node_rules.specs.Steps.{after_message, planning, unplanned};
 ghost use Rattle.node_rules.specs.Transactions as rules;
 ghost use Rattle.node_steps.specs.Counts.{HaveNumbers};
 ghost use Rattle.node_steps.specs.Resolvings.{AwaitsLast, resolving_of};
 ghost use Rattle.node_steps.specs.Spelled.{spelled};
+ghost use Rattle.node_view.specs.Plans.{with_answer};
 
 use crate::node::Node;
 use cluster_types::{ClusterKey, Digest, NoMemory, NodeId};
@@ -76,21 +78,43 @@ impl Node {
         let Some(view) = self.view_of(key) else {
             return self.stale(alloc);
         };
+        let Some(txn) = view.transaction(transaction) else {
+            return self.plan_answer(alloc, from, transaction, version, false);
+        };
+        if !txn.awaits_answer(from) {
+            return self.plan_answer(alloc, from, transaction, version, false);
+        }
+        if txn.is_last_awaited(from) {
+            return self.plan_last_answer(alloc, from, transaction, version, clock);
+        }
+        self.plan_answer(alloc, from, transaction, version, true)
+    }
+
+    /// An answer that isn't the last one. One that isn't awaited is spent.
+    fn plan_answer(
+        &mut self,
+        alloc: Global,
+        from: NodeId,
+        transaction: u32,
+        version: Option<&Version>,
+        is_awaited: bool,
+    ) -> Result<Effects, NoMemory>
+        requires unplanned { self.old.next ≡ None }
+        requires answer { IsOptionVersion (option_copied version) }
+        requires in_one { IsSome self.old.now.exchange.view }
+        ensures effects { IfOk result
+            (λ e. e ≡ spelled (if is_awaited then nothing else spent self.old.now)) }
+        ensures planned { OnOk result
+            (self.new ≡ planning self.old.now
+            (with_answer self.old.now from transaction (option_copied version.entry))) }
+        ensures err { OnErr result (self.new ≡ self.old) }
+    {
         let step = ViewStep::Answered {
             from,
             transaction,
             version: copy_of(alloc, version)?,
         };
-        let Some(txn) = view.transaction(transaction) else {
-            return self.spent(alloc, step);
-        };
-        if !txn.awaits_answer(from) {
-            return self.spent(alloc, step);
-        }
-        if txn.is_last_awaited(from) {
-            return self.plan_last_answer(alloc, from, transaction, version, clock);
-        }
-        self.plan_unless_spent(alloc, step, true)
+        self.plan_unless_spent(alloc, step, is_awaited)
     }
 
     /// The last answer came to an open transaction.
@@ -117,12 +141,12 @@ impl Node {
             (rules.transaction self.old.now.transactions transaction))) }
         ensures err { OnErr result (self.new ≡ self.old) }
     {
-        let mut out = Effects::new(alloc);
         let resolving = self.answered(alloc, transaction, version, clock)?;
         let version = copy_of(alloc, version)?;
         let Some(view) = &mut self.view else {
             unreachable!()
         };
+        let mut out = Effects::new(alloc);
         let outcome = plan_outcome(alloc, &mut self.store, view, resolving, &mut out)?;
         let step = ViewStep::Resolved {
             from,

@@ -80,12 +80,11 @@ impl Node {
         let Some(view) = self.view_of(key) else {
             return self.stale(alloc);
         };
-        let step = ViewStep::WriteAcked { from, transaction };
         let Some(txn) = view.transaction(transaction) else {
-            return self.spent(alloc, step);
+            return self.spent(alloc, ViewStep::WriteAcked { from, transaction });
         };
         if !txn.awaits_ack(from) {
-            return self.spent(alloc, step);
+            return self.spent(alloc, ViewStep::WriteAcked { from, transaction });
         }
         let is_last = txn.is_last_awaited(from);
         self.plan_ack(alloc, from, key, transaction, is_last)

@@ -16,12 +16,8 @@ use Rattle.node_core.proofs.HandlerLaws.{in_one, still}
 use Rattle.node_steps.proofs.StepRanges.{answered_ranges}
 use Rattle.node_core.proofs.node.Node.on_answer.Goals as goal
 
-pub spent-requires-clause-fits : goal.spent-requires-clause-fits
-spent-requires-clause-fits c = record { step = tt; in_one = in_one c.args.self.now.now c.args.key (sym c.in-Some.ensures.some) }
-
-pub spent-requires-clause-ranges : goal.spent-requires-clause-ranges
-spent-requires-clause-ranges c =
-    answered_ranges c.args.self.now.now c.args.from c.args.transaction _ (subst IsOptionVersion (sym c.in_ok-copy_of.ensures) c.requires.proper.2)
+pub plan_answer-requires-clause-in_one : goal.plan_answer-requires-clause-in_one
+plan_answer-requires-clause-in_one c = in_one c.args.self.now.now c.args.key (sym c.in-Some.ensures.some)
 
 pub returns-in_default-transaction-clause-effects : goal.returns-in_default-transaction-clause-effects
 returns-in_default-transaction-clause-effects c =
@@ -30,7 +26,7 @@ returns-in_default-transaction-clause-effects c =
     let v : Option Version = option_copied c.args.version in
     let of_view = sym c.in-Some.ensures.some in
     let none : transaction f.transactions c.args.transaction ≡ None = ap (λ (g : Facts). transaction g.transactions c.args.transaction) (sym c.in-Some.ensures.view.viewed.view) ∙ found_none (transaction c.in-Some.view.now.transactions c.args.transaction) c.in_default-transaction.ensures in
-    subst (λ (e : rules.Effects). IfOk c.spent.result (λ x. x ≡ spelled e)) (sym (unknown_due f c.args.clock from c.args.key c.args.transaction v of_view none)) c.spent.ensures.effects
+    subst (λ (e : rules.Effects). IfOk c.plan_answer.result (λ x. x ≡ spelled e)) (sym (unknown_due f c.args.clock from c.args.key c.args.transaction v of_view none)) c.plan_answer.ensures.effects
 
 pub returns-in_default-transaction-clause-planned : goal.returns-in_default-transaction-clause-planned
 returns-in_default-transaction-clause-planned c =
@@ -39,18 +35,14 @@ returns-in_default-transaction-clause-planned c =
     let v : Option Version = option_copied c.args.version in
     let of_view = sym c.in-Some.ensures.some in
     let none : transaction f.transactions c.args.transaction ≡ None = ap (λ (g : Facts). transaction g.transactions c.args.transaction) (sym c.in-Some.ensures.view.viewed.view) ∙ found_none (transaction c.in-Some.view.now.transactions c.args.transaction) c.in_default-transaction.ensures in
-    subst (λ (g : Facts). OnOk c.spent.result (c.spent.new.self ≡ planning f g)) (ap (λ (w : Option Version). with_answer f from c.args.transaction w) c.in_ok-copy_of.ensures ∙ sym (unknown_after f c.args.clock from c.args.key c.args.transaction v of_view none)) c.spent.ensures.planned
+    subst (λ (g : Facts). OnOk c.plan_answer.result (c.plan_answer.new.self ≡ planning f g)) (sym (unknown_after f c.args.clock from c.args.key c.args.transaction v of_view none)) c.plan_answer.ensures.planned
 
 pub returns-in_default-transaction-clause-err : goal.returns-in_default-transaction-clause-err
 returns-in_default-transaction-clause-err c =
-    subst (λ (q : Planning). OnErr c.spent.result (c.spent.new.self ≡ q)) (still c.args.self.now c.requires.unplanned) c.spent.ensures.err
+    subst (λ (q : Planning). OnErr c.plan_answer.result (c.plan_answer.new.self ≡ q)) (still c.args.self.now c.requires.unplanned) c.plan_answer.ensures.err
 
-pub spent-requires-then-not-awaits_answer-clause-fits : goal.spent-requires-then-not-awaits_answer-clause-fits
-spent-requires-then-not-awaits_answer-clause-fits c = record { step = tt; in_one = in_one c.args.self.now.now c.args.key (sym c.in-Some.ensures.some) }
-
-pub spent-requires-then-not-awaits_answer-clause-ranges : goal.spent-requires-then-not-awaits_answer-clause-ranges
-spent-requires-then-not-awaits_answer-clause-ranges c =
-    answered_ranges c.args.self.now.now c.args.from c.args.transaction _ (subst IsOptionVersion (sym c.in_ok-copy_of.ensures) c.requires.proper.2)
+pub plan_answer-requires-then-not-awaits_answer-clause-in_one : goal.plan_answer-requires-then-not-awaits_answer-clause-in_one
+plan_answer-requires-then-not-awaits_answer-clause-in_one c = in_one c.args.self.now.now c.args.key (sym c.in-Some.ensures.some)
 
 pub returns-then-not-awaits_answer-clause-effects : goal.returns-then-not-awaits_answer-clause-effects
 returns-then-not-awaits_answer-clause-effects c =
@@ -61,7 +53,7 @@ returns-then-not-awaits_answer-clause-effects c =
     let it = found_one c.in-Some-transaction.txn.now (transaction c.in-Some.view.now.transactions c.args.transaction) c.in-Some-transaction.ensures in
     let found : transaction f.transactions c.args.transaction ≡ Some it.txn = ap (λ (g : Facts). transaction g.transactions c.args.transaction) (sym c.in-Some.ensures.view.viewed.view) ∙ it.found in
     let awaited : awaits_answer it.txn from ≡ false = ap (λ (x : Txn). table.txn_awaits_answer x from) (sym it.kept) ∙ sym c.if-not-awaits_answer.ensures in
-    subst (λ (e : rules.Effects). IfOk c.spent-then-not-awaits_answer.result (λ x. x ≡ spelled e)) (sym (unawaited_due f c.args.clock from c.args.key c.args.transaction v it.txn of_view found awaited)) c.spent-then-not-awaits_answer.ensures.effects
+    subst (λ (e : rules.Effects). IfOk c.plan_answer-then-not-awaits_answer.result (λ x. x ≡ spelled e)) (sym (unawaited_due f c.args.clock from c.args.key c.args.transaction v it.txn of_view found awaited)) c.plan_answer-then-not-awaits_answer.ensures.effects
 
 pub returns-then-not-awaits_answer-clause-planned : goal.returns-then-not-awaits_answer-clause-planned
 returns-then-not-awaits_answer-clause-planned c =
@@ -72,11 +64,11 @@ returns-then-not-awaits_answer-clause-planned c =
     let it = found_one c.in-Some-transaction.txn.now (transaction c.in-Some.view.now.transactions c.args.transaction) c.in-Some-transaction.ensures in
     let found : transaction f.transactions c.args.transaction ≡ Some it.txn = ap (λ (g : Facts). transaction g.transactions c.args.transaction) (sym c.in-Some.ensures.view.viewed.view) ∙ it.found in
     let awaited : awaits_answer it.txn from ≡ false = ap (λ (x : Txn). table.txn_awaits_answer x from) (sym it.kept) ∙ sym c.if-not-awaits_answer.ensures in
-    subst (λ (g : Facts). OnOk c.spent-then-not-awaits_answer.result (c.spent-then-not-awaits_answer.new.self ≡ planning f g)) (ap (λ (w : Option Version). with_answer f from c.args.transaction w) c.in_ok-copy_of.ensures ∙ sym (unresolved_after f c.args.clock from c.args.key c.args.transaction v it.txn of_view found (ap (λ (b : Bool). b && is_last_awaited it.txn from) awaited))) c.spent-then-not-awaits_answer.ensures.planned
+    subst (λ (g : Facts). OnOk c.plan_answer-then-not-awaits_answer.result (c.plan_answer-then-not-awaits_answer.new.self ≡ planning f g)) (sym (unresolved_after f c.args.clock from c.args.key c.args.transaction v it.txn of_view found (ap (λ (b : Bool). b && is_last_awaited it.txn from) awaited))) c.plan_answer-then-not-awaits_answer.ensures.planned
 
 pub returns-then-not-awaits_answer-clause-err : goal.returns-then-not-awaits_answer-clause-err
 returns-then-not-awaits_answer-clause-err c =
-    subst (λ (q : Planning). OnErr c.spent-then-not-awaits_answer.result (c.spent-then-not-awaits_answer.new.self ≡ q)) (still c.args.self.now c.requires.unplanned) c.spent-then-not-awaits_answer.ensures.err
+    subst (λ (q : Planning). OnErr c.plan_answer-then-not-awaits_answer.result (c.plan_answer-then-not-awaits_answer.new.self ≡ q)) (still c.args.self.now c.requires.unplanned) c.plan_answer-then-not-awaits_answer.ensures.err
 
 pub plan_last_answer-requires-clause-last : goal.plan_last_answer-requires-clause-last
 plan_last_answer-requires-clause-last c =
@@ -111,12 +103,8 @@ pub returns-then-is_last_awaited-clause-err : goal.returns-then-is_last_awaited-
 returns-then-is_last_awaited-clause-err c =
     subst (λ (q : Planning). OnErr c.plan_last_answer.result (c.plan_last_answer.new.self ≡ q)) (still c.args.self.now c.requires.unplanned) c.plan_last_answer.ensures.err
 
-pub plan_unless_spent-requires-clause-fits : goal.plan_unless_spent-requires-clause-fits
-plan_unless_spent-requires-clause-fits c = record { step = tt; in_one = in_one c.args.self.now.now c.args.key (sym c.in-Some.ensures.some) }
-
-pub plan_unless_spent-requires-clause-ranges : goal.plan_unless_spent-requires-clause-ranges
-plan_unless_spent-requires-clause-ranges c =
-    answered_ranges c.args.self.now.now c.args.from c.args.transaction _ (subst IsOptionVersion (sym c.in_ok-copy_of.ensures) c.requires.proper.2)
+pub plan_answer-requires-2-clause-in_one : goal.plan_answer-requires-2-clause-in_one
+plan_answer-requires-2-clause-in_one c = in_one c.args.self.now.now c.args.key (sym c.in-Some.ensures.some)
 
 pub returns-clause-effects : goal.returns-clause-effects
 returns-clause-effects c =
@@ -128,7 +116,7 @@ returns-clause-effects c =
     let found : transaction f.transactions c.args.transaction ≡ Some it.txn = ap (λ (g : Facts). transaction g.transactions c.args.transaction) (sym c.in-Some.ensures.view.viewed.view) ∙ it.found in
     let awaited : awaits_answer it.txn from ≡ true = ap (λ (x : Txn). table.txn_awaits_answer x from) (sym it.kept) ∙ sym c.if-not-awaits_answer.ensures in
     let last : is_last_awaited it.txn from ≡ false = ap (λ (x : Txn). table.txn_awaits_only x from) (sym it.kept) ∙ sym c.if-is_last_awaited.ensures in
-    subst (λ (e : rules.Effects). IfOk c.plan_unless_spent.result (λ x. x ≡ spelled e)) (sym (waiting_due f c.args.clock from c.args.key c.args.transaction v it.txn of_view found awaited last)) c.plan_unless_spent.ensures.effects
+    subst (λ (e : rules.Effects). IfOk c.plan_answer-2.result (λ x. x ≡ spelled e)) (sym (waiting_due f c.args.clock from c.args.key c.args.transaction v it.txn of_view found awaited last)) c.plan_answer-2.ensures.effects
 
 pub returns-clause-planned : goal.returns-clause-planned
 returns-clause-planned c =
@@ -140,8 +128,8 @@ returns-clause-planned c =
     let found : transaction f.transactions c.args.transaction ≡ Some it.txn = ap (λ (g : Facts). transaction g.transactions c.args.transaction) (sym c.in-Some.ensures.view.viewed.view) ∙ it.found in
     let awaited : awaits_answer it.txn from ≡ true = ap (λ (x : Txn). table.txn_awaits_answer x from) (sym it.kept) ∙ sym c.if-not-awaits_answer.ensures in
     let last : is_last_awaited it.txn from ≡ false = ap (λ (x : Txn). table.txn_awaits_only x from) (sym it.kept) ∙ sym c.if-is_last_awaited.ensures in
-    subst (λ (g : Facts). OnOk c.plan_unless_spent.result (c.plan_unless_spent.new.self ≡ planning f g)) (ap (λ (w : Option Version). with_answer f from c.args.transaction w) c.in_ok-copy_of.ensures ∙ sym (unresolved_after f c.args.clock from c.args.key c.args.transaction v it.txn of_view found (both_are it.txn from true false awaited last))) c.plan_unless_spent.ensures.planned
+    subst (λ (g : Facts). OnOk c.plan_answer-2.result (c.plan_answer-2.new.self ≡ planning f g)) (sym (unresolved_after f c.args.clock from c.args.key c.args.transaction v it.txn of_view found (both_are it.txn from true false awaited last))) c.plan_answer-2.ensures.planned
 
 pub returns-clause-err : goal.returns-clause-err
 returns-clause-err c =
-    subst (λ (q : Planning). OnErr c.plan_unless_spent.result (c.plan_unless_spent.new.self ≡ q)) (still c.args.self.now c.requires.unplanned) c.plan_unless_spent.ensures.err
+    subst (λ (q : Planning). OnErr c.plan_answer-2.result (c.plan_answer-2.new.self ≡ q)) (still c.args.self.now c.requires.unplanned) c.plan_answer-2.ensures.err
