@@ -1,7 +1,6 @@
 -- A node that heard how far the others are.
-use Rattle.std.proofs.Common.{◌≡◌, ◌<◌, ◌||◌, ℕ, Bool, true, false, List, refl, sym, ap, subst, ◌∙◌}
+use Rattle.std.proofs.Common.{◌≡◌, ℕ, Bool, true, List, refl, sym, ap, subst, ◌∙◌}
 use Rattle.std.specs.List.{Contains}
-use Rattle.cluster_types.specs.Partitions.{partition_count}
 use Rattle.cluster_types.specs.Rows.{bit}
 use Rattle.cluster_types.proofs.OrRows.{or_bit}
 use Rattle.partition_lists.proofs.ListLaws.{any_is_contained}

@@ -20,19 +20,19 @@ exchanged_has me factor key stage.Taken n h done member = absurd h
 
 -- a member's row is missing while the exchange waits alone
 pub lacking_waits : (me factor : ℕ) (key : ClusterKey) (s : Stage) (n : ℕ) → IsStageOf me factor key s → is_member (members_of (exchange_at s).view) n ≡ true → lacks (exchange_at s).rows n ≡ true
-    → ((x : Met) → s ≡ stage.Exchanging x → ⊥) → ⊥
-lacking_waits me factor key (stage.Exchanging x) n h member absent other = other x refl
-lacking_waits me factor key (stage.Exchanged m) n h member absent other =
-    let wrong : true ≡ false = sym absent ∙ full_has m.map.exchange.rows (members_of m.map.exchange.view) n h.whole member in cc
-lacking_waits me factor key stage.Taken n h member absent other = h
+    → (x : Met) × (s ≡ stage.Exchanging x)
+lacking_waits me factor key (stage.Exchanging x) n h member absent = (x, refl)
+lacking_waits me factor key (stage.Exchanged m) n h member absent =
+    absurd (let wrong : true ≡ false = sym absent ∙ full_has m.map.exchange.rows (members_of m.map.exchange.view) n h.whole member in cc)
+lacking_waits me factor key stage.Taken n h member absent = absurd h
 
 -- and one is missing after a member's came, too
 pub more_waits : (me factor : ℕ) (key : ClusterKey) (s : Stage) (n : ℕ) (row : Row) → IsStageOf me factor key s → is_member (members_of (exchange_at s).view) n ≡ true
-    → is_none (first_missing (with_row (exchange_at s).rows n row) (members_of (exchange_at s).view)) ≡ false → ((x : Met) → s ≡ stage.Exchanging x → ⊥) → ⊥
-more_waits me factor key (stage.Exchanging x) n row h member more other = other x refl
-more_waits me factor key (stage.Exchanged m) n row h member more other =
-    let wrong : true ≡ false = sym (full_stays m.map.exchange.rows (members_of m.map.exchange.view) n row h.whole member) ∙ more in cc
-more_waits me factor key stage.Taken n row h member more other = h
+    → is_none (first_missing (with_row (exchange_at s).rows n row) (members_of (exchange_at s).view)) ≡ false → (x : Met) × (s ≡ stage.Exchanging x)
+more_waits me factor key (stage.Exchanging x) n row h member more = (x, refl)
+more_waits me factor key (stage.Exchanged m) n row h member more =
+    absurd (let wrong : true ≡ false = sym (full_stays m.map.exchange.rows (members_of m.map.exchange.view) n row h.whole member) ∙ more in cc)
+more_waits me factor key stage.Taken n row h member more = absurd h
 
 -- ---- tests
 

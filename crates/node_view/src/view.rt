@@ -6,14 +6,17 @@ ghost use Rattle.cluster_types.specs.Rows.{bit};
 ghost use Rattle.std.specs.Bool.{beq};
 ghost use Rattle.std.specs.List.{list_all};
 ghost use Rattle.emigrate.specs.Going.{IsNext};
+ghost use Rattle.exchange.specs.Met.{Met};
 ghost use Rattle.exchange.specs.Served.{AreServed};
+ghost use Rattle.exchange.specs.Steps.{step_of};
 ghost use Rattle.partition_lists.specs.Lists.{is_replica_of, list};
 ghost use Rattle.node_rules.specs.Agreement.{others_among};
 ghost use Rattle.node_rules.specs.Batches.{acking, done_row, sending, target};
-ghost use Rattle.node_rules.specs.Exchange.{finished, first_missing, is_member, members_of, with_row};
+ghost use Rattle.node_rules.specs.Exchange.{begun, finished, first_missing, is_member, members_of, with_row};
 ghost use Rattle.node_rules.specs.Facts.{Facts, list_at};
 ghost use Rattle.node_rules.specs.Map.{lacks, list_master, row_of_member};
 ghost use Rattle.node_rules.specs.Standing.{is_all_empty, knows_all_settled, knows_settled, other_replicas};
+ghost use Rattle.node_view.specs.declared.view.Stage.TheVariants as stage;
 ghost use Rattle.node_view.specs.Views.{AreTargeted, IsEntered, IsFirstStage, IsHandedOn, IsInView, IsLike, IsMet, IsMoving, IsOtherMember, IsViewOf, IsWithStore, KeepsWatch, count_seen, facts_seen, viewed_key, own_done, store_row, with_live};
 
 use crate::live::Live;
@@ -77,6 +80,26 @@ enum Stage {
     Taken,
 }
 
+impl Stage {
+    /// Takes out the exchange of rows that goes on.
+    fn take_waiting(&mut self) -> Exchanging
+        requires { (x : Met) × (self.old ≡ stage.Exchanging x) }
+        ensures { self.old ≡ stage.Exchanging result }
+    {
+        let Stage::Exchanging(waiting) = mem::replace(self, Stage::Taken) else {
+            unreachable!()
+        };
+        waiting
+    }
+
+    /// Becomes that stage.
+    fn put(&mut self, stage: Stage)
+        ensures { self.new ≡ stage }
+    {
+        *self = stage;
+    }
+}
+
 /// What a view has besides once its exchange is finished.
 #[derive(Drop)]
 pub(crate) struct Moving {
@@ -110,10 +133,9 @@ impl View {
     {
         let members = *lists.members();
         let me = entrant.me;
-        let row = own_row(alloc, store)?;
-        let step = begin_with(alloc, key, lists, me, entrant.factor, row)?;
-        let stage = first_stage(alloc, step, store, &members, key, me)?;
+        let learnt = Box::new(alloc, Row4096::new())?;
         let mut progress = Progress::new(alloc, &members, me)?;
+        let stage = stage_at_entry(alloc, &entrant, key, lists, store)?;
         note_done(&mut progress, &stage);
         let mut view = View {
             me,
@@ -123,7 +145,7 @@ impl View {
             others: others_of(&members, me),
             stage,
             progress,
-            learnt: Box::new(alloc, Row4096::new())?,
+            learnt,
             unsettled: PARTITIONS,
             txns: Txns::with_policy(alloc, entrant.by),
             notes: TxnNotes::new(alloc),
@@ -297,16 +319,14 @@ impl View {
         ensures same { self.new ≡ self.old }
     {
         let live = Live::new(alloc)?;
-        let Stage::Exchanging(waiting) = mem::replace(&mut self.stage, Stage::Taken) else {
-            unreachable!()
-        };
+        let waiting = self.stage.take_waiting();
         let ExchangeStep::Complete(map) = waiting.on_state(from, row) else {
             unreachable!()
         };
         let served = map.served(alloc);
         let begun = Emigration::begin(alloc, store, &map, &self.members, self.key, self.me);
         let (waiting, row) = map.without_last(from);
-        self.stage = Stage::Exchanging(waiting);
+        self.stage.put(Stage::Exchanging(waiting));
         Ok(LastRow {
             from,
             row,
@@ -327,13 +347,11 @@ impl View {
               { rows = with_row self.old.exchange.rows from row };
         } }
     {
-        let Stage::Exchanging(waiting) = mem::replace(&mut self.stage, Stage::Taken) else {
-            unreachable!()
-        };
+        let waiting = self.stage.take_waiting();
         let ExchangeStep::Waiting(waiting) = waiting.on_state(from, row) else {
             unreachable!()
         };
-        self.stage = Stage::Exchanging(waiting);
+        self.stage.put(Stage::Exchanging(waiting));
     }
 
     /// The last row came.
@@ -382,15 +400,13 @@ impl View {
           watch = record self.old.watch { live = last.live };
         } }
     {
-        let Stage::Exchanging(waiting) = mem::replace(&mut self.stage, Stage::Taken) else {
-            unreachable!()
-        };
+        let waiting = self.stage.take_waiting();
         self.progress.own_done(&done_of(&last.emigration));
-        self.stage = Stage::Exchanged(Moving {
+        self.stage.put(Stage::Exchanged(Moving {
             map: waiting.finish(last.from, last.row, last.served),
             emigration: last.emigration,
             live: last.live,
-        });
+        }));
     }
 
     /// Whether the node knows that no member's copy of the partition had a record.
@@ -493,6 +509,29 @@ fn lacks_alone(waiting: &Exchanging, ns: &NodeList, from: NodeId) -> bool
     ns.as_slice()
         .iter()
         .all(|n| (*n == from) == waiting.lacks(*n))
+}
+
+/// The stage of a view as a node with that store enters it.
+fn stage_at_entry(
+    alloc: Global,
+    entrant: &Entrant,
+    key: ClusterKey,
+    lists: Lists,
+    store: &RecordStore,
+) -> Result<Stage, NoMemory>
+    requires { is_member lists entrant.now.me ≡ true }
+    ensures { IfOk result (IsFirstStage
+        (step_of (record {
+          me = entrant.now.me;
+          factor = entrant.now.factor;
+          exchange = begun entrant.now.me key lists (store_row store.now);
+        }))
+        store.now.versions lists key entrant.now.me) }
+{
+    let members = *lists.members();
+    let row = own_row(alloc, store)?;
+    let step = begin_with(alloc, key, lists, entrant.me, entrant.factor, row)?;
+    first_stage(alloc, step, store, &members, key, entrant.me)
 }
 
 /// The stage of a view as it is entered: what is handed on is known at once where no row is

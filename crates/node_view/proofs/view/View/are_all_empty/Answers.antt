@@ -1,5 +1,4 @@
-use Rattle.std.proofs.Common.{◌≡◌, ◌<◌, ◌+◌, ℕ, true, false, refl, sym, ◌∙◌, arith}
-use Rattle.cluster_types.specs.Partitions.{partition_count}
+use Rattle.std.proofs.Common.{◌≡◌, ◌+◌, ℕ, true, false, sym, ◌∙◌, arith}
 use Rattle.cluster_types.specs.Rows.{bit}
 use Rattle.node_view.specs.Views.{is_known_empty}
 use Rattle.node_view.proofs.ByNumberLaws.{below_next, below_until}

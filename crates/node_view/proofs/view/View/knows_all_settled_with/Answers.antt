@@ -1,4 +1,4 @@
-use Rattle.std.proofs.Common.{◌≡◌, ◌<◌, ◌||◌, ℕ, Bool, List, not, sym, ap, ◌∙◌}
+use Rattle.std.proofs.Common.{◌||◌, Bool, List, not, sym, ap, ◌∙◌}
 use Rattle.cluster_types.specs.Rows.{bit}
 use Rattle.node_view.proofs.SettledLaws.{all_with, known_or_empty}
 use Rattle.node_view.proofs.view.View.knows_all_settled_with.Goals as goal

@@ -1,4 +1,4 @@
-use Rattle.std.proofs.Common.{◌≡◌, ◌<◌, ◌≤◌, ℕ, List, false, is_some, All, AllPairs, Some, refl, sym, ap, subst, ◌∙◌, arith}
+use Rattle.std.proofs.Common.{◌≡◌, ◌<◌, ◌≤◌, List, false, is_some, All, AllPairs, Some, refl, sym, ap, subst, ◌∙◌, arith}
 use Rattle.cluster_types.specs.Partitions.{partition_count}
 use Rattle.node_rules.specs.Exchange.{Exchange}
 use Rattle.node_rules.specs.Facts.{list_at, view_key}
