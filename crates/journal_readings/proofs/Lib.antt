@@ -14,3 +14,5 @@ pub mod ProxiesKept
 pub mod ProxyRefusals
 pub mod CallsKept
 pub mod CallRefusals
+pub mod ScansKept
+pub mod ScanRefusals

@@ -141,3 +141,24 @@ written_or_not e ls all d = go (bytes_eq e d) refl
     go : (b : Bool) → bytes_eq e d ≡ b → (e ≡ d) ⊎ IsUnwritten d ls
     go true i = inl (same_digest_is e d i)
     go false i = inr (others-unwritten e d ls all i)
+
+-- ---- a journal that writes two records alone
+
+abbrev pub writes_either : List ℕ → List ℕ → Line → Bool
+writes_either e f (line.Apply m k t g v) = bytes_eq g e || bytes_eq g f
+writes_either e f (line.Merge m k g v) = bytes_eq g e || bytes_eq g f
+writes_either e f _ = true
+
+-- a record beside the two is unwritten
+pub unwritten_beside : (e f d : List ℕ) → bytes_eq e d ≡ false → bytes_eq f d ≡ false → (ls : List Line) → list_all (writes_either e f) ls ≡ true → IsUnwritten d ls
+unwritten_beside e f d i j [] all = refl
+unwritten_beside e f d i j (l ∷ ls) all = or_both (writes d l) _ (here l (and_left (writes_either e f l) _ all)) (unwritten_beside e f d i j ls (and_right (writes_either e f l) _ all))
+  where
+    other : (g : List ℕ) (b : Bool) → bytes_eq g e ≡ b → (b || bytes_eq g f) ≡ true → bytes_eq g d ≡ false
+    other g true x h = ap (λ (y : List ℕ). bytes_eq y d) (same_digest_is g e x) ∙ i
+    other g false x h = ap (λ (y : List ℕ). bytes_eq y d) (same_digest_is g f h) ∙ j
+
+    here : (x : Line) → writes_either e f x ≡ true → writes d x ≡ false
+    here (line.Apply m k t g v) h = other g (bytes_eq g e) refl h
+    here (line.Merge m k g v) h = other g (bytes_eq g e) refl h
+    here x h = refl

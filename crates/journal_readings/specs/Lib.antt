@@ -22,3 +22,4 @@ pub mod ScanClaims
 pub mod Examples
 pub mod ProxyExamples
 pub mod CallExamples
+pub mod ScanExamples

@@ -29,9 +29,11 @@ ghost use Rattle.journal_readings.specs.CalmEnd.{CalmEnd};
 ghost use Rattle.journal_readings.specs.Shape.{Shape};
 ghost use Rattle.journal_readings.specs.ProxyClaims.{ProxiesAnswer};
 ghost use Rattle.journal_readings.specs.CallClaims.{CallsAnswer};
+ghost use Rattle.journal_readings.specs.ScanClaims.{ScansAreWhole};
 ghost use Rattle.journal_readings.specs.Examples.{marked, agreed, calmed, misread, unmerged, lost, uneasy, misled, shown, second, first_lost, garbled, reused, unpromised, two_lists, outdated, unsettled, digest, key, version, both, written_and_read, sides, batch, batch_out, batch_merged, batch_acked, settled, applied_once, replicated, met_again, met_unequal};
 ghost use Rattle.journal_readings.specs.ProxyExamples.{passed_again, refused_on, mistaken, renumbered, opened_again, misquoted, misrefused, unasked, taken_twice};
 ghost use Rattle.journal_readings.specs.CallExamples.{called_again, called_early, called_twice, written_twice, uncalled, answered_early, misheard, misexplained, heard_twice};
+ghost use Rattle.journal_readings.specs.ScanExamples.{scanned_anew, mixed, lacking, miscounted, disordered, foreign, unsought, unfinished};
 
 /// What one line more makes of a reading is fixed by the reading before it, the lines before it and
 /// the line.
@@ -276,4 +278,19 @@ pub fn calls_are_answered()
     ensures misheard { ¬ (CallsAnswer misheard) }
     ensures misexplained { ¬ (CallsAnswer misexplained) }
     ensures heard_twice { ¬ (CallsAnswer heard_twice) }
+{}
+
+/// A scan that begins anew, as a record was written behind its first page, has the whole partition. The
+/// claim is refused by a journal in which the page behind the write is taken, a record isn't listed, more
+/// are counted, they don't rise, one is of another partition, nobody asked for a page, or the last page
+/// that came isn't the last.
+pub fn scans_are_whole()
+    ensures anew { ScansAreWhole scanned_anew }
+    ensures mixed { ¬ (ScansAreWhole mixed) }
+    ensures lacking { ¬ (ScansAreWhole lacking) }
+    ensures miscounted { ¬ (ScansAreWhole miscounted) }
+    ensures disordered { ¬ (ScansAreWhole disordered) }
+    ensures foreign { ¬ (ScansAreWhole foreign) }
+    ensures unsought { ¬ (ScansAreWhole unsought) }
+    ensures unfinished { ¬ (ScansAreWhole unfinished) }
 {}
