@@ -128,7 +128,7 @@ taken_from P me a xs _ e names h = h
 
 -- ---- late replies
 
-reply_right : (P : ℕ → Type 0) (me : ℕ) (key : ClusterKey) (a : Asker) (b : ReplyBody) → ((n : ℕ) → P n → IsId n) → IsKeyOrNone key → OtherEnd P me a.from → ReplyNames P b → SendsRight P me a.from (reply_to key a b)
+pub reply_right : (P : ℕ → Type 0) (me : ℕ) (key : ClusterKey) (a : Asker) (b : ReplyBody) → ((n : ℕ) → P n → IsId n) → IsKeyOrNone key → OtherEnd P me a.from → ReplyNames P b → SendsRight P me a.from (reply_to key a b)
 reply_right P me key a b ids k e n = go (a.from == client)
   where
     go : (c : Bool) → SendsRight P me a.from (if c then message.Reply key a.number b else message.ProxyReply key a.number b)
@@ -177,3 +177,95 @@ without_waits P me (p ∷ xs) x h = go (p.0 == x) (without_waits P me xs x h.1)
 one_waits : (P : ℕ → Type 0) (me : ℕ) (xs : ByNumber Passed) (p : ℕ × Passed) → OtherNode P me p.1.to → AllWaitFor P me xs → AllWaitFor P me (xs ++ p ∷ [])
 one_waits P me [] p o h = (o, tt)
 one_waits P me (x ∷ xs) p o h = (h.0, one_waits P me xs p o h.1)
+
+-- ---- every mark
+
+-- at a line at which a request is taken up, whoever asks is another end than the node
+abbrev pub LineAsks : (ℕ → Type 0) → Option Asker → Line → Type 0
+LineAsks P a (line.Opened n k t d action) = AskerFrom P n a
+LineAsks P a (line.Refused n d cause) = AskerFrom P n a
+LineAsks P a _ = Unit {0}
+
+abbrev pub LinesAsk : (ℕ → Type 0) → Option Asker → List Line → Type 0
+LinesAsk P a [] = Unit {0}
+LinesAsk P a (l ∷ ls) = LineAsks P a l × LinesAsk P a ls
+
+-- nobody asks
+nobody_asks : (P : ℕ → Type 0) (l : Line) → LineAsks P None l
+nobody_asks P (line.Opened n k t d action) = tt
+nobody_asks P (line.Refused n d cause) = tt
+nobody_asks P _ = tt
+
+pub none_ask : (P : ℕ → Type 0) (ls : List Line) → LinesAsk P None ls
+none_ask P [] = tt
+none_ask P (l ∷ ls) = (nobody_asks P l, none_ask P ls)
+
+-- the requests of each node
+abbrev pub Asked : (ℕ → Type 0) → World → Type 0
+Asked P w = (n : ℕ) → RequestsNamed P n (w.requests.at n)
+
+-- the node's requests change
+one_asked : (P : ℕ → Type 0) (at : ℕ → NodeRequests) (n : ℕ) (r : NodeRequests) → ((m : ℕ) → RequestsNamed P m (at m)) → RequestsNamed P n r → (m : ℕ) → RequestsNamed P m (changed_at at n r m)
+one_asked P at n r h new = at_each (λ m x. RequestsNamed P m x) at n r h new
+
+came_asked : (P : ℕ → Type 0) (w : World) (x : Option Arrival) → Asked P w → Asked P (marks.came w x)
+came_asked P w None h = h
+came_asked P w (Some x) h = go (x.to == client)
+  where
+    at_client : (m : Message) → Asked P (came_to_client w m)
+    at_client (message.MapTable t) = h
+    at_client _ = h
+
+    go : (b : Bool) → Asked P (cond b (came_to_client w x.message) (came_to_node w x))
+    go true = at_client x.message
+    go false = h
+
+sent_asked : (P : ℕ → Type 0) (w : World) (a b : ℕ) (o : Option Message) → Asked P w → Asked P (marks.sent_by w a b o)
+sent_asked P w a b None h = h
+sent_asked P w a b (Some m) h = h
+
+pub line_asked : (P : ℕ → Type 0) (w : World) (l : Line) → LineAsks P w.asker l → LineNames P l → Asked P w → Asked P (marks.after w (Writes l))
+line_asked P w (line.Opened n k t d a) asks names h = one_asked P w.requests.at n _ h (record { taken = taken_from P n w.asker (w.requests.at n).taken (line.Opened n k t d a) asks names (h n).taken; waiting = (h n).waiting })
+line_asked P w (line.Refused n d cause) asks names h = one_asked P w.requests.at n _ h (record { taken = taken_from P n w.asker (w.requests.at n).taken (line.Refused n d cause) asks names (h n).taken; waiting = (h n).waiting })
+line_asked P w (line.Value n k t d v) asks names h = one_asked P w.requests.at n _ h (record { taken = kept_from P n (w.requests.at n).taken t (found_body v) (found_names P v) (h n).taken; waiting = (h n).waiting })
+line_asked P w (line.Done n k t) asks names h = one_asked P w.requests.at n _ h (record { taken = kept_from P n (w.requests.at n).taken t reply.Done tt (h n).taken; waiting = (h n).waiting })
+line_asked P w (line.Enter n k ms) asks names h = one_asked P w.requests.at n _ h (record { taken = tt; waiting = tt })
+line_asked P w (line.Stop n) asks names h = one_asked P w.requests.at n _ h (record { taken = tt; waiting = tt })
+line_asked P w (line.Proxy n k x d a to) asks names h = one_asked P w.requests.at n _ h (record { taken = (h n).taken; waiting = one_waits P n (w.requests.at n).passed.waiting _ names.1 (h n).waiting })
+line_asked P w (line.Proxied n k x b) asks names h = one_asked P w.requests.at n _ h (record { taken = (h n).taken; waiting = without_waits P n (w.requests.at n).passed.waiting x (h n).waiting })
+line_asked P w (line.Unproxied n k x) asks names h = one_asked P w.requests.at n _ h (record { taken = (h n).taken; waiting = without_waits P n (w.requests.at n).passed.waiting x (h n).waiting })
+line_asked P w (line.Deliver i a b) asks names h = came_asked P w (option_and_then (arrived b) (posting_at w.network i)) h
+line_asked P w (line.Repeat i a b) asks names h = came_asked P w (option_and_then (arrived b) (posting_at w.network i)) h
+line_asked P w (line.Cut i a b size) asks names h = came_asked P w (option_and_then (arrived_cut b size) (posting_at w.network i)) h
+line_asked P w (line.Sent i a b bytes) asks names h = sent_asked P (record w { network = posting w.network i (record { from = a; to = b; bytes = bytes }) }) a b (message_of bytes) h
+line_asked P w _ asks names h = h
+
+-- a line leaves in hand whoever asks
+came_asker : (w : World) (x : Option Arrival) → (marks.came w x).asker ≡ w.asker
+came_asker w None = refl
+came_asker w (Some x) = go (x.to == client)
+  where
+    at_client : (m : Message) → (came_to_client w m).asker ≡ w.asker
+    at_client (message.MapTable t) = refl
+    at_client _ = refl
+
+    go : (b : Bool) → (cond b (came_to_client w x.message) (came_to_node w x)).asker ≡ w.asker
+    go true = at_client x.message
+    go false = refl
+
+same_asker_in_hand : (w : World) (l : Line) → (marks.after w (Writes l)).asker ≡ w.asker
+same_asker_in_hand w (line.Deliver i a b) = came_asker w (option_and_then (arrived b) (posting_at w.network i))
+same_asker_in_hand w (line.Repeat i a b) = came_asker w (option_and_then (arrived b) (posting_at w.network i))
+same_asker_in_hand w (line.Cut i a b size) = came_asker w (option_and_then (arrived_cut b size) (posting_at w.network i))
+same_asker_in_hand w (line.Sent i a b bytes) = go (message_of bytes)
+  where
+    go : (o : Option Message) → (marks.sent_by (record w { network = posting w.network i (record { from = a; to = b; bytes = bytes }) }) a b o).asker ≡ w.asker
+    go None = refl
+    go (Some m) = refl
+same_asker_in_hand w _ = refl
+
+-- the lines of a step leave the requests named
+pub lines_asked : (P : ℕ → Type 0) (w : World) (ls : List Line) → LinesAsk P w.asker ls → AllName P ls → Asked P w → Asked P (marks.after_all w (map Writes ls))
+lines_asked P w [] asks names h = h
+lines_asked P w (l ∷ ls) asks names h =
+    lines_asked P (marks.after w (Writes l)) ls (subst (λ (a : Option Asker). LinesAsk P a ls) (sym (same_asker_in_hand w l)) asks.1) names.1 (line_asked P w l asks.0 names.0 h)

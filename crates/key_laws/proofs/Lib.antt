@@ -23,6 +23,7 @@ pub mod DueDirected
 pub mod Dressed
 pub mod NamedSends
 pub mod Askers
+pub mod AskedNames
 pub mod Peopled
 pub mod DueSteps
 pub mod Readings

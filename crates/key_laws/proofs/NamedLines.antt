@@ -255,11 +255,11 @@ missing_is P test (m ∷ ns) h n e = go (test m) (λ i. missing_is P test ns h.1
     go true rest e = subst P (same e) h.0
     go false rest e = rest e
 
-abbrev CauseIf : (ℕ → Type 0) → Option Refusal → Type 0
+abbrev pub CauseIf : (ℕ → Type 0) → Option Refusal → Type 0
 CauseIf P None = Unit {0}
 CauseIf P (Some cause) = CauseNames P cause
 
-map_cause : (P : ℕ → Type 0) (f : Facts) → Aware P f → CauseIf P (map_refusal f)
+pub map_cause : (P : ℕ → Type 0) (f : Facts) → Aware P f → CauseIf P (map_refusal f)
 map_cause P f h = go f.up
   where
     missing : (o : Option ℕ) → ((n : ℕ) → o ≡ Some n → P n) → CauseIf P (exchange_refusal o)
@@ -276,7 +276,7 @@ map_cause P f h = go f.up
     go false = tt
 
 -- without a refusal the node is in a view, so that a list names it
-in_list : (P : ℕ → Type 0) (f : Facts) (p : ℕ) → Aware P f → map_refusal f ≡ None → contains (list_at f p) f.me ≡ true
+pub in_list : (P : ℕ → Type 0) (f : Facts) (p : ℕ) → Aware P f → map_refusal f ≡ None → contains (list_at f p) f.me ≡ true
 in_list P f p h e = go f.up e
   where
     in_view_of : (o : Option View) → f.exchange.view ≡ o → view_refusal f o ≡ None → contains (list_at f p) f.me ≡ true
@@ -287,7 +287,7 @@ in_list P f p h e = go f.up e
     go true e = in_view_of f.exchange.view refl e
     go false e = cc
 
-refusal_cause : (P : ℕ → Type 0) (f : Facts) (d : List ℕ) → Aware P f → CauseIf P (request_refusal f (list_at f (partition_of d)) d)
+pub refusal_cause : (P : ℕ → Type 0) (f : Facts) (d : List ℕ) → Aware P f → CauseIf P (request_refusal f (list_at f (partition_of d)) d)
 refusal_cause P f d h = go (map_refusal f) refl (map_cause P f h)
   where
     busy : (o : Option Transaction) → CauseIf P (busy_refusal o)
