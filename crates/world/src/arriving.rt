@@ -1,5 +1,5 @@
 //! Messages that are lost, or arrive.
-ghost use Rattle.std.specs.Prelude.{◌≡◌, ◌∷◌, [], ◌&&◌, ◌||◌, ◌⊎◌, ◌==◌, not, Contains, IfSome};
+ghost use Rattle.std.specs.Prelude.{◌≡◌, ◌∷◌, [], ◌&&◌, ◌||◌, ◌⊎◌, ◌==◌, not, Contains, IsTrue, IfOk, IfSome, OnErr, OnOk};
 ghost use Rattle.std.specs.Option.{option_copied, option_map};
 ghost use Rattle.cluster_rules.specs.DueEvents.{losing};
 ghost use Rattle.cluster_rules.specs.declared.event.Event.TheVariants as events;
@@ -7,7 +7,12 @@ ghost use Rattle.cluster_rules.specs.Network.{are_apart, flying_at};
 ghost use Rattle.cluster_rules.specs.Opening.{declared_nodes};
 ghost use Rattle.cluster_rules.specs.World.{is_up};
 ghost use Rattle.run_laws.specs.Taken.{IsProperEvent};
-ghost use Rattle.node_rules.specs.Messages.{client};
+ghost use Rattle.wire_messages.specs.Proper.{IsProper};
+ghost use Rattle.node_rules.specs.Messages.{client, due_message};
+ghost use Rattle.node_rules.specs.Senders.{ComesFrom};
+ghost use Rattle.node_rules.specs.Steps.{after_message, planning, unplanned};
+ghost use Rattle.node_steps.specs.Counts.{HaveNumbers};
+ghost use Rattle.node_steps.specs.Spelled.{spelled};
 ghost use Rattle.world.specs.Arriving.{Arrives, OnlyLands, delivering};
 ghost use Rattle.world.specs.Stands.{flying_posting};
 ghost use Rattle.world.specs.Steps.{MayCome, StandsAt, TakesStep, next_lines, standing};
@@ -19,9 +24,10 @@ use crate::sending::{CLIENT, land};
 use crate::taking::{EndStep, LineStep};
 use crate::world::World;
 use cluster_rules::Event;
+use cluster_types::NoMemory;
 use journal_text::{Line, LineList};
 use net_script::Flying;
-use node_core::Effects;
+use node_core::{Effects, Node};
 use std::alloc::Global;
 use std::snapshot::Snapshot;
 use wire_codec::Message;
@@ -200,7 +206,13 @@ impl World {
             to,
             message,
         } = arriving;
-        let effects = self.nodes[place].receive(alloc, from, &message, self.clocks[place])?;
+        let effects = receive(
+            alloc,
+            &mut self.nodes[place],
+            from,
+            message,
+            self.clocks[place],
+        )?;
         let Effects { lines, sends } = effects;
         if lines.is_empty() && sends.is_empty() {
             let step = LineStep {
@@ -224,4 +236,25 @@ impl World {
             &mut self.ledger,
         )
     }
+}
+
+/// Plans what the message makes the node do, and lets the message go.
+fn receive(
+    alloc: Global,
+    node: &mut Node,
+    from: u16,
+    message: Message,
+    clock: u64,
+) -> Result<Effects, NoMemory>
+    requires up { IsTrue node.old.now.up }
+    requires proper { IsProper message }
+    requires sender { ComesFrom node.old.now from message }
+    requires counts { HaveNumbers node.old.now }
+    ensures effects { IfOk result
+        (λ e. e ≡ spelled (due_message node.old.now clock from message)) }
+    ensures planned { OnOk result
+        (node.new ≡ planning node.old.now (after_message node.old.now clock from message)) }
+    ensures err { OnErr result (node.new ≡ unplanned node.old.now) }
+{
+    node.receive(alloc, from, &message, clock)
 }

@@ -33,7 +33,7 @@ receive-requires-clause-counts c = (may_receive c.self.inside c.args.self.now c.
 
 pub invariant_of-self : goal.invariant_of-self
 invariant_of-self c =
-    gave_up c.self.inside _ c.args.place c.index_mut.result.now c.receive.new.self c.self.invariant refl refl refl refl refl refl refl c.index_mut.ensures.value c.in_err-effects.ensures.err
+    gave_up c.self.inside _ c.args.place c.index_mut.result.now c.receive.new.node c.self.invariant refl refl refl refl refl refl refl c.index_mut.ensures.value c.in_err-effects.ensures.err
 
 pub returns-in_err-effects : goal.returns-in_err-effects
 returns-in_err-effects c =
@@ -41,7 +41,7 @@ returns-in_err-effects c =
 
 pub invariant_of-self-in_err-lines : goal.invariant_of-self-in_err-lines
 invariant_of-self-in_err-lines c =
-    knows_as_before c.self.inside _ c.args.place c.index_mut.result.now c.receive.new.self c.self.invariant refl refl refl refl refl refl refl c.index_mut.ensures.value (ap (λ (p : Planning). p.now) c.in_ok-effects.ensures.planned)
+    knows_as_before c.self.inside _ c.args.place c.index_mut.result.now c.receive.new.node c.self.invariant refl refl refl refl refl refl refl c.index_mut.ensures.value (ap (λ (p : Planning). p.now) c.in_ok-effects.ensures.planned)
 
 pub returns-in_err-lines : goal.returns-in_err-lines
 returns-in_err-lines c =
@@ -50,7 +50,7 @@ returns-in_err-lines c =
 pub take_of-requires-2-clause-planned : goal.take_of-requires-2-clause-planned
 take_of-requires-2-clause-planned c =
     subst (λ (p : Planning). IsSome p.next)
-    (sym (at_set c.self.inside.nodes.items c.args.place c.receive.new.self c.index_mut-2.result.now (node_within c.self.inside _ c.args.place c.args.arriving.to c.self.view_is c.self.invariant c.requires.end) c.index_mut-2.ensures.value ∙ c.in_ok-effects.ensures.planned)) refl
+    (sym (at_set c.self.inside.nodes.items c.args.place c.receive.new.node c.index_mut-2.result.now (node_within c.self.inside _ c.args.place c.args.arriving.to c.self.view_is c.self.invariant c.requires.end) c.index_mut-2.ensures.value ∙ c.in_ok-effects.ensures.planned)) refl
 
 pub take_of-requires-2-clause-flying : goal.take_of-requires-2-clause-flying
 take_of-requires-2-clause-flying c = arrival_flies c.self.inside _ c.args.arriving c.self.view_is c.self.invariant c.requires.arrives
@@ -69,7 +69,7 @@ returns c =
 pub invariant_of-self-2 : goal.invariant_of-self-2
 invariant_of-self-2 c =
     let here = node_at c.self.inside c.args.self.now c.args.place c.args.arriving.to c.index_mut.result.now c.self.view_is c.self.invariant c.requires.end c.index_mut.ensures.value in
-    acts_kept c.self.inside _ c.args.self.now c.args.arriving.event.value (record { event = c.args.arriving.event; from = c.args.arriving.to; landing = c.args.arriving.landing; effects = record { lines = c.in_ok-lines.lines; sends = c.in_ok-effects.effects.sends } }) c.args.place (after_message c.index_mut.result.now.now c.index.result.now c.args.arriving.from c.args.arriving.message) c.index_mut.result.now c.receive.new.self c.index_mut-2.result.now c.take_of-2.new.node c.take_of-2.result c.self.view_is c.self.invariant
+    acts_kept c.self.inside _ c.args.self.now c.args.arriving.event.value (record { event = c.args.arriving.event; from = c.args.arriving.to; landing = c.args.arriving.landing; effects = record { lines = c.in_ok-lines.lines; sends = c.in_ok-effects.effects.sends } }) c.args.place (after_message c.index_mut.result.now.now c.index.result.now c.args.arriving.from c.args.arriving.message) c.index_mut.result.now c.receive.new.node c.index_mut-2.result.now c.take_of-2.new.node c.take_of-2.result c.self.view_is c.self.invariant
     (subst (λ (ls : List Line). Acts c.self.inside c.args.self.now (record { event = c.args.arriving.event; from = c.args.arriving.to; landing = c.args.arriving.landing; effects = record { lines = ls; sends = c.in_ok-effects.effects.sends } }) c.args.place (after_message c.index_mut.result.now.now c.index.result.now c.args.arriving.from c.args.arriving.message)) (sym c.in_ok-lines.ensures)
     (arrival_acts c.self.inside c.args.self.now c.args.arriving c.args.place c.index.result.now c.index_mut.result.now.now c.in_ok-effects.effects c.self.view_is c.self.invariant c.requires.arrives c.requires.end here
     (c.index.ensures ∙ clock_at c.self.inside c.args.self.now c.args.place c.args.arriving.to c.index.result.now c.self.view_is c.self.invariant c.requires.end)
@@ -86,7 +86,7 @@ pub take_of-requires : goal.take_of-requires
 take_of-requires c = record {
   planned =
       subst (λ (p : Planning). IsSome p.next)
-      (sym (at_set c.self.inside.nodes.items c.args.place c.receive.new.self c.index_mut-then-is_empty-2.result.now (node_within c.self.inside _ c.args.place c.args.arriving.to c.self.view_is c.self.invariant c.requires.end) c.index_mut-then-is_empty-2.ensures.value ∙ c.in_ok-effects.ensures.planned)) refl;
+      (sym (at_set c.self.inside.nodes.items c.args.place c.receive.new.node c.index_mut-then-is_empty-2.result.now (node_within c.self.inside _ c.args.place c.args.arriving.to c.self.view_is c.self.invariant c.requires.end) c.index_mut-then-is_empty-2.ensures.value ∙ c.in_ok-effects.ensures.planned)) refl;
 }
 
 pub returns-then-is_empty-2 : goal.returns-then-is_empty-2
@@ -104,7 +104,7 @@ pub invariant_of-self-then-is_empty-2 : goal.invariant_of-self-then-is_empty-2
 invariant_of-self-then-is_empty-2 c =
     let here = node_at c.self.inside c.args.self.now c.args.place c.args.arriving.to c.index_mut.result.now c.self.view_is c.self.invariant c.requires.end c.index_mut.ensures.value in
     let quiet : c.in_ok-effects.effects ≡ no_effects = effects_none c.in_ok-effects.effects (c.is_empty.ensures.0 c.if-is_empty.true) (c.is_empty-then-is_empty.ensures.0 c.if-is_empty-2.true) in
-    acts_kept c.self.inside _ c.args.self.now c.args.arriving.event.value (record { event = c.args.arriving.event; from = c.args.arriving.to; landing = c.args.arriving.landing; effects = record { lines = c.args.arriving.line ∷ []; sends = [] } }) c.args.place (after_message c.index_mut.result.now.now c.index.result.now c.args.arriving.from c.args.arriving.message) c.index_mut.result.now c.receive.new.self c.index_mut-then-is_empty-2.result.now c.take_of.new.endpoint c.take_of.result c.self.view_is c.self.invariant
+    acts_kept c.self.inside _ c.args.self.now c.args.arriving.event.value (record { event = c.args.arriving.event; from = c.args.arriving.to; landing = c.args.arriving.landing; effects = record { lines = c.args.arriving.line ∷ []; sends = [] } }) c.args.place (after_message c.index_mut.result.now.now c.index.result.now c.args.arriving.from c.args.arriving.message) c.index_mut.result.now c.receive.new.node c.index_mut-then-is_empty-2.result.now c.take_of.new.endpoint c.take_of.result c.self.view_is c.self.invariant
     (arrival_acts c.self.inside c.args.self.now c.args.arriving c.args.place c.index.result.now c.index_mut.result.now.now no_effects c.self.view_is c.self.invariant c.requires.arrives c.requires.end here
     (c.index.ensures ∙ clock_at c.self.inside c.args.self.now c.args.place c.args.arriving.to c.index.result.now c.self.view_is c.self.invariant c.requires.end)
     (sym quiet ∙ c.in_ok-effects.ensures.effects))
