@@ -5,6 +5,7 @@ ghost use Rattle.request_rules.specs.ByNumber.{item_under};
 ghost use Rattle.request_rules.specs.Requests.{no_scans};
 ghost use Rattle.request_rules.specs.Scans.{begun_again, changing_scan, going_on, scan_step, took_page, with_new_scan, without_scan};
 ghost use Rattle.part_scan.specs.Steps.{kind_of};
+ghost use Rattle.part_scan.specs.declared.scan.PageStep.TheVariants.{More};
 
 use crate::scan::{PageStep, Scan};
 use cluster_types::{NoMemory, NodeId, PartitionId};
@@ -84,8 +85,8 @@ impl Scans {
     }
 
     /// A page came from that node. Its scan keeps the records of a page that others follow, begins
-    /// anew, or, with its last page, is closed and let go. Where memory is refused, nothing has
-    /// changed; only a page that others follow wants any.
+    /// anew, or, with its last page, is closed and let go. Only a page that others follow wants memory;
+    /// where that is refused, nothing has changed.
     pub fn on_page(
         &mut self,
         alloc: Global,
@@ -95,6 +96,7 @@ impl Scans {
         ensures step { IfOk result (λ s. s ≡ kind_of (scan_step self.old from page)) }
         ensures scans { OnOk result (self.new ≡ took_page self.old from page) }
         ensures err { OnErr result (self.new ≡ self.old) }
+        ensures memory { OnErr result (kind_of (scan_step self.old from page) ≡ More) }
     {
         let step = self.step_of(from, &page);
         match step {
