@@ -28,7 +28,7 @@ def members_of(text: str) -> list[Member]:
 
 
 def partition_of(digest: str) -> int:
-    """By the digest's first two bytes, the lower one first."""
+    """The partition of a digest of forty digits: the number that its first two bytes make, the lower one first."""
     return int(digest[2:4] + digest[:2], 16) % PARTITIONS
 
 

@@ -1,9 +1,8 @@
-"""Digests of keys, without the program: RIPEMD-160, which not every Python has, and the partition of a digest."""
+"""Digests of keys, without the program: RIPEMD-160, which not every Python has."""
 from __future__ import annotations
 
 import struct
 
-PARTITIONS = 4096
 WORD = 0xFFFFFFFF
 # The byte between the name of a set and a key that is text.
 OF_TEXT = b"\x03"
@@ -76,8 +75,3 @@ def digest_of(key: bytes) -> str:
         return key[1:].decode().lower()
     set_name, slash, name = key.partition(b"/")
     return ripemd160((set_name if slash else b"") + OF_TEXT + (name if slash else key)).hex()
-
-
-def partition_of(digest: str) -> int:
-    """The partition of a digest of forty digits: the number that its first two bytes make, the lower one first."""
-    return int(digest[2:4] + digest[:2], 16) % PARTITIONS

@@ -12,8 +12,8 @@ from dataclasses import dataclass, field
 from itertools import accumulate, chain
 from typing import NamedTuple
 
-import timeline_digest
 import timeline_lines
+from explain_lists import partition_of
 from timeline_lines import Transcript
 
 CLIENT = "0"
@@ -229,7 +229,7 @@ class Reading:
     def partition(self, digest: str) -> int:
         found = self.partitions.get(digest)
         if found is None:
-            found = self.partitions[digest] = timeline_digest.partition_of(digest)
+            found = self.partitions[digest] = partition_of(digest)
         return found
 
     # ---- the header, nodes and the network

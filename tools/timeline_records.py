@@ -8,11 +8,11 @@ from collections import Counter, defaultdict
 from dataclasses import dataclass
 from typing import Callable
 
-import timeline_digest
 import tell_reading
 import tell_record
 import tell_run
 import tell_script
+from explain_lists import partition_of
 from tell_records import Change, Record, Request, given_up_though_done
 from tell_versions import Version
 from timeline_reading import BROKEN, Lane, Reading, Span
@@ -43,7 +43,7 @@ def read_records(reading: Reading, line: Callable[[int], Line], names: list[tell
 
 
 def name_of(digest: str, key: bytes | None = None) -> tell_run.Name:
-    return tell_run.Name(key or b"#" + digest.encode(), digest, str(timeline_digest.partition_of(digest)))
+    return tell_run.Name(key or b"#" + digest.encode(), digest, str(partition_of(digest)))
 
 
 def count_given_up(reading: Reading, line: Callable[[int], Line]) -> bool:
