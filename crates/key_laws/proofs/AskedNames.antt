@@ -1,9 +1,10 @@
 -- Lines of nodes that have requests of others, and of the client's requests and scans, name nodes of which something holds, as
 -- that they are declared, and their messages go right.
-use Rattle.std.proofs.Common.{◌≡◌, ℕ, ◌==◌, Bool, true, false, cond, List, [], ◌∷◌, ◌++◌, length, map, Option, Some, None, refl, sym, ap, ◌∙◌, inl, inr, arith, if◌then◌else◌}
+use Rattle.std.proofs.Common.{◌≡◌, ℕ, ◌+◌, ◌==◌, Bool, true, false, cond, List, [], ◌∷◌, ◌++◌, map, Option, Some, None, refl, sym, inl, inr, if◌then◌else◌}
 use Rattle.std.specs.Prelude.{find, option_map}
 use Rattle.conflict_order.specs.Contents.{Record}
 use Rattle.conflict_order.specs.declared.want.Want.{Want}
+use Rattle.conflict_order.specs.declared.want.Want.TheVariants as want
 use Rattle.cluster_types.specs.declared.cluster_key.ClusterKey.{ClusterKey}
 use Rattle.cluster_types.specs.Copies.{is_of}
 use Rattle.cluster_types.specs.Endpoints.{client}
@@ -22,10 +23,13 @@ use Rattle.wire_messages.specs.Nodes.{IsId}
 use Rattle.node_rules.specs.Client.{Tables, node_for}
 use Rattle.node_rules.specs.Effects.{Effects, lines_only, sends_only}
 use Rattle.node_rules.specs.Facts.{Facts, view_key, list_at, members_of_view}
-use Rattle.node_rules.specs.Notes.{in_view}
-use Rattle.node_rules.specs.Requests.{due_request, map_refusal, request_refusal}
+use Rattle.node_rules.specs.Copies.{is_nil}
+use Rattle.node_rules.specs.Notes.{in_view, opening_transaction}
+use Rattle.node_rules.specs.Requests.{asking, due_request, map_refusal, request_if, request_refusal}
+use Rattle.node_rules.specs.Resolving.{resolving_want}
 use Rattle.node_rules.specs.StaleMessages.{stale}
-use Rattle.node_rules.specs.Standing.{acts, knows_settled}
+use Rattle.node_rules.specs.Standing.{acts, knows_settled, other_replicas}
+use Rattle.node_rules.specs.Tables.{only_if}
 use Rattle.node_rules.specs.Transactions.{Transaction}
 use Rattle.request_rules.specs.declared.call.Call.{Call}
 use Rattle.request_rules.specs.declared.call.CallStep.{CallStep}
@@ -46,19 +50,22 @@ use Rattle.request_rules.specs.Dressing.{with_requests}
 use Rattle.request_rules.specs.NodeMessages.{due_at_node_of, taking, taking_if}
 use Rattle.request_rules.specs.Pages.{acting_scan_refusal, on_scan_ask, open_refusal, page_limit, page_of, scan_answer, scan_page, scan_refusal, scan_refusal_after, settled_refusal}
 use Rattle.request_rules.specs.Passing.{given_up, leaves, on_proxy_reply, passed_on, passing, passing_again, passing_if, proxied_if, proxy_of, reply_step, waits_for, with_given_up}
+use Rattle.request_rules.specs.Replies.{asker_of}
 use Rattle.request_rules.specs.Requests.{Calls, NodeRequests, PassedOn, Scans}
 use Rattle.request_rules.specs.Scans.{asked_on, page_lines, partition_of_scan, record_lines, scan_step, scanning_named, scanning_on_if, unscanned_if}
-use Rattle.request_rules.specs.TakenUp.{outcome_for, owed, same_asker}
+use Rattle.request_rules.specs.TakenUp.{outcome_for, same_asker}
+use Rattle.cluster_rules.specs.DueEvents.{sent_lines, written}
+use Rattle.cluster_rules.specs.Network.{Network, has_place}
 use Rattle.cluster_rules.specs.RequestEvents.{due_at_client_from}
 use Rattle.cluster_rules.specs.World.{World}
-use Rattle.key_laws.specs.Ends.{OtherNode, ReplyNames, ScanCauseNames, Tells, LineNames, AllName}
+use Rattle.key_laws.specs.Ends.{OtherNode, ReplyNames, ScanCauseNames, Tells, AllName}
 use Rattle.key_laws.specs.Sound.{NodeKeys, Sound}
 use Rattle.key_laws.specs.Traced.{Traced}
 use Rattle.key_laws.proofs.Addressed.{differ}
-use Rattle.key_laws.proofs.Askers.{AllTakenFrom, AllWaitFor, AskerFrom, OtherEnd, OutcomeNames, owed_right, reply_right}
+use Rattle.key_laws.proofs.Askers.{AllTakenFrom, AllWaitFor, AskerFrom, LinesAsk, OtherEnd, OutcomeNames, none_ask, owed_right, reply_right}
 use Rattle.key_laws.proofs.Frames.{num_eq}
 use Rattle.key_laws.proofs.NamedLines.{Aware, CauseIf, Commits, in_list, map_cause, message_name, refusal_cause, request_name}
-use Rattle.key_laws.proofs.NamedSends.{AllRight, Comes, Knows, SendsRight, message_right, one_right, request_right, right_append}
+use Rattle.key_laws.proofs.NamedSends.{AllRight, Comes, Knows, message_right, one_right, request_right, right_append}
 use Rattle.key_laws.proofs.RequestWire.{scan_no_tells}
 use Rattle.key_laws.proofs.TableReads.{each_listed, named_in, others_tell}
 
@@ -292,3 +299,144 @@ message_at_right P n t r f clock from (message.Ask key u d) c = message_right P 
 message_at_right P n t r f clock from (message.Answer key u v) c = message_right P n t f clock from (message.Answer key u v) (as_before c refl)
 message_at_right P n t r f clock from message.MapAsk c = message_right P n t f clock from message.MapAsk (record { knows = c.knows; from_other = λ e. differ refl e; sound = c.sound; keys = c.keys; client = c.client })
 message_at_right P n t r f clock from _ c = tt
+
+-- ---- who asks at its lines
+
+asks_append : (P : ℕ → Type 0) (a : Option Asker) (ls more : List Line) → LinesAsk P a ls → LinesAsk P a more → LinesAsk P a (ls ++ more)
+asks_append P a [] more h i = i
+asks_append P a (l ∷ ls) more h i = (h.0, asks_append P a ls more h.1 i)
+
+sent_ask : (P : ℕ → Type 0) (a : Option Asker) (n before flying : ℕ) (ms : List (ℕ × Message)) → LinesAsk P a (sent_lines n before flying ms)
+sent_ask P a n before flying [] = tt
+sent_ask P a n before flying (m ∷ ms) = (tt, go (has_place flying) (λ f. sent_ask P a n (before + 1) f ms))
+  where
+    go : (b : Bool) → ((f : ℕ) → LinesAsk P a (sent_lines n (before + 1) f ms)) → LinesAsk P a ((if b then [] else line.Full (before + 1) ∷ []) ++ sent_lines n (before + 1) (if b then flying + 1 else flying) ms)
+    go true rest = rest (flying + 1)
+    go false rest = (tt, rest flying)
+
+up_ask : (P : ℕ → Type 0) (a : Option Asker) (me : ℕ) (key : ClusterKey) (ps : ByNumber Passed) (ls : List Line) → LinesAsk P a ls → LinesAsk P a (map (given_up me key) ps ++ ls)
+up_ask P a me key [] ls h = h
+up_ask P a me key (p ∷ ps) ls h = (tt, up_ask P a me key ps ls h)
+
+parted_ask : (P : ℕ → Type 0) (a : Option Asker) (me : ℕ) (key : ClusterKey) (ps : ByNumber Passed) (ls : List Line) → LinesAsk P a ls → LinesAsk P a (with_given_up ps key me ls)
+parted_ask P a me key ps [] h = tt
+parted_ask P a me key ps (l ∷ ls) h = go (leaves me l) (parted_ask P a me key ps ls h.1)
+  where
+    go : (b : Bool) → LinesAsk P a (with_given_up ps key me ls) → LinesAsk P a (cond b (map (given_up me key) ps ++ l ∷ ls) (l ∷ with_given_up ps key me ls))
+    go true rest = up_ask P a me key ps (l ∷ ls) h
+    go false rest = (h.0, rest)
+
+done_ask : (P : ℕ → Type 0) (a : Option Asker) (n t : ℕ) (key : ClusterKey) (b : Bool) → LinesAsk P a (only_if (line.Done n key t) b)
+done_ask P a n t key true = (tt, tt)
+done_ask P a n t key false = tt
+
+resolving_ask : (P : ℕ → Type 0) (a : Option Asker) (f : Facts) (clock : ℕ) (l : List ℕ) (x : Transaction) (w : Want) → LinesAsk P a (resolving_want f clock l x w).lines
+resolving_ask P a f clock l x want.Get = (tt, tt)
+resolving_ask P a f clock l x (want.Put bytes) = (tt, done_ask P a f.me x.number (view_key f) (is_nil (other_replicas f l)))
+resolving_ask P a f clock l x want.Del = (tt, done_ask P a f.me x.number (view_key f) (is_nil (other_replicas f l)))
+
+request_asks : (P : ℕ → Type 0) (a : Option Asker) (f : Facts) (clock : ℕ) (d : List ℕ) (w : Want) → AskerFrom P f.me a → LinesAsk P a (due_request f clock d w).lines
+request_asks P a f clock d w h = go (request_refusal f (list_at f (partition_of d)) d)
+  where
+    new : Transaction
+    new = opening_transaction f (list_at f (partition_of d)) (f.transactions.opened + 1) d w
+
+    asks : (ns : List ℕ) → LinesAsk P a (asking f clock (list_at f (partition_of d)) new ns).lines
+    asks [] = resolving_ask P a f clock (list_at f (partition_of d)) new w
+    asks (n ∷ ns) = tt
+
+    go : (o : Option Refusal) → LinesAsk P a (request_if f clock (list_at f (partition_of d)) d w o).lines
+    go (Some cause) = (h, tt)
+    go None = (h, asks new.awaiting)
+
+taking_asks : (P : ℕ → Type 0) (a : Option Asker) (f : Facts) (clock : ℕ) (b : Asker) (d : List ℕ) (w : Want) (o : Option Outcome) → AskerFrom P f.me a → LinesAsk P a (taking_if f clock b d w o).lines
+taking_asks P a f clock b d w None h = request_asks P a f clock d w h
+taking_asks P a f clock b d w (Some (outcome.Open x)) h = tt
+taking_asks P a f clock b d w (Some (outcome.Kept c)) h = tt
+
+message_asks : (P : ℕ → Type 0) (n : ℕ) (r : NodeRequests) (f : Facts) (clock from : ℕ) (m : Message) → AskerFrom P f.me (asker_of from m) → LinesAsk P (asker_of from m) (due_at_node_of n r f clock from m).lines
+message_asks P n r f clock from (message.Proxy key x d w) h = go (in_view f key)
+  where
+    a : Asker
+    a = record { from = from; number = x }
+
+    go : (b : Bool) → LinesAsk P (Some (record { from = from; number = x })) (if b then taking r.taken f clock (record { from = from; number = x }) d w else stale f).lines
+    go true = taking_asks P (Some a) f clock a d w (outcome_for r.taken a) h
+    go false = (tt, tt)
+message_asks P n r f clock from (message.Call q d w) h = taking_asks P (Some (record { from = client; number = q })) f clock (record { from = client; number = q }) d w (outcome_for r.taken (record { from = client; number = q })) h
+message_asks P n r f clock from m h = none_ask P (due_at_node_of n r f clock from m).lines
+
+-- at a node's whole step of a message whoever asks is another end
+pub receiver_asks : (P : ℕ → Type 0) (n : ℕ) (net : Network) (to : ℕ) (r : NodeRequests) (f : Facts) (clock from : ℕ) (m : Message) → AskerFrom P f.me (asker_of from m) → LinesAsk P (asker_of from m) (written net to (with_requests r f (asker_of from m) (due_at_node_of n r f clock from m)))
+receiver_asks P n net to r f clock from m h =
+    asks_append P (asker_of from m) (with_given_up r.passed.waiting (view_key f) f.me (due_at_node_of n r f clock from m).lines) _
+    (parted_ask P (asker_of from m) f.me (view_key f) r.passed.waiting (due_at_node_of n r f clock from m).lines (message_asks P n r f clock from m h))
+    (sent_ask P (asker_of from m) to _ _ _)
+
+-- ---- messages that reach the client
+
+records_name : (P : ℕ → Type 0) (s : ℕ) (rs : List Record) → AllName P (record_lines s rs)
+records_name P s [] = tt
+records_name P s (r ∷ rs) = (tt, records_name P s rs)
+
+reply_name : (P : ℕ → Type 0) (from q : ℕ) (b : ReplyBody) (s : CallStep) → P from → ReplyNames P b → AllName P (reply_lines from q b s)
+reply_name P from q b call.Closed one names = ((one, names), tt)
+reply_name P from q b call.Refused one names = ((one, names), tt)
+reply_name P from q b call.Spent one names = (inl refl, tt)
+
+page_name : (P : ℕ → Type 0) (p from : ℕ) (page : ScanPage) (s : ScanStep) → P from → AllName P (page_lines p from page s)
+page_name P p from page scan.Spent one = (inl refl, tt)
+page_name P p from page scan.Again one = (tt, tt)
+page_name P p from page (scan.More count) one = (tt, tt)
+page_name P p from page (scan.Whole rs) one = (one, records_name P page.scan rs)
+
+no_page_name : (P : ℕ → Type 0) (s : ℕ) (cause : ScanRefusal) (o : Option Scanning) → ScanCauseNames P cause → AllName P (unscanned_if s cause o)
+no_page_name P s cause None names = (inl refl, tt)
+no_page_name P s cause (Some x) names = (names, tt)
+
+pub client_from_name : (P : ℕ → Type 0) (w : World) (from : ℕ) (m : Message) → (is_asking m ≡ false → P from) → Tells P m → AllName P (due_at_client_from w from m)
+client_from_name P w from (message.MapTable t) one names = (tt, tt)
+client_from_name P w from (message.Reply key q b) one names = reply_name P from q b (call_step (item_under w.requests.calls.waiting q) b) (one refl) names
+client_from_name P w from (message.ScanPage page) one names = page_name P (partition_of_scan (item_under w.requests.scans.running page.scan)) from page (scan_step w.requests.scans from page) (one refl)
+client_from_name P w from (message.ScanNo s cause) one names = no_page_name P s cause (item_under w.requests.scans.running s) names
+client_from_name P w from _ one names = (inl refl, tt)
+
+-- ---- requests and scans of the client
+
+-- each message is of a kind that the client sends, and goes to such a node
+abbrev pub AllAsked : (ℕ → Type 0) → List (ℕ × Message) → Type 0
+AllAsked P [] = Unit {0}
+AllAsked P (m ∷ ms) = (P m.0 × (is_asking m.1 ≡ true)) × AllAsked P ms
+
+-- its lines name such nodes, and it sends what the client sends to such nodes
+pub record AsksOf (P : ℕ → Type 0) (e : Effects) : Type 0 where
+  pub names : AllName P e.lines
+  pub sends : AllAsked P e.sends
+
+pub calling_asks : (P : ℕ → Type 0) (cs : Calls) (d : List ℕ) (w : Want) (o : Option ℕ) → ((n : ℕ) → o ≡ Some n → P n) → AsksOf P (calling_named cs d w o)
+calling_asks P cs d w None h = record { names = (tt, tt); sends = tt }
+calling_asks P cs d w (Some n) h = go (is_full cs)
+  where
+    go : (b : Bool) → AsksOf P (if b then lines_only (line.CallFull ∷ []) else called cs d w n)
+    go true = record { names = (tt, tt); sends = tt }
+    go false = record { names = (h n refl, tt); sends = ((h n refl, refl), tt) }
+
+pub calling_again_asks : (P : ℕ → Type 0) (tables : Tables) (q : ℕ) (o : Option Call) → ((c : Call) → o ≡ Some c → (n : ℕ) → node_for tables (partition_of c.digest) ≡ Some n → P n) → AsksOf P (calling_again_if tables q o)
+calling_again_asks P tables q None h = record { names = (tt, tt); sends = tt }
+calling_again_asks P tables q (Some c) h = go (node_for tables (partition_of c.digest)) (h c refl)
+  where
+    go : (o : Option ℕ) → ((n : ℕ) → o ≡ Some n → P n) → AsksOf P (called_again q c o)
+    go None i = record { names = tt; sends = tt }
+    go (Some n) i = record { names = (i n refl, tt); sends = ((i n refl, refl), tt) }
+
+pub scanning_asks : (P : ℕ → Type 0) (ss : Scans) (p : ℕ) (o : Option ℕ) → ((n : ℕ) → o ≡ Some n → P n) → AsksOf P (scanning_named ss p o)
+scanning_asks P ss p None h = record { names = (tt, tt); sends = tt }
+scanning_asks P ss p (Some n) h = record { names = (h n refl, tt); sends = ((h n refl, refl), tt) }
+
+pub scanning_on_asks : (P : ℕ → Type 0) (tables : Tables) (s : ℕ) (o : Option Scanning) → ((x : Scanning) → o ≡ Some x → (n : ℕ) → node_for tables x.partition ≡ Some n → P n) → AsksOf P (scanning_on_if tables s o)
+scanning_on_asks P tables s None h = record { names = (tt, tt); sends = tt }
+scanning_on_asks P tables s (Some x) h = go (node_for tables x.partition) (h x refl)
+  where
+    go : (o : Option ℕ) → ((n : ℕ) → o ≡ Some n → P n) → AsksOf P (asked_on s x o)
+    go None i = record { names = tt; sends = tt }
+    go (Some n) i = record { names = (i n refl, tt); sends = ((i n refl, refl), tt) }

@@ -1,9 +1,8 @@
 -- For whom nodes take requests up, and to whom they pass them on: other nodes of which something holds, as that they are
 -- declared, and the client. So late replies go right.
-use Rattle.std.proofs.Common.{◌≡◌, ℕ, ◌==◌, Bool, true, false, cond, List, [], ◌∷◌, ◌++◌, filter, map, not, Option, Some, None, refl, sym, ap, subst, ◌∙◌, if◌then◌else◌}
+use Rattle.std.proofs.Common.{◌≡◌, ℕ, ◌==◌, Bool, true, false, cond, List, [], ◌∷◌, ◌++◌, map, not, Option, Some, None, refl, sym, subst, if◌then◌else◌}
 use Rattle.std.specs.Prelude.{find, option_and_then, option_map}
 use Rattle.conflict_order.specs.declared.version.Version.{Version}
-use Rattle.conflict_order.specs.declared.want.Want.{Want}
 use Rattle.cluster_types.specs.declared.cluster_key.ClusterKey.{ClusterKey}
 use Rattle.cluster_types.specs.Endpoints.{client}
 use Rattle.journal_lines.specs.declared.line.Line.{Line}
@@ -24,19 +23,15 @@ use Rattle.request_rules.specs.declared.taken.Outcome.{Outcome}
 use Rattle.request_rules.specs.declared.taken.Outcome.TheVariants as outcome
 use Rattle.request_rules.specs.declared.taken.Taken.{Taken}
 use Rattle.request_rules.specs.ByNumber.{ByNumber, without_number}
-use Rattle.request_rules.specs.LineNotes.{note_request}
-use Rattle.request_rules.specs.Passing.{note_passed}
 use Rattle.request_rules.specs.Replies.{found_body, refusal_body, reply_to}
-use Rattle.request_rules.specs.Requests.{NodeRequests, PassedOn}
+use Rattle.request_rules.specs.Requests.{NodeRequests}
 use Rattle.request_rules.specs.TakenUp.{bound_to, is_bound_to, keeping, keeping_refusal, note_taken, owed, owed_by_line, refusal_for, refusing_for, replied_if, reply_for, taking_up, taking_up_for}
-use Rattle.cluster_rules.specs.declared.event.Event.{Event}
 use Rattle.cluster_rules.specs.Marks as marks
 use Rattle.cluster_rules.specs.Marks.{Begins, Writes, came_to_client, came_to_node}
 use Rattle.cluster_rules.specs.Network.{posting, posting_at}
 use Rattle.cluster_rules.specs.World.{World, changed_at}
-use Rattle.key_laws.specs.Ends.{IsEnd, IsOneOf, OtherNode, CauseNames, ReplyNames, LineNames, AllName}
-use Rattle.key_laws.specs.Traced.{Traced, traced_after}
-use Rattle.key_laws.proofs.Frames.{at_each, at_here}
+use Rattle.key_laws.specs.Ends.{IsEnd, OtherNode, CauseNames, ReplyNames, LineNames, AllName}
+use Rattle.key_laws.proofs.Frames.{at_each}
 use Rattle.key_laws.proofs.NamedSends.{SendsRight, AllRight, right_append}
 use Rattle.key_laws.proofs.RequestWire.{proxy_reply_tells, reply_tells}
 

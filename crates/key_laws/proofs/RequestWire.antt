@@ -1,6 +1,6 @@
 -- What the messages of requests and scans are read as, if they are read: each as one of its kind, with its key. For steps of
 -- nodes that have requests of others, and of the client.
-use Rattle.std.proofs.Common.{◌≡◌, ℕ, Bool, nat_lt, true, false, List, [], ◌∷◌, ◌++◌, Result, Option, Some, None, refl, sym, subst}
+use Rattle.std.proofs.Common.{◌≡◌, ℕ, Bool, nat_lt, true, false, List, [], ◌++◌, Result, Option, Some, None, refl, sym, subst}
 use Rattle.std.specs.Int.{w16, w32}
 use Rattle.conflict_order.specs.declared.want.Want.{Want}
 use Rattle.cluster_types.specs.declared.cluster_key.ClusterKey.{ClusterKey}
