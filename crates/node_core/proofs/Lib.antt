@@ -16,4 +16,5 @@ mod ProposeLaws
 mod ReceiveLaws
 mod RequestLaws
 mod RoomLaws
+mod ScanLaws
 mod ShowingLaws

@@ -10,6 +10,7 @@ mod entering;
 mod handlers;
 mod node;
 mod requests;
+mod scanning;
 mod showing;
 mod stopping;
 mod tick;

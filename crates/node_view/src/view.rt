@@ -427,7 +427,7 @@ impl View {
     }
 
     /// Whether the node knows the partition settled: by its bit, or since all copies were empty.
-    pub(crate) fn knows_settled(&self, p: PartitionId) -> bool
+    pub fn knows_settled(&self, p: PartitionId) -> bool
         ensures { result ≡ knows_settled (facts_seen self.now) p }
     {
         self.has_settled_bit(p) || self.is_all_empty(p)

@@ -2,7 +2,6 @@
 use Rattle.std.specs.Prelude.{ℕ, Bool, true, false, nat_lt, List, Option, Some, None, find, filter, take, length}
 use Rattle.std.specs.Ordering.{nat_cmp, is_lt}
 use Rattle.std.specs.Cmp.Lexicographic.{slice_cmp}
-use Rattle.conflict_order.specs.Contents.{Record}
 use Rattle.cluster_types.specs.Endpoints.{client}
 use Rattle.cluster_types.specs.Copies.{is_of, digests_of}
 use Rattle.journal_lines.specs.declared.refusal.Refusal.{Refusal}
@@ -19,6 +18,7 @@ use Rattle.node_rules.specs.Requests.{map_refusal}
 use Rattle.node_rules.specs.Stamps.{applies_at}
 use Rattle.node_rules.specs.Standing.{acts, named, knows_settled}
 use Rattle.node_rules.specs.Transactions.{Transaction}
+use Rattle.request_rules.specs.declared.scanning.Page.{Page}
 
 -- ---- why a node has no page
 
@@ -65,12 +65,6 @@ digests_behind (Some d) ds = filter (λ e. is_lt (slice_cmp nat_cmp d e)) ds
 -- the digests that the node holds of the partition above the one, in rising order
 abbrev pub digests_left : Facts → ℕ → Option (List ℕ) → List (List ℕ)
 digests_left f p after = digests_behind after (digests_of f.store.content p)
-
-pub record Page : Type 0 where
-  -- in rising order of their digests
-  pub records : List Record
-  -- whether records follow
-  pub more : Bool
 
 -- the page of at most so many records of those digests
 abbrev pub page_from : Facts → List (List ℕ) → ℕ → Page

@@ -16,5 +16,5 @@ mod taken;
 
 pub use call::{Call, CallStep};
 pub use passed::{Passed, ReplyStep};
-pub use scanning::{FirstPage, ScanStep, Scanning};
+pub use scanning::{FirstPage, Page, ScanStep, Scanning};
 pub use taken::{Asker, Outcome, Taken};

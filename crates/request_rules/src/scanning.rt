@@ -12,6 +12,14 @@ pub struct FirstPage {
     pub writes: u32,
 }
 
+/// Records of a partition that a node shows, in rising order of their digests.
+#[derive(Debug, Drop)]
+pub struct Page {
+    pub records: Records,
+    /// Whether the node holds records of the partition above these.
+    pub more: bool,
+}
+
 /// A scan that isn't at its end.
 #[derive(Debug, Drop)]
 pub struct Scanning {
