@@ -21,10 +21,10 @@ import sources
 
 # What of a crate `rt ci` reads and writes that isn't needed here: what it makes, and the edits that it must refuse.
 LEFT_OUT = ("out", "must-fail", "edits", "definition-edits")
-# How many lines of code a processor proves in a minute, with what is said and proved of them, by the table of bench/README.md;
-# a guess for the kit that isn't measured there; and what a check of a crate takes besides, in lines.
-LINES_A_MINUTE = 290
-OF_OTHER_KITS = {"rattle-kit-13b": 500}
+# How many lines of code a processor proves in a minute, with what is said and proved of them, by the run that bench/README.md
+# tells; a guess for the kit that isn't measured there; and what a check of a crate takes besides, in lines.
+LINES_A_MINUTE = 580
+OF_OTHER_KITS = {"rattle-kit-13b": 1000}
 LINES_A_CHECK = 200
 # What a check takes of memory, at most.
 BYTES_A_CRATE = 4_000_000_000
