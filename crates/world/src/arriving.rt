@@ -1,5 +1,5 @@
 //! Messages that are lost, or arrive.
-ghost use Rattle.std.specs.Prelude.{◌≡◌, ◌∷◌, [], ◌&&◌, ◌||◌, ◌⊎◌, ◌==◌, not, Contains, IsTrue, IfOk, IfSome, OnErr, OnOk};
+ghost use Rattle.std.specs.Prelude.{◌≡◌, ◌≢◌, ◌∷◌, [], ◌&&◌, ◌||◌, ◌⊎◌, ◌==◌, not, Contains, IsTrue, IfNone, IfOk, IfSome, OnErr, OnOk};
 ghost use Rattle.std.specs.Option.{option_copied, option_map};
 ghost use Rattle.cluster_rules.specs.DueEvents.{losing};
 ghost use Rattle.cluster_rules.specs.declared.event.Event.TheVariants as events;
@@ -7,6 +7,8 @@ ghost use Rattle.cluster_rules.specs.Network.{are_apart, flying_at};
 ghost use Rattle.cluster_rules.specs.Opening.{declared_nodes};
 ghost use Rattle.cluster_rules.specs.World.{is_up};
 ghost use Rattle.run_laws.specs.Taken.{IsProperEvent};
+ghost use Rattle.wire_messages.specs.declared.message.MapTable.{MapTable};
+ghost use Rattle.wire_messages.specs.declared.message.Message.TheVariants as messages;
 ghost use Rattle.wire_messages.specs.Proper.{IsProper};
 ghost use Rattle.node_rules.specs.Messages.{client, due_message};
 ghost use Rattle.node_rules.specs.Senders.{ComesFrom};
@@ -31,6 +33,7 @@ use node_core::{Effects, Node};
 use std::alloc::Global;
 use std::snapshot::Snapshot;
 use wire_codec::Message;
+use wire_messages::MapTable;
 
 /// A message that arrives.
 #[derive(Drop)]
@@ -172,19 +175,15 @@ impl World {
             message,
             ..
         } = arriving;
-        match message {
-            Message::MapTable(table) => {
-                let lines = two_lines(alloc, line, Line::Table { key: table.key })?;
-                self.ledger.tell_all(lines, event)?;
-                land(&mut self.net, landing);
-                self.client.refresh(&table);
-                Ok(())
-            }
-            _ => {
-                let lines = two_lines(alloc, line, Line::Stale { endpoint: CLIENT })?;
-                self.pass_over(lines, landing, event)
-            }
-        }
+        let Some(table) = table_of(message) else {
+            let lines = two_lines(alloc, line, Line::Stale { endpoint: CLIENT })?;
+            return self.pass_over(lines, landing, event);
+        };
+        let lines = two_lines(alloc, line, Line::Table { key: table.key })?;
+        self.ledger.tell_all(lines, event)?;
+        land(&mut self.net, landing);
+        self.client.refresh(&table);
+        Ok(())
     }
 
     fn arrive_at_node(
@@ -235,6 +234,17 @@ impl World {
             &mut self.net,
             &mut self.ledger,
         )
+    }
+}
+
+/// The table that the message tells, if it tells one.
+fn table_of(message: Message) -> Option<MapTable>
+    ensures some { IfSome result (λ t. message ≡ messages.MapTable t) }
+    ensures none { IfNone result ((t : MapTable) → message ≢ messages.MapTable t) }
+{
+    match message {
+        Message::MapTable(table) => Some(table),
+        _ => None,
     }
 }
 
