@@ -1,30 +1,22 @@
--- A read that is passed on and answered between two nodes, as the prover computes it; and who asks by a delivery.
-use Rattle.std.proofs.Common.{◌≡◌, ℕ, [], ◌∷◌, Option, Some, refl, ap, ◌∙◌}
-use Rattle.std.specs.Prelude.{option_and_then, option_map}
+-- A read that is passed on and answered between two nodes, as the prover computes it.
+use Rattle.std.proofs.Common.{◌≡◌, [], ◌∷◌, Some, refl}
 use Rattle.conflict_order.specs.declared.want.Action.TheVariants as action
 use Rattle.conflict_order.specs.Join.{join}
 use Rattle.conflict_order.specs.Order.{version_cmp}
 use Rattle.cluster_types.specs.Partitions.{partition_count}
-use Rattle.wire_messages.specs.declared.message.Message.{Message}
 use Rattle.wire_messages.specs.declared.reply.ReplyBody.TheVariants as reply
-use Rattle.wire_messages.specs.Decoding.{message_of}
 use Rattle.wire_messages.specs.Kinds.{proxy_at, proxy_reply_at, answer_at}
 use Rattle.wire_messages.specs.Requests.{want_field, want_at, reply_field, reply_at}
 use Rattle.wire_messages.specs.Versions.{digest_at, bytes_at, value_field, value_at, body_field, body_at, version_field, version_at, option_version_field, option_version_at}
 use Rattle.journal_lines.specs.declared.line.Line.TheVariants as line
-use Rattle.journal_readings.specs.Messages.{Posting, Arrival, arrived}
 use Rattle.node_rules.specs.Bits.{clear_row}
 use Rattle.node_rules.specs.Examples.{key}
 use Rattle.partition_lists.specs.Hashes.{fnv1a, jenkins_state, jenkins_end, node_bytes, partition_bytes, place}
 use Rattle.partition_lists.specs.Lists.{list}
-use Rattle.request_rules.specs.declared.taken.Asker.{Asker}
 use Rattle.request_rules.specs.Examples.{last_digest, proxy_of_read, version_of}
-use Rattle.request_rules.specs.Replies.{asker_of}
 use Rattle.cluster_rules.specs.declared.event.Event.TheVariants as event
-use Rattle.cluster_rules.specs.Network.{posting_at}
 use Rattle.cluster_rules.specs.RequestEvents.{due_with_requests}
 use Rattle.cluster_rules.specs.RequestExamples.{asking_one, before_ending, before_reading, before_reply, before_taking_up, reply_to_one, sent_line}
-use Rattle.cluster_rules.specs.World.{World}
 use Rattle.cluster_rules.proofs.WorldComputing.{world_computing}
 
 -- ---- a read between two nodes
@@ -49,14 +41,3 @@ ended = refl
 pub proxied : due_with_requests partition_count before_reply (event.Deliver 29) ≡ line.Deliver 29 2 1 ∷ line.Proxied 1 (key 2 2) 1 (reply.Found (version_of 1 98)) ∷ []
 unfolding reading
 proxied = refl
-
--- ---- who asks
-
--- who asks by what arrives
-abbrev asks : Option Arrival → Option Asker
-asks o = option_and_then (λ (x : Arrival). asker_of x.from x.message) o
-
-pub in_hand : (w : World) (i : ℕ) (p : Posting) (m : Message) → posting_at w.network i ≡ Some p → message_of p.bytes ≡ Some m → asks (option_and_then (λ (q : Posting). arrived q.to q) (posting_at w.network i)) ≡ asker_of p.from m
-in_hand w i p m stands read =
-    ap (λ (o : Option Posting). asks (option_and_then (λ (q : Posting). arrived q.to q) o)) stands
-    ∙ ap (λ (o : Option Message). asks (option_map (λ (x : Message). record { from = p.from; to = p.to; message = x }) o)) read

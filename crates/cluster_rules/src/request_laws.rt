@@ -1,22 +1,15 @@
 //! Laws of worlds in which requests come and go as messages. A call does nothing: what it ensures is the law.
-ghost use Rattle.std.specs.Prelude.{◌≡◌, ◌∷◌, [], ℕ, List, Some, None};
+ghost use Rattle.std.specs.Prelude.{◌≡◌, ◌∷◌, [], Some};
 ghost use Rattle.conflict_order.specs.declared.want.Want.TheVariants as want;
 ghost use Rattle.conflict_order.specs.declared.want.Action.TheVariants as action;
 ghost use Rattle.cluster_types.specs.Partitions.{partition_count};
-ghost use Rattle.wire_messages.specs.declared.message.Message.{Message};
 ghost use Rattle.wire_messages.specs.declared.reply.ReplyBody.TheVariants as reply;
-ghost use Rattle.wire_messages.specs.Decoding.{message_of};
 ghost use Rattle.journal_lines.specs.declared.line.Line.TheVariants as line;
-ghost use Rattle.journal_readings.specs.Messages.{Posting};
 ghost use Rattle.node_rules.specs.Examples.{key};
 ghost use Rattle.request_rules.specs.Examples.{last_digest, proxy_of_read, version_of};
-ghost use Rattle.request_rules.specs.Replies.{asker_of};
 ghost use Rattle.cluster_rules.specs.declared.event.Event.TheVariants as event;
-ghost use Rattle.cluster_rules.specs.Marks.{asker_in};
-ghost use Rattle.cluster_rules.specs.Network.{posting_at};
 ghost use Rattle.cluster_rules.specs.RequestEvents.{due_with_requests};
-ghost use Rattle.cluster_rules.specs.RequestExamples.{answering_two, asking_one, before_ending, before_reading, before_reply, before_taking_up, reply_to_one, sent_line};
-ghost use Rattle.cluster_rules.specs.World.{World};
+ghost use Rattle.cluster_rules.specs.RequestExamples.{asking_one, before_ending, before_reading, before_reply, before_taking_up, reply_to_one, sent_line};
 
 /// A read that node 1 passes on opens a transaction at node 2, whose value goes back behind its end.
 pub fn a_read_goes_between_two_nodes()
@@ -30,17 +23,4 @@ pub fn a_read_goes_between_two_nodes()
         ∷ sent_line 29 2 1 reply_to_one ∷ [] }
     ensures proxied { due_with_requests partition_count before_reply (event.Deliver 29)
         ≡ line.Deliver 29 2 1 ∷ line.Proxied 1 (key 2 2) 1 (reply.Found (version_of 1 98)) ∷ [] }
-{}
-
-/// As the step of a delivery begins, whoever asks by its message is in hand.
-pub fn a_delivery_has_its_asker_in_hand()
-    ensures delivered { (w : World) → (i : ℕ) → (p : Posting) → (m : Message)
-        → posting_at w.network i ≡ Some p → message_of p.bytes ≡ Some m
-        → asker_in w (event.Deliver i) ≡ asker_of p.from m }
-    ensures repeated { (w : World) → (i : ℕ) → (p : Posting) → (m : Message)
-        → posting_at w.network i ≡ Some p → message_of p.bytes ≡ Some m
-        → asker_in w (event.Repeat i) ≡ asker_of p.from m }
-    ensures cut { (w : World) → (i : ℕ) → (size : ℕ) → (p : Posting) → (m : Message)
-        → posting_at w.network i ≡ Some p → message_of p.bytes ≡ Some m
-        → asker_in w (event.Cut i size) ≡ asker_of p.from m }
 {}

@@ -1,7 +1,6 @@
 -- Steps of requests and scans that come and go as messages: a node passes a request on, takes up those of others, and shows a
 -- page; the client asks, and takes replies and pages.
 use Rattle.std.proofs.Common.{◌≡◌, ℕ, ◌==◌, Bool, true, false, List, [], ◌∷◌, length, map, Option, Some, None, refl, sym, ap, ◌∙◌, subst, inr, if◌then◌else◌}
-use Rattle.std.specs.Prelude.{option_and_then, option_map}
 use Rattle.conflict_order.specs.Contents.{Record}
 use Rattle.conflict_order.specs.declared.policy.Policy.{Policy}
 use Rattle.conflict_order.specs.declared.want.Want.{Want}
@@ -12,13 +11,12 @@ use Rattle.journal_lines.specs.declared.line.Line.{Line}
 use Rattle.journal_lines.specs.declared.line.Line.TheVariants as line
 use Rattle.journal_lines.specs.declared.refusal.Refusal.{Refusal}
 use Rattle.journal_lines.specs.declared.refusal.Refusal.TheVariants as refusal
-use Rattle.journal_readings.specs.Messages.{Posting, Arrival, arrived}
+use Rattle.journal_readings.specs.Messages.{Arrival}
 use Rattle.wire_messages.specs.declared.message.Message.{Message}
 use Rattle.wire_messages.specs.declared.message.Message.TheVariants as message
 use Rattle.wire_messages.specs.declared.reply.ReplyBody.{ReplyBody}
 use Rattle.wire_messages.specs.declared.scan.ScanPage.{ScanPage}
 use Rattle.wire_messages.specs.declared.scan.ScanRefusal.{ScanRefusal}
-use Rattle.wire_messages.specs.Decoding.{message_of}
 use Rattle.wire_messages.specs.Keys.{IsKeyOrNone}
 use Rattle.wire_messages.specs.Requests.{IsWant}
 use Rattle.wire_messages.specs.Versions.{IsDigest}
@@ -53,8 +51,7 @@ use Rattle.request_rules.specs.Requests.{Calls, NodeRequests, PassedOn, Scans}
 use Rattle.request_rules.specs.Scans.{asked_on, page_asked_for, page_lines, partition_of_scan, position, record_lines, scan_step, scanning_named, scanning_on_if, unscanned_if}
 use Rattle.request_rules.specs.TakenUp.{outcome_for}
 use Rattle.cluster_rules.specs.DueEvents.{written}
-use Rattle.cluster_rules.specs.Marks.{Writes, arrival_under, came, came_to_client, came_to_node}
-use Rattle.cluster_rules.specs.Network.{posting_at}
+use Rattle.cluster_rules.specs.Marks.{Writes, came, came_to_client, came_to_node}
 use Rattle.cluster_rules.specs.RequestEvents.{due_at_client_from, due_passing, due_passing_again, due_calling, due_calling_again, due_scanning, due_scanning_on}
 use Rattle.cluster_rules.specs.World.{World}
 use Rattle.key_laws.proofs.DueViews.{view_known}
@@ -229,13 +226,7 @@ receiver_go {by} {factor} {z0} {z} {f} {clock} {from} r m a want read = dressed_
 
 -- ---- what a delivered request wants
 
--- as the step of a delivery begins, what its message wants is in hand
-pub want_in_hand : (w : World) (i : ℕ) (p : Posting) (m : Message) → posting_at w.network i ≡ Some p → message_of p.bytes ≡ Some m → option_and_then (λ (x : Arrival). want_in_message x.message) (arrival_under w.network i) ≡ want_in_message m
-want_in_hand w i p m stands read =
-    ap (λ (o : Option Posting). option_and_then (λ (x : Arrival). want_in_message x.message) (option_and_then (λ (q : Posting). arrived q.to q) o)) stands
-    ∙ ap (λ (o : Option Message). option_and_then (λ (x : Arrival). want_in_message x.message) (option_map (λ (x : Message). record { from = p.from; to = p.to; message = x }) o)) read
-
--- and stays so behind the line that brings it
+-- what is in hand as the step of a delivery begins stays so behind the line that brings the message
 pub came_want : (w : World) (o : Option Arrival) → (came w o).want ≡ w.want
 came_want w None = refl
 came_want w (Some x) = go (x.to == client)

@@ -16,6 +16,7 @@ use Rattle.node_rules.specs.Stamps.{applies_at}
 use Rattle.node_rules.specs.Tick.{due_tick}
 use Rattle.node_rules.specs.Transactions.{transaction}
 use Rattle.request_rules.specs.declared.taken.Asker.{Asker}
+use Rattle.request_rules.specs.Requests.{Requests}
 use Rattle.request_rules.specs.TakenUp.{bound_to}
 use Rattle.cluster_rules.specs.Marks as marks
 use Rattle.journal_readings.specs.Messages.{Posting}
@@ -88,6 +89,19 @@ CountsFew =
     (h : Header) (ss : List Step)
     → Taken h ss → (limit : ℕ) → length (all_lines ss) < limit → (n : ℕ)
     → CountsBelow limit ((world_after h ss).facts n)
+
+-- fewer requests were passed on in each node's view, fewer were sent by the client, and fewer scans begun
+pub record RequestsBelow (limit : ℕ) (r : Requests) : Type 0 where
+  pub passed : (n : ℕ) → (r.at n).passed.given < limit
+  pub calls : r.calls.given < limit
+  pub scans : r.scans.given < limit
+
+-- where there are fewer lines than that, no number so great was given
+abbrev pub NumbersFew : Type 0
+NumbersFew =
+    (h : Header) (ss : List Step)
+    → Taken h ss → (limit : ℕ) → length (all_lines ss) < limit
+    → RequestsBelow limit (world_after h ss).requests
 
 -- ---- what is sent
 
