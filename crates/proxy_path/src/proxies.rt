@@ -147,8 +147,17 @@ impl Proxies {
         if !self.is_awaited(from, number) {
             return ReplyStep::Spent;
         }
-        let _ = self.passed.take(number);
+        self.close(number);
         ReplyStep::Taken
+    }
+
+    /// Closes the request of that number, if it isn't replied to.
+    pub fn close(&mut self, number: u32)
+        ensures passed { self.new.passed ≡ closing_passed self.old.passed number }
+        ensures taken { self.new.taken ≡ self.old.taken }
+        ensures room { HasNoLessRoom self.old self.new }
+    {
+        let _ = self.passed.take(number);
     }
 
     /// Whether the request of that number waits for that node.

@@ -1,0 +1,5 @@
+mod ChangeLaws
+mod LeavingLaws
+mod LineLaws
+mod ListLaws
+mod StepLaws

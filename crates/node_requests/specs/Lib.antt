@@ -1,0 +1,4 @@
+pub mod Changes
+pub mod Dressed
+pub mod Leaving
+pub mod Planned
