@@ -92,10 +92,10 @@ fn reply_to(key: ClusterKey, asker: Asker, reply: ReplyBody) -> Message
     ensures { result ≡ reply_to key asker reply }
 {
     let number = asker.number;
-    if asker.from == CLIENT {
-        return Message::Reply { key, number, reply };
+    if asker.from != CLIENT {
+        return Message::ProxyReply { key, number, reply };
     }
-    Message::ProxyReply { key, number, reply }
+    Message::Reply { key, number, reply }
 }
 
 // ---- for whom a transaction is open
