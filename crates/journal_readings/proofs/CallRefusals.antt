@@ -1,5 +1,5 @@
 -- Journals in which a call of the client went wrong.
-use Rattle.std.proofs.Common.{◌≡◌, ℕ, suc, ◌≤◌, ◌==◌, Bool, true, false, List, [], ◌∷◌, Option, Some, None, refl, sym, ap, subst, arith}
+use Rattle.std.proofs.Common.{◌≡◌, ℕ, suc, ◌==◌, Bool, true, false, List, [], ◌∷◌, Option, Some, None, refl, sym, ap, subst, arith}
 use Rattle.std.specs.Prelude.{take}
 use Rattle.conflict_order.specs.declared.want.Want.TheVariants as want
 use Rattle.conflict_order.specs.declared.want.Action.{Action}
@@ -34,10 +34,12 @@ called_twice_refused h = differ (ap (λ (n : ℕ). n == 7) (h.named_once 4 7 1 1
 pub written_twice_refused : ¬ (CallsAnswer written_twice)
 unfolding computing
 written_twice_refused h =
-    differ (ap (λ (n : ℕ). n == 11)
-    (h.opened_once 6 11 1 1 1 2 (key 1 1) digest digest action.Put action.Put
-    (record { want = want.Put (97 ∷ []); wants = refl; arrives = refl; taken = refl })
-    (record { want = want.Put (97 ∷ []); wants = refl; arrives = refl; taken = refl })))
+    omega (
+      arith,
+      h.opened_once 6 11 1 1 1 2 (key 1 1) digest digest action.Put action.Put
+          (record { want = want.Put (97 ∷ []); wants = refl; arrives = refl; taken = refl })
+          (record { want = want.Put (97 ∷ []); wants = refl; arrives = refl; taken = refl }),
+    )
 
 abbrev is_call : Line → Bool
 is_call (line.Call q n d act) = true
@@ -120,7 +122,4 @@ misexplained_refused h =
 -- line 17 takes a reply behind line 13
 pub heard_twice_refused : ¬ (CallsAnswer heard_twice)
 unfolding computing
-heard_twice_refused h = over (h.closed 12 16 1 1 1 reply.Done reply.Done refl refl refl)
-  where
-    over : 16 ≤ 12 → ⊥
-    over e = omega (arith, e)
+heard_twice_refused h = omega (arith, h.closed 12 16 1 1 1 reply.Done reply.Done refl refl refl)
