@@ -235,7 +235,6 @@ line_asked P w (line.Cut i a b size) asks names h = came_asked P w (option_and_t
 line_asked P w (line.Sent i a b bytes) asks names h = sent_asked P (record w { network = posting w.network i (record { from = a; to = b; bytes = bytes }) }) a b (message_of bytes) h
 line_asked P w _ asks names h = h
 
--- a line leaves in hand whoever asks
 came_asker : (w : World) (x : Option Arrival) → (marks.came w x).asker ≡ w.asker
 came_asker w None = refl
 came_asker w (Some x) = go (x.to == client)
@@ -248,6 +247,7 @@ came_asker w (Some x) = go (x.to == client)
     go true = at_client x.message
     go false = refl
 
+-- a line leaves in hand whoever asks
 same_asker_in_hand : (w : World) (l : Line) → (marks.after w (Writes l)).asker ≡ w.asker
 same_asker_in_hand w (line.Deliver i a b) = came_asker w (option_and_then (arrived b) (posting_at w.network i))
 same_asker_in_hand w (line.Repeat i a b) = came_asker w (option_and_then (arrived b) (posting_at w.network i))

@@ -44,10 +44,7 @@ pub same_front : (z : Front) → FrontKeepsOther z z
 same_front z = record { kept = (world_of z).requests; count = z.lines; same = refl }
 
 pub other_front_on : (x y z : Front) → FrontKeepsOther x y → FrontKeepsOther y z → FrontKeepsOther x z
-other_front_on x y z a b = record { kept = b.kept; count = b.count; same = λ i. front_keeping_on i }
-  where
-    front_keeping_on : z ≡ front_keeping x b.kept b.count
-    front_keeping_on = subst (λ (w : Front). z ≡ front_keeping w b.kept b.count) a.same b.same
+other_front_on x y z a b = record { kept = b.kept; count = b.count; same = subst (λ (w : Front). z ≡ front_keeping w b.kept b.count) a.same b.same }
 
 -- nothing that a message says changes
 keeping_calm : (z : Front) (kept : Requests) (count : ℕ) → Calm z (front_keeping z kept count)
