@@ -1,5 +1,7 @@
 //! Tests of what is kept of requests that go as messages, by its public calls.
 
+mod steps;
+
 use cluster_types::{ClusterKey, Digest, NodeId, PartitionId};
 use conflict_order::{Body, ValueBytes, ValueFault, Version, Want};
 use once_client::{CallStep, OnceClient, OpenFault};
