@@ -1,12 +1,11 @@
 -- Why a node has no page of a partition, and the records of a page.
-use Rattle.std.proofs.Common.{◌≡◌, ℕ, Bool, true, false, cond, ◌||◌, List, [], ◌∷◌, ◌++◌, ◌+◌, ◌≤◌, zero, suc, Option, Some, None, find, map, min, nat_lt, take, length, length-take, option_map, refl, sym, ap, ap₂, ◌∙◌, arith}
+use Rattle.std.proofs.Common.{◌≡◌, ℕ, Bool, true, false, cond, ◌||◌, List, [], ◌∷◌, ◌+◌, ◌≤◌, zero, suc, Option, Some, None, find, map, min, nat_lt, take, length, length-take, option_map, refl, ap, ap₂, ◌∙◌, arith}
 use Rattle.std.specs.FinMap.{get}
 use Rattle.std.specs.List.{list_any}
 use Rattle.std.proofs.lemmas.Bool.{lt-ltb, ltb-true, ltb_from_iff}
 use Rattle.conflict_order.specs.Contents.{Content, Record}
 use Rattle.conflict_order.specs.declared.version.Version.{Version}
 use Rattle.cluster_types.specs.Copies.{is_of}
-use Rattle.wire_messages.specs.declared.scan.ScanRefusal.{ScanRefusal}
 use Rattle.wire_messages.specs.declared.scan.ScanRefusal.TheVariants as unserved
 use Rattle.dup_resolve.specs.declared.txn.Txn.{Txn}
 use Rattle.node_rules.specs.Batches.{records_of}

@@ -1,4 +1,4 @@
-use Rattle.std.proofs.Common.{◌≡◌, None, option_map, sym, ap, ◌∙◌}
+use Rattle.std.proofs.Common.{option_map, sym, ap, ◌∙◌}
 use Rattle.dup_resolve.specs.declared.txn.Txn.{Txn}
 use Rattle.cluster_types.specs.Copies.{is_of}
 use Rattle.node_core.proofs.ScanLaws.{none_found}
